@@ -1,0 +1,184 @@
+ghost use Rattle.std.specs.Prelude.{◌≡◌, ◌≤◌, length, IfOk};
+
+use crate::traits::{Failed, LoadFault, Shelf, Sink, Source};
+use std::alloc::Global;
+use std::io::{ErrorKind, Read, Write};
+use std::marker::Model;
+use std::rt::Files;
+use std::{fs, io};
+
+/// Files of the system, which are not told. Contracts see how many loads failed.
+#[derive(Drop)]
+pub struct DiskShelf<R> {
+    rt: R,
+    faults: u64,
+}
+
+impl<R> Model for DiskShelf<R> {
+    ghost use Rattle.std.specs.Prelude.{ℕ};
+
+    ghost Value = { ℕ };
+
+    ghost view = { λ s. s.faults };
+}
+
+impl<R: Files> DiskShelf<R> {
+    /// The files that the runtime reaches. No load has failed.
+    pub fn new(rt: R) -> DiskShelf<R>
+        ensures { result ≡ 0 }
+    {
+        DiskShelf { rt, faults: 0 }
+    }
+}
+
+impl<R: Files> Shelf for DiskShelf<R> {
+    ghost use Rattle.std.specs.Prelude.{None, ◌≡◌, ◌≤◌, length, IfOk, IfErr, is_ok, if◌then◌else◌};
+    ghost use Rattle.rept_ports.specs.Shelves.{LoadFails};
+    ghost use Rattle.rept_ports.specs.Causes.{next_count};
+
+    ghost files = { λ _. None };
+
+    ghost faults = { λ s. s };
+
+    /// The bytes of the file at this path. Of a larger file `limit + 1` bytes are read, and it is `TooLarge`. A path that
+    /// names nothing is `Missing`, and one that names a folder or cannot be read `Failed`. Each fault is counted.
+    fn load(&mut self, alloc: Global, name: &str, limit: usize) -> Result<Vec<u8>, LoadFault>
+        ensures within { IfOk result (λ v. length v.items ≤ limit) }
+        ensures faults_stay { self.old ≤ self.new }
+        ensures err { IfErr result (LoadFails None name.now limit self.old self.new) }
+        ensures counts { self.new ≡ (if is_ok result then self.old else next_count self.old) }
+    {
+        let loaded = read_at_most(&self.rt, alloc, name, limit);
+        if loaded.is_err() {
+            self.faults = self.faults.saturating_add(1);
+        }
+        loaded
+    }
+}
+
+/// The bytes of a file of the system, of which at most one more than `limit` are read.
+fn read_at_most<R: Files>(
+    rt: &R,
+    alloc: Global,
+    name: &str,
+    limit: usize,
+) -> Result<Vec<u8>, LoadFault>
+    ensures { IfOk result (λ v. length v.items ≤ limit) }
+{
+    let file = fs::open(rt, name).map_err(|e| fault_of(&e))?;
+    let mut bytes = Vec::new(alloc);
+    let most = (limit as u64).saturating_add(1);
+    file.take(most)
+        .read_to_end(&mut bytes)
+        .map_err(|e| fault_of(&e))?;
+    if bytes.len() > limit {
+        return Err(LoadFault::TooLarge);
+    }
+    Ok(bytes)
+}
+
+fn fault_of(error: &io::Error) -> LoadFault {
+    match error.kind() {
+        ErrorKind::NotFound => LoadFault::Missing,
+        ErrorKind::OutOfMemory => LoadFault::OutOfMemory,
+        _ => LoadFault::Failed,
+    }
+}
+
+/// Standard input, or another reader, whose bytes are not told. Contracts see how many reads failed.
+#[derive(Drop)]
+pub struct StdSource<R> {
+    reader: R,
+    faults: u64,
+}
+
+impl<R> Model for StdSource<R> {
+    ghost use Rattle.std.specs.Prelude.{ℕ};
+
+    ghost Value = { ℕ };
+
+    ghost view = { λ s. s.faults };
+}
+
+impl<R: Read> StdSource<R> {
+    /// The bytes of this reader. No read has failed.
+    pub fn new(reader: R) -> StdSource<R>
+        ensures { result ≡ 0 }
+    {
+        StdSource { reader, faults: 0 }
+    }
+}
+
+impl<R: Read> Source for StdSource<R> {
+    ghost use Rattle.std.specs.Prelude.{None, ◌≡◌, is_ok, if◌then◌else◌};
+    ghost use Rattle.std.specs.Io.{ReadsAtMost};
+    ghost use Rattle.rept_ports.specs.Causes.{HasCause, next_count};
+
+    ghost left = { λ _. None };
+
+    ghost faults = { λ s. s };
+
+    /// Reads once. `Failed` comes exactly where the reader failed, and is counted.
+    fn read(&mut self, into: &mut [u8]) -> Result<usize, Failed>
+        ensures bound { ReadsAtMost result into.new }
+        ensures cause { HasCause self.old self.new result }
+        ensures counts { self.new ≡ (if is_ok result then self.old else next_count self.old) }
+    {
+        match self.reader.read(into) {
+            Ok(count) => Ok(count),
+            Err(_) => {
+                self.faults = self.faults.saturating_add(1);
+                Err(Failed)
+            }
+        }
+    }
+}
+
+/// Standard output, or another writer, whose bytes are not told. Contracts see how many writes failed.
+#[derive(Drop)]
+pub struct StdSink<W> {
+    writer: W,
+    faults: u64,
+}
+
+impl<W> Model for StdSink<W> {
+    ghost use Rattle.std.specs.Prelude.{ℕ};
+
+    ghost Value = { ℕ };
+
+    ghost view = { λ s. s.faults };
+}
+
+impl<W: Write> StdSink<W> {
+    /// What is written goes to this writer. No write has failed.
+    pub fn new(writer: W) -> StdSink<W>
+        ensures { result ≡ 0 }
+    {
+        StdSink { writer, faults: 0 }
+    }
+}
+
+impl<W: Write> Sink for StdSink<W> {
+    ghost use Rattle.std.specs.Prelude.{None, ◌≡◌, ◌≤◌, ◌<◌, length, IfOk, is_ok, if◌then◌else◌};
+    ghost use Rattle.rept_ports.specs.Causes.{HasCause, next_count};
+
+    ghost written = { λ _. None };
+
+    ghost faults = { λ s. s };
+
+    /// Writes once. `Failed` comes where the writer failed or took nothing of a piece that is not empty, and is counted.
+    fn write(&mut self, piece: &[u8]) -> Result<usize, Failed>
+        ensures bound { IfOk result (λ n. n ≤ length piece.now) }
+        ensures progress { IfOk result (λ n. 0 < length piece.now → 0 < n) }
+        ensures cause { HasCause self.old self.new result }
+        ensures counts { self.new ≡ (if is_ok result then self.old else next_count self.old) }
+    {
+        match self.writer.write(piece) {
+            Ok(count) if count > 0 || piece.is_empty() => Ok(count),
+            _ => {
+                self.faults = self.faults.saturating_add(1);
+                Err(Failed)
+            }
+        }
+    }
+}

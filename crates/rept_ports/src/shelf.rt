@@ -1,0 +1,172 @@
+ghost use Rattle.std.specs.Prelude.{◌≡◌, ◌≤◌, ◌<◌, [], ℕ, List, length, IfOk, OnOk, OnErr, IsErrOf, IsSomeAnd, None, Some, if◌then◌else◌};
+ghost use Rattle.std.specs.Option.{option_map};
+ghost use Rattle.std.specs.Str.{bytes_eq};
+ghost use Rattle.rept_ports.specs.FileList.{file_in, file_list};
+
+use crate::traits::{LoadFault, OutOfMemory, Shelf};
+use std::alloc::Global;
+use std::collections::BTreeMap;
+use std::marker::Model;
+
+/// Files in memory, whose loads never fail but for memory. Contracts see the list of names and bytes.
+#[derive(Drop)]
+pub struct CalmShelf {
+    alloc: Global,
+    files: BTreeMap<String, Vec<u8>>,
+}
+
+impl Model for CalmShelf {
+    ghost use Rattle.std.specs.Prelude.{List, ℕ};
+    ghost use Rattle.rept_ports.specs.FileList.{file_list};
+
+    ghost Value = { List (List ℕ × List ℕ) };
+
+    ghost view = { λ s. file_list s.files.entries };
+}
+
+impl CalmShelf {
+    /// No files.
+    pub fn new(alloc: Global) -> CalmShelf
+        ensures { result ≡ [] }
+    {
+        CalmShelf {
+            alloc,
+            files: BTreeMap::new(alloc),
+        }
+    }
+
+    /// Makes the bytes the file of this name. Its only refusal is of memory, and changes nothing.
+    pub fn put(&mut self, name: &str, bytes: &[u8]) -> Result<(), OutOfMemory>
+        ensures ok { OnOk result ((q : List ℕ) → file_in self.new q ≡ (if bytes_eq name.now q then Some bytes.now else file_in self.old q)) }
+        ensures err { OnErr result (self.new ≡ self.old) }
+    {
+        let name = String::from_str(self.alloc, name)?;
+        let bytes = Vec::from_slice(self.alloc, bytes)?;
+        self.files.insert(name, bytes)?;
+        Ok(())
+    }
+
+    /// The bytes of the file of this name.
+    fn find(&self, name: &str) -> Option<&[u8]>
+        ensures { option_map (λ b. b.now) result ≡ file_in self.now name.now }
+    {
+        file_of(&self.files, name)
+    }
+}
+
+impl Shelf for CalmShelf {
+    ghost use Rattle.std.specs.Prelude.{Some, length, ◌≤◌, ◌≡◌, IfOk, IfErr};
+    ghost use Rattle.rept_ports.specs.Shelves.{LoadFails};
+
+    ghost files = { λ s. Some (file_in s) };
+
+    ghost faults = { λ _. 0 };
+
+    /// A copy of the bytes of the file of this name. It is never `Failed`.
+    fn load(&mut self, alloc: Global, name: &str, limit: usize) -> Result<Vec<u8>, LoadFault>
+        ensures within { IfOk result (λ v. length v.items ≤ limit) }
+        ensures bytes { IfOk result (λ v. file_in self.old name.now ≡ Some v.items) }
+        ensures err { IfErr result (LoadFails (Some (file_in self.old)) name.now limit 0 0) }
+        ensures files_stay { Some (file_in self.new) ≡ Some (file_in self.old) }
+        ensures stays { self.new ≡ self.old }
+    {
+        copy_of(alloc, self.find(name), limit)
+    }
+}
+
+/// The bytes of the file of this name.
+fn file_of<'a>(files: &'a BTreeMap<String, Vec<u8>>, name: &str) -> Option<&'a [u8]>
+    ensures { option_map (λ b. b.now) result ≡ file_in (file_list files.now.entries) name.now }
+{
+    match files.get(name) {
+        Some(bytes) => Some(bytes.as_slice()),
+        None => None,
+    }
+}
+
+/// A copy of the bytes, where there are any and no more than `limit`.
+fn copy_of(alloc: Global, bytes: Option<&[u8]>, limit: usize) -> Result<Vec<u8>, LoadFault>
+    ensures ok { IfOk result (λ v. (length v.items ≤ limit) × (option_map (λ b. b.now) bytes.entry ≡ Some v.items)) }
+    ensures missing { IsErrOf result LoadFault.Missing → bytes.entry ≡ None }
+    ensures too_large { IsErrOf result LoadFault.TooLarge → IsSomeAnd bytes.entry (λ b. limit < length b.now) }
+    ensures failed { IsErrOf result LoadFault.Failed → ⊥ }
+{
+    let Some(bytes) = bytes else {
+        return Err(LoadFault::Missing);
+    };
+    if bytes.len() > limit {
+        return Err(LoadFault::TooLarge);
+    }
+    let copy = Vec::from_slice(alloc, bytes).map_err(|_| LoadFault::OutOfMemory)?;
+    Ok(copy)
+}
+
+/// Files in memory. The loads whose numbers are listed fail; the first load has the number 1.
+#[derive(Drop)]
+pub struct MemShelf {
+    shelf: CalmShelf,
+    fails: Vec<u64>,
+    calls: u64,
+    faults: u64,
+}
+
+impl Model for MemShelf {
+    ghost use Rattle.rept_ports.specs.Memory.{ShelfState};
+
+    ghost Value = { ShelfState };
+
+    ghost view = { λ s. record { files = s.shelf; fails = s.fails.items; calls = s.calls; faults = s.faults } };
+}
+
+impl MemShelf {
+    ghost use Rattle.rept_ports.specs.Memory.{new_shelf, ShelfState};
+
+    /// No files, and the loads of these numbers are to fail. Its only refusal is of memory.
+    pub fn new(alloc: Global, fails: &[u64]) -> Result<MemShelf, OutOfMemory>
+        ensures { IfOk result (λ s. s ≡ new_shelf fails.now) }
+    {
+        let fails = Vec::from_slice(alloc, fails)?;
+        Ok(MemShelf {
+            shelf: CalmShelf::new(alloc),
+            fails,
+            calls: 0,
+            faults: 0,
+        })
+    }
+
+    /// Makes the bytes the file of this name. Its only refusal is of memory, and changes nothing.
+    pub fn put(&mut self, name: &str, bytes: &[u8]) -> Result<(), OutOfMemory>
+        ensures ok { OnOk result ((q : List ℕ) → file_in self.new.files q ≡ (if bytes_eq name.now q then Some bytes.now else file_in self.old.files q)) }
+        ensures stays { let old : ShelfState = self.old in self.new ≡ record old { files = self.new.files } }
+        ensures err { OnErr result (self.new ≡ self.old) }
+    {
+        self.shelf.put(name, bytes)
+    }
+}
+
+impl Shelf for MemShelf {
+    ghost use Rattle.std.specs.Prelude.{Some, length, ◌≤◌, ◌≡◌, IfOk, IfErr, IfSome, Ok, Err};
+    ghost use Rattle.rept_ports.specs.Shelves.{LoadFails};
+    ghost use Rattle.rept_ports.specs.Memory.{ShelfStep};
+
+    ghost files = { λ s. Some (file_in s.files) };
+
+    ghost faults = { λ s. s.faults };
+
+    /// A copy of the bytes of the file of this name. `Failed` comes exactly where the number of this load is listed.
+    fn load(&mut self, alloc: Global, name: &str, limit: usize) -> Result<Vec<u8>, LoadFault>
+        ensures within { IfOk result (λ v. length v.items ≤ limit) }
+        ensures bytes { IfOk result (λ v. file_in self.old.files name.now ≡ Some v.items) }
+        ensures faults_stay { self.old.faults ≤ self.new.faults }
+        ensures err { IfErr result (LoadFails (Some (file_in self.old.files)) name.now limit self.old.faults self.new.faults) }
+        ensures files_stay { Some (file_in self.new.files) ≡ Some (file_in self.old.files) }
+        ensures step { ShelfStep self.old self.new result }
+    {
+        self.calls = self.calls.saturating_add(1);
+        if self.fails.contains(&self.calls) {
+            self.faults = self.faults.saturating_add(1);
+            return Err(LoadFault::Failed);
+        }
+        copy_of(alloc, self.shelf.find(name), limit)
+    }
+}

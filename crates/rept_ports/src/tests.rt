@@ -1,0 +1,156 @@
+use crate::{
+    CalmShelf, CalmSource, DiskShelf, Failed, LoadFault, MemShelf, MemSink, MemSource, Shelf, Sink,
+    Source, StdSink, StdSource, write_all,
+};
+use std::alloc::Global;
+use std::process::Abort;
+use std::test::Fail;
+use std::{fs, io};
+
+/// Loads with each limit in turn, and compares what came.
+fn check_loads<S: Shelf>(
+    rt: &impl Abort,
+    alloc: Global,
+    shelf: &mut S,
+    loads: &[(&str, usize, Result<&[u8], LoadFault>)],
+) {
+    for (name, limit, want) in loads {
+        let got = shelf.load(alloc, name, *limit);
+        match (&got, want) {
+            (Ok(bytes), Ok(wanted)) => assert_eq!(rt; bytes.as_slice(), *wanted, "{name} {limit}"),
+            (Err(fault), Err(wanted)) => assert_eq!(rt; *fault, *wanted, "{name} {limit}"),
+            _ => assert!(rt; false, "{name} {limit}"),
+        }
+    }
+}
+
+/// Reads so many times into four bytes, and compares what came.
+fn check_reads<S: Source>(rt: &impl Abort, source: &mut S, reads: &[Result<&[u8], Failed>]) {
+    for want in reads {
+        let mut into = [0u8; 4];
+        match (source.read(&mut into), want) {
+            (Ok(count), Ok(wanted)) => {
+                assert!(rt; count <= 4);
+                assert_eq!(rt; &into[..count], *wanted);
+            }
+            (Err(Failed), Err(Failed)) => {}
+            _ => assert!(rt; false, "{want:?}"),
+        }
+    }
+}
+
+#[test]
+fn shelves_in_memory(rt: HostRuntime) -> Result<(), Fail> {
+    let mut calm = CalmShelf::new(rt.alloc());
+    calm.put("a", b"old")?;
+    calm.put("b", b"")?;
+    calm.put("a", b"new!")?;
+    check_loads(
+        &rt,
+        rt.alloc(),
+        &mut calm,
+        &[
+            ("a", 9, Ok(b"new!")),
+            ("a", 4, Ok(b"new!")),
+            ("a", 3, Err(LoadFault::TooLarge)),
+            ("b", 0, Ok(b"")),
+            ("c", 9, Err(LoadFault::Missing)),
+        ],
+    );
+    let mut failing = MemShelf::new(rt.alloc(), &[2])?;
+    failing.put("a", b"abc")?;
+    check_loads(
+        &rt,
+        rt.alloc(),
+        &mut failing,
+        &[
+            ("a", 3, Ok(b"abc")),
+            ("a", 3, Err(LoadFault::Failed)),
+            ("a", 2, Err(LoadFault::TooLarge)),
+            ("", 3, Err(LoadFault::Missing)),
+        ],
+    );
+    Ok(())
+}
+
+#[test]
+fn sources_in_memory(rt: HostRuntime) -> Result<(), Fail> {
+    let mut calm = CalmSource::new(b"abcdef");
+    check_reads(&rt, &mut calm, &[Ok(b"abcd"), Ok(b"ef"), Ok(b""), Ok(b"")]);
+    let mut failing = MemSource::new(rt.alloc(), b"abcdef", &[2, 4])?;
+    check_reads(
+        &rt,
+        &mut failing,
+        &[Ok(b"abcd"), Err(Failed), Ok(b"ef"), Err(Failed), Ok(b"")],
+    );
+    Ok(())
+}
+
+#[test]
+fn sinks_in_memory(rt: HostRuntime) -> Result<(), Fail> {
+    let mut sink = MemSink::new(rt.alloc(), 5, &[2])?;
+    assert_eq!(rt; sink.write(b"abc"), Ok(3));
+    assert_eq!(rt; sink.write(b"d"), Err(Failed));
+    assert_eq!(rt; sink.write(b""), Ok(0));
+    assert_eq!(rt; sink.write(b"def"), Ok(2));
+    assert_eq!(rt; sink.write(b"f"), Err(Failed));
+    assert_eq!(rt; sink.write(b""), Ok(0));
+    assert_eq!(rt; sink.bytes(), b"abcde".as_slice());
+
+    let mut sink = MemSink::new(rt.alloc(), 5, &[])?;
+    assert_eq!(rt; write_all(&mut sink, b"abc"), Ok(()));
+    assert_eq!(rt; write_all(&mut sink, b"defg"), Err(Failed));
+    assert_eq!(rt; sink.bytes(), b"abcde".as_slice());
+    Ok(())
+}
+
+#[test]
+fn disk_shelf(rt: HostRuntime) -> Result<(), Fail> {
+    const PATH: &str = "rept_ports_disk_shelf";
+    fs::write(&rt, PATH, b"a\xffb".as_slice())?;
+    let mut shelf = DiskShelf::new(&rt);
+    check_loads(
+        &rt,
+        rt.alloc(),
+        &mut shelf,
+        &[
+            (PATH, 9, Ok(b"a\xffb")),
+            (PATH, 3, Ok(b"a\xffb")),
+            (PATH, 2, Err(LoadFault::TooLarge)),
+            ("rept_ports_no_such_file", 9, Err(LoadFault::Missing)),
+            (".", 9, Err(LoadFault::Failed)),
+        ],
+    );
+    fs::remove_file(&rt, PATH)?;
+    Ok(())
+}
+
+// Standard input is empty where tests run. A folder can be opened and not read.
+#[test]
+fn std_source(rt: HostRuntime) -> Result<(), Fail> {
+    check_reads(&rt, &mut StdSource::new(rt.reader()), &[Ok(b"")]);
+    const PATH: &str = "rept_ports_std_source";
+    fs::write(&rt, PATH, b"abcdef".as_slice())?;
+    let mut source = StdSource::new(fs::open(&rt, PATH)?);
+    check_reads(&rt, &mut source, &[Ok(b"abcd"), Ok(b"ef"), Ok(b"")]);
+    fs::remove_file(&rt, PATH)?;
+    let mut broken = StdSource::new(fs::open(&rt, ".")?);
+    check_reads(&rt, &mut broken, &[Err(Failed)]);
+    Ok(())
+}
+
+// The device `/dev/full` refuses each write for want of space.
+#[test]
+fn std_sink(rt: HostRuntime) -> Result<(), Fail> {
+    let mut output = StdSink::new(io::writer(&rt));
+    assert_eq!(rt; write_all(&mut output, b"written\n"), Ok(()));
+    const PATH: &str = "rept_ports_std_sink";
+    let mut sink = StdSink::new(fs::create(&rt, PATH)?);
+    assert_eq!(rt; write_all(&mut sink, b"ab"), Ok(()));
+    assert_eq!(rt; sink.write(b"c"), Ok(1));
+    assert_eq!(rt; fs::read(&rt, PATH)?.as_slice(), b"abc".as_slice());
+    fs::remove_file(&rt, PATH)?;
+    let mut full = StdSink::new(fs::create(&rt, "/dev/full")?);
+    assert_eq!(rt; full.write(b"c"), Err(Failed));
+    Ok(())
+}
