@@ -1,0 +1,97 @@
+ghost use Rattle.std.specs.Prelude.{◌≡◌, ◌+◌, ◌*◌, ◌%◌, ◌^◌, ◌<◌, ◌≤◌, ℕ};
+ghost use Rattle.rept_word.specs.Number.{sign_extended, IsCover};
+
+/// The low `bits` bits of `v`, with the highest of them repeated above, as the RISC-V unprivileged manual extends
+/// immediates and loaded bytes by their sign (chapters 2.3 and 2.6).
+pub fn sext(v: u32, bits: u32) -> u32
+    requires some { 1 ≤ bits }
+    requires in_word { bits ≤ 32 }
+    ensures { result ≡ sign_extended v bits }
+{
+    let size = 1u64 << bits;
+    let low = u64::from(v) % size;
+    if low < size / 2 {
+        low as u32
+    } else {
+        (low + (1 << 32) - size) as u32
+    }
+}
+
+/// The number by which an odd `v` is multiplied to give 1 modulo 2^32. Each of Newton's five steps doubles the count of right bits.
+pub fn inverse_odd(v: u32) -> u32
+    requires { v % 2 ≡ 1 }
+    ensures { v * result % 2 ^ 32 ≡ 1 }
+{
+    let two = refined(v, 1);
+    let four = refined(v, two);
+    let eight = refined(v, four);
+    let sixteen = refined(v, eight);
+    refined(v, sixteen)
+}
+
+/// One step of Newton's iteration for the inverse of `v`: it doubles how many low bits are right.
+fn refined(v: u32, inverse: u32) -> u32
+    ensures { (bits : ℕ) → bits ≤ 16 → v * inverse % 2 ^ bits ≡ 1 → v * result % 2 ^ (bits + bits) ≡ 1 }
+{
+    let product = v.wrapping_mul(inverse);
+    inverse.wrapping_mul(2u32.wrapping_sub(product))
+}
+
+/// The least number of the form 2^k - 1 that is at least `v`.
+pub fn cover(v: u32) -> u32
+    ensures { IsCover v result }
+{
+    let mut ones = 0u32;
+    while ones < v {
+        ones = 2 * ones + 1;
+    }
+    ones
+}
+
+#[cfg(test)]
+mod tests {
+    use super::*;
+
+    // The inverses of 3, 5, 7 and 9 are those of Hacker's Delight, chapter 10; the rest are worked by hand.
+    #[test]
+    fn answers_by_hand(rt: HostRuntime) {
+        for (v, bits, extended) in [
+            (0xfff, 12, 0xffff_ffff),
+            (0x7ff, 12, 0x7ff),
+            (0x800, 12, 0xffff_f800),
+            (0x1234_5680, 8, 0xffff_ff80),
+            (0x1234_567f, 8, 0x7f),
+            (1, 1, 0xffff_ffff),
+            (2, 1, 0),
+            (0x8000_0000, 32, 0x8000_0000),
+        ] {
+            assert_eq!(rt; extend(v, bits), extended);
+        }
+        assert_eq!(rt; inverse_odd(1), 1);
+        assert_eq!(rt; inverse_odd(3), 0xaaaa_aaab);
+        assert_eq!(rt; inverse_odd(5), 0xcccc_cccd);
+        assert_eq!(rt; inverse_odd(7), 0xb6db_6db7);
+        assert_eq!(rt; inverse_odd(9), 0x38e3_8e39);
+        assert_eq!(rt; inverse_odd(0xffff_ffff), 0xffff_ffff);
+        for (v, ones) in [
+            (0, 0),
+            (1, 1),
+            (2, 3),
+            (3, 3),
+            (4, 7),
+            (0x100, 0x1ff),
+            (0x8000_0000, 0xffff_ffff),
+            (0xffff_ffff, 0xffff_ffff),
+        ] {
+            assert_eq!(rt; cover(v), ones);
+        }
+    }
+
+    fn extend(v: u32, bits: u32) -> u32 {
+        if bits >= 1 && bits <= 32 {
+            sext(v, bits)
+        } else {
+            0
+        }
+    }
+}

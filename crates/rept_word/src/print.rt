@@ -1,0 +1,84 @@
+ghost use Rattle.std.specs.Prelude.{◌≡◌, ◌++◌, ◌<◌, ◌/◌, ◌%◌, ◌^◌, OnOk, OnErr};
+ghost use Rattle.std.specs.Fmt.{decimal};
+ghost use Rattle.rept_word.specs.Hex.{hex_digit, hex_word, hex_byte};
+
+use crate::text::{OutOfMemory, Text};
+
+impl Text {
+    /// Appends the number in decimal, with no sign and no leading zero. A refusal, for want of memory alone, leaves the text as it was.
+    pub fn push_decimal(&mut self, n: u32) -> Result<(), OutOfMemory>
+        ensures ok { OnOk result (self.new ≡ self.old ++ decimal n) }
+        ensures err { OnErr result (self.new ≡ self.old) }
+    {
+        let mut buffer = itoa::Buffer::new();
+        self.push(buffer.format(n).as_bytes())
+    }
+
+    /// Appends the number as `0x` and eight lower-case hexadecimal digits. A refusal, for want of memory alone, leaves the text as it was.
+    pub fn push_word(&mut self, n: u32) -> Result<(), OutOfMemory>
+        ensures ok { OnOk result (self.new ≡ self.old ++ hex_word n) }
+        ensures err { OnErr result (self.new ≡ self.old) }
+    {
+        self.push(&[
+            b'0',
+            b'x',
+            digit_at(n, 28),
+            digit_at(n, 24),
+            digit_at(n, 20),
+            digit_at(n, 16),
+            digit_at(n, 12),
+            digit_at(n, 8),
+            digit_at(n, 4),
+            digit_at(n, 0),
+        ])
+    }
+
+    /// Appends the byte as two lower-case hexadecimal digits. A refusal, for want of memory alone, leaves the text as it was.
+    pub fn push_byte(&mut self, n: u8) -> Result<(), OutOfMemory>
+        ensures ok { OnOk result (self.new ≡ self.old ++ hex_byte n) }
+        ensures err { OnErr result (self.new ≡ self.old) }
+    {
+        self.push(&[digit_at(u32::from(n), 4), digit_at(u32::from(n), 0)])
+    }
+}
+
+/// The lower-case hexadecimal digit of the four bits from bit number `bit` on.
+fn digit_at(n: u32, bit: u32) -> u8
+    requires { bit < 32 }
+    ensures { result ≡ hex_digit (n / 2 ^ bit % 16) }
+{
+    let digit = ((n >> bit) % 16) as u8;
+    if digit < 10 {
+        b'0' + digit
+    } else {
+        b'a' + (digit - 10)
+    }
+}
+
+#[cfg(test)]
+mod tests {
+    use super::*;
+    use std::alloc::AllocError;
+
+    #[test]
+    fn writes_numbers(rt: HostRuntime) -> Result<(), AllocError> {
+        let mut text = Text::new(rt.alloc());
+        assert_eq!(rt; text.bytes(), b"".as_slice());
+        text.push_decimal(0)?;
+        text.push(b" ")?;
+        text.push_decimal(4_294_967_295)?;
+        text.push(b" ")?;
+        text.push_word(0x10ab_cdef)?;
+        text.push(b" ")?;
+        text.push_word(9)?;
+        text.push(b" ")?;
+        text.push_byte(0xaf)?;
+        text.push_byte(0x07)?;
+        text.push(b"")?;
+        assert_eq!(rt;
+            text.bytes(),
+            b"0 4294967295 0x10abcdef 0x00000009 af07".as_slice()
+        );
+        Ok(())
+    }
+}
