@@ -1,0 +1,5 @@
+pub mod Closure
+pub mod Facts
+pub mod Report
+pub mod Results
+pub mod View
