@@ -2,13 +2,17 @@
 #![tactic(auto)]
 
 pub mod class;
+pub mod decoder;
+mod field;
 pub mod instr;
 pub mod number;
 pub mod operands;
+mod operation;
 pub mod reg;
 pub mod row;
 
 pub use class::{Kind, Turn};
+pub use decoder::decode;
 pub use instr::{BranchOp, ImmOp, Instr, LoadOp, RegOp, StoreOp};
 pub use operands::{kind, reads, turn, writes};
 pub use reg::Reg;
