@@ -3,6 +3,7 @@
 
 pub mod class;
 pub mod decoder;
+pub mod encoder;
 mod field;
 pub mod instr;
 pub mod number;
@@ -13,6 +14,7 @@ pub mod row;
 
 pub use class::{Kind, Turn};
 pub use decoder::decode;
+pub use encoder::encode;
 pub use instr::{BranchOp, ImmOp, Instr, LoadOp, RegOp, StoreOp};
 pub use operands::{kind, reads, turn, writes};
 pub use reg::Reg;
