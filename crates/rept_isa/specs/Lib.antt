@@ -1,3 +1,6 @@
 pub mod Numbers
 pub mod Operands
+pub mod Range
+pub mod Reading
 pub mod Words
+pub mod Texts
