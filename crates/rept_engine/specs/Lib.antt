@@ -1,5 +1,7 @@
 pub mod Closure
+pub mod Drawing
 pub mod Facts
+pub mod Log
 pub mod Report
 pub mod Results
 pub mod View

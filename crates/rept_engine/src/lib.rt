@@ -1,12 +1,15 @@
 // What follows from a known path and the last values of its registers, backward and forward.
 #![tactic(auto)]
 
+pub mod analysis;
+mod clash;
 pub mod conflict;
 pub mod fact;
 pub mod flat;
 pub mod rules;
 pub mod stop;
 
+pub use analysis::Analysis;
 pub use conflict::ConflictKind;
 pub use fact::{Cell, Fact};
 pub use flat::Flat;
