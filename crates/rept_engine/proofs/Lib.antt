@@ -1,3 +1,5 @@
+pub mod Drawn
 pub mod Learning
 pub mod Monotony
+pub mod Reported
 pub mod ToldLemmas

@@ -1,5 +1,5 @@
 -- What drawing rules does to an analysis.
-use Rattle.std.specs.Prelude.{◌≡◌, ◌≢◌, ℕ, ◌+◌, ◌<◌, ◌≤◌, length, Bool, true, false, Some, None, slice_get}
+use Rattle.std.specs.Prelude.{◌≡◌, ◌≢◌, ℕ, ◌+◌, ◌*◌, ◌<◌, ◌≤◌, length, Bool, true, false, Some, None, slice_get}
 use Rattle.rept_isa.specs.declared.row.StepRow.{StepRow}
 use Rattle.rept_isa.specs.Operands.{written_by, first_read, second_read}
 use Rattle.rept_engine.specs.declared.fact.Fact.{Fact}
@@ -9,7 +9,8 @@ use Rattle.rept_engine.specs.declared.flat.Flat.{Flat}
 use Rattle.rept_engine.specs.declared.flat.Flat.TheVariants.{Known}
 use Rattle.rept_engine.specs.Facts.{told, operand}
 use Rattle.rept_engine.specs.Results.{forward_of}
-use Rattle.rept_engine.specs.Closure.{Keeps, Concludes}
+use Rattle.rept_engine.specs.Closure.{Keeps, Derivation}
+use Rattle.rept_engine.specs.Log.{OnceEach}
 use Rattle.rept_engine.specs.View.{View}
 
 -- another state of the same analysis, which knows no less
@@ -76,3 +77,9 @@ LastKnownBelow n a = (r v : ℕ) → 0 < r → r < n → slice_get a.last r ≡ 
 pub record IsClosed (a : View) : Type 0 where
   pub last : LastKnownBelow 32 a
   pub rows : RowsClosed a
+
+-- the facts are a derivation in which each was new
+pub record IsDerived (a : View) : Type 0 where
+  pub derivation : Derivation a.rows a.last a.facts
+  pub once : OnceEach a.facts
+  pub within : length a.facts ≤ (length a.rows + 1) * 31

@@ -1,18 +1,20 @@
-ghost use Rattle.std.specs.Prelude.{◌≡◌, ◌≢◌, ◌+◌, ◌*◌, ◌<◌, ◌≤◌, ◌↔◌, ℕ, [], length, IsTrue, IfOk, IfErr, OnOk, Some, slice_get, ⊤};
+ghost use Rattle.std.specs.Prelude.{◌≡◌, ◌≢◌, ◌+◌, ◌*◌, ◌<◌, ◌≤◌, ◌↔◌, ℕ, [], length, IsTrue, IsOk, IfOk, IfErr, OnOk, Some, slice_get, ⊤};
 ghost use Rattle.rept_isa.specs.declared.row.StepRow.{StepRow};
 ghost use Rattle.rept_isa.specs.Operands.{written_by};
 ghost use Rattle.rept_engine.specs.Facts.{told, flat, operand};
 ghost use Rattle.rept_engine.specs.Closure.{Keeps, Concludes, InClosure, ClosureHas};
 ghost use Rattle.rept_engine.specs.Log.{slot, conflict_of};
-ghost use Rattle.rept_engine.specs.Drawing.{Grows, Drew, Knows, Learnt, Carried, CarriedBelow, Resulted, RowClosed, RowsClosed, LastKnownBelow, IsClosed};
-ghost use Rattle.rept_engine.specs.View.{known_in};
-ghost use Rattle.rept_engine.specs.Report.{IsReport};
+ghost use Rattle.rept_engine.specs.Drawing.{Grows, Drew, Knows, Learnt, Carried, CarriedBelow, Resulted, RowClosed, RowsClosed, LastKnownBelow, IsClosed, IsDerived};
+ghost use Rattle.rept_engine.specs.View.{SamePath, known_in};
+ghost use Rattle.rept_engine.specs.Report.{IsReport, IsStop};
+ghost use Rattle.rept_engine.specs.declared.conflict.ConflictKind.{ConflictKind};
 
 use crate::clash::Clash;
 use crate::conflict::ConflictKind;
 use crate::fact::{Cell, Fact};
 use crate::flat::Flat;
 use crate::rules::forward;
+use crate::stop::Stop;
 use rept_isa::{Instr, Reg, StepRow, reads, writes};
 use std::alloc::{AllocError, Global};
 use std::marker::Model;
@@ -55,6 +57,25 @@ fn keeps(instr: &Instr, r: Reg) -> bool
     ensures { IsTrue result ↔ (written_by instr.now ≢ Some r) }
 {
     writes(instr) != Some(r)
+}
+
+/// The register of a number below 32.
+fn register(number: u8) -> Reg
+    requires { number < 32 }
+    ensures { result ≡ number }
+{
+    Reg::new(number).unwrap()
+}
+
+fn kind_of(clash: &Clash) -> ConflictKind
+    ensures { result ≡ conflict_of clash.now }
+{
+    ConflictKind::TwoValues {
+        point: clash.point,
+        cell: Cell::Register(clash.register),
+        v: clash.less,
+        w: clash.more,
+    }
 }
 
 impl<'a> Analysis<'a> {
@@ -111,6 +132,18 @@ impl<'a> Analysis<'a> {
         last[r.number() as usize]
     }
 
+    /// What is known of a register at a point, from 0 before the first row to the number of rows behind the last one.
+    /// x0 is 0. At any time each known value stands in the closure, also before `refine` and after it answered a stop;
+    /// after it answered Ok, `Unknown` comes exactly where the closure has no value.
+    pub fn reg(&self, point: u32, r: Reg) -> Flat
+        requires point { point ≤ length self.now.rows }
+        ensures value { result ≡ flat (known_in self.now point r) }
+        ensures derived { (v : ℕ) → result ≡ Flat.Known v → 0 < r → InClosure self.now.rows self.now.last (record { point = point; cell = Cell.Register r; value = v }) }
+    {
+        let _rows = &self.rows;
+        self.known(point, r)
+    }
+
     /// What is known of a register at a point.
     fn known(&self, point: u32, r: Reg) -> Flat
         requires point { point ≤ length self.now.rows }
@@ -131,8 +164,10 @@ impl<'a> Analysis<'a> {
     /// What is known of the register in an operand's place.
     fn operand(&self, point: u32, r: Option<Reg>) -> Flat
         requires point { point ≤ length self.now.rows }
-        ensures { result ≡ operand (told self.now.facts) point r }
+        ensures value { result ≡ operand (told self.now.facts) point r }
+        ensures few { length self.now.rows ≤ 65536 }
     {
+        let _rows = &self.rows;
         match r {
             None => Flat::Unknown,
             Some(r) => self.known(point, r),
@@ -178,7 +213,7 @@ impl<'a> Analysis<'a> {
     /// Adds the value if there is one, and the register is not x0.
     fn learn_if(&mut self, point: u32, r: Reg, value: Flat) -> Result<bool, Clash>
         requires point { point ≤ length self.old.rows }
-        requires concluded { (v : ℕ) → value ≡ Flat.Known v → 0 < r → Concludes self.old.rows self.old.last (told self.old.facts) (record { point = point; cell = Cell.Register r; value = v }) }
+        requires concluded { (v : ℕ) → value ≡ Flat.Known v → 0 < r → r < 32 → Concludes self.old.rows self.old.last (told self.old.facts) (record { point = point; cell = Cell.Register r; value = v }) }
         ensures grows { Grows self.old self.new }
         ensures drew { IfOk result (λ learnt. Drew self.old self.new learnt (Learnt point r value)) }
         ensures conflict { IfErr result (λ c. ClosureHas self.old.rows self.old.last (conflict_of c)) }
@@ -220,7 +255,7 @@ impl<'a> Analysis<'a> {
     {
         let mut learnt = false;
         for r in 1..32u8 {
-            let new = self.carry(i, row, Reg::new(r).unwrap())?;
+            let new = self.carry(i, row, register(r))?;
             learnt = learnt | new;
         }
         Ok(learnt)
@@ -275,7 +310,7 @@ impl<'a> Analysis<'a> {
     {
         let mut learnt = false;
         for r in 1..32u8 {
-            let new = self.draw_last(Reg::new(r).unwrap())?;
+            let new = self.draw_last(register(r))?;
             learnt = learnt | new;
         }
         Ok(learnt)
@@ -316,7 +351,7 @@ impl<'a> Analysis<'a> {
         ensures grows { Grows self.old self.new }
         ensures drew { IfOk result (λ learnt. Drew self.old self.new learnt IsClosed) }
         ensures conflict { IfErr result (λ c. ClosureHas self.old.rows self.old.last (conflict_of c)) }
-        ensures within { length self.new.facts ≤ (length self.new.rows + 1) * 31 }
+        ensures derived { OnOk result (IsDerived self.new) }
     {
         let last = self.draw_all_last()?;
         let back = self.draw_back()?;
@@ -338,7 +373,40 @@ impl<'a> Analysis<'a> {
                 break;
             }
         }
-        let _rows = &self.rows;
         Ok(())
+    }
+
+    /// Keeps the conflict that is answered.
+    fn stop(&mut self, clash: Clash) -> Stop
+        requires { ClosureHas self.old.rows self.old.last (conflict_of clash) }
+        ensures kind { result ≡ Stop.Conflict (conflict_of clash) }
+        ensures recorded { self.new ≡ record self.old { conflict = Some (conflict_of clash) } }
+    {
+        self.conflict = Some(kind_of(&clash));
+        Stop::Conflict(kind_of(&clash))
+    }
+
+    /// Learns all that follows from the path and the last register values. Ok: what `reg` answers is then the report,
+    /// exactly the facts of the closure, and another call changes nothing. `Stop::Conflict`: exactly where the closure
+    /// has a conflict, one that it has; another call answers the same one. It takes no memory, so it never answers
+    /// `Stop::OutOfMemory`.
+    pub fn refine(&mut self) -> Result<(), Stop>
+        ensures path { SamePath self.old self.new }
+        ensures kept { (p r v : ℕ) → known_in self.old p r ≡ Some v → known_in self.new p r ≡ Some v }
+        ensures report { OnOk result (IsReport self.new.rows self.new.last (known_in self.new)) }
+        ensures stop { IfErr result (IsStop self.old.rows self.old.last) }
+
+        // A second call answers as the first did.
+        ensures recorded { (kind : ConflictKind) → result ≡ Err (Stop.Conflict kind) → self.new.conflict ≡ Some kind }
+        ensures again { (kind : ConflictKind) → self.old.conflict ≡ Some kind → (result ≡ Err (Stop.Conflict kind)) × (self.new ≡ self.old) }
+        ensures settled { IsReport self.old.rows self.old.last (known_in self.old) → IsOk result × (self.new ≡ self.old) }
+    {
+        if let Some(kind) = self.conflict {
+            return Err(Stop::Conflict(kind));
+        }
+        match self.settle() {
+            Ok(()) => Ok(()),
+            Err(clash) => Err(self.stop(clash)),
+        }
     }
 }
