@@ -1,0 +1,5 @@
+pub mod Numbers
+pub mod Operands
+pub mod Range
+pub mod Reading
+pub mod Words

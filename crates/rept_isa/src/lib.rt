@@ -1,10 +1,21 @@
 // The instructions of RV32IM: their words, their registers and their texts.
 #![tactic(auto)]
 
+pub mod class;
+pub mod decoder;
+pub mod encoder;
+mod field;
 pub mod instr;
+pub mod number;
+pub mod operands;
+mod operation;
 pub mod reg;
 pub mod row;
 
+pub use class::{Kind, Turn};
+pub use decoder::decode;
+pub use encoder::encode;
 pub use instr::{BranchOp, ImmOp, Instr, LoadOp, RegOp, StoreOp};
+pub use operands::{kind, reads, turn, writes};
 pub use reg::Reg;
 pub use row::StepRow;

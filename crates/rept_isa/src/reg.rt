@@ -1,4 +1,4 @@
-ghost use Rattle.std.specs.Prelude.{◌≡◌, ◌<◌, ◌↔◌, IsSome, IfSome};
+ghost use Rattle.std.specs.Prelude.{◌≡◌, ◌<◌, ◌%◌, ◌^◌, ◌↔◌, IsSome, IfSome};
 
 use std::marker::Model;
 
@@ -39,5 +39,14 @@ impl Reg {
         ensures in_file { result < 32 }
     {
         self.number
+    }
+
+    /// The register whose number is the lowest five bits.
+    pub(crate) fn from_low_bits(bits: u32) -> Reg
+        ensures { result ≡ bits % 2 ^ 5 }
+    {
+        Reg {
+            number: (bits % 32) as u8,
+        }
     }
 }

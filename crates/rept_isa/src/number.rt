@@ -1,0 +1,23 @@
+ghost use Rattle.std.specs.Prelude.{◌≡◌};
+ghost use Rattle.rept_isa.specs.Numbers.{word, plus, following};
+
+/// The word of a signed number, in two's complement.
+pub fn word(imm: i32) -> u32
+    ensures { result ≡ word imm }
+{
+    imm.cast_unsigned()
+}
+
+/// The word that lies `imm` bytes from `base`, modulo 2^32.
+pub fn plus(base: u32, imm: i32) -> u32
+    ensures { result ≡ plus base imm }
+{
+    base.wrapping_add(word(imm))
+}
+
+/// The address of the instruction behind the one at `address`, modulo 2^32.
+pub fn following(address: u32) -> u32
+    ensures { result ≡ following address }
+{
+    address.wrapping_add(4)
+}

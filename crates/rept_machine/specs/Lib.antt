@@ -1,0 +1,5 @@
+pub mod Arithmetic
+pub mod Calls
+pub mod Execution
+pub mod State
+pub mod Step
