@@ -15,7 +15,7 @@ use Rattle.rept_engine.specs.View.{View, known_in}
 use Rattle.rept_engine.specs.Drawing.{Grows, IsNew, Drew, Knows, Learnt, Carried, CarriedBelow, Resulted, RowDrawn, RowClosed, RowsClosed}
 use Rattle.rept_engine.proofs.ToldLemmas.{same_some}
 
-flat_known : (o : Option ℕ) (v : ℕ) → flat o ≡ Known v → o ≡ Some v
+pub flat_known : (o : Option ℕ) (v : ℕ) → flat o ≡ Known v → o ≡ Some v
 flat_known None v e = cc
 flat_known (Some w) v e = cc
 

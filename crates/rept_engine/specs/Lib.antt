@@ -4,4 +4,5 @@ pub mod Facts
 pub mod Log
 pub mod Report
 pub mod Results
+pub mod Soundness
 pub mod View

@@ -1,4 +1,4 @@
-ghost use Rattle.std.specs.Prelude.{◌≡◌, ◌≢◌, ◌+◌, ◌*◌, ◌<◌, ◌≤◌, ◌↔◌, ℕ, [], length, IsTrue, IsOk, IfOk, IfErr, OnOk, Some, slice_get, ⊤};
+ghost use Rattle.std.specs.Prelude.{◌≡◌, ◌≢◌, ◌+◌, ◌*◌, ◌<◌, ◌≤◌, ◌↔◌, ℕ, [], length, IsTrue, IsOk, IfOk, IfErr, OnOk, OnErr, Some, slice_get, ⊤};
 ghost use Rattle.rept_isa.specs.declared.row.StepRow.{StepRow};
 ghost use Rattle.rept_isa.specs.Operands.{written_by};
 ghost use Rattle.rept_engine.specs.Facts.{told, flat, operand};
@@ -6,6 +6,7 @@ ghost use Rattle.rept_engine.specs.Closure.{Keeps, Concludes, InClosure, Closure
 ghost use Rattle.rept_engine.specs.Log.{slot, conflict_of};
 ghost use Rattle.rept_engine.specs.Drawing.{Grows, Drew, Knows, Learnt, Carried, CarriedBelow, Resulted, RowClosed, RowsClosed, LastKnownBelow, IsClosed, IsDerived};
 ghost use Rattle.rept_engine.specs.View.{SamePath, known_in};
+ghost use Rattle.rept_engine.specs.Soundness.{AlwaysHolds, IsSound, HasNoExecution};
 ghost use Rattle.rept_engine.specs.Report.{IsReport, IsStop};
 ghost use Rattle.rept_engine.specs.declared.conflict.ConflictKind.{ConflictKind};
 
@@ -138,6 +139,7 @@ impl<'a> Analysis<'a> {
     pub fn reg(&self, point: u32, r: Reg) -> Flat
         requires point { point ≤ length self.now.rows }
         ensures value { result ≡ flat (known_in self.now point r) }
+        ensures sound { (v : ℕ) → result ≡ Flat.Known v → AlwaysHolds self.now.rows self.now.last point r v }
         ensures derived { (v : ℕ) → result ≡ Flat.Known v → 0 < r → InClosure self.now.rows self.now.last (record { point = point; cell = Cell.Register r; value = v }) }
     {
         let _rows = &self.rows;
@@ -395,6 +397,10 @@ impl<'a> Analysis<'a> {
         ensures kept { (p r v : ℕ) → known_in self.old p r ≡ Some v → known_in self.new p r ≡ Some v }
         ensures report { OnOk result (IsReport self.new.rows self.new.last (known_in self.new)) }
         ensures stop { IfErr result (IsStop self.old.rows self.old.last) }
+
+        // Over all executions of the path that end in the last register values.
+        ensures sound { OnOk result (IsSound self.new.rows self.new.last (known_in self.new)) }
+        ensures impossible { OnErr result (HasNoExecution self.old.rows self.old.last) }
 
         // A second call answers as the first did.
         ensures recorded { (kind : ConflictKind) → result ≡ Err (Stop.Conflict kind) → self.new.conflict ≡ Some kind }
