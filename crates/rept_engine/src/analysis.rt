@@ -2,7 +2,7 @@ ghost use Rattle.std.specs.Prelude.{◌≡◌, ◌≢◌, ◌+◌, ◌*◌, ◌<
 ghost use Rattle.rept_isa.specs.declared.row.StepRow.{StepRow};
 ghost use Rattle.rept_isa.specs.Operands.{written_by};
 ghost use Rattle.rept_engine.specs.Facts.{told, flat, operand};
-ghost use Rattle.rept_engine.specs.Closure.{Keeps, Concludes, InClosure, ClosureHas};
+ghost use Rattle.rept_engine.specs.Closure.{Keeps, Concludes, InClosure, ClosureHas, IsConsistent};
 ghost use Rattle.rept_engine.specs.Log.{slot, conflict_of};
 ghost use Rattle.rept_engine.specs.Drawing.{Grows, Drew, Knows, Learnt, Carried, CarriedBelow, Resulted, RowClosed, RowsClosed, LastKnownBelow, IsClosed, IsDerived};
 ghost use Rattle.rept_engine.specs.View.{SamePath, known_in};
@@ -17,7 +17,7 @@ use crate::flat::Flat;
 use crate::rules::forward;
 use crate::stop::Stop;
 use rept_isa::{Instr, Reg, StepRow, reads, writes};
-use std::alloc::{AllocError, Global};
+use std::alloc::{AllocError as OutOfMemory, Global};
 use std::marker::Model;
 
 /// What is known of the registers along a path, inferred from the path and the last register values.
@@ -86,7 +86,7 @@ impl<'a> Analysis<'a> {
         alloc: Global,
         rows: &'a [StepRow],
         last: &'a [u32],
-    ) -> Result<Analysis<'a>, AllocError>
+    ) -> Result<Analysis<'a>, OutOfMemory>
         requires few { length rows.now ≤ 65536 }
         requires registers { length last.now ≡ 32 }
         ensures nothing { IfOk result (λ a. a ≡ record { rows = rows.now; last = last.now; facts = []; conflict = None }) }
@@ -397,6 +397,7 @@ impl<'a> Analysis<'a> {
         ensures kept { (p r v : ℕ) → known_in self.old p r ≡ Some v → known_in self.new p r ≡ Some v }
         ensures report { OnOk result (IsReport self.new.rows self.new.last (known_in self.new)) }
         ensures stop { IfErr result (IsStop self.old.rows self.old.last) }
+        ensures ok { IsOk result ↔ IsConsistent self.old.rows self.old.last }
 
         // Over all executions of the path that end in the last register values.
         ensures sound { OnOk result (IsSound self.new.rows self.new.last (known_in self.new)) }

@@ -14,5 +14,8 @@ pub use conflict::ConflictKind;
 pub use fact::{Cell, Fact};
 pub use flat::Flat;
 pub use rules::forward;
-pub use stop::Stop;
 pub use std::alloc::AllocError as OutOfMemory;
+pub use stop::Stop;
+
+#[cfg(test)]
+mod tests;
