@@ -3,3 +3,4 @@ pub mod Operands
 pub mod Range
 pub mod Reading
 pub mod Words
+pub mod Texts

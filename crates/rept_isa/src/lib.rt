@@ -11,6 +11,7 @@ pub mod operands;
 mod operation;
 pub mod reg;
 pub mod row;
+pub mod shown;
 
 pub use class::{Kind, Turn};
 pub use decoder::decode;
@@ -19,3 +20,4 @@ pub use instr::{BranchOp, ImmOp, Instr, LoadOp, RegOp, StoreOp};
 pub use operands::{kind, reads, turn, writes};
 pub use reg::Reg;
 pub use row::StepRow;
+pub use shown::Shown;
