@@ -1,5 +1,8 @@
 pub mod Closure
+pub mod Drawing
 pub mod Facts
+pub mod Log
 pub mod Report
 pub mod Results
+pub mod Soundness
 pub mod View

@@ -1,5 +1,5 @@
 -- An analysis, as its callers see it.
-use Rattle.std.specs.Prelude.{ℕ, List, Option}
+use Rattle.std.specs.Prelude.{◌≡◌, ℕ, List, Option}
 use Rattle.rept_isa.specs.declared.row.StepRow.{StepRow}
 use Rattle.rept_engine.specs.declared.fact.Fact.{Fact}
 use Rattle.rept_engine.specs.declared.conflict.ConflictKind.{ConflictKind}
@@ -15,3 +15,8 @@ pub record View : Type 0 where
 -- what the analysis knows of a register at a point
 abbrev pub known_in : View → ℕ → ℕ → Option ℕ
 known_in a p r = register_known (told a.facts) p r
+
+-- another state of an analysis of the same path and last values
+pub record SamePath (old new : View) : Type 0 where
+  pub rows : new.rows ≡ old.rows
+  pub last : new.last ≡ old.last

@@ -1,0 +1,10 @@
+use Rattle.std.proofs.Common.{ℕ, ◌<◌}
+use Rattle.rept_engine.specs.View.{View}
+use Rattle.rept_engine.specs.Drawing.{Grows, Drew, RowClosed}
+use Rattle.rept_engine.proofs.analysis.Analysis.draw_onward.Given as goal
+
+abbrev pub invariant-loop-i : goal.invariant-loop-i
+invariant-loop-i l = record {
+  grows : Grows l.fn.self l.self;
+  drew : Drew l.fn.self l.self l.learnt (λ (a : View). (j : ℕ) → j < l.i → RowClosed j a);
+}
