@@ -172,7 +172,7 @@ impl<'a> Analysis<'a> {
         let _rows = &self.rows;
         match r {
             None => Flat::Unknown,
-            Some(r) => self.known(point, r),
+            Some(register) => self.known(point, register),
         }
     }
 
