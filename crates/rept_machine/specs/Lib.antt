@@ -1,4 +1,5 @@
 pub mod Arithmetic
+pub mod Bytes
 pub mod Calls
 pub mod Execution
 pub mod State

@@ -1,5 +1,6 @@
 // What the operations compute (RISC-V unprivileged manual 20191213, chapters 2.4, 2.5 and 7).
-ghost use Rattle.std.specs.Prelude.{◌≡◌, ◌*◌, ◌*ℤ◌, ◌+◌, ◌-◌, ◌/◌, ◌%◌, ◌^◌, ◌==◌, ◌<◌, pos, IsTrue, ◌↔◌, if◌then◌else◌, int_div, int_rem};
+ghost use Rattle.std.specs.Prelude.{◌≡◌, ◌*◌, ◌*ℤ◌, ◌+◌, ◌-◌, ◌/◌, ◌%◌, ◌^◌, ◌==◌, ◌<◌, pos, IsTrue, ◌↔◌, if◌then◌else◌, int_div, int_rem, FitsSigned};
+ghost use mir.Syntax.{w32};
 ghost use Rattle.std.specs.Int.{int_shr};
 ghost use Rattle.rept_isa.specs.Numbers.{word};
 ghost use Rattle.rept_machine.specs.Arithmetic.{computed, computed_imm, register_form, branch_holds, below_signed, signed_word, high_word};
@@ -13,7 +14,7 @@ pub fn computed(op: RegOp, a: u32, b: u32) -> u32
 {
     match op {
         RegOp::Add => a.wrapping_add(b),
-        RegOp::Sub => difference(a, b),
+        RegOp::Sub => a.wrapping_sub(b),
         RegOp::Sll => a.wrapping_shl(b),
         RegOp::Slt => u32::from(below_signed(a, b)),
         RegOp::Sltu => u32::from(a < b),
@@ -23,8 +24,8 @@ pub fn computed(op: RegOp, a: u32, b: u32) -> u32
         RegOp::Or => a | b,
         RegOp::And => a & b,
         RegOp::Mul => a.wrapping_mul(b),
-        RegOp::Mulh => high_word(i64::from(a.cast_signed()) * i64::from(b.cast_signed())),
-        RegOp::Mulhsu => high_word(i64::from(a.cast_signed()) * i64::from(b)),
+        RegOp::Mulh => high_word(widened(a) * widened(b)),
+        RegOp::Mulhsu => high_word(widened(a) * i64::from(b)),
         RegOp::Mulhu => ((u64::from(a) * u64::from(b)) >> 32) as u32,
         RegOp::Div => signed_quotient(a, b),
         RegOp::Divu => a.checked_div(b).unwrap_or(u32::MAX),
@@ -76,17 +77,19 @@ fn below_signed(a: u32, b: u32) -> bool
     a.cast_signed() < b.cast_signed()
 }
 
-fn difference(a: u32, b: u32) -> u32
-    ensures { result ≡ computed RegOp.Sub a b }
-{
-    a.wrapping_sub(b)
-}
-
 /// Shifted to the right by the low five bits of `b`, with the sign repeated.
 fn shifted_with_sign(a: u32, b: u32) -> u32
     ensures { result ≡ computed RegOp.Sra a b }
 {
     word(a.cast_signed() >> (b % 32))
+}
+
+/// The signed number.
+fn widened(a: u32) -> i64
+    ensures value { result ≡ signed_word a }
+    ensures small { FitsSigned w32 result }
+{
+    i64::from(a.cast_signed())
 }
 
 /// The upper word of the 64 bits.

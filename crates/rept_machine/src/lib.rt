@@ -2,8 +2,5 @@
 #![tactic(auto)]
 
 mod arithmetic;
-
-
-
-
-
+mod memory;
+mod registers;
