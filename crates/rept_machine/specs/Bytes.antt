@@ -3,6 +3,7 @@ use Rattle.std.specs.Prelude.{◌≡◌, ◌≢◌, ℕ, ◌<◌, ◌==◌, List
 use Rattle.std.specs.Ordering.{nat_cmp}
 use Rattle.std.specs.BTreeMap.{get, BTreeMap}
 use Rattle.rept_machine.specs.declared.memory.Memory.{Memory}
+use Rattle.rept_machine.specs.Arithmetic.{beside, byte_of}
 use Rattle.rept_machine.specs.State.{State}
 
 abbrev pub byte_at : Memory → ℕ → ℕ
@@ -32,3 +33,12 @@ written registers rd value = if rd == 0 then registers else slice_set registers 
 -- the state that both show
 abbrev pub shown_by : List ℕ → Memory → State
 shown_by registers memory = record { register = λ r. slice_index registers r; memory = byte_at memory }
+
+-- the low bytes of the value stand from base on, and every other byte is as before
+pub record BytesWritten (old new : Memory) (base value width : ℕ) : Type 0 where
+  pub here : (k : ℕ) → k < width → byte_at new (beside base k) ≡ byte_of value k
+  pub others : (a : ℕ) → ((k : ℕ) → k < width → a ≢ beside base k) → byte_at new a ≡ byte_at old a
+
+-- so many addresses from base on have entries
+abbrev pub HaveEntries : Memory → ℕ → ℕ → Type 0
+HaveEntries memory base width = (k : ℕ) → k < width → has_entry memory (beside base k) ≡ true

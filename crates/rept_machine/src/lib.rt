@@ -4,3 +4,4 @@
 mod arithmetic;
 mod memory;
 mod registers;
+mod store;
