@@ -2,6 +2,10 @@
 #![tactic(auto)]
 
 mod arithmetic;
+mod execute;
+pub mod machine;
 mod memory;
 mod registers;
 mod store;
+
+pub use machine::{Halt, Machine};

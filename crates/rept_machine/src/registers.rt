@@ -12,7 +12,8 @@ pub fn read(registers: &[u32; 32], r: Reg) -> u32
 
 /// Writes the value, which x0 doesn't take.
 pub fn write(registers: &mut [u32; 32], r: Reg, value: u32)
-    ensures { registers.new ≡ written registers.old r value }
+    ensures after { registers.new ≡ written registers.old r value }
+    ensures zero { slice_index registers.new 0 ≡ slice_index registers.old 0 }
 {
     if r.number() != 0 {
         registers[usize::from(r.number())] = value;
