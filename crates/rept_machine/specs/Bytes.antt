@@ -1,13 +1,14 @@
 -- What is kept of the registers and the memory: a list of words, and a map in which an address without an entry reads 0.
-use Rattle.std.specs.Prelude.{◌≡◌, ◌≢◌, ℕ, ◌<◌, ◌==◌, List, slice_index, slice_set, unwrap_or, is_some, Bool, true, if◌then◌else◌}
+use Rattle.std.specs.Prelude.{◌≡◌, ◌≢◌, ℕ, ◌<◌, ◌==◌, List, slice_index, slice_set, is_some, Bool, true, if◌then◌else◌}
 use Rattle.std.specs.Ordering.{nat_cmp}
 use Rattle.std.specs.BTreeMap.{get, BTreeMap}
+use Rattle.rept_machine.specs.Entries.{byte_in}
 use Rattle.rept_machine.specs.declared.memory.Memory.{Memory}
 use Rattle.rept_machine.specs.Arithmetic.{beside, byte_of}
 use Rattle.rept_machine.specs.State.{State}
 
 abbrev pub byte_at : Memory → ℕ → ℕ
-byte_at memory a = unwrap_or (get nat_cmp memory.bytes a) 0
+byte_at memory a = byte_in memory.bytes a
 
 -- an entry of its own
 abbrev pub has_entry : Memory → ℕ → Bool

@@ -1,4 +1,4 @@
-ghost use Rattle.std.specs.Prelude.{◌≡◌, ◌/◌, ◌*◌, ℕ, IfOk, OnOk, OnErr, slice_index};
+ghost use Rattle.std.specs.Prelude.{◌≡◌, ◌<◌, ◌^◌, ℕ, IfOk, OnOk, OnErr, slice_index};
 ghost use Rattle.rept_machine.specs.Step.{HasEffect, Computes, Jumps, Calls, far_target};
 ghost use Rattle.rept_machine.specs.Choices.{Picks, IsRunnable, WritesMemory};
 ghost use Rattle.rept_machine.specs.declared.memory.Memory.{Memory};
@@ -23,6 +23,7 @@ pub fn execute(
     requires { IsRunnable instr.now }
     ensures effect { IfOk result (λ next. (image_end : ℕ) → HasEffect instr.now image_end at next (shown_by registers.old memory.old) (shown_by registers.new memory.new)) }
     ensures picks { OnOk result (Picks instr.now (shown_by registers.old memory.old) (shown_by registers.new memory.new)) }
+    ensures words { (r : ℕ) → slice_index registers.new r < 2 ^ 32 }
     ensures kept { slice_index registers.new 0 ≡ slice_index registers.old 0 }
     ensures store { OnErr result (WritesMemory instr.now) }
     ensures registers { OnErr result (registers.new ≡ registers.old) }
@@ -73,6 +74,7 @@ pub fn execute(
 
 /// Writes the value and answers the next address.
 fn put(registers: &mut [u32; 32], rd: Reg, value: u32, at: u32) -> u32
+    ensures words { (r : ℕ) → slice_index registers.new r < 2 ^ 32 }
     ensures kept { slice_index registers.new 0 ≡ slice_index registers.old 0 }
     ensures done { (m : Memory) → Computes rd value at result (shown_by registers.old m) (shown_by registers.new m) }
 {
@@ -82,6 +84,7 @@ fn put(registers: &mut [u32; 32], rd: Reg, value: u32, at: u32) -> u32
 
 /// Writes the address behind this one and answers the target.
 fn jump(registers: &mut [u32; 32], rd: Reg, target: u32, at: u32) -> u32
+    ensures words { (r : ℕ) → slice_index registers.new r < 2 ^ 32 }
     ensures kept { slice_index registers.new 0 ≡ slice_index registers.old 0 }
     ensures done { (m : Memory) → Jumps rd target at result (shown_by registers.old m) (shown_by registers.new m) }
 {
@@ -92,6 +95,7 @@ fn jump(registers: &mut [u32; 32], rd: Reg, target: u32, at: u32) -> u32
 /// Answers a call: 0 in a0.
 fn answer(registers: &mut [u32; 32], at: u32) -> u32
     ensures call { (m : Memory) (image_end : ℕ) → Calls image_end at result (shown_by registers.old m) (shown_by registers.new m) }
+    ensures words { (r : ℕ) → slice_index registers.new r < 2 ^ 32 }
     ensures kept { slice_index registers.new 0 ≡ slice_index registers.old 0 }
     ensures zero { slice_index registers.new 10 ≡ 0 }
 {

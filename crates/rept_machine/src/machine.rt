@@ -1,4 +1,5 @@
-ghost use Rattle.std.specs.Prelude.{◌≡◌, ◌+◌, ◌*◌, ◌%◌, ◌^◌, ◌≤◌, ◌==◌, ◌↔◌, ℕ, IfOk, OnErr, IfErr, Some, None, Err, IsTrue, length, slice_index, if◌then◌else◌};
+ghost use Rattle.std.specs.Prelude.{◌≡◌, ◌+◌, ◌*◌, ◌%◌, ◌^◌, ◌<◌, ◌≤◌, ◌==◌, ◌↔◌, ℕ, IfOk, OnErr, IfErr, Some, None, Err, IsTrue, length, slice_index, if◌then◌else◌};
+ghost use Rattle.rept_machine.specs.State.{IsState};
 ghost use Rattle.rept_machine.specs.Step.{IsStep};
 ghost use Rattle.rept_machine.specs.Choices.{Picks};
 
@@ -32,6 +33,7 @@ pub struct Machine<'a> {
     registers: [u32; 32],
     memory: Memory,
     ghost zero: { slice_index registers 0 ≡ 0 },
+    ghost words: { (r : ℕ) → slice_index registers r < 2 ^ 32 },
 }
 
 impl<'a> Machine<'a> {
@@ -47,6 +49,7 @@ impl<'a> Machine<'a> {
         ensures pc { pc_of result ≡ pc }
         ensures registers { (r : ℕ) → (state_of result).register r ≡ (if r == 0 then 0 else slice_index regs r) }
         ensures memory { (a : ℕ) → (state_of result).memory a ≡ 0 }
+        ensures state { IsState (state_of result) }
     {
         let mut registers = regs;
         registers[0] = 0;
@@ -62,6 +65,7 @@ impl<'a> Machine<'a> {
     /// Makes one step and gives its row. A call answers 0 in x10 and changes no byte, and a counter reads as 0.
     pub fn step(&mut self) -> Result<StepRow, Halt>
         ensures lawful { IfOk result (λ row. (image_end : ℕ) → IsStep image_end row (state_of self.old) (state_of self.new)) }
+        ensures state { IsState (state_of self.new) }
         ensures picks { IfOk result (λ row. Picks row.instr (state_of self.old) (state_of self.new)) }
         ensures at { IfOk result (λ row. row.at ≡ pc_of self.old) }
         ensures next { IfOk result (λ row. pc_of self.new ≡ row.next) }

@@ -1,6 +1,7 @@
 // A sparse memory of bytes.
 ghost use Rattle.std.specs.Prelude.{◌≡◌, ◌<◌, ◌^◌, ℕ, true, OnOk};
 ghost use Rattle.rept_machine.specs.Arithmetic.{loaded, half_at, word_at, extended};
+ghost use Rattle.rept_machine.specs.Entries.{AreBytes};
 
 use rept_isa::LoadOp;
 use std::alloc::{AllocError, Global};
@@ -10,6 +11,7 @@ use std::collections::BTreeMap;
 #[derive(Drop)]
 pub struct Memory {
     bytes: BTreeMap<u32, u8>,
+    ghost small: { AreBytes bytes },
 }
 
 impl Memory {
