@@ -38,23 +38,16 @@ pub fn execute(
             Ok(jump(registers, rd, target, at))
         }
         Instr::Branch { op, rs1, rs2, imm } => {
-            if branch_holds(op, read(registers, rs1), read(registers, rs2)) {
-                Ok(plus(at, imm))
-            } else {
-                Ok(following(at))
-            }
+            let taken = branch_holds(op, read(registers, rs1), read(registers, rs2));
+            Ok(if taken { plus(at, imm) } else { following(at) })
         }
         Instr::Load { op, rd, rs1, imm } => {
             let value = memory.load(op, plus(read(registers, rs1), imm));
             Ok(put(registers, rd, value, at))
         }
         Instr::Store { op, rs1, rs2, imm } => {
-            store(
-                memory,
-                op,
-                plus(read(registers, rs1), imm),
-                read(registers, rs2),
-            )?;
+            let base = plus(read(registers, rs1), imm);
+            store(memory, op, base, read(registers, rs2))?;
             Ok(following(at))
         }
         Instr::Imm { op, rd, rs1, imm } => {

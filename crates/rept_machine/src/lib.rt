@@ -9,3 +9,6 @@ mod registers;
 mod store;
 
 pub use machine::{Halt, Machine};
+
+#[cfg(test)]
+mod tests;
