@@ -1,19 +1,16 @@
-use Rattle.std.proofs.Common.{◌≡◌, ◌≢◌, ℕ, ◌+◌, ◌<◌, ◌≤◌, length, Option, Some, None, inl, inr, refl, sym, ap, subst, ◌∙◌, arith, Bool, true, false, eqb, slice_get, ◌||◌}
+use Rattle.std.proofs.Common.{◌≡◌, ℕ, ◌+◌, ◌<◌, length, Option, Some, None, inl, inr, refl, sym, subst, ◌∙◌, arith, Bool, true, false, eqb, slice_get, ◌||◌}
 use Rattle.std.proofs.lemmas.Bool.{cases_lt, cond-false, ne_eqb, or_parts}
 use Rattle.rept_isa.specs.declared.row.StepRow.{StepRow}
 use Rattle.rept_isa.specs.Operands.{written_by, first_read, second_read}
-use Rattle.rept_engine.specs.declared.fact.Fact.{Fact}
-use Rattle.rept_engine.specs.declared.fact.Cell.{Cell}
 use Rattle.rept_engine.specs.declared.fact.Cell.TheVariants.{Register}
 use Rattle.rept_engine.specs.declared.flat.Flat.{Flat}
-use Rattle.rept_engine.specs.declared.flat.Flat.TheVariants.{Unknown, Known}
-use Rattle.rept_engine.specs.Facts.{told, operand, flat, register_known}
+use Rattle.rept_engine.specs.declared.flat.Flat.TheVariants.{Known}
+use Rattle.rept_engine.specs.Facts.{told, operand, flat}
 use Rattle.rept_engine.specs.Results.{forward_of}
 use Rattle.rept_engine.specs.Closure.{Keeps, Concludes}
 use Rattle.rept_engine.specs.Closure.RowConcludes.{onward, back, result}
 use Rattle.rept_engine.specs.View.{View, known_in}
-use Rattle.rept_engine.specs.Drawing.{Grows, IsNew, Drew, Knows, Learnt, Carried, CarriedBelow, Resulted, RowDrawn, RowClosed, RowsClosed}
-use Rattle.rept_engine.proofs.ToldLemmas.{same_some}
+use Rattle.rept_engine.specs.Drawing.{Grows, IsNew, Drew, Knows, CarriedBelow, Resulted, RowDrawn, RowClosed}
 
 pub flat_known : (o : Option ℕ) (v : ℕ) → flat o ≡ Known v → o ≡ Some v
 flat_known None v e = cc

@@ -1,18 +1,17 @@
-use Rattle.std.proofs.Common.{◌≡◌, ◌≢◌, ℕ, ◌+◌, ◌-◌, ◌*◌, ◌<◌, ◌≤◌, ◌⊎◌, List, [], ◌∷◌, ◌++◌, length, get_or, set, slice_get, zero, suc, Bool, true, false, Option, Some, None, inl, inr, refl, sym, ap, subst, ◌∙◌, arith, cond, is_none, sum_by, min, max}
+use Rattle.std.proofs.Common.{◌≡◌, ◌≢◌, ℕ, ◌+◌, ◌*◌, ◌<◌, ◌≤◌, List, [], ◌∷◌, ◌++◌, length, get_or, set, slice_get, zero, suc, true, false, Option, Some, None, inl, inr, refl, sym, ap, subst, ◌∙◌, arith, cond, is_none, sum_by, min, max}
 use Rattle.std.proofs.lemmas.List.{get_or-set_other, get_or-set_same, get_or_default, length-set, length-append}
-use Rattle.std.proofs.lemmas.Bool.{cases_eq, cases_lt, cases_Bool, false_from_ne_true}
+use Rattle.std.proofs.lemmas.Bool.{cases_eq, cases_lt, false_from_ne_true}
 use Rattle.std.proofs.lemmas.List.Sums.{sum_by-set}
 use Rattle.std.proofs.lemmas.Option.{slice_get-get_or}
 use Rattle.rept_engine.specs.declared.fact.Fact.{Fact}
-use Rattle.rept_engine.specs.declared.fact.Cell.{Cell}
 use Rattle.rept_engine.specs.declared.fact.Cell.TheVariants.{Register}
 use Rattle.rept_engine.specs.declared.conflict.ConflictKind.TheVariants.{TwoValues}
 use Rattle.rept_engine.specs.Facts.{In, told}
 use Rattle.rept_engine.specs.Closure.{Derivation, Concludes, ClosureHas}
 use Rattle.rept_engine.specs.Log.{IsKept, slot, value_at, entry_value}
-use Rattle.rept_engine.specs.Drawing.{IsNew, Drew, Knows, Grows}
+use Rattle.rept_engine.specs.Drawing.{Drew, Knows, Grows}
 use Rattle.rept_engine.specs.View.{View}
-use Rattle.rept_engine.proofs.ToldLemmas.{told_new, told_old, told_more, told_in, no_conflict, speaks, speaks_is, same_some, none_some}
+use Rattle.rept_engine.proofs.ToldLemmas.{told_new, told_old, told_more, told_in, no_conflict, speaks, speaks_is, same_some}
 
 same_register : {r s : ℕ} → Register r ≡ Register s → r ≡ s
 same_register e = cc

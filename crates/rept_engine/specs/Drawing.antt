@@ -1,8 +1,7 @@
 -- What drawing rules does to an analysis.
-use Rattle.std.specs.Prelude.{◌≡◌, ◌≢◌, ℕ, ◌+◌, ◌*◌, ◌<◌, ◌≤◌, length, Bool, true, false, Some, None, slice_get}
+use Rattle.std.specs.Prelude.{◌≡◌, ℕ, ◌+◌, ◌*◌, ◌<◌, ◌≤◌, length, Bool, true, false, Some, None, slice_get}
 use Rattle.rept_isa.specs.declared.row.StepRow.{StepRow}
 use Rattle.rept_isa.specs.Operands.{written_by, first_read, second_read}
-use Rattle.rept_engine.specs.declared.fact.Fact.{Fact}
 use Rattle.rept_engine.specs.declared.fact.Cell.{Cell}
 use Rattle.rept_engine.specs.declared.fact.Cell.TheVariants.{Register}
 use Rattle.rept_engine.specs.declared.flat.Flat.{Flat}

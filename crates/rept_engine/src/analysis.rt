@@ -80,8 +80,9 @@ fn kind_of(clash: &Clash) -> ConflictKind
 }
 
 impl<'a> Analysis<'a> {
-    /// An analysis of these rows, which end in these register values, by the register's number. Nothing is known yet.
-    /// All memory is taken here.
+    /// An analysis of these rows, at most 65,536, which end in these 32 register values, by the register's number; that
+    /// of x0 isn't looked at. Nothing is known yet. All memory is taken here, for 31 facts a point: `OutOfMemory` where
+    /// it isn't there.
     pub fn prepare(
         alloc: Global,
         rows: &'a [StepRow],
@@ -172,7 +173,7 @@ impl<'a> Analysis<'a> {
         let _rows = &self.rows;
         match r {
             None => Flat::Unknown,
-            Some(r) => self.known(point, r),
+            Some(register) => self.known(point, register),
         }
     }
 

@@ -1,1 +1,2 @@
+pub mod ArithmeticLemmas
 pub mod StepLaws

@@ -1,6 +1,6 @@
 -- What the operations compute (RISC-V unprivileged manual 20191213, chapters 2.4 to 2.6 for RV32I, 7 for M). Operands and
 -- results are 32-bit words. `cast_signed w32 a` is a word's signed number in two's complement, `word z` the word of a number.
-use Rattle.std.specs.Prelude.{ℕ, ◌+◌, ◌-◌, ◌*◌, ◌/◌, ◌%◌, ◌^◌, nat_lt, ◌==◌, Bool, not, if◌then◌else◌, ℤ, pos, ◌-ℤ◌, ◌*ℤ◌, bit_and, bit_or, bit_xor, int_div, int_rem, int_lt}
+use Rattle.std.specs.Prelude.{ℕ, ◌+◌, ◌-◌, ◌*◌, ◌/◌, ◌%◌, ◌^◌, nat_lt, ◌==◌, Bool, not, if◌then◌else◌, ℤ, pos, ◌*ℤ◌, bit_and, bit_or, bit_xor, int_div, int_rem, int_lt}
 use Rattle.std.specs.Int.{cast_signed, cast_unsigned, int_shr}
 use mir.Syntax.{w32, w64}
 use Rattle.rept_isa.specs.declared.instr.BranchOp.{BranchOp}
@@ -30,7 +30,7 @@ high_word z = cast_unsigned w64 z / 2 ^ 32
 -- is too large, -2 ^ 31 by -1, wraps to -2 ^ 31, with remainder 0.
 abbrev pub computed : RegOp → ℕ → ℕ → ℕ
 computed Add a b = (a + b) % 2 ^ 32
-computed Sub a b = word (pos a -ℤ pos b)
+computed Sub a b = (a + (2 ^ 32 - b)) % 2 ^ 32
 computed Sll a b = a * 2 ^ (b % 32) % 2 ^ 32
 computed Slt a b = if below_signed a b then 1 else 0
 computed Sltu a b = if nat_lt a b then 1 else 0

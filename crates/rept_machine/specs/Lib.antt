@@ -1,5 +1,9 @@
 pub mod Arithmetic
+pub mod Bytes
 pub mod Calls
+pub mod Choices
+pub mod Entries
 pub mod Execution
+pub mod Machine
 pub mod State
 pub mod Step

@@ -1,4 +1,14 @@
 // The states and steps of RV32IM, and a machine that makes them.
 #![tactic(auto)]
 
-ghost use Rattle.rept_machine.specs.Execution.{Execution};
+mod arithmetic;
+mod execute;
+pub mod machine;
+mod memory;
+mod registers;
+mod store;
+
+pub use machine::{Halt, Machine};
+
+#[cfg(test)]
+mod tests;

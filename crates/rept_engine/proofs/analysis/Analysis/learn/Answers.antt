@@ -1,11 +1,10 @@
-use Rattle.std.proofs.Common.{◌≡◌, ◌<◌, ◌≤◌, length, get_or, Some, None, sym, subst, reverse}
+use Rattle.std.proofs.Common.{◌≤◌, length, Some, None, sym, subst, reverse}
 use Rattle.std.proofs.lemmas.List.{reverse-append}
 use Rattle.rept_engine.specs.declared.fact.Fact.{Fact}
 use Rattle.rept_engine.specs.declared.fact.Cell.TheVariants.{Register}
 use Rattle.rept_engine.specs.Facts.{told}
 use Rattle.rept_engine.specs.Closure.{Concludes}
 use Rattle.rept_engine.specs.Log.{slot}
-use Rattle.rept_engine.specs.Drawing.{Drew, Knows}
 use Rattle.rept_engine.specs.View.{View}
 use Rattle.rept_engine.proofs.Learning.{read_place, read_entry, in_table, kept_after, drew_after, drew_known, clash_found}
 use Rattle.rept_engine.proofs.analysis.Analysis.learn.Goals as goal

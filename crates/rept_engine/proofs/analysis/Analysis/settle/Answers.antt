@@ -1,6 +1,6 @@
-use Rattle.std.proofs.Common.{◌≡◌, true, false, sym, subst, ◌∙◌}
+use Rattle.std.proofs.Common.{sym, subst}
 use Rattle.rept_engine.specs.View.{View}
-use Rattle.rept_engine.specs.Drawing.{IsNew, IsClosed, IsDerived}
+use Rattle.rept_engine.specs.Drawing.{IsNew, IsClosed}
 use Rattle.rept_engine.proofs.Drawn.{Grows_trans}
 use Rattle.rept_engine.proofs.Reported.{report, nothing_new}
 use Rattle.rept_engine.proofs.analysis.Analysis.settle.Goals as goal

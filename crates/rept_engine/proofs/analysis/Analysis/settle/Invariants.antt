@@ -1,4 +1,4 @@
-use Rattle.std.proofs.Common.{◌≡◌, ◌+◌, ◌*◌, ◌-◌, ◌≤◌, length}
+use Rattle.std.proofs.Common.{◌≡◌, ◌+◌, ◌*◌, ◌-◌, length}
 use Rattle.rept_engine.specs.Drawing.{Grows}
 use Rattle.rept_engine.specs.View.{known_in}
 use Rattle.rept_engine.specs.Report.{IsReport}
