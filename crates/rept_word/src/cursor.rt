@@ -33,6 +33,7 @@ impl<'a> BitCursor<'a> {
         requires { n ≤ 64 }
         ensures value { (payload : List ℕ) (i : ℕ) → IsAt self.old payload i → result ≡ field payload i n }
         ensures at { (payload : List ℕ) (i : ℕ) → IsAt self.old payload i → IsAt self.new payload (i + n) }
+        ensures small { result < 2 ^ n }
     {
         let mut value = 0u64;
         for i in 0..n {

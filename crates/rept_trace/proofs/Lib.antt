@@ -1,0 +1,5 @@
+pub mod Fitting
+pub mod Frames
+pub mod LeftOut
+pub mod ReadLemmas
+pub mod Reading
