@@ -75,6 +75,14 @@ impl<'a> Packets<'a> {
         // The bytes hold one list of packets.
         ensures one_list { (packets others : List Packet) → Hold (rest_of self.entry) packets → Hold (rest_of self.entry) others → packets ≡ others }
     {
+        self.go_through()
+    }
+
+    /// Counts the packets one after another.
+    fn go_through(self) -> Result<u64, TraceFault>
+        ensures ok { IfOk result (λ count. (packets : List Packet) × Hold (rest_of self.entry) packets × (count ≡ length packets)) }
+        ensures err { IfErr result (λ fault. (packets : List Packet) × FailsAfter (number_of self.entry) (rest_of self.entry) packets fault) }
+    {
         let mut packets = self;
         let mut count = 0u64;
         while let Some(_) = packets.next()? {
@@ -127,3 +135,6 @@ fn after_zeros(bytes: &[u8]) -> &[u8]
     }
     rest
 }
+
+#[cfg(test)]
+mod tests;

@@ -1,33 +1,18 @@
-use Rattle.std.proofs.Common.{rules, ◌≡◌, ◌<◌, ◌+◌, ◌^◌, List, [], ◌∷◌, ℕ, length, nat_lt, if◌then◌else◌, ◌++◌, ◌↔◌, IfOk, IfErr, OnErr, Ok, Err, Result, Option, ◌-◌, ◌*◌, ◌≤◌, ◌/◌, ◌%◌, Bool, true, false, nat_eq, slice_index_or, slice_set, bit_and, bit_or, Fits, w8, w32, w64, Bor, MutBor}
-use Rattle.rept_trace.specs.Stream.{AreAfterZeros, header, IsHeaderFault, Answers, Hold, FailsAfter}
-use Rattle.rept_trace.specs.declared.packet.Packet.{Packet}
+use Rattle.std.proofs.Common.{ℕ, ◌<◌, ◌++◌, ◌∙◌, List, Err, ap, arith, refl}
 use Rattle.rept_trace.specs.declared.fault.TraceFault.{TraceFault}
-use Rattle.rept_trace.specs.Fits.{FieldsFit}
-use Rattle.rept_trace.specs.Grammar.{IsPacket, Spells}
-use Rattle.rept_trace.specs.Packets.{rest_of, number_of}
-use Rattle.rept_trace.specs.Shortened.{IsShortened}
+use Rattle.std.proofs.lemmas.Grind.{common_steps}
+use Rattle.rept_trace.specs.Stream.{header}
+use Rattle.rept_trace.proofs.HeaderLemmas.{whole, first_fault, one_header_fault, no_fault}
 use Rattle.rept_trace.proofs.packets.Packets.open.Goals as goal
 
--- src/packets.rt:40:9
-pub loop-i-init : goal.loop-i-init
-loop-i-init c = ?
-
--- src/packets.rt:42:17
 pub returns-then-bytes-i-clause-err : goal.returns-then-bytes-i-clause-err
-returns-then-bytes-i-clause-err c = ?
+returns-then-bytes-i-clause-err c = first_fault c.args.bytes.now c.loop-i.i c.header_fault.result c.if-bytes-lt8.false c.loop-i-test.true c.if-bytes-i.true c.loop-i.invariant c.header_fault.ensures
 
--- src/packets.rt:42:17
 pub returns-then-bytes-i-clause-every_fault : goal.returns-then-bytes-i-clause-every_fault
-returns-then-bytes-i-clause-every_fault c = ?
+returns-then-bytes-i-clause-every_fault c = λ fault h. ap (λ (f : TraceFault). Err f) (one_header_fault c.args.bytes.now c.header_fault.result fault (returns-then-bytes-i-clause-err c) h)
 
--- src/packets.rt:40:9
-pub loop-i-preserved : goal.loop-i-preserved
-loop-i-preserved c = ?
-
--- src/packets.rt:32:5
 pub returns-clause-ok : goal.returns-clause-ok
-returns-clause-ok c = ?
+returns-clause-ok c = (whole c.args.bytes.now c.if-bytes-lt8.false (λ j lt. c.loop-i.invariant j (omega arith)) ∙ ap (λ (l : List ℕ). header ++ l) (grind (arith, common_steps)), refl)
 
--- src/packets.rt:32:5
 pub returns-clause-every_fault : goal.returns-clause-every_fault
-returns-clause-every_fault c = ?
+returns-clause-every_fault c = λ fault h. absurd (no_fault c.args.bytes.now _ fault (returns-clause-ok c).0 h)
