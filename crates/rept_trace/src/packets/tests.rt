@@ -3,40 +3,53 @@ use crate::packet::{Qual, Report};
 use std::alloc::Global;
 use std::test::Fail;
 
-fn start(branch: bool, privilege: u8, address: u32) -> Packet {
-    Packet::Start {
-        branch,
-        privilege,
-        address,
-    }
+macro_rules! start {
+    ($branch:expr, $privilege:expr, $address:expr) => {
+        Packet::Start {
+            branch: $branch,
+            privilege: $privilege,
+            address: $address,
+        }
+    };
 }
 
-fn support(enabled: bool, status: Qual) -> Packet {
-    Packet::Support { enabled, status }
+macro_rules! support {
+    ($enabled:expr, $status:expr) => {
+        Packet::Support {
+            enabled: $enabled,
+            status: $status,
+        }
+    };
 }
 
-/// A report that says what stands among the letters: notify, updiscon, irreport.
-fn report(difference: u32, says: &str) -> Report {
-    Report {
-        difference,
-        notify: says.contains('n'),
-        updiscon: says.contains('u'),
-        irreport: says.contains('i'),
-    }
+/// A report: the difference, and whether notify, updiscon and irreport differ from the bit before.
+macro_rules! report {
+    ($difference:expr, $notify:expr, $updiscon:expr, $irreport:expr) => {
+        Report {
+            difference: $difference,
+            notify: $notify,
+            updiscon: $updiscon,
+            irreport: $irreport,
+        }
+    };
 }
 
-fn address(difference: u32, says: &str) -> Packet {
-    Packet::Address {
-        report: report(difference, says),
-    }
+macro_rules! address {
+    ($($report:expr),+) => {
+        Packet::Address {
+            report: report!($($report),+),
+        }
+    };
 }
 
-fn branches(count: u8, map: u32, difference: u32, says: &str) -> Packet {
-    Packet::MapAddress {
-        count,
-        map,
-        report: report(difference, says),
-    }
+macro_rules! branches {
+    ($count:expr, $map:expr, $($report:expr),+) => {
+        Packet::MapAddress {
+            count: $count,
+            map: $map,
+            report: report!($($report),+),
+        }
+    };
 }
 
 /// A whole header and these bytes after it.
@@ -106,47 +119,48 @@ const SHORT: &[u8] = b"RTR1\x01\x00\x00\x00\x00\x00\
     \x09\xc1\xaa\xaa\xaa\xaa\x67\x45\x23\x01\x00\
     \x09\x7d\x55\x55\x55\xd5\xde\xbc\x9a\x18\x00";
 
+const WANTED: [Packet; 27] = [
+    start!(true, 0, 0x10000),
+    start!(false, 3, 0xffff_fffc),
+    Packet::Context { privilege: 0 },
+    Packet::Context { privilege: 2 },
+    support!(false, Qual::EndedRep),
+    support!(true, Qual::NoChange),
+    support!(false, Qual::TraceLost),
+    support!(false, Qual::EndedNtr),
+    address!(8, false, false, false),
+    address!(0xffff_fff8, false, false, false),
+    address!(8, true, false, false),
+    address!(8, false, true, false),
+    address!(8, false, false, true),
+    address!(0xffff_fff8, true, true, true),
+    Packet::Map { map: 0 },
+    Packet::Map { map: 0x7fff_ffff },
+    Packet::Map { map: 0x1234_5678 },
+    branches!(1, 1, 4, false, false, false),
+    branches!(2, 5, 16, false, false, false),
+    branches!(3, 2, 0xffff_fffc, false, false, false),
+    branches!(4, 0x55, 8, false, false, false),
+    branches!(7, 0x2a, 8, true, false, false),
+    branches!(8, 0x5a3c, 12, false, false, false),
+    branches!(12, 0x800, 4, false, false, false),
+    branches!(15, 0x7fff, 0, false, false, false),
+    branches!(16, 0x5555_5555, 0x1234_5678, false, false, false),
+    branches!(31, 0x2aaa_aaaa, 0x89ab_cdec, false, true, false),
+];
+
 #[test]
 fn reads_each_packet(rt: HostRuntime) -> Result<(), Fail> {
-    let wanted = [
-        start(true, 0, 0x10000),
-        start(false, 3, 0xffff_fffc),
-        Packet::Context { privilege: 0 },
-        Packet::Context { privilege: 2 },
-        support(false, Qual::EndedRep),
-        support(true, Qual::NoChange),
-        support(false, Qual::TraceLost),
-        support(false, Qual::EndedNtr),
-        address(8, ""),
-        address(0xffff_fff8, ""),
-        address(8, "n"),
-        address(8, "u"),
-        address(8, "i"),
-        address(0xffff_fff8, "nui"),
-        Packet::Map { map: 0 },
-        Packet::Map { map: 0x7fff_ffff },
-        Packet::Map { map: 0x1234_5678 },
-        branches(1, 1, 4, ""),
-        branches(2, 5, 16, ""),
-        branches(3, 2, 0xffff_fffc, ""),
-        branches(4, 0x55, 8, ""),
-        branches(7, 0x2a, 8, "n"),
-        branches(8, 0x5a3c, 12, ""),
-        branches(12, 0x800, 4, ""),
-        branches(15, 0x7fff, 0, ""),
-        branches(16, 0x5555_5555, 0x1234_5678, ""),
-        branches(31, 0x2aaa_aaaa, 0x89ab_cdec, "u"),
-    ];
     for bytes in [FULL, SHORT] {
         let mut packets = Packets::open(bytes)?;
         let first = packets;
-        for packet in wanted {
+        for packet in WANTED {
             assert_eq!(rt; packets.next(), Ok(Some(packet)));
         }
         assert_eq!(rt; packets.next(), Ok(None));
         assert_eq!(rt; packets.next(), Ok(None));
         assert_eq!(rt; packets.count(), Ok(0));
-        assert_eq!(rt; first.count(), Ok(wanted.len() as u64));
+        assert_eq!(rt; first.count(), Ok(27));
     }
     Ok(())
 }
