@@ -1,5 +1,5 @@
 -- Fields fit their widths.
-use Rattle.std.proofs.Common.{◌≡◌, ℕ, ◌+◌, ◌*◌, ◌%◌, ◌^◌, ◌<◌, ◌≤◌, List, sym, subst, arith}
+use Rattle.std.proofs.Common.{◌≡◌, ℕ, ◌+◌, ◌*◌, ◌^◌, ◌<◌, List, sym, subst, arith}
 use Rattle.rept_word.specs.Bits.{field}
 use Rattle.rept_word.proofs.BitLemmas.{field_small}
 use Rattle.rept_trace.specs.declared.packet.Packet.{Packet}

@@ -1,9 +1,9 @@
 -- Going through the bytes packet by packet.
-use Rattle.std.proofs.Common.{◌≡◌, ℕ, zero, suc, ◌+◌, ◌<◌, List, [], ◌∷◌, ◌++◌, length, Some, None, Ok, Err, Option, Result, refl, sym, ◌∙◌, ap, subst, arith, append_assoc, length-append}
+use Rattle.std.proofs.Common.{◌≡◌, ℕ, ◌+◌, List, [], ◌∷◌, ◌++◌, length, Some, None, Ok, Err, Result, refl, sym, ◌∙◌, ap, subst, arith, append_assoc, length-append}
 use Rattle.std.proofs.lemmas.List.{append-nil}
 use Rattle.rept_trace.specs.declared.packet.Packet.{Packet}
 use Rattle.rept_trace.specs.declared.fault.TraceFault.{TraceFault}
-use Rattle.rept_trace.specs.Stream.{IsEnded, Fails, Begins, Answers, Hold, FailsAfter}
+use Rattle.rept_trace.specs.Stream.{IsEnded, Fails, Answers, Hold, FailsAfter}
 use Rattle.rept_trace.proofs.Frames.{one_answer}
 
 -- So many packets were read, and what is told of the rest is told of all the bytes.

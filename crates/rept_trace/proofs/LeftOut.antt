@@ -1,5 +1,5 @@
 -- A shortened payload has the bits of the full one.
-use Rattle.std.proofs.Common.{◌≡◌, ℕ, zero, suc, ◌+◌, ◌-◌, ◌*◌, ◌/◌, ◌%◌, ◌^◌, ◌<◌, ◌≤◌, List, ◌++◌, length, slice_index, get_or, min, nat_eq, Bool, true, false, cond, All, Result, Ok, Err, refl, sym, ◌∙◌, ap, subst, arith, length-append, ◌⊎◌, inl, inr, ◌↔◌}
+use Rattle.std.proofs.Common.{◌≡◌, ℕ, zero, suc, ◌+◌, ◌-◌, ◌*◌, ◌/◌, ◌%◌, ◌^◌, ◌<◌, ◌≤◌, List, ◌++◌, length, slice_index, min, nat_eq, Bool, true, false, cond, All, Result, Ok, Err, refl, sym, ◌∙◌, ap, subst, arith, length-append, inl, inr, ◌↔◌}
 use Rattle.std.proofs.Math.ListN.{get_or-append}
 use Rattle.std.proofs.Math.Seq.{get_or-append_right}
 use Rattle.std.proofs.lemmas.List.Elements.{All-get_or}

@@ -1,5 +1,5 @@
 -- The flags of a report.
-use Rattle.std.proofs.Common.{◌≡◌, ℕ, ◌+◌, ◌-◌, ◌/◌, List, Bool, true, false, not, cond, nat_eq, refl, sym, ◌∙◌, ap, arith}
+use Rattle.std.proofs.Common.{◌≡◌, ℕ, ◌+◌, ◌-◌, ◌/◌, List, Bool, true, false, not, cond, nat_eq, refl, ◌∙◌, ap, arith}
 use Rattle.rept_word.specs.Bits.{bit_of, field}
 use Rattle.rept_word.proofs.BitLemmas.{field_one, last_bit}
 use Rattle.rept_trace.specs.Grammar.{changes}

@@ -1,5 +1,5 @@
 -- Reading a payload from its first bit on: a payload spells one thing.
-use Rattle.std.proofs.Common.{◌≡◌, ◌≢◌, ℕ, zero, suc, ◌+◌, ◌*◌, ◌<◌, ◌==◌, List, Bool, true, false, cond, if◌then◌else◌, Result, Ok, Err, refl, sym, ◌∙◌, ap, arith, ◌⊎◌, inl, inr}
+use Rattle.std.proofs.Common.{◌≡◌, ◌≢◌, ℕ, zero, suc, ◌+◌, ◌*◌, ◌<◌, ◌==◌, List, Bool, false, cond, if◌then◌else◌, Result, Ok, Err, refl, sym, ◌∙◌, ap, arith, ◌⊎◌, inl, inr}
 use Rattle.std.proofs.lemmas.Bool.Decides.{nat_tests}
 use Rattle.rept_word.specs.Bits.{bit_of, field}
 use Rattle.rept_trace.specs.declared.packet.Report.{Report}
@@ -9,7 +9,7 @@ use Rattle.rept_trace.specs.declared.packet.Packet.{Packet}
 use Rattle.rept_trace.specs.declared.packet.Packet.TheVariants.{Start, Context, Support, Address, Map, MapAddress}
 use Rattle.rept_trace.specs.declared.fault.TraceFault.{TraceFault}
 use Rattle.rept_trace.specs.declared.fault.TraceFault.TheVariants.{BadMagic, BadHeader, Truncated, Optional, Trap, BadSupport}
-use Rattle.rept_trace.specs.Grammar.{changes, map_width, qual_number, IsReport, IsPacket, IsBadSupport, IsRefused, Spells}
+use Rattle.rept_trace.specs.Grammar.{changes, map_width, qual_number, IsReport, IsBadSupport, Spells}
 
 unfoldable report_at : List ℕ → ℕ → Report
 report_at payload i = record { difference = 4 * field payload i 30; notify = changes payload (i + 30); updiscon = changes payload (i + 31); irreport = changes payload (i + 32) }

@@ -1,10 +1,10 @@
 -- A trace file: a header of eight bytes, and then for each packet a length byte and so many bytes of payload. A length of 0 is skipped and is no
 -- packet. (The framing is this project's; what a payload spells is Efficient Trace's, in Grammar.)
-use Rattle.std.specs.Prelude.{◌≡◌, ◌≢◌, ℕ, zero, suc, ◌+◌, ◌<◌, ◌≤◌, List, [], ◌∷◌, ◌++◌, length, replicate, slice_index, Option, Some, None, Result, Ok, Err, ◌⊎◌}
+use Rattle.std.specs.Prelude.{◌≡◌, ◌≢◌, ℕ, ◌+◌, ◌<◌, ◌≤◌, List, [], ◌∷◌, ◌++◌, length, replicate, slice_index, Option, Some, None, Result, Ok, Err, ◌⊎◌}
 use Rattle.rept_trace.specs.declared.packet.Packet.{Packet}
 use Rattle.rept_trace.specs.declared.fault.TraceFault.{TraceFault}
 use Rattle.rept_trace.specs.declared.fault.TraceFault.TheVariants.{BadMagic, BadHeader, Truncated, Optional, Trap, BadSupport}
-use Rattle.rept_trace.specs.Grammar.{IsPacket, IsRefused, Spells}
+use Rattle.rept_trace.specs.Grammar.{IsPacket, IsRefused}
 
 -- the text RTR1, one stream, and three zero bytes
 abbrev pub header : List ℕ

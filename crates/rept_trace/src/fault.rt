@@ -15,7 +15,7 @@ pub enum TraceFault {
     /// The packet of this number has format 0, which the fixed parameters leave out.
     #[error("packet {0} has format 0")]
     Optional(u64),
-    /// The packet of this number has format 3 and subformat 1: a trap, which a path of one process has none of.
+    /// The packet of this number has format 3 and subformat 1, a trap, which the path of one process doesn't take.
     #[error("packet {0} is a trap")]
     Trap(u64),
     /// The support packet of this number has an encoder mode or options other than 0.

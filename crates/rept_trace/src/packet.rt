@@ -1,22 +1,28 @@
-/// Where the path got to, as formats 1 and 2 say it (Efficient Trace for RISC-V, "Format 2 packets").
+/// The address that formats 1 and 2 report, with its flags (Efficient Trace for RISC-V 2.0, formats 1 and 2).
 #[derive(Clone, Copy, Debug, PartialEq, Eq)]
 pub struct Report {
     /// The reported address less the one before, modulo 2^32, in bytes. It is a multiple of 4.
     pub difference: u32,
-    /// Whether the bit `notify` differs from the highest bit of the difference: the address was asked for.
+    /// Whether the bit `notify` differs from the highest bit of the difference: the address is reported because a notification
+    /// was asked for there.
     pub notify: bool,
-    /// Whether the bit `updiscon` differs from `notify`: an uninferable jump follows, and then an exception or a loss.
+    /// Whether the bit `updiscon` differs from `notify`: the address is where an uninferable jump led, and a packet of format 3
+    /// follows.
     pub updiscon: bool,
-    /// Whether the bit `irreport` differs from `updiscon`: the address is that of a return.
+    /// Whether the bit `irreport` differs from `updiscon`. It concerns implicit returns, which the fixed parameters leave out.
     pub irreport: bool,
 }
 
 /// What a support packet says of the trace before it (field `qual_status`).
 #[derive(Clone, Copy, Debug, PartialEq, Eq)]
 pub enum Qual {
+    /// Number 0: nothing changed.
     NoChange,
+    /// Number 1: the trace ended, and the packet before was sent to report the last instruction.
     EndedRep,
+    /// Number 2: packets were lost.
     TraceLost,
+    /// Number 3: the trace ended, and the packet before would have been sent anyway.
     EndedNtr,
 }
 
@@ -30,7 +36,7 @@ pub enum Packet {
         privilege: u8,
         address: u32,
     },
-    /// Format 3, subformat 2: the privilege level changed.
+    /// Format 3, subformat 2: the context, here the privilege level alone, changed.
     Context {
         privilege: u8,
     },

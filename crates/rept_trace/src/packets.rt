@@ -1,4 +1,4 @@
-ghost use Rattle.std.specs.Prelude.{◌≡◌, ◌<◌, ◌+◌, ◌^◌, List, [], ◌∷◌, ℕ, length, nat_lt, if◌then◌else◌};
+ghost use Rattle.std.specs.Prelude.{◌≡◌, ◌<◌, ◌+◌, ◌^◌, List, ◌∷◌, ℕ, length, nat_lt, if◌then◌else◌};
 ghost use Rattle.rept_trace.specs.Stream.{AreAfterZeros};
 
 use crate::fault::TraceFault;
@@ -17,7 +17,7 @@ pub struct Packets<'a> {
 }
 
 impl<'a> Packets<'a> {
-    ghost use Rattle.std.specs.Prelude.{◌≡◌, ◌<◌, ◌+◌, ◌++◌, ◌^◌, ◌↔◌, ℕ, List, length, IfOk, IfErr, OnErr, Ok, Err, Result, Option};
+    ghost use Rattle.std.specs.Prelude.{◌≡◌, ◌++◌, ◌↔◌, ℕ, List, length, IfOk, IfErr, OnErr, Result, Option};
     ghost use Rattle.rept_trace.specs.declared.packet.Packet.{Packet};
     ghost use Rattle.rept_trace.specs.declared.fault.TraceFault.{TraceFault};
     ghost use Rattle.rept_trace.specs.Fits.{FieldsFit};

@@ -1,4 +1,4 @@
-ghost use Rattle.std.specs.Prelude.{◌≡◌, ◌<◌, ◌+◌, ℕ, List, length};
+ghost use Rattle.std.specs.Prelude.{◌≡◌, ◌<◌, ℕ, List, length};
 ghost use Rattle.rept_word.specs.Bits.{field};
 ghost use Rattle.rept_word.specs.Cursor.{IsAt};
 ghost use Rattle.rept_trace.specs.Grammar.{map_width, qual_number, IsReport, IsPacket, Spells};

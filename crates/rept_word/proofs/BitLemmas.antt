@@ -38,10 +38,11 @@ field_last p i (suc n) =
     let a = field_suc p i (suc n) in
     let b = field_suc p i n in
     let h = field_last p (i + 1) n in
+    let digit : ℕ → ℕ = λ k. cond (bit_of p k) 1 0 in
     let e : i + 1 + n ≡ i + suc n = omega arith in
-    let g : cond (bit_of p (i + 1 + n)) 1 0 ≡ cond (bit_of p (i + suc n)) 1 0 = ap (λ k. cond (bit_of p k) 1 0) e in
-    let t : 2 ^ n * cond (bit_of p (i + 1 + n)) 1 0 ≡ 2 ^ n * cond (bit_of p (i + suc n)) 1 0 = ap (λ k. 2 ^ n * k) g in
-    let w : 2 ^ suc n * cond (bit_of p (i + suc n)) 1 0 ≡ 2 * (2 ^ n * cond (bit_of p (i + suc n)) 1 0) = ap (λ k. k * cond (bit_of p (i + suc n)) 1 0) (pow-suc 2 n) ∙ omega arith in
+    let g : digit (i + 1 + n) ≡ digit (i + suc n) = ap digit e in
+    let t : 2 ^ n * digit (i + 1 + n) ≡ 2 ^ n * digit (i + suc n) = ap (λ k. 2 ^ n * k) g in
+    let w : 2 ^ suc n * digit (i + suc n) ≡ 2 ^ n * 2 * digit (i + suc n) = ap (λ k. k * digit (i + suc n)) (pow-suc 2 n) in
     omega (arith, a, b, h, t, w)
 
 pub weight_is : (i : ℕ) → i < 64 → 1 * 2 ^ i % 18446744073709551616 ≡ 2 ^ i

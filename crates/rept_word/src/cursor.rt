@@ -12,7 +12,7 @@ pub struct BitCursor<'a> {
 }
 
 impl<'a> BitCursor<'a> {
-    ghost use Rattle.std.specs.Prelude.{◌≡◌, ◌+◌, ◌*◌, ◌<◌, ◌≤◌, ◌%◌, ◌/◌, ◌^◌, ℕ, List, length, slice_index, IsTrue, ◌↔◌};
+    ghost use Rattle.std.specs.Prelude.{◌≡◌, ◌+◌, ◌<◌, ◌≤◌, ◌^◌, ℕ, List, length};
     ghost use Rattle.rept_word.specs.Bits.{field, bit_of};
     ghost use Rattle.rept_word.specs.Cursor.{IsAt};
 

@@ -1,4 +1,4 @@
-ghost use Rattle.std.specs.Prelude.{◌≡◌, ◌+◌, ◌*◌, ◌%◌, ◌^◌, ◌<◌, ◌≤◌, ℕ};
+ghost use Rattle.std.specs.Prelude.{◌≡◌, ◌+◌, ◌*◌, ◌%◌, ◌^◌, ◌≤◌, ℕ};
 ghost use Rattle.rept_word.specs.Number.{sign_extended, IsCover};
 
 /// The low `bits` bits of `v`, with the highest of them repeated above, as the RISC-V unprivileged manual extends

@@ -10,6 +10,14 @@ impl Text {
         ensures ok { OnOk result (self.new ≡ self.old ++ decimal n) }
         ensures err { OnErr result (self.new ≡ self.old) }
     {
+        self.push_count(u64::from(n))
+    }
+
+    /// As `push_decimal`, for a count of 64 bits.
+    pub fn push_count(&mut self, n: u64) -> Result<(), OutOfMemory>
+        ensures ok { OnOk result (self.new ≡ self.old ++ decimal n) }
+        ensures err { OnErr result (self.new ≡ self.old) }
+    {
         let mut buffer = itoa::Buffer::new();
         self.push(buffer.format(n).as_bytes())
     }
@@ -74,10 +82,12 @@ mod tests {
         text.push(b" ")?;
         text.push_byte(0xaf)?;
         text.push_byte(0x07)?;
+        text.push(b" ")?;
+        text.push_count(18_446_744_073_709_551_615)?;
         text.push(b"")?;
         assert_eq!(rt;
             text.bytes(),
-            b"0 4294967295 0x10abcdef 0x00000009 af07".as_slice()
+            b"0 4294967295 0x10abcdef 0x00000009 af07 18446744073709551615".as_slice()
         );
         Ok(())
     }

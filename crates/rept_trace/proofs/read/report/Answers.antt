@@ -1,5 +1,4 @@
-use Rattle.std.proofs.Common.{◌≡◌, ◌+◌, ◌*◌, ℕ, List, subst, arith}
-use Rattle.rept_word.specs.Bits.{field}
+use Rattle.std.proofs.Common.{◌≡◌, ◌+◌, ℕ, List, subst, arith}
 use Rattle.rept_word.specs.Cursor.{IsAt}
 use Rattle.rept_word.specs.declared.cursor.BitCursor.{BitCursor}
 use Rattle.rept_trace.proofs.ReadLemmas.{flag_is, highest}

@@ -1,4 +1,4 @@
-use Rattle.std.proofs.Common.{ℕ, ◌<◌, ◌++◌, ◌∙◌, List, Err, ap, arith, refl}
+use Rattle.std.proofs.Common.{ℕ, ◌++◌, ◌∙◌, List, Err, ap, arith, refl}
 use Rattle.rept_trace.specs.declared.fault.TraceFault.{TraceFault}
 use Rattle.std.proofs.lemmas.Grind.{common_steps}
 use Rattle.rept_trace.specs.Stream.{header}
