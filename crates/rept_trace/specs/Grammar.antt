@@ -1,7 +1,8 @@
--- Which packet the bits of a payload spell: Efficient Trace for RISC-V 2.0, the chapter on the encoder's output packets, its tables of
--- formats 3 (start, context, support), 2 (address) and 1 (branch map). The parameters are fixed: addresses of 32 bits whose lowest two are
--- left out, privilege of 2 bits, an encoder mode of 1 bit and 5 bits of options, and no time, context, return stack, call counter, jump
--- cache, branch prediction or sequentially inferred jump. Fields are numbered by their first bit.
+-- Which packet the bits of a payload spell: Efficient Trace for RISC-V 2.0, the chapter on the encoder's output
+-- packets, its tables of formats 3 (start, context, support), 2 (address) and 1 (branch map). The parameters are
+-- fixed: addresses of 32 bits whose lowest two are left out, privilege of 2 bits, an encoder mode of 1 bit and 5
+-- bits of options, and no time, context, return stack, call counter, jump cache, branch prediction or sequentially
+-- inferred jump. Fields are numbered by their first bit.
 use Rattle.std.specs.Prelude.{◌≡◌, ◌≢◌, ℕ, ◌+◌, ◌-◌, ◌*◌, ◌<◌, nat_lt, List, Bool, not, Result, Ok, Err, if◌then◌else◌, ◌⊎◌}
 use Rattle.rept_trace.specs.declared.packet.Report.{Report}
 use Rattle.rept_trace.specs.declared.packet.Qual.{Qual}

@@ -1,5 +1,5 @@
--- What an encoder may leave out (Efficient Trace for RISC-V 2.0, on packets: bytes at a payload's end whose bits all equal the bit before them
--- needn't be sent).
+-- What an encoder may leave out (Efficient Trace for RISC-V 2.0, on packets: bytes at a payload's end whose bits
+-- all equal the bit before them needn't be sent).
 use Rattle.std.specs.Prelude.{◌≡◌, ℕ, ◌-◌, ◌*◌, ◌<◌, List, ◌++◌, length, All, if◌then◌else◌}
 use Rattle.rept_word.specs.Bits.{bit_of}
 

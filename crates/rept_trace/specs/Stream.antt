@@ -1,5 +1,6 @@
--- A trace file: a header of eight bytes, and then for each packet a length byte and so many bytes of payload. A length of 0 is skipped and is no
--- packet. (The framing is this project's; what a payload spells is Efficient Trace's, in Grammar.)
+-- A trace file: a header of eight bytes, and then for each packet a length byte and so many bytes of payload. A
+-- length of 0 is skipped and is no packet. The header and the lengths are this project's own; what a payload spells
+-- is Efficient Trace's, in Grammar.
 use Rattle.std.specs.Prelude.{◌≡◌, ◌≢◌, ℕ, ◌+◌, ◌<◌, ◌≤◌, List, [], ◌∷◌, ◌++◌, length, replicate, slice_index, Option, Some, None, Result, Ok, Err, ◌⊎◌}
 use Rattle.rept_trace.specs.declared.packet.Packet.{Packet}
 use Rattle.rept_trace.specs.declared.fault.TraceFault.{TraceFault}
@@ -61,7 +62,8 @@ Fails number bytes (BadSupport k) = (payload : List ℕ) × (rest : List ℕ) ×
 abbrev pub Begins : List ℕ → Packet → List ℕ → Type 0
 Begins bytes packet rest = (payload : List ℕ) × IsFrame bytes payload rest × IsPacket payload packet
 
--- What is answered where packet `number` comes next in these bytes, which number comes after, and in which bytes. The end and a fault change nothing.
+-- What is answered where packet `number` comes next in these bytes, which number comes after, and in which bytes.
+-- The end and a fault change nothing.
 abbrev pub Answers : ℕ → List ℕ → Result (Option Packet) TraceFault → ℕ → List ℕ → Type 0
 Answers number bytes (Ok None) next rest = IsEnded bytes × (next ≡ number) × (rest ≡ bytes)
 Answers number bytes (Ok (Some packet)) next rest = Begins bytes packet rest × (next ≡ number + 1)

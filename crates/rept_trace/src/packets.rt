@@ -30,9 +30,11 @@ impl<'a> Packets<'a> {
     /// bytes, and then has, for each packet, a length byte and so many bytes of payload. `BadMagic` and `BadHeader` are the
     /// only refusals.
     pub fn open(bytes: &'a [u8]) -> Result<Packets<'a>, TraceFault>
-        ensures ok { IfOk result (λ packets. (bytes.now ≡ header ++ rest_of packets) × (number_of packets ≡ 0)) }
+        ensures ok { IfOk result (λ packets.
+            (bytes.now ≡ header ++ rest_of packets) × (number_of packets ≡ 0)) }
         ensures err { IfErr result (λ fault. IsHeaderFault bytes.now fault) }
-        ensures every_fault { (fault : TraceFault) → IsHeaderFault bytes.now fault → result ≡ Err fault }
+        ensures every_fault { (fault : TraceFault) →
+            IsHeaderFault bytes.now fault → result ≡ Err fault }
     {
         if bytes.len() < HEADER.len() {
             return Err(TraceFault::BadMagic);
@@ -51,15 +53,20 @@ impl<'a> Packets<'a> {
     /// The next packet. `None` comes exactly at the end of the bytes, and a fault exactly where the next packet has it.
     /// Neither changes anything, so the same is answered again. No memory is taken.
     pub fn next(&mut self) -> Result<Option<Packet>, TraceFault>
-        ensures answer { Answers (number_of self.old) (rest_of self.old) result (number_of self.new) (rest_of self.new) }
+        ensures answer { Answers (number_of self.old) (rest_of self.old) result
+            (number_of self.new) (rest_of self.new) }
 
         // There is no other answer.
-        ensures only { (answer : Result (Option Packet) TraceFault) (number : ℕ) (rest : List ℕ) → Answers (number_of self.old) (rest_of self.old) answer number rest → (result ≡ answer) × (number_of self.new ≡ number) × (rest_of self.new ≡ rest) }
+        ensures only { (answer : Result (Option Packet) TraceFault) (number : ℕ) (rest : List ℕ) →
+            Answers (number_of self.old) (rest_of self.old) answer number rest →
+            (result ≡ answer) × (number_of self.new ≡ number) × (rest_of self.new ≡ rest) }
         ensures unchanged { OnErr result (self.new ≡ self.old) }
 
         // A payload without some equal bits at its end spells what the full one spells.
-        ensures shortened { (short full : List ℕ) (number : ℕ) (answer : Result Packet TraceFault) → IsShortened short full → Spells number short answer ↔ Spells number full answer }
-        ensures fields { (payload : List ℕ) (packet : Packet) → IsPacket payload packet → FieldsFit packet }
+        ensures shortened { (short full : List ℕ) (number : ℕ) (answer : Result Packet TraceFault) →
+            IsShortened short full → Spells number short answer ↔ Spells number full answer }
+        ensures fields { (payload : List ℕ) (packet : Packet) →
+            IsPacket payload packet → FieldsFit packet }
     {
         self.advance()
     }
@@ -67,21 +74,28 @@ impl<'a> Packets<'a> {
     /// How many packets are left, or the first fault among them. It goes through the bytes to the end and takes no memory, so
     /// a caller that keeps packets may ask first whether all of them are whole.
     pub fn count(self) -> Result<u64, TraceFault>
-        ensures ok { IfOk result (λ count. (packets : List Packet) × Hold (rest_of self.entry) packets × (count ≡ length packets)) }
-        ensures err { IfErr result (λ fault. (packets : List Packet) × FailsAfter (number_of self.entry) (rest_of self.entry) packets fault) }
-        ensures every { (packets : List Packet) → Hold (rest_of self.entry) packets → result ≡ Ok (length packets) }
-        ensures every_fault { (packets : List Packet) (fault : TraceFault) → FailsAfter (number_of self.entry) (rest_of self.entry) packets fault → result ≡ Err fault }
+        ensures ok { IfOk result (λ count. (packets : List Packet) ×
+            Hold (rest_of self.entry) packets × (count ≡ length packets)) }
+        ensures err { IfErr result (λ fault. (packets : List Packet) ×
+            FailsAfter (number_of self.entry) (rest_of self.entry) packets fault) }
+        ensures every { (packets : List Packet) →
+            Hold (rest_of self.entry) packets → result ≡ Ok (length packets) }
+        ensures every_fault { (packets : List Packet) (fault : TraceFault) →
+            FailsAfter (number_of self.entry) (rest_of self.entry) packets fault → result ≡ Err fault }
 
         // The bytes hold one list of packets.
-        ensures one_list { (packets others : List Packet) → Hold (rest_of self.entry) packets → Hold (rest_of self.entry) others → packets ≡ others }
+        ensures one_list { (packets others : List Packet) →
+            Hold (rest_of self.entry) packets → Hold (rest_of self.entry) others → packets ≡ others }
     {
         self.go_through()
     }
 
     /// Counts the packets one after another.
     fn go_through(self) -> Result<u64, TraceFault>
-        ensures ok { IfOk result (λ count. (packets : List Packet) × Hold (rest_of self.entry) packets × (count ≡ length packets)) }
-        ensures err { IfErr result (λ fault. (packets : List Packet) × FailsAfter (number_of self.entry) (rest_of self.entry) packets fault) }
+        ensures ok { IfOk result (λ count. (packets : List Packet) ×
+            Hold (rest_of self.entry) packets × (count ≡ length packets)) }
+        ensures err { IfErr result (λ fault. (packets : List Packet) ×
+            FailsAfter (number_of self.entry) (rest_of self.entry) packets fault) }
     {
         let mut packets = self;
         let mut count = 0u64;
@@ -93,7 +107,8 @@ impl<'a> Packets<'a> {
 
     /// Reads the next packet, if there is one, and goes past it.
     fn advance(&mut self) -> Result<Option<Packet>, TraceFault>
-        ensures answer { Answers (number_of self.old) (rest_of self.old) result (number_of self.new) (rest_of self.new) }
+        ensures answer { Answers (number_of self.old) (rest_of self.old) result
+            (number_of self.new) (rest_of self.new) }
         ensures unchanged { OnErr result (self.new ≡ self.old) }
     {
         let rest = after_zeros(self.rest);

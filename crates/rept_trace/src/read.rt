@@ -25,7 +25,8 @@ pub fn packet_of(payload: &[u8], number: u64) -> Result<Packet, TraceFault>
 
 /// The rest of a packet of format 1.
 fn branches(cursor: &mut BitCursor<'_>) -> Packet
-    ensures { (payload : List ℕ) → IsAt cursor.old payload 2 → field payload 0 2 ≡ 1 → IsPacket payload result }
+    ensures { (payload : List ℕ) →
+        IsAt cursor.old payload 2 → field payload 0 2 ≡ 1 → IsPacket payload result }
 {
     let count = cursor.take(5) as u8;
     if count == 0 {
@@ -39,7 +40,8 @@ fn branches(cursor: &mut BitCursor<'_>) -> Packet
 
 /// The rest of a packet of format 3.
 fn synchronisation(cursor: &mut BitCursor<'_>, number: u64) -> Result<Packet, TraceFault>
-    ensures { (payload : List ℕ) → IsAt cursor.old payload 2 → field payload 0 2 ≡ 3 → Spells number payload result }
+    ensures { (payload : List ℕ) →
+        IsAt cursor.old payload 2 → field payload 0 2 ≡ 3 → Spells number payload result }
 {
     match cursor.take(2) {
         0 => {
@@ -63,7 +65,9 @@ fn synchronisation(cursor: &mut BitCursor<'_>, number: u64) -> Result<Packet, Tr
 
 /// The rest of a packet of format 3 and subformat 3.
 fn support(cursor: &mut BitCursor<'_>, number: u64) -> Result<Packet, TraceFault>
-    ensures { (payload : List ℕ) → IsAt cursor.old payload 4 → field payload 0 2 ≡ 3 → field payload 2 2 ≡ 3 → Spells number payload result }
+    ensures { (payload : List ℕ) →
+        IsAt cursor.old payload 4 → field payload 0 2 ≡ 3 → field payload 2 2 ≡ 3 →
+        Spells number payload result }
 {
     let enabled = cursor.take(1) == 1;
     let mode = cursor.take(1);

@@ -5,7 +5,8 @@ ghost use Rattle.rept_word.specs.Hex.{hex_digit, hex_word, hex_byte};
 use crate::text::{OutOfMemory, Text};
 
 impl Text {
-    /// Appends the number in decimal, with no sign and no leading zero. A refusal, for want of memory alone, leaves the text as it was.
+    /// Appends the number in decimal, with no sign and no leading zero.
+    /// A refusal, for want of memory alone, leaves the text as it was.
     pub fn push_decimal(&mut self, n: u32) -> Result<(), OutOfMemory>
         ensures ok { OnOk result (self.new ≡ self.old ++ decimal n) }
         ensures err { OnErr result (self.new ≡ self.old) }
@@ -22,7 +23,8 @@ impl Text {
         self.push(buffer.format(n).as_bytes())
     }
 
-    /// Appends the number as `0x` and eight lower-case hexadecimal digits. A refusal, for want of memory alone, leaves the text as it was.
+    /// Appends the number as `0x` and eight lower-case hexadecimal digits.
+    /// A refusal, for want of memory alone, leaves the text as it was.
     pub fn push_word(&mut self, n: u32) -> Result<(), OutOfMemory>
         ensures ok { OnOk result (self.new ≡ self.old ++ hex_word n) }
         ensures err { OnErr result (self.new ≡ self.old) }
@@ -41,7 +43,8 @@ impl Text {
         ])
     }
 
-    /// Appends the byte as two lower-case hexadecimal digits. A refusal, for want of memory alone, leaves the text as it was.
+    /// Appends the byte as two lower-case hexadecimal digits.
+    /// A refusal, for want of memory alone, leaves the text as it was.
     pub fn push_byte(&mut self, n: u8) -> Result<(), OutOfMemory>
         ensures ok { OnOk result (self.new ≡ self.old ++ hex_byte n) }
         ensures err { OnErr result (self.new ≡ self.old) }
