@@ -12,7 +12,7 @@ pub struct BitCursor<'a> {
 }
 
 impl<'a> BitCursor<'a> {
-    ghost use Rattle.std.specs.Prelude.{◌≡◌, ◌+◌, ◌*◌, ◌<◌, ◌≤◌, ◌%◌, ◌/◌, ◌^◌, ℕ, List, length, slice_index, IsTrue, ◌↔◌};
+    ghost use Rattle.std.specs.Prelude.{◌≡◌, ◌+◌, ◌<◌, ◌≤◌, ◌^◌, ℕ, List, length};
     ghost use Rattle.rept_word.specs.Bits.{field, bit_of};
     ghost use Rattle.rept_word.specs.Cursor.{IsAt};
 
@@ -31,8 +31,11 @@ impl<'a> BitCursor<'a> {
     /// The number that the next `n` bits spell, the first of them lowest. Any number of takes may follow.
     pub fn take(&mut self, n: u32) -> u64
         requires { n ≤ 64 }
-        ensures value { (payload : List ℕ) (i : ℕ) → IsAt self.old payload i → result ≡ field payload i n }
-        ensures at { (payload : List ℕ) (i : ℕ) → IsAt self.old payload i → IsAt self.new payload (i + n) }
+        ensures value { (payload : List ℕ) (i : ℕ) →
+            IsAt self.old payload i → result ≡ field payload i n }
+        ensures at { (payload : List ℕ) (i : ℕ) →
+            IsAt self.old payload i → IsAt self.new payload (i + n) }
+        ensures small { result < 2 ^ n }
     {
         let mut value = 0u64;
         for i in 0..n {
@@ -45,8 +48,10 @@ impl<'a> BitCursor<'a> {
 
     /// The next bit. At the payload's last bit the cursor stays there.
     fn step(&mut self) -> bool
-        ensures value { (payload : List ℕ) (i : ℕ) → IsAt self.old payload i → result ≡ bit_of payload i }
-        ensures at { (payload : List ℕ) (i : ℕ) → IsAt self.old payload i → IsAt self.new payload (i + 1) }
+        ensures value { (payload : List ℕ) (i : ℕ) →
+            IsAt self.old payload i → result ≡ bit_of payload i }
+        ensures at { (payload : List ℕ) (i : ℕ) →
+            IsAt self.old payload i → IsAt self.new payload (i + 1) }
     {
         let found = (self.payload[self.byte] >> self.bit) % 2 == 1;
         if self.bit < 7 {

@@ -1,4 +1,4 @@
-ghost use Rattle.std.specs.Prelude.{◌≡◌, ◌+◌, ◌*◌, ◌%◌, ◌^◌, ◌<◌, ◌≤◌, ℕ};
+ghost use Rattle.std.specs.Prelude.{◌≡◌, ◌+◌, ◌*◌, ◌%◌, ◌^◌, ◌≤◌, ℕ};
 ghost use Rattle.rept_word.specs.Number.{sign_extended, IsCover};
 
 /// The low `bits` bits of `v`, with the highest of them repeated above, as the RISC-V unprivileged manual extends
@@ -17,7 +17,8 @@ pub fn sext(v: u32, bits: u32) -> u32
     }
 }
 
-/// The number by which an odd `v` is multiplied to give 1 modulo 2^32. Each of Newton's five steps doubles the count of right bits.
+/// The number by which an odd `v` is multiplied to give 1 modulo 2^32. Each of five steps of Newton's iteration doubles the
+/// count of right bits.
 pub fn inverse_odd(v: u32) -> u32
     requires { v % 2 ≡ 1 }
     ensures { v * result % 2 ^ 32 ≡ 1 }
@@ -31,7 +32,8 @@ pub fn inverse_odd(v: u32) -> u32
 
 /// One step of Newton's iteration for the inverse of `v`: it doubles how many low bits are right.
 fn refined(v: u32, inverse: u32) -> u32
-    ensures { (bits : ℕ) → bits ≤ 16 → v * inverse % 2 ^ bits ≡ 1 → v * result % 2 ^ (bits + bits) ≡ 1 }
+    ensures { (bits : ℕ) → bits ≤ 16 →
+        v * inverse % 2 ^ bits ≡ 1 → v * result % 2 ^ (bits + bits) ≡ 1 }
 {
     let product = v.wrapping_mul(inverse);
     inverse.wrapping_mul(2u32.wrapping_sub(product))

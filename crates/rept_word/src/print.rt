@@ -5,8 +5,17 @@ ghost use Rattle.rept_word.specs.Hex.{hex_digit, hex_word, hex_byte};
 use crate::text::{OutOfMemory, Text};
 
 impl Text {
-    /// Appends the number in decimal, with no sign and no leading zero. A refusal, for want of memory alone, leaves the text as it was.
+    /// Appends the number in decimal, with no sign and no leading zero.
+    /// A refusal, for want of memory alone, leaves the text as it was.
     pub fn push_decimal(&mut self, n: u32) -> Result<(), OutOfMemory>
+        ensures ok { OnOk result (self.new ≡ self.old ++ decimal n) }
+        ensures err { OnErr result (self.new ≡ self.old) }
+    {
+        self.push_count(u64::from(n))
+    }
+
+    /// As `push_decimal`, for a count of 64 bits.
+    pub fn push_count(&mut self, n: u64) -> Result<(), OutOfMemory>
         ensures ok { OnOk result (self.new ≡ self.old ++ decimal n) }
         ensures err { OnErr result (self.new ≡ self.old) }
     {
@@ -14,7 +23,8 @@ impl Text {
         self.push(buffer.format(n).as_bytes())
     }
 
-    /// Appends the number as `0x` and eight lower-case hexadecimal digits. A refusal, for want of memory alone, leaves the text as it was.
+    /// Appends the number as `0x` and eight lower-case hexadecimal digits.
+    /// A refusal, for want of memory alone, leaves the text as it was.
     pub fn push_word(&mut self, n: u32) -> Result<(), OutOfMemory>
         ensures ok { OnOk result (self.new ≡ self.old ++ hex_word n) }
         ensures err { OnErr result (self.new ≡ self.old) }
@@ -33,7 +43,8 @@ impl Text {
         ])
     }
 
-    /// Appends the byte as two lower-case hexadecimal digits. A refusal, for want of memory alone, leaves the text as it was.
+    /// Appends the byte as two lower-case hexadecimal digits.
+    /// A refusal, for want of memory alone, leaves the text as it was.
     pub fn push_byte(&mut self, n: u8) -> Result<(), OutOfMemory>
         ensures ok { OnOk result (self.new ≡ self.old ++ hex_byte n) }
         ensures err { OnErr result (self.new ≡ self.old) }
@@ -74,10 +85,12 @@ mod tests {
         text.push(b" ")?;
         text.push_byte(0xaf)?;
         text.push_byte(0x07)?;
+        text.push(b" ")?;
+        text.push_count(18_446_744_073_709_551_615)?;
         text.push(b"")?;
         assert_eq!(rt;
             text.bytes(),
-            b"0 4294967295 0x10abcdef 0x00000009 af07".as_slice()
+            b"0 4294967295 0x10abcdef 0x00000009 af07 18446744073709551615".as_slice()
         );
         Ok(())
     }

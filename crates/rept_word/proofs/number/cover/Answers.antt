@@ -1,4 +1,4 @@
-use Rattle.std.proofs.Common.{arith, ◌<◌, ◌≤◌, ◌+◌, ◌*◌}
+use Rattle.std.proofs.Common.{arith, ◌<◌}
 use Rattle.rept_word.proofs.NumberLemmas.{more_ones, ones_above, most_ones, no_ones}
 use Rattle.rept_word.proofs.number.cover.Goals as goal
 

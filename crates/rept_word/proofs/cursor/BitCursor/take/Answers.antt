@@ -1,8 +1,7 @@
-use Rattle.std.proofs.Common.{◌≡◌, ◌<◌, ◌≤◌, ◌+◌, ◌*◌, ◌^◌, ℕ, arith, sym, ap, ◌∙◌, subst, true, false}
-use Rattle.std.proofs.Math.Nat.{pow-suc}
+use Rattle.std.proofs.Common.{◌≡◌, ◌≤◌, ◌+◌, ◌^◌, ℕ, arith, sym, ap, ◌∙◌, subst}
 use Rattle.std.proofs.Math.Pow.{pow_mono}
 use Rattle.std.proofs.lemmas.Grind.{pow_more}
-use Rattle.rept_word.specs.Bits.{field, bit_of}
+use Rattle.rept_word.specs.Bits.{field}
 use Rattle.rept_word.specs.Cursor.{IsAt}
 use Rattle.rept_word.proofs.BitLemmas.{field_zero, weight_is, one_bit, no_bit}
 use Rattle.rept_word.proofs.cursor.BitCursor.take.Goals as goal

@@ -1,0 +1,11 @@
+// The packets of an instruction trace, by Efficient Trace for RISC-V 2.0 with one fixed set of encoder parameters.
+#![tactic(auto)]
+
+pub mod fault;
+pub mod packet;
+pub mod packets;
+mod read;
+
+pub use fault::TraceFault;
+pub use packet::{Packet, Qual, Report};
+pub use packets::Packets;

@@ -1,0 +1,62 @@
+/// The address that formats 1 and 2 report, with its flags (Efficient Trace for RISC-V 2.0, formats 1 and 2).
+#[derive(Clone, Copy, Debug, PartialEq, Eq)]
+pub struct Report {
+    /// The reported address less the one before, modulo 2^32, in bytes. It is a multiple of 4.
+    pub difference: u32,
+    /// Whether the bit `notify` differs from the highest bit of the difference: the address is reported because a notification
+    /// was asked for there.
+    pub notify: bool,
+    /// Whether the bit `updiscon` differs from `notify`: the address is where an uninferable jump led, and a packet of format 3
+    /// follows.
+    pub updiscon: bool,
+    /// Whether the bit `irreport` differs from `updiscon`. It concerns implicit returns, which the fixed parameters leave out.
+    pub irreport: bool,
+}
+
+/// What a support packet says of the trace before it (field `qual_status`).
+#[derive(Clone, Copy, Debug, PartialEq, Eq)]
+pub enum Qual {
+    /// Number 0: nothing changed.
+    NoChange,
+    /// Number 1: the trace ended, and the packet before was sent to report the last instruction.
+    EndedRep,
+    /// Number 2: packets were lost.
+    TraceLost,
+    /// Number 3: the trace ended, and the packet before would have been sent anyway.
+    EndedNtr,
+}
+
+/// A packet. Addresses are byte addresses.
+#[derive(Clone, Copy, Debug, PartialEq, Eq)]
+pub enum Packet {
+    /// Format 3, subformat 0: the path begins, or is synchronised, at this address. `branch` is false only where a branch
+    /// stands there that is taken.
+    Start {
+        branch: bool,
+        privilege: u8,
+        address: u32,
+    },
+    /// Format 3, subformat 2: the context, here the privilege level alone, changed.
+    Context {
+        privilege: u8,
+    },
+    /// Format 3, subformat 3: whether the encoder is on, and what became of the trace.
+    Support {
+        enabled: bool,
+        status: Qual,
+    },
+    /// Format 2: an address, with no branch before it.
+    Address {
+        report: Report,
+    },
+    /// Format 1 with no branch count: 31 branches and no address. Bit 0 of the map is the oldest, and 0 says taken.
+    Map {
+        map: u32,
+    },
+    /// Format 1 with a count from 1 to 31: the low `count` bits of the map are branches, bit 0 the oldest, and 0 says taken.
+    MapAddress {
+        count: u8,
+        map: u32,
+        report: Report,
+    },
+}

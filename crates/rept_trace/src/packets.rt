@@ -1,0 +1,155 @@
+ghost use Rattle.std.specs.Prelude.{◌≡◌, ◌<◌, ◌+◌, ◌^◌, List, ◌∷◌, ℕ, length, nat_lt, if◌then◌else◌};
+ghost use Rattle.rept_trace.specs.Stream.{AreAfterZeros};
+
+use crate::fault::TraceFault;
+use crate::packet::Packet;
+use crate::read::packet_of;
+
+/// The first bytes of a trace file: the text `RTR1`, one stream, and three zero bytes.
+const HEADER: [u8; 8] = [0x52, 0x54, 0x52, 0x31, 1, 0, 0, 0];
+
+/// The packets of a trace that are left to read. It is `Copy`, so a trace may be read again from any place.
+#[derive(Clone, Copy)]
+pub struct Packets<'a> {
+    rest: &'a [u8],
+    number: u64,
+    ghost few: { number + length rest.now < 2 ^ 64 },
+}
+
+impl<'a> Packets<'a> {
+    ghost use Rattle.std.specs.Prelude.{◌≡◌, ◌++◌, ◌↔◌, ℕ, List, length, IfOk, IfErr, OnErr, Result, Option};
+    ghost use Rattle.rept_trace.specs.declared.packet.Packet.{Packet};
+    ghost use Rattle.rept_trace.specs.declared.fault.TraceFault.{TraceFault};
+    ghost use Rattle.rept_trace.specs.Fits.{FieldsFit};
+    ghost use Rattle.rept_trace.specs.Grammar.{IsPacket, Spells};
+    ghost use Rattle.rept_trace.specs.Packets.{rest_of, number_of};
+    ghost use Rattle.rept_trace.specs.Shortened.{IsShortened};
+    ghost use Rattle.rept_trace.specs.Stream.{header, IsHeaderFault, Answers, Hold, FailsAfter};
+
+    /// The packets of a trace file, from its first on. The file begins with `RTR1`, the count 1 of its streams and three zero
+    /// bytes, and then has, for each packet, a length byte and so many bytes of payload. `BadMagic` and `BadHeader` are the
+    /// only refusals.
+    pub fn open(bytes: &'a [u8]) -> Result<Packets<'a>, TraceFault>
+        ensures ok { IfOk result (λ packets.
+            (bytes.now ≡ header ++ rest_of packets) × (number_of packets ≡ 0)) }
+        ensures err { IfErr result (λ fault. IsHeaderFault bytes.now fault) }
+        ensures every_fault { (fault : TraceFault) →
+            IsHeaderFault bytes.now fault → result ≡ Err fault }
+    {
+        if bytes.len() < HEADER.len() {
+            return Err(TraceFault::BadMagic);
+        }
+        for i in 0..HEADER.len() {
+            if bytes[i] != HEADER[i] {
+                return Err(header_fault(i));
+            }
+        }
+        Ok(Packets {
+            rest: &bytes[HEADER.len()..],
+            number: 0,
+        })
+    }
+
+    /// The next packet. `None` comes exactly at the end of the bytes, and a fault exactly where the next packet has it.
+    /// Neither changes anything, so the same is answered again. No memory is taken.
+    pub fn next(&mut self) -> Result<Option<Packet>, TraceFault>
+        ensures answer { Answers (number_of self.old) (rest_of self.old) result
+            (number_of self.new) (rest_of self.new) }
+
+        // There is no other answer.
+        ensures only { (answer : Result (Option Packet) TraceFault) (number : ℕ) (rest : List ℕ) →
+            Answers (number_of self.old) (rest_of self.old) answer number rest →
+            (result ≡ answer) × (number_of self.new ≡ number) × (rest_of self.new ≡ rest) }
+        ensures unchanged { OnErr result (self.new ≡ self.old) }
+
+        // A payload without some equal bits at its end spells what the full one spells.
+        ensures shortened { (short full : List ℕ) (number : ℕ) (answer : Result Packet TraceFault) →
+            IsShortened short full → Spells number short answer ↔ Spells number full answer }
+        ensures fields { (payload : List ℕ) (packet : Packet) →
+            IsPacket payload packet → FieldsFit packet }
+    {
+        self.advance()
+    }
+
+    /// How many packets are left, or the first fault among them. It goes through the bytes to the end and takes no memory, so
+    /// a caller that keeps packets may ask first whether all of them are whole.
+    pub fn count(self) -> Result<u64, TraceFault>
+        ensures ok { IfOk result (λ count. (packets : List Packet) ×
+            Hold (rest_of self.entry) packets × (count ≡ length packets)) }
+        ensures err { IfErr result (λ fault. (packets : List Packet) ×
+            FailsAfter (number_of self.entry) (rest_of self.entry) packets fault) }
+        ensures every { (packets : List Packet) →
+            Hold (rest_of self.entry) packets → result ≡ Ok (length packets) }
+        ensures every_fault { (packets : List Packet) (fault : TraceFault) →
+            FailsAfter (number_of self.entry) (rest_of self.entry) packets fault → result ≡ Err fault }
+
+        // The bytes hold one list of packets.
+        ensures one_list { (packets others : List Packet) →
+            Hold (rest_of self.entry) packets → Hold (rest_of self.entry) others → packets ≡ others }
+    {
+        self.go_through()
+    }
+
+    /// Counts the packets one after another.
+    fn go_through(self) -> Result<u64, TraceFault>
+        ensures ok { IfOk result (λ count. (packets : List Packet) ×
+            Hold (rest_of self.entry) packets × (count ≡ length packets)) }
+        ensures err { IfErr result (λ fault. (packets : List Packet) ×
+            FailsAfter (number_of self.entry) (rest_of self.entry) packets fault) }
+    {
+        let mut packets = self;
+        let mut count = 0u64;
+        while let Some(_) = packets.next()? {
+            count += 1;
+        }
+        Ok(count)
+    }
+
+    /// Reads the next packet, if there is one, and goes past it.
+    fn advance(&mut self) -> Result<Option<Packet>, TraceFault>
+        ensures answer { Answers (number_of self.old) (rest_of self.old) result
+            (number_of self.new) (rest_of self.new) }
+        ensures unchanged { OnErr result (self.new ≡ self.old) }
+    {
+        let rest = after_zeros(self.rest);
+        let Some((size, others)) = rest.split_first() else {
+            return Ok(None);
+        };
+        let size = usize::from(*size);
+        if others.len() < size {
+            return Err(TraceFault::Truncated(self.number));
+        }
+        let (payload, rest) = others.split_at(size);
+        let packet = packet_of(payload, self.number)?;
+        self.rest = rest;
+        self.number += 1;
+        Ok(Some(packet))
+    }
+}
+
+/// The fault of a header whose first wrong byte is this one.
+fn header_fault(i: usize) -> TraceFault
+    requires { i < 8 }
+    ensures { result ≡ (if nat_lt i 4 then TraceFault.BadMagic else TraceFault.BadHeader i) }
+{
+    if i < 4 {
+        TraceFault::BadMagic
+    } else {
+        TraceFault::BadHeader(i as u32)
+    }
+}
+
+/// The bytes from the first that is not 0 on.
+fn after_zeros(bytes: &[u8]) -> &[u8]
+    ensures zeros { AreAfterZeros bytes.now result.now }
+    ensures above { (size : ℕ) (others : List ℕ) → result.now ≡ size ∷ others → 0 < size }
+{
+    let mut rest = bytes;
+    while let Some((0, others)) = rest.split_first() {
+        rest = others;
+    }
+    rest
+}
+
+#[cfg(test)]
+mod tests;

@@ -1,0 +1,232 @@
+use super::*;
+use crate::packet::{Qual, Report};
+use std::alloc::Global;
+use std::test::Fail;
+
+macro_rules! start {
+    ($branch:expr, $privilege:expr, $address:expr) => {
+        Packet::Start {
+            branch: $branch,
+            privilege: $privilege,
+            address: $address,
+        }
+    };
+}
+
+macro_rules! support {
+    ($enabled:expr, $status:expr) => {
+        Packet::Support {
+            enabled: $enabled,
+            status: $status,
+        }
+    };
+}
+
+/// A report: the difference, and whether notify, updiscon and irreport differ from the bit before.
+macro_rules! report {
+    ($difference:expr, $notify:expr, $updiscon:expr, $irreport:expr) => {
+        Report {
+            difference: $difference,
+            notify: $notify,
+            updiscon: $updiscon,
+            irreport: $irreport,
+        }
+    };
+}
+
+macro_rules! address {
+    ($($report:expr),+) => {
+        Packet::Address {
+            report: report!($($report),+),
+        }
+    };
+}
+
+macro_rules! branches {
+    ($count:expr, $map:expr, $($report:expr),+) => {
+        Packet::MapAddress {
+            count: $count,
+            map: $map,
+            report: report!($($report),+),
+        }
+    };
+}
+
+/// A whole header and these bytes after it.
+fn trace(alloc: Global, bytes: &[u8]) -> Result<Vec<u8>, Fail> {
+    let mut whole = HEADER.to_vec(alloc)?;
+    whole.extend_from_slice(bytes)?;
+    Ok(whole)
+}
+
+// The bytes were packed from the field tables of Efficient Trace for RISC-V 2.0, field by field, by a program of its own:
+// in the first trace each payload is whole, and in the second as short as it may be, with lengths of 0 between packets.
+const FULL: &[u8] = b"RTR1\x01\x00\x00\x00\
+    \x05\x13\x00\x20\x00\x00\
+    \x05\xe3\xff\xff\xff\xff\
+    \x01\x0b\
+    \x01\xeb\
+    \x02\x4f\x00\
+    \x02\x1f\x00\
+    \x02\x8f\x00\
+    \x02\xcf\x00\
+    \x05\x0a\x00\x00\x00\x00\
+    \x05\xfa\xff\xff\xff\xff\
+    \x05\x0a\x00\x00\x00\xff\
+    \x05\x0a\x00\x00\x00\xfe\
+    \x05\x0a\x00\x00\x00\xfc\
+    \x05\xfa\xff\xff\xff\x02\
+    \x05\x01\x00\x00\x00\x00\
+    \x05\x81\xff\xff\xff\xff\
+    \x05\x01\x3c\x2b\x1a\x09\
+    \x06\x85\x01\x00\x00\x00\x00\
+    \x06\x89\x12\x00\x00\x00\x00\
+    \x06\x0d\xfd\xff\xff\xff\xff\
+    \x06\x91\xaa\x00\x00\x00\x00\
+    \x06\x1d\x95\x00\x00\x00\xf0\
+    \x07\x21\x1e\xed\x00\x00\x00\x00\
+    \x07\x31\x00\x44\x00\x00\x00\x00\
+    \x07\xbd\xff\x3f\x00\x00\x00\x00\
+    \x09\xc1\xaa\xaa\xaa\xaa\x67\x45\x23\x01\
+    \x09\x7d\x55\x55\x55\xd5\xde\xbc\x9a\x18";
+
+const SHORT: &[u8] = b"RTR1\x01\x00\x00\x00\x00\x00\
+    \x03\x13\x00\x20\x00\
+    \x01\xe3\x00\
+    \x01\x0b\x00\
+    \x01\xeb\x00\
+    \x01\x4f\x00\
+    \x01\x1f\x00\
+    \x02\x8f\x00\x00\
+    \x02\xcf\x00\x00\
+    \x01\x0a\x00\
+    \x01\xfa\x00\
+    \x05\x0a\x00\x00\x00\xff\x00\
+    \x05\x0a\x00\x00\x00\xfe\x00\
+    \x05\x0a\x00\x00\x00\xfc\x00\
+    \x05\xfa\xff\xff\xff\x02\x00\
+    \x01\x01\x00\
+    \x01\x81\x00\
+    \x05\x01\x3c\x2b\x1a\x09\x00\
+    \x02\x85\x01\x00\
+    \x02\x89\x12\x00\
+    \x02\x0d\xfd\x00\
+    \x03\x91\xaa\x00\x00\
+    \x06\x1d\x95\x00\x00\x00\xf0\x00\
+    \x04\x21\x1e\xed\x00\x00\
+    \x03\x31\x00\x44\x00\
+    \x03\xbd\xff\x3f\x00\
+    \x09\xc1\xaa\xaa\xaa\xaa\x67\x45\x23\x01\x00\
+    \x09\x7d\x55\x55\x55\xd5\xde\xbc\x9a\x18\x00";
+
+const WANTED: [Packet; 27] = [
+    start!(true, 0, 0x10000),
+    start!(false, 3, 0xffff_fffc),
+    Packet::Context { privilege: 0 },
+    Packet::Context { privilege: 2 },
+    support!(false, Qual::EndedRep),
+    support!(true, Qual::NoChange),
+    support!(false, Qual::TraceLost),
+    support!(false, Qual::EndedNtr),
+    address!(8, false, false, false),
+    address!(0xffff_fff8, false, false, false),
+    address!(8, true, false, false),
+    address!(8, false, true, false),
+    address!(8, false, false, true),
+    address!(0xffff_fff8, true, true, true),
+    Packet::Map { map: 0 },
+    Packet::Map { map: 0x7fff_ffff },
+    Packet::Map { map: 0x1234_5678 },
+    branches!(1, 1, 4, false, false, false),
+    branches!(2, 5, 16, false, false, false),
+    branches!(3, 2, 0xffff_fffc, false, false, false),
+    branches!(4, 0x55, 8, false, false, false),
+    branches!(7, 0x2a, 8, true, false, false),
+    branches!(8, 0x5a3c, 12, false, false, false),
+    branches!(12, 0x800, 4, false, false, false),
+    branches!(15, 0x7fff, 0, false, false, false),
+    branches!(16, 0x5555_5555, 0x1234_5678, false, false, false),
+    branches!(31, 0x2aaa_aaaa, 0x89ab_cdec, false, true, false),
+];
+
+#[test]
+fn reads_each_packet(rt: HostRuntime) -> Result<(), Fail> {
+    for bytes in [FULL, SHORT] {
+        let mut packets = Packets::open(bytes)?;
+        let first = packets;
+        for packet in WANTED {
+            assert_eq!(rt; packets.next(), Ok(Some(packet)));
+        }
+        assert_eq!(rt; packets.next(), Ok(None));
+        assert_eq!(rt; packets.next(), Ok(None));
+        assert_eq!(rt; packets.count(), Ok(0));
+        assert_eq!(rt; first.count(), Ok(27));
+    }
+    Ok(())
+}
+
+#[test]
+fn refuses_headers(rt: HostRuntime) {
+    for (bytes, fault) in [
+        (b"".as_slice(), TraceFault::BadMagic),
+        (b"RTR1\x01\x00\x00", TraceFault::BadMagic),
+        (b"rTR1\x01\x00\x00\x00", TraceFault::BadMagic),
+        (b"RTR2\x00\x00\x00\x00\x00", TraceFault::BadMagic),
+        (b"RTR1\x02\x00\x00\x00", TraceFault::BadHeader(4)),
+        (b"RTR1\x01\x01\x01\x00", TraceFault::BadHeader(5)),
+        (b"RTR1\x01\x00\x09\x00", TraceFault::BadHeader(6)),
+        (b"RTR1\x01\x00\x00\x01\x00", TraceFault::BadHeader(7)),
+    ] {
+        assert_eq!(rt; Packets::open(bytes).err(), Some(fault));
+    }
+}
+
+#[test]
+fn refuses_packets(rt: HostRuntime) -> Result<(), Fail> {
+    for (bytes, read, fault) in [
+        (b"\x03\x13\x00".as_slice(), 0, TraceFault::Truncated(0)),
+        (b"\x01\x00", 0, TraceFault::Optional(0)),
+        (b"\x01\x07", 0, TraceFault::Trap(0)),
+        (b"\x01\x2f", 0, TraceFault::BadSupport(0)),
+        (b"\x02\x0f\x01", 0, TraceFault::BadSupport(0)),
+        (b"\x01\x8f", 0, TraceFault::BadSupport(0)),
+        (
+            b"\x00\x03\x13\x00\x20\x00\x00\x01\x0a\x00\x01\xf7",
+            2,
+            TraceFault::Trap(2),
+        ),
+        (b"\x03\x13\x00\x20\x01\x0a\x01", 2, TraceFault::Truncated(2)),
+        (b"\x01\x0a\xff\x0a", 1, TraceFault::Truncated(1)),
+    ] {
+        let whole = trace(rt.alloc(), bytes)?;
+        let mut packets = Packets::open(&whole)?;
+        assert_eq!(rt; packets.count(), Err(fault));
+        for _ in 0..read {
+            assert!(rt; packets.next().is_ok_and(|packet| packet.is_some()));
+        }
+        assert_eq!(rt; packets.next(), Err(fault));
+        assert_eq!(rt; packets.next(), Err(fault));
+    }
+    Ok(())
+}
+
+#[test]
+fn prints_faults(rt: HostRuntime) -> Result<(), Fail> {
+    for (fault, text) in [
+        (TraceFault::BadMagic, "the trace doesn't begin with RTR1"),
+        (
+            TraceFault::BadHeader(4),
+            "byte 4 of the trace's header is wrong",
+        ),
+        (TraceFault::Truncated(7), "packet 7 is cut short"),
+        (TraceFault::Optional(0), "packet 0 has format 0"),
+        (TraceFault::Trap(1), "packet 1 is a trap"),
+        (
+            TraceFault::BadSupport(2),
+            "packet 2 changes the encoder's mode or options",
+        ),
+    ] {
+        assert_eq!(rt; format!(in rt.alloc(); "{fault}")?.as_str(), text);
+    }
+    Ok(())
+}

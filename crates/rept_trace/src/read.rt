@@ -1,0 +1,127 @@
+ghost use Rattle.std.specs.Prelude.{◌≡◌, ◌<◌, ℕ, List, length};
+ghost use Rattle.rept_word.specs.Bits.{field};
+ghost use Rattle.rept_word.specs.Cursor.{IsAt};
+ghost use Rattle.rept_trace.specs.Grammar.{map_width, qual_number, IsReport, IsPacket, Spells};
+
+use crate::fault::TraceFault;
+use crate::packet::{Packet, Qual, Report};
+use rept_word::BitCursor;
+
+/// The packet that a payload spells, or why packet number `number` is refused.
+pub fn packet_of(payload: &[u8], number: u64) -> Result<Packet, TraceFault>
+    requires { 0 < length payload.now }
+    ensures { Spells number payload.now result }
+{
+    let mut cursor = BitCursor::new(payload);
+    match cursor.take(2) {
+        0 => Err(TraceFault::Optional(number)),
+        1 => Ok(branches(&mut cursor)),
+        2 => Ok(Packet::Address {
+            report: report(&mut cursor),
+        }),
+        _ => synchronisation(&mut cursor, number),
+    }
+}
+
+/// The rest of a packet of format 1.
+fn branches(cursor: &mut BitCursor<'_>) -> Packet
+    ensures { (payload : List ℕ) →
+        IsAt cursor.old payload 2 → field payload 0 2 ≡ 1 → IsPacket payload result }
+{
+    let count = cursor.take(5) as u8;
+    if count == 0 {
+        let map = cursor.take(31) as u32;
+        return Packet::Map { map };
+    }
+    let map = cursor.take(width_of(count)) as u32;
+    let report = report(cursor);
+    Packet::MapAddress { count, map, report }
+}
+
+/// The rest of a packet of format 3.
+fn synchronisation(cursor: &mut BitCursor<'_>, number: u64) -> Result<Packet, TraceFault>
+    ensures { (payload : List ℕ) →
+        IsAt cursor.old payload 2 → field payload 0 2 ≡ 3 → Spells number payload result }
+{
+    match cursor.take(2) {
+        0 => {
+            let branch = cursor.take(1) == 1;
+            let privilege = cursor.take(2) as u8;
+            let address = cursor.take(30) as u32 * 4;
+            Ok(Packet::Start {
+                branch,
+                privilege,
+                address,
+            })
+        }
+        1 => Err(TraceFault::Trap(number)),
+        2 => {
+            let privilege = cursor.take(2) as u8;
+            Ok(Packet::Context { privilege })
+        }
+        _ => support(cursor, number),
+    }
+}
+
+/// The rest of a packet of format 3 and subformat 3.
+fn support(cursor: &mut BitCursor<'_>, number: u64) -> Result<Packet, TraceFault>
+    ensures { (payload : List ℕ) →
+        IsAt cursor.old payload 4 → field payload 0 2 ≡ 3 → field payload 2 2 ≡ 3 →
+        Spells number payload result }
+{
+    let enabled = cursor.take(1) == 1;
+    let mode = cursor.take(1);
+    let status = status_of(cursor.take(2));
+    let options = cursor.take(5);
+    if mode == 0 && options == 0 {
+        Ok(Packet::Support { enabled, status })
+    } else {
+        Err(TraceFault::BadSupport(number))
+    }
+}
+
+/// A difference with its three flags, each of which says something where it differs from the bit before it.
+fn report(cursor: &mut BitCursor<'_>) -> Report
+    ensures { (payload : List ℕ) (i : ℕ) → IsAt cursor.old payload i → IsReport payload i result }
+{
+    let difference = cursor.take(30);
+    let notify = cursor.take(1);
+    let updiscon = cursor.take(1);
+    let irreport = cursor.take(1);
+    Report {
+        difference: difference as u32 * 4,
+        notify: notify != difference >> 29,
+        updiscon: updiscon != notify,
+        irreport: irreport != updiscon,
+    }
+}
+
+/// The width of the map of so many branches.
+fn width_of(count: u8) -> u32
+    ensures { result ≡ map_width count }
+{
+    if count < 2 {
+        1
+    } else if count < 4 {
+        3
+    } else if count < 8 {
+        7
+    } else if count < 16 {
+        15
+    } else {
+        31
+    }
+}
+
+/// The status of a number of two bits.
+fn status_of(number: u64) -> Qual
+    requires { number < 4 }
+    ensures { qual_number result ≡ number }
+{
+    match number {
+        0 => Qual::NoChange,
+        1 => Qual::EndedRep,
+        2 => Qual::TraceLost,
+        _ => Qual::EndedNtr,
+    }
+}
