@@ -1,9 +1,9 @@
 -- The fields of a word give its immediate.
-use Rattle.std.specs.Prelude.{◌≡◌, ℕ, suc, ◌+◌, ◌-◌, ◌*◌, ◌/◌, ◌%◌, ◌^◌, ◌<◌, Bool, true, false, nat_lt, if◌then◌else◌, ℤ, pos, negsuc}
-use Rattle.std.proofs.Common.{arith, refl, sym, ap, ◌∙◌}
+use Rattle.std.specs.Prelude.{◌≡◌, ℕ, suc, ◌+◌, ◌-◌, ◌*◌, ◌/◌, ◌%◌, ◌^◌, ◌<◌, ℤ, pos, negsuc}
+use Rattle.std.proofs.Common.{arith, sym, ap, ◌∙◌}
 use Rattle.std.proofs.lemmas.Bool.Decides.{nat_tests}
 use Rattle.rept_isa.specs.Numbers.{word}
-use Rattle.rept_isa.specs.Words.{field, opcode, rd_field, funct3, rs1_field, rs2_field, funct7, signed, i_immediate, s_immediate, b_immediate, j_immediate}
+use Rattle.rept_isa.specs.Words.{field, rd_field, rs2_field, funct7, signed, i_immediate, s_immediate, b_immediate, j_immediate}
 use Rattle.rept_isa.specs.Range.{InBits, IsEven}
 
 -- the low bits of a number that they can hold give it back

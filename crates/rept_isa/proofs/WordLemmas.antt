@@ -1,6 +1,6 @@
 -- A word that spells an instruction is read as that instruction.
-use Rattle.std.specs.Prelude.{◌≡◌, ℕ, ◌<◌, Bool, true, false, Option, Some, None, option_map, ◌&&◌, ◌||◌, ◌==◌, if◌then◌else◌, ℤ, pos}
-use Rattle.std.proofs.Common.{arith, refl, sym, ◌∙◌, ap, subst, inl, inr}
+use Rattle.std.specs.Prelude.{◌≡◌, ℕ, ◌<◌, true, false, Some, ◌||◌, ◌==◌, ℤ}
+use Rattle.std.proofs.Common.{arith, refl, sym, ◌∙◌, subst, inl, inr}
 use Rattle.std.proofs.lemmas.Bool.Decides.{nat_tests}
 use Rattle.rept_isa.specs.declared.instr.Instr.{Instr}
 use Rattle.rept_isa.specs.declared.instr.Instr.TheVariants.{Lui, Auipc, Jal, Jalr, Branch, Load, Store, Imm, Op, Fence, Ecall, Ebreak, Counter}
@@ -14,8 +14,8 @@ use Rattle.rept_isa.specs.declared.instr.ImmOp.{ImmOp}
 use Rattle.rept_isa.specs.declared.instr.ImmOp.TheVariants.{Addi, Slti, Sltiu, Xori, Ori, Andi, Slli, Srli, Srai}
 use Rattle.rept_isa.specs.declared.instr.RegOp.{RegOp}
 use Rattle.rept_isa.specs.declared.instr.RegOp.TheVariants.{Add, Sub, Sll, Slt, Sltu, Xor, Srl, Sra, Or, And, Mul, Mulh, Mulhsu, Mulhu, Div, Divu, Rem, Remu}
-use Rattle.rept_isa.specs.Words.{IsWord, IsCounter, IsUpper, IsJal, IsIForm, IsBranch, IsStore, IsShift, IsRegister, IsFence, IsCounterRead, opcode, field, rd_field, funct3, rs1_field, rs2_field, funct7, branch_funct3, load_funct3, store_funct3, op_funct3, op_funct7, i_immediate, s_immediate, b_immediate, u_immediate, j_immediate}
-use Rattle.rept_isa.specs.Reading.{branch_named, load_named, store_named, register_named, wide_named, shift_named, is_counter, read_jalr, read_branch, read_load, read_store, read_immediate, read_shift, read_wide, read_register, read_fence, read_counter, read_system, read_by}
+use Rattle.rept_isa.specs.Words.{IsWord, IsCounter, IsUpper, IsJal, IsIForm, IsBranch, IsStore, IsShift, IsRegister, IsFence, IsCounterRead, opcode, field, funct3, branch_funct3, load_funct3, store_funct3, op_funct3, op_funct7}
+use Rattle.rept_isa.specs.Reading.{branch_named, load_named, store_named, register_named, wide_named, shift_named, is_counter, read_by}
 
 branch_named-funct3 : (op : BranchOp) → branch_named (branch_funct3 op) ≡ Some op
 branch_named-funct3 Beq = refl

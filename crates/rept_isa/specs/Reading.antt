@@ -13,7 +13,7 @@ use Rattle.rept_isa.specs.declared.instr.ImmOp.{ImmOp}
 use Rattle.rept_isa.specs.declared.instr.ImmOp.TheVariants.{Addi, Slti, Sltiu, Xori, Ori, Andi, Slli, Srli, Srai}
 use Rattle.rept_isa.specs.declared.instr.RegOp.{RegOp}
 use Rattle.rept_isa.specs.declared.instr.RegOp.TheVariants.{Add, Sub, Sll, Slt, Sltu, Xor, Srl, Sra, Or, And, Mul, Mulh, Mulhsu, Mulhu, Div, Divu, Rem, Remu}
-use Rattle.rept_isa.specs.Words.{field, opcode, rd_field, funct3, rs1_field, rs2_field, funct7, i_immediate, s_immediate, b_immediate, u_immediate, j_immediate}
+use Rattle.rept_isa.specs.Words.{field, rd_field, funct3, rs1_field, rs2_field, funct7, i_immediate, s_immediate, b_immediate, u_immediate, j_immediate}
 
 abbrev pub branch_named : ℕ → Option BranchOp
 branch_named n = if n == 0 then Some Beq else if n == 1 then Some Bne else if n == 4 then Some Blt else if n == 5 then Some Bge else if n == 6 then Some Bltu else if n == 7 then Some Bgeu else None

@@ -1,5 +1,5 @@
 -- What a step does to the registers.
-use Rattle.std.specs.Prelude.{◌≡◌, ◌≢◌, ℕ, ◌+◌, ◌%◌, ◌^◌, ◌<◌, ◌==◌, Option, Some, None, Bool, true, false, if◌then◌else◌, ℤ}
+use Rattle.std.specs.Prelude.{◌≡◌, ◌≢◌, ℕ, ◌+◌, ◌%◌, ◌^◌, Some, ℤ}
 use Rattle.std.proofs.Common.{zero, suc, arith, refl, sym, ◌∙◌, ap, subst, inl, inr}
 use Rattle.std.proofs.lemmas.Bool.{cases_order}
 use Rattle.std.proofs.lemmas.Bool.Decides.{nat_tests}
@@ -11,7 +11,7 @@ use Rattle.rept_isa.specs.declared.row.StepRow.{StepRow}
 use Rattle.rept_isa.specs.Numbers.{plus}
 use Rattle.rept_isa.specs.Operands.{written_by, unless_zero}
 use Rattle.rept_machine.specs.State.{State}
-use Rattle.rept_machine.specs.Step.{IsStep, HasEffect, Sets, SameRegisters, ReadsCounter}
+use Rattle.rept_machine.specs.Step.{IsStep, HasEffect, Sets}
 
 unless_zero-suc : (n : ℕ) → unless_zero (suc n) ≡ Some (suc n)
 unless_zero-suc n = grind (arith, nat_tests)

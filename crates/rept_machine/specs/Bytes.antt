@@ -1,7 +1,7 @@
 -- What is kept of the registers and the memory: a list of words, and a map in which an address without an entry reads 0.
 use Rattle.std.specs.Prelude.{◌≡◌, ◌≢◌, ℕ, ◌<◌, ◌==◌, List, slice_index, slice_set, is_some, Bool, true, if◌then◌else◌}
 use Rattle.std.specs.Ordering.{nat_cmp}
-use Rattle.std.specs.BTreeMap.{get, BTreeMap}
+use Rattle.std.specs.BTreeMap.{get}
 use Rattle.rept_machine.specs.Entries.{byte_in}
 use Rattle.rept_machine.specs.declared.memory.Memory.{Memory}
 use Rattle.rept_machine.specs.Arithmetic.{beside, byte_of}

@@ -1,6 +1,6 @@
 -- What the machine picks where the manual leaves a choice (a call answers 0 and changes no byte, a counter is 0), and
 -- which instructions have a step or write memory.
-use Rattle.std.specs.Prelude.{◌≡◌, ◌≢◌, ℕ}
+use Rattle.std.specs.Prelude.{◌≡◌, ◌≢◌}
 use Rattle.rept_isa.specs.declared.instr.Instr.{Instr}
 use Rattle.rept_isa.specs.declared.instr.Instr.TheVariants.{Store, Ecall, Ebreak, Counter}
 use Rattle.rept_machine.specs.State.{State}

@@ -1,5 +1,5 @@
 -- What a machine shows: its state, its pc, and the words of code that it runs.
-use Rattle.std.specs.Prelude.{◌≡◌, ℕ, ◌+◌, ◌-◌, ◌*◌, ◌/◌, ◌%◌, ◌^◌, ◌≤◌, ◌==◌, nat_le, Bool, ◌&&◌, List, length, Option, Some, None, slice_get, MatchOption, if◌then◌else◌}
+use Rattle.std.specs.Prelude.{◌≡◌, ℕ, ◌-◌, ◌/◌, ◌%◌, ◌==◌, nat_le, ◌&&◌, List, Option, None, slice_get, MatchOption, if◌then◌else◌}
 use Rattle.rept_isa.specs.declared.instr.Instr.{Instr}
 use Rattle.rept_isa.specs.declared.instr.Instr.TheVariants.{Ebreak}
 use Rattle.rept_isa.specs.Words.{IsWord}

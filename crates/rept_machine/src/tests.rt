@@ -4,9 +4,11 @@ mod operations;
 
 use crate::tests::accesses::ACCESSES;
 use crate::tests::branches::BRANCHES;
-use crate::tests::operations::{EDGES, OPERATIONS};
+use crate::tests::operations::{
+    BITWISE, DIVISIONS, EDGES, IMMEDIATES, PRODUCTS, SHIFTS, SUMS_AND_COMPARES,
+};
 use crate::{Halt, Machine};
-use rept_isa::Reg;
+use rept_isa::{Reg, StepRow};
 use std::alloc::Global;
 use std::process::Abort;
 use std::test::Fail;
@@ -25,16 +27,19 @@ fn value(rt: &impl Abort, machine: &Machine<'_>, number: u8) -> u32 {
     machine.reg(Reg::new(number).expect(rt, "a register"))
 }
 
-#[test]
-fn operations_give_what_a_processor_gives(rt: HostRuntime) -> Result<(), Fail> {
-    for (word, second, results, text) in OPERATIONS {
+fn compare_operations(
+    rt: &impl Abort,
+    alloc: Global,
+    rows: &[operations::Row],
+) -> Result<(), Fail> {
+    for (word, second, results, text) in rows {
         for (first, result) in EDGES.iter().zip(results.iter()) {
-            let code = [word];
-            let registers = operands(*first, second);
-            let mut machine = Machine::new(rt.alloc(), &code, START, START, registers);
+            let code = [*word];
+            let registers = operands(*first, *second);
+            let mut machine = Machine::new(alloc, &code, START, START, registers);
             let row = machine.step()?;
             assert_eq!(rt;
-                value(&rt, &machine, 5),
+                value(rt, &machine, 5),
                 *result,
                 "{text} with {first} and {second}"
             );
@@ -45,16 +50,57 @@ fn operations_give_what_a_processor_gives(rt: HostRuntime) -> Result<(), Fail> {
 }
 
 #[test]
-fn branches_go_where_a_processor_goes(rt: HostRuntime) -> Result<(), Fail> {
-    for (word, second, taken, text) in BRANCHES {
+fn operations_give_what_a_processor_gives(rt: HostRuntime) -> Result<(), Fail> {
+    compare_operations(&rt, rt.alloc(), &SUMS_AND_COMPARES)?;
+    compare_operations(&rt, rt.alloc(), &SHIFTS)?;
+    compare_operations(&rt, rt.alloc(), &BITWISE)?;
+    compare_operations(&rt, rt.alloc(), &PRODUCTS)?;
+    compare_operations(&rt, rt.alloc(), &DIVISIONS)?;
+    compare_operations(&rt, rt.alloc(), &IMMEDIATES)
+}
+
+fn compare_branches(rt: &impl Abort, alloc: Global, rows: &[branches::Row]) -> Result<(), Fail> {
+    for (word, second, taken, text) in rows {
         for (first, taken) in EDGES.iter().zip(taken.iter()) {
-            let code = [word];
-            let registers = operands(*first, second);
-            let mut machine = Machine::new(rt.alloc(), &code, START, START, registers);
+            let code = [*word];
+            let registers = operands(*first, *second);
+            let mut machine = Machine::new(alloc, &code, START, START, registers);
             let row = machine.step()?;
             let next = if *taken { START + 8 } else { START + 4 };
-            assert_eq!(rt; row.next, next, "{text} with {first} and {second}");
-            assert_eq!(rt; machine.pc(), next);
+            assert_eq!(rt;
+                (row.next, machine.pc()),
+                (next, next),
+                "{text} with {first} and {second}"
+            );
+        }
+    }
+    Ok(())
+}
+
+#[test]
+fn branches_go_where_a_processor_goes(rt: HostRuntime) -> Result<(), Fail> {
+    compare_branches(&rt, rt.alloc(), &BRANCHES)
+}
+
+fn compare_accesses(
+    rt: &impl Abort,
+    alloc: Global,
+    base: u32,
+    rows: &[accesses::Row],
+) -> Result<(), Fail> {
+    for (store, load, results, store_text, load_text) in rows {
+        for (second, result) in EDGES.iter().zip(results.iter()) {
+            let code = [*store, *load];
+            let registers = operands(base, *second);
+            let mut machine = Machine::new(alloc, &code, START, START, registers);
+            assert!(rt; machine.step().is_ok());
+            assert!(rt; machine.step().is_ok());
+            let loaded = value(rt, &machine, 5);
+            assert_eq!(rt;
+                loaded,
+                *result,
+                "{store_text}, {load_text} of {second} at {base}"
+            );
         }
     }
     Ok(())
@@ -63,27 +109,13 @@ fn branches_go_where_a_processor_goes(rt: HostRuntime) -> Result<(), Fail> {
 #[test]
 fn accesses_are_those_of_a_processor_at_any_base(rt: HostRuntime) -> Result<(), Fail> {
     for base in [0x20000, 0x20001, 0xffff_fffd, 0xffff_fffe, 0xffff_ffff, 0] {
-        for (store, load, results, store_text, load_text) in ACCESSES {
-            for (second, result) in EDGES.iter().zip(results.iter()) {
-                let code = [store, load];
-                let registers = operands(base, *second);
-                let mut machine = Machine::new(rt.alloc(), &code, START, START, registers);
-                let _ = machine.step()?;
-                let _ = machine.step()?;
-                let loaded = value(&rt, &machine, 5);
-                assert_eq!(rt;
-                    loaded,
-                    *result,
-                    "{store_text}, {load_text} of {second} at {base}"
-                );
-            }
-        }
+        compare_accesses(&rt, rt.alloc(), base, &ACCESSES)?;
     }
     Ok(())
 }
 
 // Division by zero and overflow (manual, chapter 7.2): the word of `div x5,x6,x7` or `rem x5,x6,x7`, x6, x7 and x5.
-const DIVISIONS: [(u32, u32, u32, u32); 4] = [
+const QUOTIENTS: [(u32, u32, u32, u32); 4] = [
     (0x0273_42b3, 0x8000_0000, 0xffff_ffff, 0x8000_0000),
     (0x0273_42b3, 9, 0, 0xffff_ffff),
     (0x0273_62b3, 0x8000_0000, 0xffff_ffff, 0),
@@ -92,11 +124,11 @@ const DIVISIONS: [(u32, u32, u32, u32); 4] = [
 
 #[test]
 fn division_by_zero_and_overflow_have_results(rt: HostRuntime) -> Result<(), Fail> {
-    for (word, first, second, result) in DIVISIONS {
+    for (word, first, second, result) in QUOTIENTS {
         let code = [word];
         let registers = operands(first, second);
         let mut machine = Machine::new(rt.alloc(), &code, START, START, registers);
-        let _ = machine.step()?;
+        assert!(rt; machine.step().is_ok());
         assert_eq!(rt; value(&rt, &machine, 5), result, "{first} by {second}");
     }
     Ok(())
@@ -142,20 +174,33 @@ fn jumps_calls_and_counters_are_those_of_the_manual(rt: HostRuntime) -> Result<(
     Ok(())
 }
 
+fn halt_of(machine: &mut Machine<'_>) -> Option<Halt> {
+    let stepped: Result<StepRow, Halt> = machine.step();
+    match stepped {
+        Ok(_) => None,
+        Err(halt) => Some(halt),
+    }
+}
+
 #[test]
 fn a_machine_halts_where_nothing_can_run(rt: HostRuntime) -> Result<(), Fail> {
     // addi x5,x0,5 and ebreak
     let code = [0x0050_0293, 0x0010_0073];
     let mut machine = Machine::new(rt.alloc(), &code, START, START, [0; 32]);
-    let _ = machine.step()?;
-    assert_eq!(rt; machine.step(), Err(Halt::NotRunnable(0x10004)));
-    assert_eq!(rt; machine.step(), Err(Halt::NotRunnable(0x10004)));
+    assert!(rt; machine.step().is_ok());
+    assert_eq!(rt; halt_of(&mut machine), Some(Halt::NotRunnable(0x10004)));
+    assert_eq!(rt; halt_of(&mut machine), Some(Halt::NotRunnable(0x10004)));
     assert_eq!(rt; value(&rt, &machine, 5), 5);
+    Ok(())
+}
 
-    let short = [0x0050_0293];
-    let mut machine = Machine::new(rt.alloc(), &short, START, START, [0; 32]);
-    let _ = machine.step()?;
-    assert_eq!(rt; machine.step(), Err(Halt::NotCode(0x10004)));
+#[test]
+fn a_machine_halts_past_its_code(rt: HostRuntime) -> Result<(), Fail> {
+    // addi x5,x0,5
+    let code = [0x0050_0293];
+    let mut machine = Machine::new(rt.alloc(), &code, START, START, [0; 32]);
+    assert!(rt; machine.step().is_ok());
+    assert_eq!(rt; halt_of(&mut machine), Some(Halt::NotCode(0x10004)));
     assert_eq!(rt; (machine.pc(), machine.byte(0x10000)), (0x10004, 0));
     Ok(())
 }

@@ -3,7 +3,9 @@
 // For each row the program loads the registers, runs the instruction and stores x5.
 
 /// A store of x7 over zeros, a load into x5, the results for each edge in x7, and the two texts. x6 is the base.
-pub const ACCESSES: [(u32, u32, [u32; 5], &str, &str); 40] = [
+pub type Row = (u32, u32, [u32; 5], &'static str, &'static str);
+
+pub const ACCESSES: [Row; 40] = [
     (
         0x0073_0023,
         0x0003_0283,

@@ -3,7 +3,9 @@
 // For each row the program loads the registers, runs the instruction and stores x5.
 
 /// A branch by 8, the value of x7, whether it is taken for each edge in x6, and the text.
-pub const BRANCHES: [(u32, u32, [bool; 5], &str); 30] = [
+pub type Row = (u32, u32, [bool; 5], &'static str);
+
+pub const BRANCHES: [Row; 30] = [
     (
         0x0073_0463,
         0,

@@ -6,7 +6,9 @@
 pub const EDGES: [u32; 5] = [0, 1, 0xffff_ffff, 0x8000_0000, 0x7fff_ffff];
 
 /// A word, the value of x7, the results in x5 for each edge in x6, and the text.
-pub const OPERATIONS: [(u32, u32, [u32; 5], &str); 138] = [
+pub type Row = (u32, u32, [u32; 5], &'static str);
+
+pub const SUMS_AND_COMPARES: [Row; 20] = [
     (
         0x0073_02b3,
         0,
@@ -73,6 +75,19 @@ pub const OPERATIONS: [(u32, u32, [u32; 5], &str); 138] = [
         [0x8000_0001, 0x8000_0002, 0x8000_0000, 1, 0],
         "sub x5,x6,x7",
     ),
+    (0x0073_22b3, 0, [0, 0, 1, 1, 0], "slt x5,x6,x7"),
+    (0x0073_22b3, 1, [1, 0, 1, 1, 0], "slt x5,x6,x7"),
+    (0x0073_22b3, 0xffff_ffff, [0, 0, 0, 1, 0], "slt x5,x6,x7"),
+    (0x0073_22b3, 0x8000_0000, [0, 0, 0, 0, 0], "slt x5,x6,x7"),
+    (0x0073_22b3, 0x7fff_ffff, [1, 1, 1, 1, 0], "slt x5,x6,x7"),
+    (0x0073_32b3, 0, [0, 0, 0, 0, 0], "sltu x5,x6,x7"),
+    (0x0073_32b3, 1, [1, 0, 0, 0, 0], "sltu x5,x6,x7"),
+    (0x0073_32b3, 0xffff_ffff, [1, 1, 0, 1, 1], "sltu x5,x6,x7"),
+    (0x0073_32b3, 0x8000_0000, [1, 1, 0, 0, 1], "sltu x5,x6,x7"),
+    (0x0073_32b3, 0x7fff_ffff, [1, 1, 0, 0, 0], "sltu x5,x6,x7"),
+];
+
+pub const SHIFTS: [Row; 30] = [
     (
         0x0073_12b3,
         0,
@@ -102,46 +117,6 @@ pub const OPERATIONS: [(u32, u32, [u32; 5], &str); 138] = [
         0x0000_0021,
         [0, 2, 0xffff_fffe, 0, 0xffff_fffe],
         "sll x5,x6,x7",
-    ),
-    (0x0073_22b3, 0, [0, 0, 1, 1, 0], "slt x5,x6,x7"),
-    (0x0073_22b3, 1, [1, 0, 1, 1, 0], "slt x5,x6,x7"),
-    (0x0073_22b3, 0xffff_ffff, [0, 0, 0, 1, 0], "slt x5,x6,x7"),
-    (0x0073_22b3, 0x8000_0000, [0, 0, 0, 0, 0], "slt x5,x6,x7"),
-    (0x0073_22b3, 0x7fff_ffff, [1, 1, 1, 1, 0], "slt x5,x6,x7"),
-    (0x0073_32b3, 0, [0, 0, 0, 0, 0], "sltu x5,x6,x7"),
-    (0x0073_32b3, 1, [1, 0, 0, 0, 0], "sltu x5,x6,x7"),
-    (0x0073_32b3, 0xffff_ffff, [1, 1, 0, 1, 1], "sltu x5,x6,x7"),
-    (0x0073_32b3, 0x8000_0000, [1, 1, 0, 0, 1], "sltu x5,x6,x7"),
-    (0x0073_32b3, 0x7fff_ffff, [1, 1, 0, 0, 0], "sltu x5,x6,x7"),
-    (
-        0x0073_42b3,
-        0,
-        [0, 1, 0xffff_ffff, 0x8000_0000, 0x7fff_ffff],
-        "xor x5,x6,x7",
-    ),
-    (
-        0x0073_42b3,
-        1,
-        [1, 0, 0xffff_fffe, 0x8000_0001, 0x7fff_fffe],
-        "xor x5,x6,x7",
-    ),
-    (
-        0x0073_42b3,
-        0xffff_ffff,
-        [0xffff_ffff, 0xffff_fffe, 0, 0x7fff_ffff, 0x8000_0000],
-        "xor x5,x6,x7",
-    ),
-    (
-        0x0073_42b3,
-        0x8000_0000,
-        [0x8000_0000, 0x8000_0001, 0x7fff_ffff, 0, 0xffff_ffff],
-        "xor x5,x6,x7",
-    ),
-    (
-        0x0073_42b3,
-        0x7fff_ffff,
-        [0x7fff_ffff, 0x7fff_fffe, 0x8000_0000, 0xffff_ffff, 0],
-        "xor x5,x6,x7",
     ),
     (
         0x0073_52b3,
@@ -197,6 +172,124 @@ pub const OPERATIONS: [(u32, u32, [u32; 5], &str); 138] = [
         0x0000_0021,
         [0, 0, 0xffff_ffff, 0xc000_0000, 0x3fff_ffff],
         "sra x5,x6,x7",
+    ),
+    (
+        0x0003_1293,
+        0,
+        [0, 1, 0xffff_ffff, 0x8000_0000, 0x7fff_ffff],
+        "slli x5,x6,0",
+    ),
+    (
+        0x0013_1293,
+        0,
+        [0, 2, 0xffff_fffe, 0, 0xffff_fffe],
+        "slli x5,x6,1",
+    ),
+    (
+        0x00f3_1293,
+        0,
+        [0, 0x0000_8000, 0xffff_8000, 0, 0xffff_8000],
+        "slli x5,x6,15",
+    ),
+    (
+        0x0103_1293,
+        0,
+        [0, 0x0001_0000, 0xffff_0000, 0, 0xffff_0000],
+        "slli x5,x6,16",
+    ),
+    (
+        0x01f3_1293,
+        0,
+        [0, 0x8000_0000, 0x8000_0000, 0, 0x8000_0000],
+        "slli x5,x6,31",
+    ),
+    (
+        0x0003_5293,
+        0,
+        [0, 1, 0xffff_ffff, 0x8000_0000, 0x7fff_ffff],
+        "srli x5,x6,0",
+    ),
+    (
+        0x0013_5293,
+        0,
+        [0, 0, 0x7fff_ffff, 0x4000_0000, 0x3fff_ffff],
+        "srli x5,x6,1",
+    ),
+    (
+        0x00f3_5293,
+        0,
+        [0, 0, 0x0001_ffff, 0x0001_0000, 0x0000_ffff],
+        "srli x5,x6,15",
+    ),
+    (
+        0x0103_5293,
+        0,
+        [0, 0, 0x0000_ffff, 0x0000_8000, 0x0000_7fff],
+        "srli x5,x6,16",
+    ),
+    (0x01f3_5293, 0, [0, 0, 1, 1, 0], "srli x5,x6,31"),
+    (
+        0x4003_5293,
+        0,
+        [0, 1, 0xffff_ffff, 0x8000_0000, 0x7fff_ffff],
+        "srai x5,x6,0",
+    ),
+    (
+        0x4013_5293,
+        0,
+        [0, 0, 0xffff_ffff, 0xc000_0000, 0x3fff_ffff],
+        "srai x5,x6,1",
+    ),
+    (
+        0x40f3_5293,
+        0,
+        [0, 0, 0xffff_ffff, 0xffff_0000, 0x0000_ffff],
+        "srai x5,x6,15",
+    ),
+    (
+        0x4103_5293,
+        0,
+        [0, 0, 0xffff_ffff, 0xffff_8000, 0x0000_7fff],
+        "srai x5,x6,16",
+    ),
+    (
+        0x41f3_5293,
+        0,
+        [0, 0, 0xffff_ffff, 0xffff_ffff, 0],
+        "srai x5,x6,31",
+    ),
+];
+
+pub const BITWISE: [Row; 15] = [
+    (
+        0x0073_42b3,
+        0,
+        [0, 1, 0xffff_ffff, 0x8000_0000, 0x7fff_ffff],
+        "xor x5,x6,x7",
+    ),
+    (
+        0x0073_42b3,
+        1,
+        [1, 0, 0xffff_fffe, 0x8000_0001, 0x7fff_fffe],
+        "xor x5,x6,x7",
+    ),
+    (
+        0x0073_42b3,
+        0xffff_ffff,
+        [0xffff_ffff, 0xffff_fffe, 0, 0x7fff_ffff, 0x8000_0000],
+        "xor x5,x6,x7",
+    ),
+    (
+        0x0073_42b3,
+        0x8000_0000,
+        [0x8000_0000, 0x8000_0001, 0x7fff_ffff, 0, 0xffff_ffff],
+        "xor x5,x6,x7",
+    ),
+    (
+        0x0073_42b3,
+        0x7fff_ffff,
+        [0x7fff_ffff, 0x7fff_fffe, 0x8000_0000, 0xffff_ffff, 0],
+        "xor x5,x6,x7",
     ),
     (
         0x0073_62b3,
@@ -266,6 +359,9 @@ pub const OPERATIONS: [(u32, u32, [u32; 5], &str); 138] = [
         [0, 1, 0x7fff_ffff, 0, 0x7fff_ffff],
         "and x5,x6,x7",
     ),
+];
+
+pub const PRODUCTS: [Row; 20] = [
     (0x0273_02b3, 0, [0, 0, 0, 0, 0], "mul x5,x6,x7"),
     (
         0x0273_02b3,
@@ -361,6 +457,9 @@ pub const OPERATIONS: [(u32, u32, [u32; 5], &str); 138] = [
         [0, 0, 0x7fff_fffe, 0x3fff_ffff, 0x3fff_ffff],
         "mulhu x5,x6,x7",
     ),
+];
+
+pub const DIVISIONS: [Row; 20] = [
     (
         0x0273_42b3,
         0,
@@ -453,6 +552,9 @@ pub const OPERATIONS: [(u32, u32, [u32; 5], &str); 138] = [
         "remu x5,x6,x7",
     ),
     (0x0273_72b3, 0x7fff_ffff, [0, 1, 1, 1, 0], "remu x5,x6,x7"),
+];
+
+pub const IMMEDIATES: [Row; 33] = [
     (
         0x0003_0293,
         0,
@@ -614,91 +716,6 @@ pub const OPERATIONS: [(u32, u32, [u32; 5], &str); 138] = [
         0,
         [0, 1, 0x0000_07ff, 0, 0x0000_07ff],
         "andi x5,x6,2047",
-    ),
-    (
-        0x0003_1293,
-        0,
-        [0, 1, 0xffff_ffff, 0x8000_0000, 0x7fff_ffff],
-        "slli x5,x6,0",
-    ),
-    (
-        0x0013_1293,
-        0,
-        [0, 2, 0xffff_fffe, 0, 0xffff_fffe],
-        "slli x5,x6,1",
-    ),
-    (
-        0x00f3_1293,
-        0,
-        [0, 0x0000_8000, 0xffff_8000, 0, 0xffff_8000],
-        "slli x5,x6,15",
-    ),
-    (
-        0x0103_1293,
-        0,
-        [0, 0x0001_0000, 0xffff_0000, 0, 0xffff_0000],
-        "slli x5,x6,16",
-    ),
-    (
-        0x01f3_1293,
-        0,
-        [0, 0x8000_0000, 0x8000_0000, 0, 0x8000_0000],
-        "slli x5,x6,31",
-    ),
-    (
-        0x0003_5293,
-        0,
-        [0, 1, 0xffff_ffff, 0x8000_0000, 0x7fff_ffff],
-        "srli x5,x6,0",
-    ),
-    (
-        0x0013_5293,
-        0,
-        [0, 0, 0x7fff_ffff, 0x4000_0000, 0x3fff_ffff],
-        "srli x5,x6,1",
-    ),
-    (
-        0x00f3_5293,
-        0,
-        [0, 0, 0x0001_ffff, 0x0001_0000, 0x0000_ffff],
-        "srli x5,x6,15",
-    ),
-    (
-        0x0103_5293,
-        0,
-        [0, 0, 0x0000_ffff, 0x0000_8000, 0x0000_7fff],
-        "srli x5,x6,16",
-    ),
-    (0x01f3_5293, 0, [0, 0, 1, 1, 0], "srli x5,x6,31"),
-    (
-        0x4003_5293,
-        0,
-        [0, 1, 0xffff_ffff, 0x8000_0000, 0x7fff_ffff],
-        "srai x5,x6,0",
-    ),
-    (
-        0x4013_5293,
-        0,
-        [0, 0, 0xffff_ffff, 0xc000_0000, 0x3fff_ffff],
-        "srai x5,x6,1",
-    ),
-    (
-        0x40f3_5293,
-        0,
-        [0, 0, 0xffff_ffff, 0xffff_0000, 0x0000_ffff],
-        "srai x5,x6,15",
-    ),
-    (
-        0x4103_5293,
-        0,
-        [0, 0, 0xffff_ffff, 0xffff_8000, 0x0000_7fff],
-        "srai x5,x6,16",
-    ),
-    (
-        0x41f3_5293,
-        0,
-        [0, 0, 0xffff_ffff, 0xffff_ffff, 0],
-        "srai x5,x6,31",
     ),
     (0x0000_02b7, 0, [0, 0, 0, 0, 0], "lui x5,0x0"),
     (

@@ -1,6 +1,6 @@
-use Rattle.std.proofs.Common.{arith, rules, FitsSigned, ◌*ℤ◌, ◌≤◌, ◌^◌, ◌≡◌}
+use Rattle.std.proofs.Common.{arith, rules, FitsSigned, ◌*ℤ◌, ◌^◌, ◌≡◌}
 use Rattle.std.proofs.lemmas.Int.{to_z-of_z, fits_signed_mul}
-use mir.Syntax.{w32, w64}
+use mir.Syntax.{w64}
 use Rattle.rept_machine.specs.Arithmetic.{high_word}
 use Rattle.rept_machine.proofs.arithmetic.computed.Goals as goal
 
