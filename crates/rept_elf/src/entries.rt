@@ -1,4 +1,4 @@
-ghost use Rattle.std.specs.Prelude.{◌≡◌, ◌<◌};
+ghost use Rattle.std.specs.Prelude.{◌≡◌, ◌<◌, ◌≤◌, length};
 ghost use Rattle.rept_elf.specs.Header.{HasTable, entry_offset, e_phnum};
 ghost use Rattle.rept_elf.specs.Segments.{segment_from};
 ghost use Rattle.rept_elf.specs.Image.{segment_of};
@@ -18,7 +18,8 @@ pub fn entry_count(bytes: &[u8]) -> u32
 pub fn entry(bytes: &[u8], index: u32) -> Segment<'_>
     requires table { HasTable bytes.now }
     requires index { index < e_phnum bytes.now }
-    ensures { segment_of result ≡ segment_from bytes.now (entry_offset bytes.now index) }
+    ensures segment { segment_of result ≡ segment_from bytes.now (entry_offset bytes.now index) }
+    ensures within { length result.body.now ≤ result.filesz }
 {
     let at = word(bytes, 28) as usize + 32 * index as usize;
     let offset = word(bytes, at + 4);

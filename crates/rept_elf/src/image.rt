@@ -1,4 +1,4 @@
-ghost use Rattle.std.specs.Prelude.{◌≡◌, ◌<◌, length, slice_get, Some, IfOk};
+ghost use Rattle.std.specs.Prelude.{◌≡◌, ◌<◌, ◌≤◌, length, slice_get, Some, IfOk};
 ghost use Rattle.std.specs.Result.{result_err};
 ghost use Rattle.rept_elf.specs.Checks.{checks, first_failure};
 ghost use Rattle.rept_elf.specs.Header.{HasTable};
@@ -30,6 +30,13 @@ impl<'a> Image<'a> {
         Ok(Image { bytes })
     }
 
+    /// The count of the file's bytes.
+    pub fn file_size(&self) -> usize
+        ensures { result ≡ length (file_of self.now) }
+    {
+        self.bytes.len()
+    }
+
     /// The count of segments.
     pub fn count(&self) -> u32
         ensures { result ≡ length (segments_of self.now) }
@@ -40,7 +47,8 @@ impl<'a> Image<'a> {
     /// The segment of this index, in table order.
     pub fn segment(&self, i: u32) -> Segment<'a>
         requires { i < length (segments_of self.now) }
-        ensures { slice_get (segments_of self.now) i ≡ Some (segment_of result) }
+        ensures segment { slice_get (segments_of self.now) i ≡ Some (segment_of result) }
+        ensures within { length result.body.now ≤ result.filesz }
     {
         entry(self.bytes, i)
     }

@@ -10,6 +10,7 @@ mod image;
 mod segment;
 
 pub use fault::{ElfFault, Want};
+pub use fields::{half, part, word};
 pub use image::Image;
 pub use segment::{PF_W, PF_X, PT_LOAD, PT_NOTE, Segment};
 

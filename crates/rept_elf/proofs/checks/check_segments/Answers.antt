@@ -9,7 +9,7 @@ pub returns-in_err-check_segment : goal.returns-in_err-check_segment
 returns-in_err-check_segment c =
     let bytes = c.args.bytes.now in
     let at : slice_get (segments bytes) c.loop-index.index ≡ Some (segment_of c.entry-segment.result) =
-    slice_get-segments bytes c.loop-index.index (omega (arith, c.entry_count-index-end.ensures)) ∙ ap Some (sym c.entry-segment.ensures) in
+    slice_get-segments bytes c.loop-index.index (omega (arith, c.entry_count-index-end.ensures)) ∙ ap Some (sym c.entry-segment.ensures.segment) in
     let failed : checked_from c.args.want (length bytes) 0 (segments bytes) ≡ Some c.in_err-check_segment.field-0.0 =
     c.loop-index.invariant ∙ one_fails _ _ _ _ _ _ at (sym c.in_err-check_segment.ensures) in
     rw failed (search rules)
@@ -18,7 +18,7 @@ pub loop-index-preserved : goal.loop-index-preserved
 loop-index-preserved c =
     let bytes = c.args.bytes.now in
     let at : slice_get (segments bytes) c.loop-index.index ≡ Some (segment_of c.entry-segment.result) =
-    slice_get-segments bytes c.loop-index.index (omega (arith, c.entry_count-index-end.ensures)) ∙ ap Some (sym c.entry-segment.ensures) in
+    slice_get-segments bytes c.loop-index.index (omega (arith, c.entry_count-index-end.ensures)) ∙ ap Some (sym c.entry-segment.ensures.segment) in
     c.loop-index.invariant ∙ one_passes _ _ _ _ _ at (sym c.in_ok-check_segment.ensures)
 
 pub returns : goal.returns
