@@ -11,3 +11,6 @@ mod status;
 pub use dump::Dump;
 pub use fault::CoreFault;
 pub use status::Status;
+
+#[cfg(test)]
+mod tests;

@@ -42,12 +42,7 @@ fn is_allowed(segment: &Segment<'_>, allowed: Allowed) -> bool
 }
 
 /// The segment's bytes from an address on, where it is allowed and part of memory, and its file has so many of them.
-fn held_bytes<'a>(
-    segment: &Segment<'a>,
-    allowed: Allowed,
-    a: u32,
-    count: usize,
-) -> Option<&'a [u8]>
+fn held_bytes<'a>(segment: &Segment<'a>, allowed: Allowed, a: u32, count: usize) -> Option<&'a [u8]>
     ensures bytes { option_map (λ b. b.now) result ≡ (if allows allowed (segment_of segment.now) && holds a count (segment_of segment.now) then Some (bytes_from a (segment_of segment.now)) else None) }
     ensures enough { IfSome result (λ b. count ≤ length b.now) }
 {

@@ -1,4 +1,4 @@
-use Rattle.std.proofs.Common.{◌∙◌, sym}
+use Rattle.std.proofs.Common.{◌∙◌}
 use Rattle.rept_elf.specs.Image.{segments_of, segment_of}
 use Rattle.rept_dump.specs.Memory.{bytes_from}
 use Rattle.rept_dump.proofs.SearchLemmas.{find-from, found, passed_over}

@@ -1,4 +1,4 @@
-use Rattle.std.proofs.Common.{◌<◌, ◌+◌, ◌*◌, length, arith, length-set}
+use Rattle.std.proofs.Common.{◌<◌, ◌+◌, ◌*◌, length, arith}
 use Rattle.std.proofs.lemmas.Grind.{common_steps}
 use Rattle.rept_elf.specs.Header.{word_at}
 use Rattle.rept_dump.proofs.SearchLemmas.{one_more_read}
