@@ -84,7 +84,7 @@ pub record Took (old new : Taken) (left left' : Option (List ℕ)) (faults fault
   pub later : faults ≤ faults'
 
 -- nothing was left of the input
-pub record IsOver (old new : Taken) (left left' : Option (List ℕ)) (faults faults' : ℕ) : Type 0 where
+pub record EndsInput (old new : Taken) (left left' : Option (List ℕ)) (faults faults' : ℕ) : Type 0 where
   pub got : List ℕ
   pub took : Took old new left left' faults faults' got
   pub nothing : old.pending ++ got ≡ []
@@ -120,7 +120,7 @@ pub record PassesLimit (old new : Taken) (left left' : Option (List ℕ)) (fault
 
 -- the next line, with the bytes that were taken for it
 abbrev pub LineStep : Taken → Taken → Option (List ℕ) → Option (List ℕ) → ℕ → ℕ → Said → Type 0
-LineStep old new left left' faults faults' (Ok None) = IsOver old new left left' faults faults'
+LineStep old new left left' faults faults' (Ok None) = EndsInput old new left left' faults faults'
 LineStep old new left left' faults faults' (Ok (Some said)) = FindsLine old new left left' faults faults' said
 LineStep old new left left' faults faults' (Err ReadFault) = FailsRead old new left left' faults faults'
 LineStep old new left left' faults faults' (Err TooMuchInput) = PassesLimit old new left left' faults faults'
