@@ -85,7 +85,8 @@ fn fault_of(error: &io::Error) -> LoadFault {
     }
 }
 
-/// Standard input, or another reader, whose bytes are not told. Contracts see how many reads failed.
+/// Standard input, or another reader. It tells nothing of what is left. Contracts see the reader and how many reads
+/// failed.
 #[derive(Drop)]
 pub struct StdSource<R> {
     reader: R,
@@ -93,17 +94,17 @@ pub struct StdSource<R> {
 }
 
 impl<R> Model for StdSource<R> {
-    ghost use Rattle.std.specs.Prelude.{ℕ};
+    ghost use Rattle.rept_ports.specs.Host.{Counted};
 
-    ghost Value = { ℕ };
+    ghost Value = { Counted R };
 
-    ghost view = { λ s. s.faults };
+    ghost view = { λ s. record { device = s.reader; faults = s.faults } };
 }
 
 impl<R: Read> StdSource<R> {
     /// The bytes of this reader. No read has failed.
     pub fn new(reader: R) -> StdSource<R>
-        ensures { result ≡ 0 }
+        ensures { result ≡ record { device = reader; faults = 0 } }
     {
         StdSource { reader, faults: 0 }
     }
@@ -112,17 +113,19 @@ impl<R: Read> StdSource<R> {
 impl<R: Read> Source for StdSource<R> {
     ghost use Rattle.std.specs.Prelude.{None, ◌≡◌, is_ok, if◌then◌else◌};
     ghost use Rattle.std.specs.Io.{ReadsAtMost};
+    ghost use Rattle.std.specs.Io.KnownBytes.{ReadConsumes};
     ghost use Rattle.rept_ports.specs.Causes.{HasCause, next_count};
 
     ghost left = { λ _. None };
 
-    ghost faults = { λ s. s };
+    ghost faults = { λ s. s.faults };
 
-    /// Reads once. `Failed` comes exactly where the reader failed, and is counted.
+    /// Reads once from the reader. `Failed` comes where the reader failed, and is counted.
     fn read(&mut self, into: &mut [u8]) -> Result<usize, Failed>
         ensures bound { ReadsAtMost result into.new }
-        ensures cause { HasCause self.old self.new result }
-        ensures counts { self.new ≡ (if is_ok result then self.old else next_count self.old) }
+        ensures cause { HasCause self.old.faults self.new.faults result }
+        ensures passes { ReadConsumes (R.remaining self.old.device) (R.remaining self.new.device) result into.new }
+        ensures counts { self.new.faults ≡ (if is_ok result then self.old.faults else next_count self.old.faults) }
     {
         match self.reader.read(into) {
             Ok(count) => Ok(count),
@@ -134,7 +137,8 @@ impl<R: Read> Source for StdSource<R> {
     }
 }
 
-/// Standard output, or another writer, whose bytes are not told. Contracts see how many writes failed.
+/// Standard output, or another writer. It tells nothing of what was written. Contracts see the writer and how many writes
+/// failed.
 #[derive(Drop)]
 pub struct StdSink<W> {
     writer: W,
@@ -142,17 +146,17 @@ pub struct StdSink<W> {
 }
 
 impl<W> Model for StdSink<W> {
-    ghost use Rattle.std.specs.Prelude.{ℕ};
+    ghost use Rattle.rept_ports.specs.Host.{Counted};
 
-    ghost Value = { ℕ };
+    ghost Value = { Counted W };
 
-    ghost view = { λ s. s.faults };
+    ghost view = { λ s. record { device = s.writer; faults = s.faults } };
 }
 
 impl<W: Write> StdSink<W> {
     /// What is written goes to this writer. No write has failed.
     pub fn new(writer: W) -> StdSink<W>
-        ensures { result ≡ 0 }
+        ensures { result ≡ record { device = writer; faults = 0 } }
     {
         StdSink { writer, faults: 0 }
     }
@@ -160,18 +164,21 @@ impl<W: Write> StdSink<W> {
 
 impl<W: Write> Sink for StdSink<W> {
     ghost use Rattle.std.specs.Prelude.{None, ◌≡◌, ◌≤◌, ◌<◌, length, IfOk, is_ok, if◌then◌else◌};
+    ghost use Rattle.std.specs.Io.KnownBytes.{WriteAppends};
     ghost use Rattle.rept_ports.specs.Causes.{HasCause, next_count};
 
     ghost written = { λ _. None };
 
-    ghost faults = { λ s. s };
+    ghost faults = { λ s. s.faults };
 
-    /// Writes once. `Failed` comes where the writer failed or took nothing of a piece that is not empty, and is counted.
+    /// Writes once to the writer. `Failed` comes where the writer failed or took nothing of a piece that is not empty, and
+    /// is counted.
     fn write(&mut self, piece: &[u8]) -> Result<usize, Failed>
         ensures bound { IfOk result (λ n. n ≤ length piece.now) }
         ensures progress { IfOk result (λ n. 0 < length piece.now → 0 < n) }
-        ensures cause { HasCause self.old self.new result }
-        ensures counts { self.new ≡ (if is_ok result then self.old else next_count self.old) }
+        ensures cause { HasCause self.old.faults self.new.faults result }
+        ensures passes { WriteAppends (W.contents self.old.device) (W.contents self.new.device) result piece.now }
+        ensures counts { self.new.faults ≡ (if is_ok result then self.old.faults else next_count self.old.faults) }
     {
         match self.writer.write(piece) {
             Ok(count) if count > 0 || piece.is_empty() => Ok(count),

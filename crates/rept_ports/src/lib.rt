@@ -3,12 +3,14 @@
 #![tactic(auto)]
 
 pub mod host;
+pub mod lines;
 pub mod shelf;
 pub mod sink;
 pub mod source;
 pub mod traits;
 
 pub use host::{DiskShelf, StdSink, StdSource};
+pub use lines::{BoundedLines, Line, LineFault};
 pub use shelf::{CalmShelf, MemShelf};
 pub use sink::{MemSink, write_all};
 pub use source::{CalmSource, MemSource};

@@ -1,6 +1,6 @@
 use crate::{
-    CalmShelf, CalmSource, DiskShelf, Failed, LoadFault, MemShelf, MemSink, MemSource, Shelf, Sink,
-    Source, StdSink, StdSource, write_all,
+    BoundedLines, CalmShelf, CalmSource, DiskShelf, Failed, Line, LineFault, LoadFault, MemShelf,
+    MemSink, MemSource, OutOfMemory, Shelf, Sink, Source, StdSink, StdSource, write_all,
 };
 use std::alloc::Global;
 use std::process::Abort;
@@ -101,6 +101,81 @@ fn sinks_in_memory(rt: HostRuntime) -> Result<(), Fail> {
     assert_eq!(rt; write_all(&mut sink, b"abc"), Ok(()));
     assert_eq!(rt; write_all(&mut sink, b"defg"), Err(Failed));
     assert_eq!(rt; sink.bytes(), b"abcde".as_slice());
+    Ok(())
+}
+
+/// Asks for so many lines, and compares what came.
+fn check_lines<S: Source>(
+    rt: &impl Abort,
+    source: &mut S,
+    lines: &[Result<Option<Line<'_>>, LineFault>],
+) {
+    let mut reader = BoundedLines::new(source);
+    for want in lines {
+        match (reader.next_line(), want) {
+            (Ok(Some(Line::Text(line))), Ok(Some(Line::Text(wanted)))) => {
+                assert_eq!(rt; line, *wanted);
+            }
+            (Ok(Some(Line::Long)), Ok(Some(Line::Long))) | (Ok(None), Ok(None)) => {}
+            (Err(fault), Err(wanted)) => assert_eq!(rt; fault, *wanted),
+            _ => assert!(rt; false, "{want:?}"),
+        }
+    }
+}
+
+#[test]
+fn lines(rt: HostRuntime) -> Result<(), Fail> {
+    let line = [b'x'; 256];
+    let mut text = Vec::from_slice(rt.alloc(), b"a\r\n\n\rb\r\r\n")?;
+    for end in [b"\r\n".as_slice(), b"y\n", b"y\r\n", b"\r"] {
+        text.extend_from_slice(&line)?;
+        text.extend_from_slice(end)?;
+    }
+    let wanted = [
+        Ok(Some(Line::Text(b"a"))),
+        Ok(Some(Line::Text(b""))),
+        Ok(Some(Line::Text(b"\rb\r"))),
+        Ok(Some(Line::Text(&line))),
+        Ok(Some(Line::Long)),
+        Ok(Some(Line::Long)),
+        Ok(Some(Line::Long)),
+        Ok(None),
+        Ok(None),
+    ];
+    check_lines(&rt, &mut CalmSource::new(text.as_slice()), &wanted);
+    // The third read would fail. The last line has no newline, and the second read saw the end.
+    let mut failing = MemSource::new(rt.alloc(), b"a\nb\r", &[3])?;
+    let wanted = [
+        Ok(Some(Line::Text(b"a"))),
+        Ok(Some(Line::Text(b"b\r"))),
+        Ok(None),
+        Ok(None),
+    ];
+    check_lines(&rt, &mut failing, &wanted);
+    let mut failing = MemSource::new(rt.alloc(), b"a\nb", &[2])?;
+    let wanted = [
+        Ok(Some(Line::Text(b"a"))),
+        Err(LineFault::ReadFault),
+        Err(LineFault::ReadFault),
+    ];
+    check_lines(&rt, &mut failing, &wanted);
+    Ok(())
+}
+
+/// So many bytes without a newline.
+fn long_line(alloc: Global, count: usize) -> Result<Vec<u8>, OutOfMemory> {
+    vec![in alloc; b'x'; count]
+}
+
+// The greatest input that is taken, and one byte more.
+#[test]
+fn much_input(rt: HostRuntime) -> Result<(), Fail> {
+    let mut text = long_line(rt.alloc(), 1_048_576)?;
+    let whole = [Ok(Some(Line::Long)), Ok(None)];
+    check_lines(&rt, &mut CalmSource::new(text.as_slice()), &whole);
+    text.push(b'\n')?;
+    let fault = [Err(LineFault::TooMuchInput), Err(LineFault::TooMuchInput)];
+    check_lines(&rt, &mut CalmSource::new(text.as_slice()), &fault);
     Ok(())
 }
 

@@ -1,0 +1,199 @@
+-- Notes one by one, segments one by one, and that both are determined.
+use Rattle.std.proofs.Common.{◌≡◌, ◌≢◌, ℕ, ◌+◌, ◌-◌, ◌<◌, ◌≤◌, inl, inr, List, [], ◌∷◌, ◌++◌, length, drop, Bool, true, false, cond, arith, rules, refl, sym, ◌∙◌, ap, subst, append_assoc, length-append, length-drop}
+use Rattle.std.proofs.lemmas.List.{append-nil, at_drop_all}
+use Rattle.std.proofs.lemmas.List.Elements.{filter-append}
+use Rattle.std.specs.Prelude.{Result, Ok, Err, Some, slice_get, MatchBool, nat_lt}
+use Rattle.std.specs.List.{filter}
+use Rattle.rept_elf.specs.Segments.{ElfSegment, is_note}
+use Rattle.rept_elf.proofs.SegmentLemmas.{drop-slice_get}
+use Rattle.rept_dump.specs.Notes.{Note, HoldsNote, AreNotesThen, AreNotes, CutsNote, HaveNotes, AreCutAt, IsCutAt, IsInFile, first_note, behind_note, note_header, desc_offset, desc_size}
+use Rattle.rept_dump.specs.Found.{Adds, last_desc, PassesSegment, CutsSegment}
+use Rattle.rept_dump.specs.Registers.{Says, only_registers, is_status, note_segments, status_size}
+use Rattle.rept_dump.specs.declared.fault.CoreFault.{CoreFault}
+use Rattle.rept_dump.specs.declared.fault.CoreFault.TheVariants as fault
+
+pub one_more : (bytes : List ℕ) (notes : List Note) (rest : List ℕ) (note : Note) → AreNotesThen bytes notes rest → HoldsNote rest → first_note rest ≡ note → AreNotesThen bytes (notes ++ note ∷ []) (behind_note rest)
+one_more bytes [] rest note e h n = subst (λ r. HoldsNote r × (first_note r ≡ note) × (behind_note rest ≡ behind_note r)) e (h, n, refl)
+one_more bytes (first ∷ notes) rest note e h n = (e.0, e.1, one_more (behind_note bytes) notes rest note e.2 h n)
+
+pub last_desc-append : (desc : List ℕ) (front behind : List Note) → last_desc desc (front ++ behind) ≡ last_desc (last_desc desc front) behind
+last_desc-append desc [] behind = refl
+last_desc-append desc (note ∷ front) behind = last_desc-append note.desc front behind
+
+pub Adds-nothing : (count : ℕ) (desc : List ℕ) → Adds count desc count desc []
+Adds-nothing count desc = record { counted = omega arith; last = refl }
+
+pub Adds-then : (count : ℕ) (desc : List ℕ) (count' : ℕ) (desc' : List ℕ) (count'' : ℕ) (desc'' : List ℕ) (front behind : List Note)
+    → Adds count desc count' desc' (filter is_status front) → Adds count' desc' count'' desc'' (filter is_status behind) → Adds count desc count'' desc'' (filter is_status (front ++ behind))
+Adds-then count desc count' desc' count'' desc'' front behind a b = rw filter-append (record {
+  counted = omega (arith, a.counted, b.counted, length-append (filter is_status front) (filter is_status behind));
+  last = b.last ∙ ap (λ d. last_desc d (filter is_status behind)) a.last ∙ sym (last_desc-append desc (filter is_status front) (filter is_status behind));
+})
+
+-- the notes of a segment so far
+pub record SoFar (bytes rest : List ℕ) (count : ℕ) (desc : List ℕ) (count' : ℕ) (desc' : List ℕ) : Type 0 where
+  pub notes : List Note
+  pub before : AreNotesThen bytes notes rest
+  pub adds : Adds count desc count' desc' (filter is_status notes)
+  pub fewer : count' + length rest ≤ count + length bytes
+  pub shorter : length rest ≤ length bytes
+
+pub at_start : (bytes : List ℕ) (count : ℕ) (desc : List ℕ) → SoFar bytes bytes count desc count desc
+at_start bytes count desc = record { notes = []; before = refl; adds = Adds-nothing count desc; fewer = omega arith; shorter = omega arith }
+
+-- at most one of one note is of registers
+at_most_one : (note : Note) → length (filter is_status (note ∷ [])) ≤ 1
+at_most_one note = either (is_status note)
+  where
+    either : (b : Bool) → length (cond b (note ∷ []) []) ≤ 1
+    either true = omega arith
+    either false = omega arith
+
+pub shrinks : (rest rest' : List ℕ) → HoldsNote rest → rest' ≡ behind_note rest → length rest' + 12 ≤ length rest
+shrinks rest rest' h e = rw (e, length-drop) (omega (arith, h.header))
+
+pub one_more_note : (bytes rest rest' : List ℕ) (count : ℕ) (desc : List ℕ) (count' : ℕ) (desc' : List ℕ) (count'' : ℕ) (desc'' : List ℕ) (note : Note)
+    → SoFar bytes rest count desc count' desc' → HoldsNote rest → first_note rest ≡ note → rest' ≡ behind_note rest → Adds count' desc' count'' desc'' (filter is_status (note ∷ [])) → SoFar bytes rest' count desc count'' desc''
+one_more_note bytes rest rest' count desc count' desc' count'' desc'' note s h n e a = record {
+  notes = s.notes ++ note ∷ [];
+  before = subst (λ r. AreNotesThen bytes (s.notes ++ note ∷ []) r) (sym e) (one_more bytes s.notes rest note s.before h n);
+  adds = Adds-then count desc count' desc' count'' desc'' s.notes (note ∷ []) s.adds a;
+  fewer = omega (arith, s.fewer, shrinks rest rest' h e, a.counted, at_most_one note);
+  shorter = omega (arith, s.shorter, shrinks rest rest' h e);
+}
+
+pub all_notes : (bytes rest : List ℕ) (count : ℕ) (desc : List ℕ) (count' : ℕ) (desc' : List ℕ) → SoFar bytes rest count desc count' desc' → length rest < note_header → (notes : List Note) × AreNotes bytes notes × Adds count desc count' desc' (filter is_status notes)
+all_notes bytes rest count desc count' desc' s h = (s.notes, (rest, s.before, h), s.adds)
+
+pub cut_note : (bytes rest : List ℕ) (count : ℕ) (desc : List ℕ) (count' : ℕ) (desc' : List ℕ) → SoFar bytes rest count desc count' desc' → note_header ≤ length rest → length rest < desc_offset rest + desc_size rest → CutsNote bytes (length bytes - length rest)
+cut_note bytes rest count desc count' desc' s h p = record { notes = s.notes; rest = rest; before = s.before; header = h; past = p; at = omega (arith, s.shorter) }
+
+-- the segments that are left, and the notes of those before
+pub record Through (size : ℕ) (all left : List ElfSegment) (count : ℕ) (desc : List ℕ) : Type 0 where
+  pub notes : List Note
+  pub have : (later : List Note) → HaveNotes size left later → HaveNotes size all (notes ++ later)
+  pub cut : (offset : ℕ) → AreCutAt size left offset → AreCutAt size all offset
+  pub adds : Adds 0 [] count desc (filter is_status notes)
+
+pub from_first : (size : ℕ) (all : List ElfSegment) → Through size all all 0 []
+from_first size all = record { notes = []; have = λ later h. h; cut = λ offset h. h; adds = Adds-nothing 0 [] }
+
+pub past_one : (size : ℕ) (all : List ElfSegment) (s : ElfSegment) (left : List ElfSegment) (count : ℕ) (desc : List ℕ) (count' : ℕ) (desc' : List ℕ) (front : List Note)
+    → Through size all (s ∷ left) count desc → IsInFile size s → AreNotes s.body front → Adds count desc count' desc' (filter is_status front) → Through size all left count' desc'
+past_one size all s left count desc count' desc' front t inside are adds = record {
+  notes = t.notes ++ front;
+  have = λ later h. rw append_assoc (t.have (front ++ later) (front, later, refl, inside, are, h));
+  cut = λ offset h. t.cut offset (inr (inside, (front, are), h));
+  adds = Adds-then 0 [] count desc count' desc' t.notes front t.adds adds;
+}
+
+pub past_segment : (size : ℕ) (all segs : List ElfSegment) (i : ℕ) (s : ElfSegment) (count : ℕ) (desc : List ℕ) (count' : ℕ) (desc' : List ℕ)
+    → Through size all (note_segments (drop i segs)) count desc → slice_get segs i ≡ Some s → PassesSegment size s count desc count' desc' → Through size all (note_segments (drop (i + 1) segs)) count' desc'
+past_segment size all segs i s count desc count' desc' t at p = either (is_note s) (subst (λ ss. Through size all (note_segments ss) count desc) (drop-slice_get segs i s at) t) p
+  where
+    either : (b : Bool) → Through size all (cond b (s ∷ note_segments (drop (i + 1) segs)) (note_segments (drop (i + 1) segs))) count desc
+        → MatchBool b (IsInFile size s × ((notes : List Note) × AreNotes s.body notes × Adds count desc count' desc' (filter is_status notes))) ((count' ≡ count) × (desc' ≡ desc))
+        → Through size all (note_segments (drop (i + 1) segs)) count' desc'
+    either true u q = past_one size all s (note_segments (drop (i + 1) segs)) count desc count' desc' q.1.0 u q.0 q.1.1 q.1.2
+    either false u q = subst (λ n. Through size all (note_segments (drop (i + 1) segs)) n desc') (sym q.0) (subst (λ d. Through size all (note_segments (drop (i + 1) segs)) count d) (sym q.1) u)
+
+pub cut_segment : (size : ℕ) (all segs : List ElfSegment) (i : ℕ) (s : ElfSegment) (count : ℕ) (desc : List ℕ) (offset : ℕ)
+    → Through size all (note_segments (drop i segs)) count desc → slice_get segs i ≡ Some s → CutsSegment size s offset → AreCutAt size all offset
+cut_segment size all segs i s count desc offset t at c = either (is_note s) c.0 (subst (λ ss. Through size all (note_segments ss) count desc) (drop-slice_get segs i s at) t)
+  where
+    either : (b : Bool) → b ≡ true → Through size all (cond b (s ∷ note_segments (drop (i + 1) segs)) (note_segments (drop (i + 1) segs))) count desc → AreCutAt size all offset
+    either true e u = u.cut offset (inl c.1)
+    either false e u = cc
+
+pub past_all : (size : ℕ) (all segs : List ElfSegment) (i : ℕ) (count : ℕ) (desc : List ℕ) → Through size all (note_segments (drop i segs)) count desc → length segs ≤ i
+    → (notes : List Note) × HaveNotes size all notes × Adds 0 [] count desc (filter is_status notes)
+past_all size all segs i count desc t h =
+    let u : Through size all [] count desc = subst (λ left. Through size all left count desc) (at_drop_all note_segments segs i h) t in (u.notes, rw append-nil at (u.have [] refl), u.adds)
+
+-- what the count and the last descriptor say of the register notes
+pub no_registers : (count : ℕ) (desc : List ℕ) (statuses : List Note) → Adds 0 [] count desc statuses → count ≡ 0 → Err fault.NoStatus ≡ only_registers statuses
+no_registers count desc [] a e = refl
+no_registers count desc (note ∷ notes) a e = absurd (omega (arith, a.counted))
+
+pub many_registers : (count : ℕ) (desc : List ℕ) (statuses : List Note) → Adds 0 [] count desc statuses → 1 < count → Err (fault.SeveralThreads count) ≡ only_registers statuses
+many_registers count desc [] a h = absurd (omega (arith, a.counted))
+many_registers count desc (note ∷ []) a h = absurd (omega (arith, a.counted))
+many_registers count desc (note ∷ (other ∷ notes)) a h =
+    let e : count ≡ length (note ∷ (other ∷ notes)) = omega (arith, a.counted) in ap (λ n. Err (fault.SeveralThreads n)) e
+
+-- what is said of one note by its descriptor
+abbrev pub said_of_desc : List ℕ → Result (List ℕ) CoreFault
+said_of_desc desc = cond (nat_lt (length desc) status_size) (Err (fault.ShortStatus (length desc))) (Ok desc)
+
+pub one_registers : (count : ℕ) (desc : List ℕ) (statuses : List Note) → Adds 0 [] count desc statuses → count ≢ 0 → count ≤ 1 → said_of_desc desc ≡ only_registers statuses
+one_registers count desc [] a h k = absurd (h (omega (arith, a.counted)))
+one_registers count desc (note ∷ []) a h k = ap said_of_desc a.last
+one_registers count desc (note ∷ (other ∷ notes)) a h k = absurd (omega (arith, a.counted))
+
+pub short_registers : (count : ℕ) (desc : List ℕ) (statuses : List Note) → Adds 0 [] count desc statuses → count ≢ 0 → count ≤ 1 → length desc < status_size → Err (fault.ShortStatus (length desc)) ≡ only_registers statuses
+short_registers count desc statuses a h k s = (let e : nat_lt (length desc) status_size ≡ true = search rules in sym (ap (λ b. cond b (Err (fault.ShortStatus (length desc))) (Ok desc)) e)) ∙ one_registers count desc statuses a h k
+
+pub whole_registers : (count : ℕ) (desc : List ℕ) (statuses : List Note) → Adds 0 [] count desc statuses → count ≢ 0 → count ≤ 1 → status_size ≤ length desc → Ok desc ≡ only_registers statuses
+whole_registers count desc statuses a h k s = (let e : nat_lt (length desc) status_size ≡ false = search rules in sym (ap (λ b. cond b (Err (fault.ShortStatus (length desc))) (Ok desc)) e)) ∙ one_registers count desc statuses a h k
+
+-- notes are determined by their bytes
+ends_same : (bytes : List ℕ) (notes notes' : List Note) (rest rest' : List ℕ) → AreNotesThen bytes notes rest → AreNotesThen bytes notes' rest' → (HoldsNote rest → ⊥) → (HoldsNote rest' → ⊥) → (notes ≡ notes') × (rest ≡ rest')
+ends_same bytes [] [] rest rest' h h' bare bare' = (refl, h ∙ sym h')
+ends_same bytes [] (note ∷ notes) rest rest' h h' bare bare' = absurd (bare (subst (λ r. HoldsNote r) (sym h) h'.0))
+ends_same bytes (note ∷ notes) [] rest rest' h h' bare bare' = absurd (bare' (subst (λ r. HoldsNote r) (sym h') h.0))
+ends_same bytes (note ∷ notes) (note' ∷ notes') rest rest' h h' bare bare' =
+    let same = ends_same (behind_note bytes) notes notes' rest rest' h.2 h'.2 bare bare' in
+    (ap (λ n. n ∷ notes) (sym h.1 ∙ h'.1) ∙ ap (λ ns. note' ∷ ns) same.0, same.1)
+
+few_hold_none : (rest : List ℕ) → length rest < note_header → HoldsNote rest → ⊥
+few_hold_none rest h k = omega (arith, k.header)
+
+same_notes : (bytes : List ℕ) (notes notes' : List Note) → AreNotes bytes notes → AreNotes bytes notes' → notes ≡ notes'
+same_notes bytes notes notes' a b = (ends_same bytes notes notes' a.0 b.0 a.1 b.1 (few_hold_none a.0 a.2) (few_hold_none b.0 b.2)).0
+
+cut_holds_none : (bytes : List ℕ) (place : ℕ) (c : CutsNote bytes place) → HoldsNote c.rest → ⊥
+cut_holds_none bytes place c k = omega (arith, k.fits, c.past)
+
+whole_or_cut : (bytes : List ℕ) (notes : List Note) (place : ℕ) → AreNotes bytes notes → CutsNote bytes place → ⊥
+whole_or_cut bytes notes place a c =
+    let same = ends_same bytes notes c.notes a.0 c.rest a.1 c.before (few_hold_none a.0 a.2) (cut_holds_none bytes place c) in omega (arith, ap length same.1, a.2, c.header)
+
+same_place : (bytes : List ℕ) (place place' : ℕ) → CutsNote bytes place → CutsNote bytes place' → place ≡ place'
+same_place bytes place place' c d =
+    let same = ends_same bytes c.notes d.notes c.rest d.rest c.before d.before (cut_holds_none bytes place c) (cut_holds_none bytes place' d) in omega (arith, ap length same.1, c.at, d.at)
+
+same_cut : (size : ℕ) (s : ElfSegment) (offset offset' : ℕ) → IsCutAt size s offset → IsCutAt size s offset' → offset ≡ offset'
+same_cut size s offset offset' (inl a) (inl b) = a.1 ∙ sym b.1
+same_cut size s offset offset' (inl a) (inr b) = absurd (omega (arith, a.0, b.0))
+same_cut size s offset offset' (inr a) (inl b) = absurd (omega (arith, a.0, b.0))
+same_cut size s offset offset' (inr a) (inr b) = omega (arith, same_place s.body a.1.0 b.1.0 a.1.1 b.1.1, a.1.2, b.1.2)
+
+not_both : (size : ℕ) (s : ElfSegment) (offset : ℕ) (notes : List Note) → IsCutAt size s offset → IsInFile size s → AreNotes s.body notes → ⊥
+not_both size s offset notes (inl a) inside are = omega (arith, a.0, inside)
+not_both size s offset notes (inr a) inside are = whole_or_cut s.body notes a.1.0 are a.1.1
+
+pub same_cuts : (size : ℕ) (ss : List ElfSegment) (offset offset' : ℕ) → AreCutAt size ss offset → AreCutAt size ss offset' → offset ≡ offset'
+same_cuts size [] offset offset' a b = absurd a
+same_cuts size (s ∷ ss) offset offset' (inl a) (inl b) = same_cut size s offset offset' a b
+same_cuts size (s ∷ ss) offset offset' (inl a) (inr b) = absurd (not_both size s offset b.1.0 a b.0 b.1.1)
+same_cuts size (s ∷ ss) offset offset' (inr a) (inl b) = absurd (not_both size s offset' a.1.0 b a.0 a.1.1)
+same_cuts size (s ∷ ss) offset offset' (inr a) (inr b) = same_cuts size ss offset offset' a.2 b.2
+
+pub same_all : (size : ℕ) (ss : List ElfSegment) (notes notes' : List Note) → HaveNotes size ss notes → HaveNotes size ss notes' → notes ≡ notes'
+same_all size [] notes notes' a b = a ∙ sym b
+same_all size (s ∷ ss) notes notes' (front, behind, e, inside, are, have) (front', behind', e', inside', are', have') =
+    e ∙ ap (λ f. f ++ behind) (same_notes s.body front front' are are') ∙ ap (λ b. front' ++ b) (same_all size ss behind behind' have have') ∙ sym e'
+
+pub whole_or_cuts : (size : ℕ) (ss : List ElfSegment) (notes : List Note) (offset : ℕ) → HaveNotes size ss notes → AreCutAt size ss offset → ⊥
+whole_or_cuts size [] notes offset a b = b
+whole_or_cuts size (s ∷ ss) notes offset (front, behind, e, inside, are, have) (inl b) = not_both size s offset front b inside are
+whole_or_cuts size (s ∷ ss) notes offset (front, behind, e, inside, are, have) (inr b) = whole_or_cuts size ss behind offset have b.2
+
+-- one thing is said of a core file
+pub said_once : (size : ℕ) (ss : List ElfSegment) (said said' : Result (List ℕ) CoreFault) → Says size ss said → Says size ss said' → said ≡ said'
+said_once size ss said said' (inl a) (inl b) =
+    a.2 ∙ ap (λ o. Err (fault.NotePastEnd o)) (same_cuts size (note_segments ss) a.0 b.0 a.1 b.1) ∙ sym b.2
+said_once size ss said said' (inl a) (inr b) = absurd (whole_or_cuts size (note_segments ss) b.0 a.0 b.1 a.1)
+said_once size ss said said' (inr a) (inl b) = absurd (whole_or_cuts size (note_segments ss) a.0 b.0 a.1 b.1)
+said_once size ss said said' (inr a) (inr b) =
+    a.2 ∙ ap (λ ns. only_registers (filter is_status ns)) (same_all size (note_segments ss) a.0 b.0 a.1 b.1) ∙ sym b.2

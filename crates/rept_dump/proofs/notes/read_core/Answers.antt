@@ -1,0 +1,27 @@
+use Rattle.std.proofs.Common.{◌≤◌, arith, length}
+use Rattle.std.proofs.lemmas.Result.{err_from_is_err_and}
+use Rattle.rept_elf.specs.Image.{file_of, segments_of, segment_of}
+use Rattle.rept_dump.specs.Registers.{note_segments}
+use Rattle.rept_dump.proofs.NoteLemmas.{past_segment, cut_segment, past_all}
+use Rattle.rept_dump.proofs.notes.read_core.Goals as goal
+
+pub returns-in_err-found-clause-cut : goal.returns-in_err-found-clause-cut
+returns-in_err-found-clause-cut c =
+    let p = err_from_is_err_and c.from_residual.result c.from_residual.ensures.1 in
+    let q = rw c.file_size.ensures at c.in_err-found.ensures.cut in
+    let size = length (file_of c.args.core.now) in
+    let segs = segments_of c.args.core.now in
+    rw (p.1, p.2) (q.0, cut_segment size (note_segments segs) segs c.loop-i.i (segment_of c.segment-segment.result) c.loop-i.found.count c.loop-i.found.desc.now q.0 c.loop-i.invariant.through c.segment-segment.ensures.segment q.1, q.2)
+
+pub loop-i-preserved : goal.loop-i-preserved
+loop-i-preserved c = record {
+  few = omega (arith, c.loop-i.invariant.few, c.in_ok-found.ensures.few, c.segment-segment.ensures.within);
+  through =
+      past_segment (length (file_of c.args.core.now)) (note_segments (segments_of c.args.core.now)) (segments_of c.args.core.now) c.loop-i.i (segment_of c.segment-segment.result) c.loop-i.found.count c.loop-i.found.desc.now
+      c.in_ok-found.found.count c.in_ok-found.found.desc.now c.loop-i.invariant.through c.segment-segment.ensures.segment (rw c.file_size.ensures at c.in_ok-found.ensures.ok);
+}
+
+pub returns-clause-ok : goal.returns-clause-ok
+returns-clause-ok c =
+    let all : length (segments_of c.args.core.now) ≤ c.loop-i.i = omega (arith, c.count-i-end.ensures) in
+    past_all (length (file_of c.args.core.now)) (note_segments (segments_of c.args.core.now)) (segments_of c.args.core.now) c.loop-i.i c.loop-i.found.count c.loop-i.found.desc.now c.loop-i.invariant.through all

@@ -1,0 +1,6 @@
+pub mod Dump
+pub mod Found
+pub mod Memory
+pub mod Notes
+pub mod Registers
+pub mod Status

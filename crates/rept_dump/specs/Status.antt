@@ -1,0 +1,12 @@
+-- The registers as a descriptor holds them (`struct elf_prstatus` with words of 32 bits): the signal at 12, the process at
+-- 24, and from 72 on the program counter and x1 to x31.
+use Rattle.std.specs.Prelude.{◌≡◌, ℕ, ◌+◌, ◌*◌, ◌<◌, List, slice_index}
+use Rattle.rept_elf.specs.Header.{half_at, word_at}
+use Rattle.rept_dump.specs.declared.status.Status.{Status}
+
+pub record IsStatus (desc : List ℕ) (status : Status) : Type 0 where
+  pub signal : status.signal ≡ half_at desc 12
+  pub pid : status.pid ≡ word_at desc 24
+  pub pc : status.pc ≡ word_at desc 72
+  pub zero : slice_index status.regs 0 ≡ 0
+  pub regs : (i : ℕ) → 0 < i → i < 32 → slice_index status.regs i ≡ word_at desc (72 + 4 * i)

@@ -1,0 +1,16 @@
+// What an executable and the core file of its crash say: the registers, the bytes of memory that are known, and the words
+// of code. Nothing is copied.
+#![tactic(auto)]
+
+mod dump;
+mod fault;
+mod notes;
+mod search;
+mod status;
+
+pub use dump::Dump;
+pub use fault::CoreFault;
+pub use status::Status;
+
+#[cfg(test)]
+mod tests;

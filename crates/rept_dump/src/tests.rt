@@ -1,0 +1,140 @@
+mod real;
+
+use crate::{CoreFault, Dump};
+use real::{CORE_HEAD, EXECUTABLE};
+use rept_elf::{Image, Want};
+use std::alloc::{AllocError, Global};
+use std::test::Fail;
+
+// An executable of one segment at 0x10000, which holds `addi x5,x0,7`, `addi x6,x5,3` and `add x7,x5,x6`.
+const SMALL: [u8; 96] = *b"\x7fELF\x01\x01\x01\0\0\0\0\0\0\0\0\0\
+    \x02\0\xf3\0\x01\0\0\0\0\0\x01\0\x34\0\0\0\0\0\0\0\0\0\0\0\x34\0\x20\0\x01\0\0\0\0\0\0\0\
+    \x01\0\0\0\x54\0\0\0\0\0\x01\0\0\0\x01\0\x0c\0\0\0\x0c\0\0\0\x05\0\0\0\x04\0\0\0\
+    \x93\x02\x70\0\x13\x83\x32\0\xb3\x83\x62\0";
+
+// The header of a core file of one note segment, which stands at 84.
+const SMALL_CORE: [u8; 84] = *b"\x7fELF\x01\x01\x01\0\0\0\0\0\0\0\0\0\
+    \x04\0\xf3\0\x01\0\0\0\0\0\0\0\x34\0\0\0\0\0\0\0\0\0\0\0\x34\0\x20\0\x01\0\0\0\0\0\0\0\
+    \x04\0\0\0\x54\0\0\0\0\0\0\0\0\0\0\0\xe0\0\0\0\0\0\0\0\0\0\0\0\0\0\0\0";
+
+// The sizes and the type of a register note, and its name.
+const NOTE: [u8; 20] = *b"\x05\0\0\0\xcc\0\0\0\x01\0\0\0CORE\0\0\0\0";
+
+/// A core file whose notes, in one segment, have descriptors of these sizes, with a size of the segment and a descriptor
+/// size of the first note.
+fn core_of(alloc: Global, descs: &[u8], size: u16, desc: u16) -> Result<Vec<u8>, AllocError> {
+    let mut file = Vec::from_slice(alloc, SMALL_CORE.as_slice())?;
+    for len in descs {
+        file.extend_from_slice(&NOTE)?;
+        for _ in 0..*len {
+            file.push(0)?;
+        }
+    }
+    for (place, byte) in [
+        (68, (size % 256) as u8),
+        (69, (size / 256) as u8),
+        (88, (desc % 256) as u8),
+        (89, (desc / 256) as u8),
+    ] {
+        if let Some(at) = file.get_mut(place) {
+            *at = byte;
+        }
+    }
+    Ok(file)
+}
+
+// The notes of a core file, and the fault. The rules are those of the ELF specification.
+#[test]
+fn faults(rt: HostRuntime) -> Result<(), Fail> {
+    let exe = Image::read(SMALL.as_slice(), Want::Exec)?;
+    let cases: [(&[u8], u16, u16, Option<CoreFault>); 9] = [
+        (&[204], 224, 204, None),
+        (&[], 0, 0, Some(CoreFault::NoStatus)),
+        (&[204], 0, 204, Some(CoreFault::NoStatus)),
+        (&[200], 220, 200, Some(CoreFault::ShortStatus(200))),
+        (&[204], 224, 300, Some(CoreFault::NotePastEnd(84))),
+        (&[204], 225, 204, Some(CoreFault::NotePastEnd(84))),
+        (&[200, 204], 444, 200, Some(CoreFault::SeveralThreads(2))),
+        (&[204, 203], 447, 204, Some(CoreFault::NotePastEnd(308))),
+        (&[201], 221, 201, Some(CoreFault::ShortStatus(201))),
+    ];
+    for (i, (descs, size, desc, wanted)) in cases.iter().enumerate() {
+        let file = core_of(rt.alloc(), descs, *size, *desc)?;
+        match Dump::read(exe, Image::read(file.as_slice(), Want::Core)?) {
+            Ok(_) => assert_eq!(rt; None, *wanted, "case {i}"),
+            Err(fault) => assert_eq!(rt; Some(fault), *wanted, "case {i}"),
+        }
+    }
+    Ok(())
+}
+
+/// Zero bytes up to the next page.
+fn fill_page(file: &mut Vec<u8>) -> Result<(), AllocError> {
+    for _ in 0..4095 - file.len().wrapping_sub(1) % 4096 {
+        file.push(0)?;
+    }
+    Ok(())
+}
+
+/// The core file of the real executable, up to the middle of its stack.
+fn real_core(alloc: Global) -> Result<Vec<u8>, AllocError> {
+    let mut file = Vec::from_slice(alloc, CORE_HEAD)?;
+    fill_page(&mut file)?;
+    file.extend_from_slice(EXECUTABLE)?;
+    fill_page(&mut file)?;
+    for _ in 0..0xdc {
+        file.push(0)?;
+    }
+    file.extend_from_slice(b"\0\0\0\0\x07\0\0\0\x0e\0\0\0")?;
+    fill_page(&mut file)?;
+    for _ in 0..0xe30 {
+        file.push(0)?;
+    }
+    file.extend_from_slice(b"\x01\0\0\0\x7c\xff")?;
+    Ok(file)
+}
+
+// What `readelf` and `objdump` show of the two files.
+#[test]
+fn real_files(rt: HostRuntime) -> Result<(), Fail> {
+    let exe = Image::read(EXECUTABLE, Want::Exec)?;
+    assert_eq!(rt; exe.count(), 4);
+    assert_eq!(rt; exe.image_end(), 0x111dc);
+    let file = real_core(rt.alloc())?;
+    let core = Image::read(file.as_slice(), Want::Core)?;
+    assert_eq!(rt; core.count(), 6);
+    let dump = Dump::read(exe, core)?;
+    assert_eq!(rt; dump.image_end(), 0x111dc);
+    let status = dump.status();
+    assert_eq!(rt; (status.pid, status.signal, status.pc), (4711, 11, 0x100d4));
+    assert_eq!(rt; (status.regs[0], status.regs[2]), (0, 0x9cb1_fe30));
+    assert_eq!(rt;
+        (status.regs[14], status.regs[15], status.regs[31]),
+        (14, 49, 0)
+    );
+    for (address, wanted) in [
+        (0x10000, Some(0x7f)),
+        (0x100d4, Some(0x23)),
+        (0x110e0, Some(7)),
+        (0x110e4, Some(14)),
+        (0x12000, None),
+        (0x9cb1_fe30, Some(1)),
+        (0x9cb1_fe35, Some(0xff)),
+        (0x9cb1_fe36, None),
+        (0x9cbe_2000, None),
+        (0x9cbe_4000, None),
+        (0xffff_ffff, None),
+    ] {
+        assert_eq!(rt; dump.byte(address), wanted, "at {address:#x}");
+    }
+    for (address, wanted) in [
+        (0x100d4, Some(0x00f0_2023)),
+        (0x100d8, Some(0x0010_0073)),
+        (0x100d9, None),
+        (0x110dc, None),
+        (0xffff_fffe, None),
+    ] {
+        assert_eq!(rt; dump.word_of_code(address), wanted, "at {address:#x}");
+    }
+    Ok(())
+}

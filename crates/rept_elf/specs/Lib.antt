@@ -1,0 +1,4 @@
+pub mod Checks
+pub mod Header
+pub mod Image
+pub mod Segments

@@ -1,0 +1,69 @@
+ghost use Rattle.std.specs.Prelude.{◌≡◌, ◌<◌, ◌≤◌, length, slice_get, Some, IfOk};
+ghost use Rattle.std.specs.Result.{result_err};
+ghost use Rattle.rept_elf.specs.Checks.{checks, first_failure};
+ghost use Rattle.rept_elf.specs.Header.{HasTable};
+ghost use Rattle.rept_elf.specs.Segments.{greatest_end};
+
+use crate::checks::{check_header, check_segments};
+use crate::entries::{entry, entry_count};
+use crate::fault::{ElfFault, Want};
+use crate::segment::{PT_LOAD, Segment};
+
+/// An executable or a core file whose header and segments passed the checks. It borrows the file's bytes.
+#[derive(Clone, Copy)]
+pub struct Image<'a> {
+    bytes: &'a [u8],
+    ghost has_table: { HasTable bytes.now },
+}
+
+impl<'a> Image<'a> {
+    ghost use Rattle.rept_elf.specs.Image.{file_of, segments_of, segment_of};
+
+    /// The file of these bytes, as a file of the wanted kind. A fault comes exactly where it is that of the first check
+    /// that the file fails.
+    pub fn read(bytes: &'a [u8], want: Want) -> Result<Image<'a>, ElfFault>
+        ensures fault { result_err result ≡ first_failure (checks want bytes.now) }
+        ensures image { IfOk result (λ image. file_of image ≡ bytes.now) }
+    {
+        check_header(bytes, want)?;
+        check_segments(bytes, want)?;
+        Ok(Image { bytes })
+    }
+
+    /// The count of the file's bytes.
+    pub fn file_size(&self) -> usize
+        ensures { result ≡ length (file_of self.now) }
+    {
+        self.bytes.len()
+    }
+
+    /// The count of segments.
+    pub fn count(&self) -> u32
+        ensures { result ≡ length (segments_of self.now) }
+    {
+        entry_count(self.bytes)
+    }
+
+    /// The segment of this index, in table order.
+    pub fn segment(&self, i: u32) -> Segment<'a>
+        requires { i < length (segments_of self.now) }
+        ensures segment { slice_get (segments_of self.now) i ≡ Some (segment_of result) }
+        ensures within { length result.body.now ≤ result.filesz }
+    {
+        entry(self.bytes, i)
+    }
+
+    /// The end of the image: the greatest `vaddr + memsz` of a `PT_LOAD` segment, 0 without one.
+    pub fn image_end(&self) -> u64
+        ensures { result ≡ greatest_end (segments_of self.now) }
+    {
+        let mut end: u64 = 0;
+        for i in 0..self.count() {
+            let segment = self.segment(i);
+            if segment.kind == PT_LOAD {
+                end = end.max(u64::from(segment.vaddr) + u64::from(segment.memsz));
+            }
+        }
+        end
+    }
+}

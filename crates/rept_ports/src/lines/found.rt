@@ -1,0 +1,46 @@
+ghost use Rattle.std.specs.Prelude.{◌≤◌, ℕ, List};
+ghost use Rattle.std.specs.Str.Lines.{strip_carriage_return};
+ghost use Rattle.rept_ports.specs.Lines.{Holds, IsFound, IsLast};
+
+use crate::lines::limits::MOST_LINE;
+use arrayvec::ArrayVec;
+
+/// What was found: a line whose bytes are kept, one of more than 256 bytes, or the end of the input.
+#[derive(Clone, Copy, Debug, PartialEq, Eq)]
+pub enum Found {
+    Text,
+    Long,
+    End,
+}
+
+/// The bytes of a line so far, one more than a line may have.
+pub type LineBytes = ArrayVec<u8, 257>;
+
+/// What a line is that ends here, whose carriage return is taken off.
+pub fn finish(line: &mut LineBytes, is_long: bool) -> Found
+    ensures { (front : List ℕ) → Holds line.old.items is_long front → IsFound result line.new.items (strip_carriage_return front) }
+{
+    if is_long {
+        return Found::Long;
+    }
+    if line.last() == Some(&b'\r') {
+        line.pop();
+    }
+    if line.len() > MOST_LINE {
+        return Found::Long;
+    }
+    Found::Text
+}
+
+/// What stands behind the last newline.
+pub fn at_end(line: &LineBytes, is_long: bool) -> Found
+    ensures { (front : List ℕ) → Holds line.now.items is_long front → IsLast result line.now.items front }
+{
+    if is_long || line.len() > MOST_LINE {
+        return Found::Long;
+    }
+    if line.is_empty() {
+        return Found::End;
+    }
+    Found::Text
+}
