@@ -1,0 +1,14 @@
+-- The meaning that a request stands for.
+use Rattle.std.specs.Prelude.{ℕ, Option}
+use Rattle.rept_app.specs.Words.{Names, Meaning}
+use Rattle.rept_app.specs.Words.Meaning.{Open, Made}
+use Rattle.rept_app.specs.declared.words.FileNames.{FileNames}
+use Rattle.rept_app.specs.declared.words.Request.{Request}
+use Rattle.rept_app.specs.declared.words.Request.TheVariants as request
+
+abbrev pub named_by : FileNames → Names
+named_by names = record { exe = names.exe.now; core = names.core.now; trace = names.trace.now }
+
+abbrev pub asked_by : Request → Meaning
+asked_by (request.Open names from) = Open (named_by names) from
+asked_by (request.Made seed steps) = Made seed steps

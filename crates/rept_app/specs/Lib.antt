@@ -1,0 +1,17 @@
+pub mod Answers
+pub mod Asked
+pub mod Commands
+pub mod Delivered
+pub mod Examine
+pub mod Forms
+pub mod Input
+pub mod Lines
+pub mod Loading
+pub mod Path
+pub mod Session
+pub mod Showing
+pub mod Status
+pub mod Study
+pub mod Told
+pub mod Top
+pub mod Words

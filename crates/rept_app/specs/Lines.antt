@@ -1,0 +1,72 @@
+-- The line that is written before a status, and the status.
+use Rattle.std.specs.Prelude.{ℕ, ◌%◌, List, [], ◌∷◌, ◌++◌, codes}
+use Rattle.std.specs.Fmt.{decimal}
+use Rattle.rept_word.specs.Hex.{hex_word, hex_byte}
+use Rattle.rept_engine.specs.declared.fact.Cell.{Cell}
+use Rattle.rept_engine.specs.declared.fact.Cell.TheVariants.{Register, Byte}
+use Rattle.rept_engine.specs.declared.conflict.ConflictKind.{ConflictKind}
+use Rattle.rept_engine.specs.declared.conflict.ConflictKind.TheVariants.{TwoValues}
+use Rattle.rept_app.specs.declared.refusal.FileKind.{FileKind}
+use Rattle.rept_app.specs.declared.refusal.FileKind.TheVariants as file
+use Rattle.rept_app.specs.declared.refusal.Unbuilt.{Unbuilt}
+use Rattle.rept_app.specs.declared.refusal.Unbuilt.TheVariants as unbuilt
+use Rattle.rept_app.specs.declared.refusal.Refusal.{Refusal}
+use Rattle.rept_app.specs.declared.refusal.Refusal.TheVariants as refusal
+use Rattle.rept_app.specs.declared.status.Status.{Status}
+use Rattle.rept_app.specs.declared.status.Status.TheVariants as ends
+
+abbrev pub status_of : Refusal → Status
+status_of refusal.Usage = ends.Usage
+status_of (refusal.LoadFault f) = ends.LoadFault
+status_of (refusal.NoFile f) = ends.NoFile
+status_of (refusal.TooLarge f) = ends.TooLarge
+status_of (refusal.NotBuilt u) = ends.NotBuilt
+status_of (refusal.Inconsistent kind) = ends.Inconsistent
+status_of refusal.InputFault = ends.InputFault
+status_of refusal.OutOfMemory = ends.OutOfMemory
+
+abbrev pub file_word : FileKind → List ℕ
+file_word file.Exe = codes "exe"
+file_word file.Core = codes "core"
+file_word file.Trace = codes "trace"
+
+abbrev pub unbuilt_word : Unbuilt → List ℕ
+unbuilt_word unbuilt.Words = codes "words"
+unbuilt_word unbuilt.Exe = codes "exe"
+unbuilt_word unbuilt.Core = codes "core"
+unbuilt_word unbuilt.Trace = codes "trace"
+unbuilt_word (unbuilt.Code address) = codes "code " ++ hex_word address
+unbuilt_word unbuilt.Input = codes "input"
+
+abbrev pub unbuilt_text : Unbuilt → List ℕ
+unbuilt_text what = codes "not-built " ++ unbuilt_word what
+
+-- a register as `x5`, a byte as its address
+abbrev pub cell_text : Cell → List ℕ
+cell_text (Register r) = codes "x" ++ decimal r
+cell_text (Byte address) = hex_word address
+
+-- the value of a register as a word, that of a byte as two digits
+abbrev pub value_text_in : Cell → ℕ → List ℕ
+value_text_in (Register r) value = hex_word value
+value_text_in (Byte address) value = hex_byte (value % 256)
+
+abbrev pub two_values_text : ℕ → Cell → ℕ → ℕ → List ℕ
+two_values_text point cell v w =
+    codes "inconsistent two-values " ++ decimal point ++ codes " " ++ cell_text cell ++ codes " " ++ value_text_in cell v ++ codes " " ++ value_text_in cell w
+
+abbrev pub conflict_text : ConflictKind → List ℕ
+conflict_text (TwoValues point cell v w) = two_values_text point cell v w
+
+abbrev pub words_of : Refusal → List ℕ
+words_of refusal.Usage = codes "usage: rept open EXE CORE TRACE [FROM] | rept self SEED STEPS"
+words_of (refusal.LoadFault f) = codes "load-fault " ++ file_word f
+words_of (refusal.NoFile f) = codes "no-file " ++ file_word f
+words_of (refusal.TooLarge f) = codes "too-large " ++ file_word f
+words_of (refusal.NotBuilt what) = unbuilt_text what
+words_of (refusal.Inconsistent kind) = conflict_text kind
+words_of refusal.InputFault = codes "input-fault"
+words_of refusal.OutOfMemory = codes "out-of-memory"
+
+abbrev pub line_of : Refusal → List ℕ
+line_of r = words_of r ++ 10 ∷ []

@@ -1,0 +1,23 @@
+// The top call: words, files, path, analysis and session.
+#![tactic(auto)]
+
+mod answers;
+mod command;
+mod examine;
+mod forms;
+mod input;
+mod load;
+mod number;
+mod path;
+mod refusal;
+mod session;
+mod status;
+mod study;
+mod tell;
+#[cfg(test)]
+mod tests;
+mod top;
+mod words;
+
+pub use status::Status;
+pub use top::rept;

@@ -1,0 +1,39 @@
+ghost use Rattle.std.specs.Prelude.{◌≡◌, ◌≤◌, length, IfSome};
+ghost use Rattle.rept_engine.specs.Soundness.{HasNoExecution};
+ghost use Rattle.rept_app.specs.Delivered.{Delivers};
+ghost use Rattle.rept_app.specs.Study.{Studies, IsStudied, ReportIsSound};
+
+use crate::refusal::Refusal;
+use crate::session::serve;
+use crate::status::Status;
+use crate::tell::tell;
+use rept_engine::{Analysis, Stop};
+use rept_isa::StepRow;
+use rept_ports::{Sink, Source};
+use std::alloc::Global;
+
+/// Analyses a path that ends in these register values, and answers the input, or tells a conflict.
+pub fn study<S: Source, K: Sink>(
+    alloc: Global,
+    rows: &[StepRow],
+    registers: &[u32],
+    end_pc: u32,
+    input: &mut S,
+    out: &mut K,
+) -> Status
+    requires few { length rows.now ≤ 65536 }
+    requires registers { length registers.now ≡ 32 }
+    ensures text { IfSome (S.left input.old) (λ left. Delivers (Studies rows.now registers.now end_pc left) (K.written out.old) (K.written out.new) (K.faults out.old) (K.faults out.new) result) }
+    ensures causes { IsStudied rows.now registers.now (S.faults input.old) (S.faults input.new) (K.faults out.old) (K.faults out.new) result }
+    ensures sound { result ≡ Status.Ok → ReportIsSound rows.now registers.now }
+    ensures impossible { result ≡ Status.Inconsistent → HasNoExecution rows.now registers.now }
+{
+    let Ok(mut analysis) = Analysis::prepare(alloc, rows, registers) else {
+        return tell(alloc, out, &Refusal::OutOfMemory);
+    };
+    match analysis.refine() {
+        Ok(()) => serve(alloc, &analysis, end_pc, input, out),
+        Err(Stop::Conflict(kind)) => tell(alloc, out, &Refusal::Inconsistent(kind)),
+        Err(Stop::OutOfMemory) => tell(alloc, out, &Refusal::OutOfMemory),
+    }
+}

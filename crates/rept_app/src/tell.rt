@@ -1,0 +1,28 @@
+ghost use Rattle.std.specs.Prelude.{◌≡◌};
+ghost use Rattle.rept_app.specs.Delivered.{Delivers, Tells};
+
+use crate::refusal::Refusal;
+use crate::status::Status;
+use rept_ports::{Sink, write_all};
+use std::alloc::Global;
+
+/// Writes the line of a refusal and answers its status; where memory runs out, the line and status of that; where the output
+/// fails, its status.
+pub fn tell<K: Sink>(alloc: Global, out: &mut K, refusal: &Refusal) -> Status
+    ensures { Delivers (Tells refusal.now) (K.written out.old) (K.written out.new) (K.faults out.old) (K.faults out.new) result }
+{
+    match refusal.line(alloc) {
+        Ok(line) => deliver(out, line.bytes(), refusal.status()),
+        Err(_) => deliver(out, b"out-of-memory\n", Status::OutOfMemory),
+    }
+}
+
+/// Writes a text, and answers the status, or that the output failed.
+pub fn deliver<K: Sink>(out: &mut K, text: &[u8], status: Status) -> Status
+    ensures { Delivers (λ whole end. (whole ≡ text.now) × (end ≡ status)) (K.written out.old) (K.written out.new) (K.faults out.old) (K.faults out.new) result }
+{
+    match write_all(out, text) {
+        Ok(()) => status,
+        Err(_) => Status::OutputFault,
+    }
+}

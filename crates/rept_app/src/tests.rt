@@ -1,0 +1,407 @@
+use crate::{Status, rept};
+use rept_ports::{CalmShelf, CalmSource, MemShelf, MemSink, MemSource};
+use std::alloc::{AllocError, Global};
+use std::test::Fail;
+
+/// An executable of one code segment at 0x10000, by the ELF specification.
+fn executable(alloc: Global, words: &[u32]) -> Result<Vec<u8>, AllocError> {
+    let size = (words.len() as u32).wrapping_mul(4).to_le_bytes();
+    let mut file = Vec::from_slice(
+        alloc,
+        b"\x7fELF\x01\x01\x01\0\0\0\0\0\0\0\0\0\x02\0\xf3\0\x01\0\0\0\0\0\x01\0\x34\0\0\0\0\0\0\0\0\0\0\0\x34\0\x20\0\x01\0\0\0\0\0\0\0",
+    )?;
+    file.extend_from_slice(b"\x01\0\0\0\x54\0\0\0\0\0\x01\0\0\0\x01\0")?;
+    file.extend_from_slice(&size)?;
+    file.extend_from_slice(&size)?;
+    file.extend_from_slice(b"\x05\0\0\0\x04\0\0\0")?;
+    for word in words {
+        file.extend_from_slice(&word.to_le_bytes())?;
+    }
+    Ok(file)
+}
+
+/// A core file of one status note: the program counter, x5, x6 and x7; all other registers are 0.
+fn core_file(alloc: Global, pc: u32, x5: u32, x6: u32, x7: u32) -> Result<Vec<u8>, AllocError> {
+    let mut file = Vec::from_slice(
+        alloc,
+        b"\x7fELF\x01\x01\x01\0\0\0\0\0\0\0\0\0\x04\0\xf3\0\x01\0\0\0\0\0\0\0\x34\0\0\0\0\0\0\0\0\0\0\0\x34\0\x20\0\x01\0\0\0\0\0\0\0",
+    )?;
+    file.extend_from_slice(
+        b"\x04\0\0\0\x54\0\0\0\0\0\0\0\0\0\0\0\xe0\0\0\0\0\0\0\0\0\0\0\0\0\0\0\0",
+    )?;
+    file.extend_from_slice(b"\x05\0\0\0\xcc\0\0\0\x01\0\0\0CORE\0\0\0\0")?;
+    file.extend_from_slice(&[0; 12])?;
+    file.extend_from_slice(b"\x0b\0\0\0\0\0\0\0\0\0\0\0\x01\0\0\0")?;
+    file.extend_from_slice(&[0; 44])?;
+    file.extend_from_slice(&pc.to_le_bytes())?;
+    file.extend_from_slice(&[0; 16])?;
+    for value in [x5, x6, x7] {
+        file.extend_from_slice(&value.to_le_bytes())?;
+    }
+    file.extend_from_slice(&[0; 100])?;
+    Ok(file)
+}
+
+/// A trace of so many steps behind the first one, by Efficient Trace: a start packet, an address packet and a support packet.
+fn trace_file(alloc: Global, difference: u8) -> Result<Vec<u8>, AllocError> {
+    let mut file = Vec::from_slice(alloc, b"RTR1\x01\0\0\0\x03\x13\0\x20\x01")?;
+    file.push(difference)?;
+    file.extend_from_slice(b"\x01\x4f")?;
+    Ok(file)
+}
+
+fn word_list(alloc: Global, words: &[&str]) -> Result<Vec<String>, AllocError> {
+    let mut list = Vec::new(alloc);
+    for word in words {
+        list.push(String::from_str(alloc, word)?)?;
+    }
+    Ok(list)
+}
+
+/// One crash, an input, and what must come of it.
+struct Case {
+    words: &'static [&'static str],
+    code: &'static [u32],
+    pc: u32,
+    registers: [u32; 3],
+    difference: u8,
+    input: &'static str,
+    output: &'static str,
+    status: Status,
+}
+
+const OPEN: &[&str] = &["open", "e", "c", "t"];
+
+const THREE: &[u32] = &[0x00700293, 0x00328313, 0x006283b3];
+
+const UNKNOWN_AT_0: &str =
+    "point 0 of 3 pc 0x00010000\nx1 0x00000000\nx2 0x00000000\nx3 0x00000000\nx4 0x00000000\nx5 unknown\nx6 unknown\nx7 unknown\nx8 0x00000000\nx9 0x00000000\nx10 0x00000000\nx11 0x00000000\nx12 0x00000000\nx13 0x00000000\nx14 0x00000000\nx15 0x00000000\nx16 0x00000000\nx17 0x00000000\nx18 0x00000000\nx19 0x00000000\nx20 0x00000000\nx21 0x00000000\nx22 0x00000000\nx23 0x00000000\nx24 0x00000000\nx25 0x00000000\nx26 0x00000000\nx27 0x00000000\nx28 0x00000000\nx29 0x00000000\nx30 0x00000000\nx31 0x00000000\n";
+
+const USAGE: &str = "usage: rept open EXE CORE TRACE [FROM] | rept self SEED STEPS\n";
+
+/// The worked crashes, and one case of each refusal.
+const CASES: &[Case] = &[
+    Case {
+        words: OPEN,
+        code: THREE,
+        pc: 0x1000c,
+        registers: [7, 10, 17],
+        difference: 0x0a,
+        input: "goto 0\nregs\n",
+        output: UNKNOWN_AT_0,
+        status: Status::Ok,
+    },
+    Case {
+        words: OPEN,
+        code: THREE,
+        pc: 0x1000c,
+        registers: [7, 10, 17],
+        difference: 0x0a,
+        input: "",
+        output: "",
+        status: Status::Ok,
+    },
+    Case {
+        words: OPEN,
+        code: THREE,
+        pc: 0x1000c,
+        registers: [7, 10, 17],
+        difference: 0x0a,
+        input: "goto 3\ngoto 1\n",
+        output: "point 3 of 3 pc 0x0001000c\npoint 1 of 3 pc 0x00010004\n",
+        status: Status::Ok,
+    },
+    Case {
+        words: OPEN,
+        code: &[0x00700293, 0x00328313, 0x006283b2],
+        pc: 0x1000c,
+        registers: [7, 10, 17],
+        difference: 0x0a,
+        input: "goto 0\nregs\n",
+        output: "not-built code 0x00010008\n",
+        status: Status::NotBuilt,
+    },
+    Case {
+        words: OPEN,
+        code: &[0x00500293, 0x00000013],
+        pc: 0x10008,
+        registers: [7, 0, 0],
+        difference: 0x06,
+        input: "regs\n",
+        output: "inconsistent two-values 1 x5 0x00000005 0x00000007\n",
+        status: Status::Inconsistent,
+    },
+    Case {
+        words: &[],
+        code: THREE,
+        pc: 0x1000c,
+        registers: [7, 10, 17],
+        difference: 0x0a,
+        input: "regs\n",
+        output: USAGE,
+        status: Status::Usage,
+    },
+    Case {
+        words: &["open", "e", "c", "-t"],
+        code: THREE,
+        pc: 0x1000c,
+        registers: [7, 10, 17],
+        difference: 0x0a,
+        input: "regs\n",
+        output: USAGE,
+        status: Status::Usage,
+    },
+    Case {
+        words: &["self", "1", "20001"],
+        code: THREE,
+        pc: 0x1000c,
+        registers: [7, 10, 17],
+        difference: 0x0a,
+        input: "",
+        output: USAGE,
+        status: Status::Usage,
+    },
+    Case {
+        words: &["self", "1", "20000"],
+        code: THREE,
+        pc: 0x1000c,
+        registers: [7, 10, 17],
+        difference: 0x0a,
+        input: "",
+        output: "not-built words\n",
+        status: Status::NotBuilt,
+    },
+    Case {
+        words: &["open", "e", "c", "t", "4294967295"],
+        code: THREE,
+        pc: 0x1000c,
+        registers: [7, 10, 17],
+        difference: 0x0a,
+        input: "",
+        output: "not-built words\n",
+        status: Status::NotBuilt,
+    },
+    Case {
+        words: &["open", "e", "c", "t", "4294967296"],
+        code: THREE,
+        pc: 0x1000c,
+        registers: [7, 10, 17],
+        difference: 0x0a,
+        input: "",
+        output: USAGE,
+        status: Status::Usage,
+    },
+    Case {
+        words: &["open", "e", "c", "x"],
+        code: THREE,
+        pc: 0x1000c,
+        registers: [7, 10, 17],
+        difference: 0x0a,
+        input: "",
+        output: "no-file trace\n",
+        status: Status::NoFile,
+    },
+    Case {
+        words: &["open", "e", "c", "large"],
+        code: THREE,
+        pc: 0x1000c,
+        registers: [7, 10, 17],
+        difference: 0x0a,
+        input: "",
+        output: "too-large trace\n",
+        status: Status::TooLarge,
+    },
+    Case {
+        words: OPEN,
+        code: &[],
+        pc: 0x1000c,
+        registers: [7, 10, 17],
+        difference: 0x0a,
+        input: "",
+        output: "not-built exe\n",
+        status: Status::NotBuilt,
+    },
+    Case {
+        words: &["open", "e", "e", "t"],
+        code: THREE,
+        pc: 0x1000c,
+        registers: [7, 10, 17],
+        difference: 0x0a,
+        input: "",
+        output: "not-built core\n",
+        status: Status::NotBuilt,
+    },
+    Case {
+        words: OPEN,
+        code: THREE,
+        pc: 0x10010,
+        registers: [7, 10, 17],
+        difference: 0x0a,
+        input: "",
+        output: "not-built core\n",
+        status: Status::NotBuilt,
+    },
+    Case {
+        words: OPEN,
+        code: THREE,
+        pc: 0x1000c,
+        registers: [7, 10, 17],
+        difference: 0x0b,
+        input: "",
+        output: "not-built trace\n",
+        status: Status::NotBuilt,
+    },
+    Case {
+        words: OPEN,
+        code: THREE,
+        pc: 0x1000c,
+        registers: [7, 10, 17],
+        difference: 0x0a,
+        input: "goto 0\ngoto 4\n",
+        output: "not-built input\n",
+        status: Status::NotBuilt,
+    },
+    Case {
+        words: OPEN,
+        code: THREE,
+        pc: 0x1000c,
+        registers: [7, 10, 17],
+        difference: 0x0a,
+        input: "goto 0\nregs",
+        output: "not-built input\n",
+        status: Status::NotBuilt,
+    },
+];
+
+// What is written, and the status, for ports in memory.
+#[test]
+fn crashes_are_told(rt: HostRuntime) -> Result<(), Fail> {
+    let alloc = rt.alloc();
+    for case in CASES {
+        let [x5, x6, x7] = case.registers;
+        let mut shelf = CalmShelf::new(alloc);
+        shelf.put("e", executable(alloc, case.code)?.as_slice())?;
+        shelf.put("c", core_file(alloc, case.pc, x5, x6, x7)?.as_slice())?;
+        shelf.put("t", trace_file(alloc, case.difference)?.as_slice())?;
+        if case.status == Status::TooLarge {
+            shelf.put("large", vec![in alloc; 0u8; 16777217]?.as_slice())?;
+        }
+        let words = word_list(alloc, case.words)?;
+        let mut source = CalmSource::new(case.input.as_bytes());
+        let mut sink = MemSink::new(alloc, 2000, &[])?;
+        let status = rept(alloc, words.as_slice(), &mut shelf, &mut source, &mut sink);
+        assert_eq!(rt; sink.bytes(), case.output.as_bytes());
+        assert_eq!(rt; status, case.status);
+    }
+    Ok(())
+}
+
+/// The calls of the ports that fail in one run of the first crash, and what must come of it.
+struct FailingCase {
+    loads: &'static [u64],
+    reads: &'static [u64],
+    writes: &'static [u64],
+    output: &'static str,
+    status: Status,
+}
+
+const FIRST_LINE: &str = "point 0 of 3 pc 0x00010000\n";
+
+const FAILING: &[FailingCase] = &[
+    FailingCase {
+        loads: &[1],
+        reads: &[],
+        writes: &[],
+        output: "load-fault exe\n",
+        status: Status::LoadFault,
+    },
+    FailingCase {
+        loads: &[2],
+        reads: &[],
+        writes: &[],
+        output: "load-fault core\n",
+        status: Status::LoadFault,
+    },
+    FailingCase {
+        loads: &[3],
+        reads: &[],
+        writes: &[],
+        output: "load-fault trace\n",
+        status: Status::LoadFault,
+    },
+    FailingCase {
+        loads: &[4],
+        reads: &[],
+        writes: &[],
+        output: UNKNOWN_AT_0,
+        status: Status::Ok,
+    },
+    FailingCase {
+        loads: &[],
+        reads: &[1],
+        writes: &[],
+        output: "input-fault\n",
+        status: Status::InputFault,
+    },
+    FailingCase {
+        loads: &[],
+        reads: &[2],
+        writes: &[],
+        output: "input-fault\n",
+        status: Status::InputFault,
+    },
+    FailingCase {
+        loads: &[],
+        reads: &[3],
+        writes: &[],
+        output: UNKNOWN_AT_0,
+        status: Status::Ok,
+    },
+    FailingCase {
+        loads: &[],
+        reads: &[],
+        writes: &[1],
+        output: "",
+        status: Status::OutputFault,
+    },
+    FailingCase {
+        loads: &[],
+        reads: &[],
+        writes: &[2],
+        output: FIRST_LINE,
+        status: Status::OutputFault,
+    },
+    FailingCase {
+        loads: &[],
+        reads: &[],
+        writes: &[3],
+        output: UNKNOWN_AT_0,
+        status: Status::Ok,
+    },
+    FailingCase {
+        loads: &[1],
+        reads: &[],
+        writes: &[1],
+        output: "",
+        status: Status::OutputFault,
+    },
+];
+
+// Each call of a port that fails, and the first one behind the last, which doesn't.
+#[test]
+fn failing_ports_are_told(rt: HostRuntime) -> Result<(), Fail> {
+    let alloc = rt.alloc();
+    let words = word_list(alloc, OPEN)?;
+    for case in FAILING {
+        let mut shelf = MemShelf::new(alloc, case.loads)?;
+        shelf.put("e", executable(alloc, THREE)?.as_slice())?;
+        shelf.put("c", core_file(alloc, 0x1000c, 7, 10, 17)?.as_slice())?;
+        shelf.put("t", trace_file(alloc, 0x0a)?.as_slice())?;
+        let mut source = MemSource::new(alloc, b"goto 0\nregs\n", case.reads)?;
+        let mut sink = MemSink::new(alloc, 2000, case.writes)?;
+        let status = rept(alloc, words.as_slice(), &mut shelf, &mut source, &mut sink);
+        assert_eq!(rt; sink.bytes(), case.output.as_bytes());
+        assert_eq!(rt; status, case.status);
+    }
+    Ok(())
+}
