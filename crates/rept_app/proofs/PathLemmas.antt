@@ -4,6 +4,7 @@ use Rattle.std.proofs.lemmas.Bool.{cases_lt}
 use Rattle.std.proofs.lemmas.List.{length-append, same_lists}
 use Rattle.std.proofs.lemmas.Option.{slice_get_within, slice_get-get_or}
 use Rattle.rept_isa.specs.declared.row.StepRow.{StepRow}
+use Rattle.rept_elf.specs.Segments.{ElfSegment}
 use Rattle.rept_app.specs.Forms.{step_count}
 use Rattle.rept_app.specs.declared.path.PathStop.{PathStop}
 use Rattle.rept_app.specs.declared.path.PathStop.TheVariants as stop
@@ -22,21 +23,21 @@ end_of [] x = refl
 end_of (y ∷ xs) x = end_of xs x
 
 -- the row of a step, the only one that can be there
-pub record HasOnly (exe : List ℕ) (rows : List StepRow) (j : ℕ) : Type 0 where
+pub record HasOnly (exe : List ElfSegment) (rows : List StepRow) (j : ℕ) : Type 0 where
   pub row : StepRow
   pub at : slice_get rows j ≡ Some row
   pub is : IsRow exe (address_of j) row
   pub only : (other : StepRow) → IsRow exe (address_of j) other → other ≡ row
 
 -- the rows of the first k steps
-pub record RowsTo (exe : List ℕ) (k : ℕ) (rows : List StepRow) : Type 0 where
+pub record RowsTo (exe : List ElfSegment) (k : ℕ) (rows : List StepRow) : Type 0 where
   pub count : length rows ≡ k
   pub has : (j : ℕ) → j < k → HasOnly exe rows j
 
-pub none_yet : (exe : List ℕ) (rows : List StepRow) → rows ≡ [] → RowsTo exe 0 rows
+pub none_yet : (exe : List ElfSegment) (rows : List StepRow) → rows ≡ [] → RowsTo exe 0 rows
 none_yet exe rows e = record { count = ap length e; has = λ j h. absurd (omega arith) }
 
-pub one_more : (exe : List ℕ) (k : ℕ) (old new : List StepRow) → RowsTo exe k old → AppendsRow exe (address_of k) old new → RowsTo exe (k + 1) new
+pub one_more : (exe : List ElfSegment) (k : ℕ) (old new : List StepRow) → RowsTo exe k old → AppendsRow exe (address_of k) old new → RowsTo exe (k + 1) new
 one_more exe k old new h a = record {
   count = ap length a.appended ∙ length-append old (a.row ∷ []) ∙ ap (λ n. n + 1) h.count;
   has = λ j below. elim (cases_lt j k) [
@@ -54,7 +55,7 @@ one_more exe k old new h a = record {
   ];
 }
 
-module _ (exe trace : List ℕ) where
+module _ (exe : List ElfSegment) (trace : List ℕ) where
   pub is_path : (rows : List StepRow) → RowsTo exe (step_count trace) rows → IsPath exe trace rows
   is_path rows h = record {
     count = h.count;
@@ -85,9 +86,9 @@ module _ (exe trace : List ℕ) where
   }
 
 -- why the next step can't be appended is why there is no path
-pub ends_at : (exe trace : List ℕ) (k : ℕ) (rows : List StepRow) (why : PathStop) → RowsTo exe k rows → k < step_count trace → RowStops exe (address_of k) why → PathEnds exe trace why
+pub ends_at : (exe : List ElfSegment) (trace : List ℕ) (k : ℕ) (rows : List StepRow) (why : PathStop) → RowsTo exe k rows → k < step_count trace → RowStops exe (address_of k) why → PathEnds exe trace why
 ends_at exe trace k rows (stop.Code address) h below s = stops_at exe trace k rows address h below s.0 (λ has. s.1 (subst (HasRow exe) s.0 has))
 ends_at exe trace k rows stop.OutOfMemory h below s = tt
 
-pub all_rows : (exe : List ℕ) (k n : ℕ) (rows : List StepRow) → k ≡ n → RowsTo exe k rows → RowsTo exe n rows
+pub all_rows : (exe : List ElfSegment) (k n : ℕ) (rows : List StepRow) → k ≡ n → RowsTo exe k rows → RowsTo exe n rows
 all_rows exe k n rows e h = subst (λ m. RowsTo exe m rows) e h

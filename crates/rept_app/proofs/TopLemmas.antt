@@ -4,41 +4,28 @@ use Rattle.std.specs.Io.KnownBytes.{Appends}
 use Rattle.rept_ports.specs.Causes.{Rose}
 use Rattle.rept_ports.specs.Shelves.{Files}
 use Rattle.rept_app.specs.Delivered.{Delivers, Says, Tells}
-use Rattle.rept_app.specs.Examine.{Examines, Yields, FilesYield, IsExamined, FilesHold, FilesExclude}
+use Rattle.rept_app.specs.Examine.{Examines, FilesEnd, IsExamined, IsWalkStatus, FilesHold, FilesExclude}
 use Rattle.rept_app.specs.Lines.{status_of}
 use Rattle.rept_app.specs.Loading.{Loading, loading, MatchLoading, ComesTo, AllRefuse}
 use Rattle.rept_app.specs.Loading.Loading.{Refused, Loaded}
 use Rattle.rept_app.specs.Study.{Stopped}
-use Rattle.rept_app.specs.Told.{unread_form, Examined, Told, Opens, Interrupted, Writes, ReportHolds, NoExecution}
+use Rattle.rept_app.specs.Told.{Examined, Told, Opens, Interrupted, Writes, ReportHolds, NoExecution}
 use Rattle.rept_app.specs.Top.{TopCauses, EndsBy, EndsByFiles, Completes}
-use Rattle.rept_app.specs.declared.refusal.Unbuilt.{Unbuilt}
 use Rattle.rept_app.specs.declared.refusal.Refusal.{Refusal}
 use Rattle.rept_app.specs.declared.refusal.Refusal.TheVariants as refusal
 use Rattle.rept_app.specs.declared.status.Status.{Status}
 use Rattle.rept_app.specs.declared.status.Status.TheVariants as ends
-use Rattle.rept_app.proofs.ExamineLemmas.{memory_yields}
-
--- the same, where a file may not have been loaded
-yields_ends : (exe core trace : List ℕ) (status : Status) (o : Option Unbuilt) → MatchOption o (FilesYield exe core trace status) (λ _. Yields ends.NotBuilt status)
-    → MatchOption o (FilesYield exe core trace status ⊎ (status ≡ ends.LoadFault)) (λ _. EndsBy ends.NotBuilt status)
-yields_ends exe core trace status None h = inl h
-yields_ends exe core trace status (Some what) (inl h) = inl h
-yields_ends exe core trace status (Some what) (inr h) = inr (inr h)
+use Rattle.rept_app.proofs.ExamineLemmas.{stopped_end}
 
 module _ (words : List (List ℕ)) (files : Files) where
   abbrev Ends : Status → Loading → Type 0
-  Ends status l =
-      MatchLoading l (λ r. EndsBy (status_of r) status) (λ exe core trace. MatchOption (unread_form exe core trace) (FilesYield exe core trace status ⊎ (status ≡ ends.LoadFault)) (λ _. EndsBy ends.NotBuilt status))
+  Ends status l = MatchLoading l (λ r. EndsBy (status_of r) status) (λ exe core trace. FilesEnd exe core trace status ⊎ (status ≡ ends.LoadFault))
 
   -- a call that stopped, or that couldn't load a file
   interrupted : (status : Status) → (status ≡ ends.LoadFault) ⊎ Stopped status → (l : Loading) → Ends status l
   interrupted status h (Refused r) = inr h
-  interrupted status (inl h) (Loaded exe core trace) = at (unread_form exe core trace)
-    where
-      at : (o : Option Unbuilt) → MatchOption o (FilesYield exe core trace status ⊎ (status ≡ ends.LoadFault)) (λ _. EndsBy ends.NotBuilt status)
-      at None = inr h
-      at (Some what) = inr (inl h)
-  interrupted status (inr h) (Loaded exe core trace) = yields_ends exe core trace status (unread_form exe core trace) (memory_yields exe core trace status h)
+  interrupted status (inl h) (Loaded exe core trace) = inr h
+  interrupted status (inr h) (Loaded exe core trace) = inl (stopped_end exe core trace status h)
 
   -- where no files were loaded
   pub refused_ends : (r : Refusal) (status : Status) → AllRefuse words files r → (status ≡ status_of r) ⊎ Stopped status → EndsByFiles words files status
@@ -49,6 +36,9 @@ module _ (words : List (List ℕ)) (files : Files) where
   refused_ends (refusal.NoFile kind) status h (inl e) = subst (Ends status) (sym h) (inl e)
   refused_ends (refusal.TooLarge kind) status h (inl e) = subst (Ends status) (sym h) (inl e)
   refused_ends (refusal.NotBuilt what) status h (inl e) = subst (Ends status) (sym h) (inl e)
+  refused_ends (refusal.Executable f) status h (inl e) = subst (Ends status) (sym h) (inl e)
+  refused_ends (refusal.CoreImage f) status h (inl e) = subst (Ends status) (sym h) (inl e)
+  refused_ends (refusal.Core f) status h (inl e) = subst (Ends status) (sym h) (inl e)
   refused_ends (refusal.Inconsistent kind) status h (inl e) = subst (Ends status) (sym h) (inl e)
   refused_ends refusal.InputFault status h (inl e) = subst (Ends status) (sym h) (inl e)
 
@@ -64,18 +54,21 @@ module _ (words : List (List ℕ)) (files : Files) where
     refused_writes (refusal.NoFile kind) h (inl s) = inl (subst Whole (sym h) s)
     refused_writes (refusal.TooLarge kind) h (inl s) = inl (subst Whole (sym h) s)
     refused_writes (refusal.NotBuilt what) h (inl s) = inl (subst Whole (sym h) s)
+    refused_writes (refusal.Executable f) h (inl s) = inl (subst Whole (sym h) s)
+    refused_writes (refusal.CoreImage f) h (inl s) = inl (subst Whole (sym h) s)
+    refused_writes (refusal.Core f) h (inl s) = inl (subst Whole (sym h) s)
     refused_writes (refusal.Inconsistent kind) h (inl s) = inl (subst Whole (sym h) s)
     refused_writes refusal.InputFault h (inl s) = inl (subst Whole (sym h) s)
 
     pub examined_writes : (exe core trace : List ℕ) → loading words files ≡ Loaded exe core trace → Examines exe core trace input text status → Writes words files input text status
     examined_writes exe core trace at (inl h) = inl (subst Whole (sym at) h)
     examined_writes exe core trace at (inr (inl h)) = inr (inr (inl h))
-    examined_writes exe core trace at (inr (inr (rows, known, leads, report, cut))) =
-        inr (inr (inr (exe, core, trace, rows, known, record { loaded = at; read = leads.read; path = leads.path; ended = leads.ended }, report, cut)))
+    examined_writes exe core trace at (inr (inr (note, read, traced, (rows, known, follows, report, cut)))) =
+        inr (inr (inr (exe, core, trace, note, rows, known, record { loaded = at; leads = record { read = read; traced = traced; follows = follows } }, report, cut)))
 
   module _ (exe core trace : List ℕ) (at : loading words files ≡ Loaded exe core trace) where
     pub examined_ends : (reads reads' writes writes' : ℕ) (status : Status) → IsExamined exe core trace reads reads' writes writes' status → EndsByFiles words files status
-    examined_ends reads reads' writes writes' status c = subst (Ends status) (sym at) (yields_ends exe core trace status (unread_form exe core trace) c.files)
+    examined_ends reads reads' writes writes' status c = subst (Ends status) (sym at) (inl c.yields)
 
     same_files : (e c t : List ℕ) → loading words files ≡ Loaded e c t → (exe ≡ e) × (core ≡ c) × (trace ≡ t)
     same_files e c t h = by_loaded (sym at ∙ h)
@@ -87,10 +80,10 @@ module _ (words : List (List ℕ)) (files : Files) where
     moved P e c t h p = let same = same_files e c t h in subst (λ x. P e c x) same.2 (subst (λ x. P e x trace) same.1 (subst (λ x. P x core trace) same.0 p))
 
     pub examined_holds : FilesHold exe core trace → ReportHolds words files
-    examined_holds hold e c t rows known opens = moved FilesHold e c t opens.loaded hold rows known (record { read = opens.read; path = opens.path; ended = opens.ended })
+    examined_holds hold e c t note rows known opens = moved FilesHold e c t opens.loaded hold note rows known opens.leads
 
     pub examined_excludes : FilesExclude exe core trace → NoExecution words files
-    examined_excludes none e c t rows opens = moved FilesExclude e c t opens.loaded none rows (record { read = opens.read; path = opens.path; ended = opens.ended })
+    examined_excludes none e c t note rows opens = moved FilesExclude e c t opens.loaded none note rows opens.leads
 
 -- what is written where no count rose
 pub completed : (words : List (List ℕ)) (files : Files) (told : Option Files) (input : List ℕ) (loads loads' reads reads' writes writes' : ℕ) (old new : Option (List ℕ)) (status : Status)
@@ -99,11 +92,11 @@ completed words files told input loads loads' reads reads' writes writes' old ne
 completed words files told input loads loads' reads reads' writes writes' old new status c (later, inl (text, inl h, appended)) no_load no_read no_write = inr (text, h, appended)
 completed words files told input loads loads' reads reads' writes writes' old new status c (later, inl (text, inr (inl (kind, comes, says)), appended)) no_load no_read no_write = absurd (no_load (c.load says.ending))
 completed words files told input loads loads' reads reads' writes writes' old new status c (later, inl (text, inr (inr (inl says)), appended)) no_load no_read no_write = inl says.ending
-completed words files told input loads loads' reads reads' writes writes' old new status c (later, inl (text, inr (inr (inr (exe, core, trace, rows, known, opens, report, inl says))), appended)) no_load no_read no_write =
+completed words files told input loads loads' reads reads' writes writes' old new status c (later, inl (text, inr (inr (inr (exe, core, trace, note, rows, known, opens, report, inl says))), appended)) no_load no_read no_write =
     absurd (no_read (c.input says.ending))
-completed words files told input loads loads' reads reads' writes writes' old new status c (later, inl (text, inr (inr (inr (exe, core, trace, rows, known, opens, report, inr (inl says)))), appended)) no_load no_read no_write =
+completed words files told input loads loads' reads reads' writes writes' old new status c (later, inl (text, inr (inr (inr (exe, core, trace, note, rows, known, opens, report, inr (inl says)))), appended)) no_load no_read no_write =
     inl says.ending
-completed words files told input loads loads' reads reads' writes writes' old new status c (later, inl (text, inr (inr (inr (exe, core, trace, rows, known, opens, report, inr (inr (commands, script, ran))))), appended)) no_load no_read no_write =
+completed words files told input loads loads' reads reads' writes writes' old new status c (later, inl (text, inr (inr (inr (exe, core, trace, note, rows, known, opens, report, inr (inr (commands, script, ran))))), appended)) no_load no_read no_write =
     inl ran.1
 
 -- the causes of a call whose files were loaded
@@ -118,26 +111,34 @@ examined_causes told exe core trace loads loads' reads reads' writes writes' sta
   untold = any told;
 }
   where
-    not_loading : (status ≡ ends.LoadFault) ⊎ (status ≡ ends.NoFile) ⊎ (status ≡ ends.TooLarge)
-        → (status ≡ ends.Inconsistent) ⊎ (status ≡ ends.Ok) ⊎ (status ≡ ends.NotBuilt) ⊎ (status ≡ ends.InputFault) ⊎ Stopped status → ⊥
+    not_walked : (status ≡ ends.LoadFault) ⊎ (status ≡ ends.NoFile) ⊎ (status ≡ ends.TooLarge) → IsWalkStatus status → ⊥
+    not_walked (inl e) (inl h) = cc
+    not_walked (inl e) (inr (inl h)) = cc
+    not_walked (inl e) (inr (inr (inl h))) = cc
+    not_walked (inl e) (inr (inr (inr (inl h)))) = cc
+    not_walked (inl e) (inr (inr (inr (inr (inl h))))) = cc
+    not_walked (inl e) (inr (inr (inr (inr (inr h))))) = cc
+    not_walked (inr (inl e)) (inl h) = cc
+    not_walked (inr (inl e)) (inr (inl h)) = cc
+    not_walked (inr (inl e)) (inr (inr (inl h))) = cc
+    not_walked (inr (inl e)) (inr (inr (inr (inl h)))) = cc
+    not_walked (inr (inl e)) (inr (inr (inr (inr (inl h))))) = cc
+    not_walked (inr (inl e)) (inr (inr (inr (inr (inr h))))) = cc
+    not_walked (inr (inr e)) (inl h) = cc
+    not_walked (inr (inr e)) (inr (inl h)) = cc
+    not_walked (inr (inr e)) (inr (inr (inl h))) = cc
+    not_walked (inr (inr e)) (inr (inr (inr (inl h)))) = cc
+    not_walked (inr (inr e)) (inr (inr (inr (inr (inl h))))) = cc
+    not_walked (inr (inr e)) (inr (inr (inr (inr (inr h))))) = cc
+
+    not_loading : (status ≡ ends.LoadFault) ⊎ (status ≡ ends.NoFile) ⊎ (status ≡ ends.TooLarge) → (status ≡ ends.Executable) ⊎ (status ≡ ends.Core) ⊎ IsWalkStatus status → ⊥
     not_loading (inl e) (inl h) = cc
-    not_loading (inl e) (inr (inl h)) = cc
-    not_loading (inl e) (inr (inr (inl h))) = cc
-    not_loading (inl e) (inr (inr (inr (inl h)))) = cc
-    not_loading (inl e) (inr (inr (inr (inr (inl h))))) = cc
-    not_loading (inl e) (inr (inr (inr (inr (inr h))))) = cc
     not_loading (inr (inl e)) (inl h) = cc
-    not_loading (inr (inl e)) (inr (inl h)) = cc
-    not_loading (inr (inl e)) (inr (inr (inl h))) = cc
-    not_loading (inr (inl e)) (inr (inr (inr (inl h)))) = cc
-    not_loading (inr (inl e)) (inr (inr (inr (inr (inl h))))) = cc
-    not_loading (inr (inl e)) (inr (inr (inr (inr (inr h))))) = cc
     not_loading (inr (inr e)) (inl h) = cc
+    not_loading (inl e) (inr (inl h)) = cc
+    not_loading (inr (inl e)) (inr (inl h)) = cc
     not_loading (inr (inr e)) (inr (inl h)) = cc
-    not_loading (inr (inr e)) (inr (inr (inl h))) = cc
-    not_loading (inr (inr e)) (inr (inr (inr (inl h)))) = cc
-    not_loading (inr (inr e)) (inr (inr (inr (inr (inl h))))) = cc
-    not_loading (inr (inr e)) (inr (inr (inr (inr (inr h))))) = cc
+    not_loading e (inr (inr h)) = not_walked e h
 
     any : (o : Option Files) → MatchOption o ((status ≡ ends.NoFile) ⊎ (status ≡ ends.TooLarge) → Rose loads loads') (λ _. Unit {0})
     any None = λ h. absurd (not_loading (inr h) c.ends_so)

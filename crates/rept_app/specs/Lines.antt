@@ -2,6 +2,10 @@
 use Rattle.std.specs.Prelude.{ℕ, ◌%◌, List, [], ◌∷◌, ◌++◌, codes}
 use Rattle.std.specs.Fmt.{decimal}
 use Rattle.rept_word.specs.Hex.{hex_word, hex_byte}
+use Rattle.rept_elf.specs.declared.fault.ElfFault.{ElfFault}
+use Rattle.rept_elf.specs.declared.fault.ElfFault.TheVariants as elf
+use Rattle.rept_dump.specs.declared.fault.CoreFault.{CoreFault}
+use Rattle.rept_dump.specs.declared.fault.CoreFault.TheVariants as notes
 use Rattle.rept_engine.specs.declared.fact.Cell.{Cell}
 use Rattle.rept_engine.specs.declared.fact.Cell.TheVariants.{Register, Byte}
 use Rattle.rept_engine.specs.declared.conflict.ConflictKind.{ConflictKind}
@@ -20,6 +24,9 @@ status_of refusal.Usage = ends.Usage
 status_of (refusal.LoadFault f) = ends.LoadFault
 status_of (refusal.NoFile f) = ends.NoFile
 status_of (refusal.TooLarge f) = ends.TooLarge
+status_of (refusal.Executable f) = ends.Executable
+status_of (refusal.CoreImage f) = ends.Core
+status_of (refusal.Core f) = ends.Core
 status_of (refusal.NotBuilt u) = ends.NotBuilt
 status_of (refusal.Inconsistent kind) = ends.Inconsistent
 status_of refusal.InputFault = ends.InputFault
@@ -30,9 +37,29 @@ file_word file.Exe = codes "exe"
 file_word file.Core = codes "core"
 file_word file.Trace = codes "trace"
 
+-- the number of a fault of an image, and what it holds
+abbrev pub elf_fault_text : ElfFault → List ℕ
+elf_fault_text elf.NotElf = codes "1"
+elf_fault_text elf.NotClass32 = codes "2"
+elf_fault_text elf.NotLittle = codes "3"
+elf_fault_text elf.NotRiscv = codes "4"
+elf_fault_text (elf.WrongType kind) = codes "5 " ++ decimal kind
+elf_fault_text elf.HeaderPastEnd = codes "6"
+elf_fault_text (elf.EntrySize size) = codes "7 " ++ decimal size
+elf_fault_text (elf.TooMany count) = codes "8 " ++ decimal count
+elf_fault_text (elf.SegmentPastEnd index) = codes "9 " ++ decimal index
+elf_fault_text (elf.SegmentSize index) = codes "10 " ++ decimal index
+elf_fault_text (elf.AddressWrap index) = codes "11 " ++ decimal index
+
+-- the same of a core file's notes
+abbrev pub core_fault_text : CoreFault → List ℕ
+core_fault_text notes.NoStatus = codes "core 1"
+core_fault_text (notes.ShortStatus size) = codes "core 2 " ++ decimal size
+core_fault_text (notes.NotePastEnd offset) = codes "core 3 " ++ decimal offset
+core_fault_text (notes.SeveralThreads count) = codes "core 4 " ++ decimal count
+
 abbrev pub unbuilt_word : Unbuilt → List ℕ
 unbuilt_word unbuilt.Words = codes "words"
-unbuilt_word unbuilt.Exe = codes "exe"
 unbuilt_word unbuilt.Core = codes "core"
 unbuilt_word unbuilt.Trace = codes "trace"
 unbuilt_word (unbuilt.Code address) = codes "code " ++ hex_word address
@@ -63,6 +90,9 @@ words_of refusal.Usage = codes "usage: rept open EXE CORE TRACE [FROM] | rept se
 words_of (refusal.LoadFault f) = codes "load-fault " ++ file_word f
 words_of (refusal.NoFile f) = codes "no-file " ++ file_word f
 words_of (refusal.TooLarge f) = codes "too-large " ++ file_word f
+words_of (refusal.Executable f) = codes "executable " ++ elf_fault_text f
+words_of (refusal.CoreImage f) = codes "core-image " ++ elf_fault_text f
+words_of (refusal.Core f) = core_fault_text f
 words_of (refusal.NotBuilt what) = unbuilt_text what
 words_of (refusal.Inconsistent kind) = conflict_text kind
 words_of refusal.InputFault = codes "input-fault"

@@ -3,11 +3,11 @@ use Rattle.std.specs.Prelude.{◌≡◌, ◌⊎◌, ℕ, ◌≤◌, List, Option
 use Rattle.std.specs.Io.KnownBytes.{Appends}
 use Rattle.rept_ports.specs.Causes.{Rose}
 use Rattle.rept_ports.specs.Shelves.{Files}
-use Rattle.rept_app.specs.Examine.{FilesYield}
+use Rattle.rept_app.specs.Examine.{FilesEnd}
 use Rattle.rept_app.specs.Lines.{status_of}
 use Rattle.rept_app.specs.Loading.{loading, MatchLoading}
 use Rattle.rept_app.specs.Study.{Stopped}
-use Rattle.rept_app.specs.Told.{unread_form, Told}
+use Rattle.rept_app.specs.Told.{Told}
 use Rattle.rept_app.specs.declared.status.Status.{Status}
 use Rattle.rept_app.specs.declared.status.Status.TheVariants as ends
 
@@ -26,12 +26,10 @@ pub record TopCauses (files : Option Files) (loads loads' reads reads' writes wr
 abbrev pub EndsBy : Status → Status → Type 0
 EndsBy expected status = (status ≡ expected) ⊎ (status ≡ ends.LoadFault) ⊎ Stopped status
 
--- Each status comes where the words and the files say so: a refusal has its status; files of the forms that are read end the call by
--- their path.
+-- Each status comes where the words and the files say so: a refusal has its status; files that are there end the call by what they
+-- hold.
 abbrev pub EndsByFiles : List (List ℕ) → Files → Status → Type 0
-EndsByFiles words files status =
-    MatchLoading (loading words files) (λ r. EndsBy (status_of r) status) (λ exe core trace.
-    MatchOption (unread_form exe core trace) (FilesYield exe core trace status ⊎ (status ≡ ends.LoadFault)) (λ _. EndsBy ends.NotBuilt status))
+EndsByFiles words files status = MatchLoading (loading words files) (λ r. EndsBy (status_of r) status) (λ exe core trace. FilesEnd exe core trace status ⊎ (status ≡ ends.LoadFault))
 
 -- where no count rose: all of the text is written, or memory ran out
 abbrev pub Completes : List (List ℕ) → Files → List ℕ → ℕ → ℕ → ℕ → ℕ → ℕ → ℕ → Option (List ℕ) → Option (List ℕ) → Status → Type 0

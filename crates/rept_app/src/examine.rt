@@ -1,34 +1,19 @@
-ghost use Rattle.std.specs.Prelude.{◌≡◌, IfSome};
+ghost use Rattle.std.specs.Prelude.{◌≡◌, IfSome, true, Some};
+ghost use Rattle.rept_dump.specs.Dump.{exe_of, registers_of};
 ghost use Rattle.rept_app.specs.Delivered.{Delivers};
-ghost use Rattle.rept_app.specs.Examine.{Examines, IsExamined, FilesHold, FilesExclude};
-ghost use Rattle.rept_app.specs.Told.{unread_form};
+ghost use Rattle.rept_app.specs.Examine.{Examines, IsExamined, FilesHold, FilesExclude, Walks, IsWalked, PathHolds, PathExcludes};
+ghost use Rattle.rept_app.specs.Forms.{is_trace};
 
-use crate::forms::{
-    CODE_START, is_core_file, is_executable_file, is_trace_file, pc_of, registers_of,
-};
+use crate::forms::{CODE_START, is_trace_file};
 use crate::path::{PathStop, straight_path};
 use crate::refusal::{Refusal, Unbuilt};
 use crate::status::Status;
 use crate::study::study;
 use crate::tell::tell;
+use rept_dump::Dump;
+use rept_elf::{Image, Want};
 use rept_ports::{Sink, Source};
 use std::alloc::Global;
-
-/// The first of the files that isn't of the form that is read.
-fn unread(exe: &[u8], core: &[u8], trace: &[u8]) -> Option<Unbuilt>
-    ensures { result ≡ unread_form exe.now core.now trace.now }
-{
-    if !is_executable_file(exe) {
-        return Some(Unbuilt::Exe);
-    }
-    if !is_core_file(core) {
-        return Some(Unbuilt::Core);
-    }
-    if !is_trace_file(trace) {
-        return Some(Unbuilt::Trace);
-    }
-    None
-}
 
 /// Reads the files, rebuilds the path, and studies it.
 pub fn examine<S: Source, K: Sink>(
@@ -44,10 +29,39 @@ pub fn examine<S: Source, K: Sink>(
     ensures sound { result ≡ Status.Ok → FilesHold exe.now core.now trace.now }
     ensures impossible { result ≡ Status.Inconsistent → FilesExclude exe.now core.now trace.now }
 {
-    if let Some(what) = unread(exe, core, trace) {
-        return tell(alloc, out, &Refusal::NotBuilt(what));
+    let exe_image = match Image::read(exe, Want::Exec) {
+        Ok(image) => image,
+        Err(fault) => return tell(alloc, out, &Refusal::Executable(fault)),
+    };
+    let core_image = match Image::read(core, Want::Core) {
+        Ok(image) => image,
+        Err(fault) => return tell(alloc, out, &Refusal::CoreImage(fault)),
+    };
+    let dump = match Dump::read(exe_image, core_image) {
+        Ok(dump) => dump,
+        Err(fault) => return tell(alloc, out, &Refusal::Core(fault)),
+    };
+    if !is_trace_file(trace) {
+        return tell(alloc, out, &Refusal::NotBuilt(Unbuilt::Trace));
     }
-    let rows = match straight_path(alloc, exe, trace) {
+    walk(alloc, &dump, trace, input, out)
+}
+
+/// Rebuilds the path and studies it.
+fn walk<S: Source, K: Sink>(
+    alloc: Global,
+    dump: &Dump<'_>,
+    trace: &[u8],
+    input: &mut S,
+    out: &mut K,
+) -> Status
+    requires { is_trace trace.now ≡ true }
+    ensures text { IfSome (S.left input.old) (λ left. Delivers (Walks (exe_of dump.now) (registers_of dump.now) trace.now left) (K.written out.old) (K.written out.new) (K.faults out.old) (K.faults out.new) result) }
+    ensures causes { IsWalked (exe_of dump.now) (registers_of dump.now) trace.now (S.faults input.old) (S.faults input.new) (K.faults out.old) (K.faults out.new) result }
+    ensures sound { result ≡ Status.Ok → PathHolds (exe_of dump.now) (registers_of dump.now) trace.now }
+    ensures impossible { result ≡ Status.Inconsistent → PathExcludes (exe_of dump.now) (registers_of dump.now) trace.now }
+{
+    let rows = match straight_path(alloc, dump, trace) {
         Ok(rows) => rows,
         Err(PathStop::Code(address)) => {
             return tell(alloc, out, &Refusal::NotBuilt(Unbuilt::Code(address)));
@@ -55,10 +69,9 @@ pub fn examine<S: Source, K: Sink>(
         Err(PathStop::OutOfMemory) => return tell(alloc, out, &Refusal::OutOfMemory),
     };
     let steps = rows.as_slice();
-    let end_pc = pc_of(core);
-    if end_pc != CODE_START + 4 * steps.len() as u32 {
+    let status = dump.status();
+    if status.pc != CODE_START + 4 * steps.len() as u32 {
         return tell(alloc, out, &Refusal::NotBuilt(Unbuilt::Core));
     }
-    let registers = registers_of(core);
-    study(alloc, steps, &registers, end_pc, input, out)
+    study(alloc, steps, &status.regs, status.pc, input, out)
 }

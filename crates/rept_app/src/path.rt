@@ -1,10 +1,12 @@
 ghost use Rattle.std.specs.Prelude.{◌≡◌, ◌+◌, ◌*◌, ◌<◌, ◌≤◌, ℕ, List, ◌-◌, ◌^◌, true, IfOk, IfErr, IfSome, OnOk, Some};
 ghost use Rattle.rept_isa.specs.declared.instr.Instr.{Instr};
 ghost use Rattle.rept_isa.specs.declared.row.StepRow.{StepRow};
+ghost use Rattle.rept_dump.specs.Dump.{exe_of};
 ghost use Rattle.rept_app.specs.Forms.{is_trace};
 ghost use Rattle.rept_app.specs.Path.{is_built, IsInstr, IsPath, StopsAt, PathEnds, AppendsRow, RowStops};
 
-use crate::forms::{CODE_START, steps_of, word_of_code};
+use crate::forms::{CODE_START, steps_of};
+use rept_dump::Dump;
 use rept_isa::{ImmOp, Instr, RegOp, StepRow, decode};
 use std::alloc::Global;
 
@@ -17,16 +19,16 @@ pub enum PathStop {
 }
 
 /// The steps of a trace without branches over an executable.
-pub fn straight_path(alloc: Global, exe: &[u8], trace: &[u8]) -> Result<Vec<StepRow>, PathStop>
+pub fn straight_path(alloc: Global, dump: &Dump<'_>, trace: &[u8]) -> Result<Vec<StepRow>, PathStop>
     requires { is_trace trace.now ≡ true }
-    ensures path { IfOk result (λ rows. IsPath exe.now trace.now rows.items) }
-    ensures only_path { IfOk result (λ rows. (others : List StepRow) → IsPath exe.now trace.now others → others ≡ rows.items) }
-    ensures stop { IfErr result (PathEnds exe.now trace.now) }
+    ensures path { IfOk result (λ rows. IsPath (exe_of dump.now) trace.now rows.items) }
+    ensures only_path { IfOk result (λ rows. (others : List StepRow) → IsPath (exe_of dump.now) trace.now others → others ≡ rows.items) }
+    ensures stop { IfErr result (PathEnds (exe_of dump.now) trace.now) }
 {
     let count = steps_of(trace);
     let mut rows = Vec::new(alloc);
     for i in 0..count {
-        if let Err(stop) = push_row(&mut rows, exe, CODE_START + 4 * i) {
+        if let Err(stop) = push_row(&mut rows, dump, CODE_START + 4 * i) {
             return Err(stop);
         }
     }
@@ -34,12 +36,12 @@ pub fn straight_path(alloc: Global, exe: &[u8], trace: &[u8]) -> Result<Vec<Step
 }
 
 /// Appends the step at an address.
-fn push_row(rows: &mut Vec<StepRow>, exe: &[u8], address: u32) -> Result<(), PathStop>
+fn push_row(rows: &mut Vec<StepRow>, dump: &Dump<'_>, address: u32) -> Result<(), PathStop>
     requires { address < 2 ^ 32 - 4 }
-    ensures ok { OnOk result (AppendsRow exe.now address rows.old.items rows.new.items) }
-    ensures stop { IfErr result (RowStops exe.now address) }
+    ensures ok { OnOk result (AppendsRow (exe_of dump.now) address rows.old.items rows.new.items) }
+    ensures stop { IfErr result (RowStops (exe_of dump.now) address) }
 {
-    let Some(instr) = instr_at(exe, address) else {
+    let Some(instr) = instr_at(dump, address) else {
         return Err(PathStop::Code(address));
     };
     let row = StepRow {
@@ -55,11 +57,11 @@ fn push_row(rows: &mut Vec<StepRow>, exe: &[u8], address: u32) -> Result<(), Pat
 }
 
 /// The instruction at an address, where it is one of those that are read.
-fn instr_at(exe: &[u8], address: u32) -> Option<Instr>
-    ensures some { IfSome result (IsInstr exe.now address) }
-    ensures only { (instr : Instr) → IsInstr exe.now address instr → result ≡ Some instr }
+fn instr_at(dump: &Dump<'_>, address: u32) -> Option<Instr>
+    ensures some { IfSome result (IsInstr (exe_of dump.now) address) }
+    ensures only { (instr : Instr) → IsInstr (exe_of dump.now) address instr → result ≡ Some instr }
 {
-    let word = word_of_code(exe, address)?;
+    let word = dump.word_of_code(address)?;
     let instr = decode(word)?;
     if is_read(&instr) { Some(instr) } else { None }
 }

@@ -1,8 +1,11 @@
 ghost use Rattle.std.specs.Prelude.{◌≡◌, ◌++◌, IfOk, OnOk, codes};
+ghost use Rattle.std.specs.Fmt.{decimal};
 ghost use Rattle.rept_word.specs.Hex.{hex_word};
-ghost use Rattle.rept_app.specs.Lines.{line_of, status_of, file_word, unbuilt_text, unbuilt_word, conflict_text, two_values_text, cell_text, value_text_in};
+ghost use Rattle.rept_app.specs.Lines.{line_of, status_of, file_word, elf_fault_text, core_fault_text, unbuilt_text, unbuilt_word, conflict_text, two_values_text, cell_text, value_text_in};
 
 use crate::status::Status;
+use rept_dump::CoreFault;
+use rept_elf::ElfFault;
 use rept_engine::{Cell, ConflictKind};
 use rept_word::{OutOfMemory, Text};
 use std::alloc::Global;
@@ -20,9 +23,7 @@ pub enum FileKind {
 pub enum Unbuilt {
     /// `open` with a packet to begin from, or `self`.
     Words,
-    /// An executable of another form.
-    Exe,
-    /// A core file of another form, or one whose program counter isn't the end of the path.
+    /// A core file whose program counter isn't the end of the path.
     Core,
     /// A trace of another form.
     Trace,
@@ -39,6 +40,12 @@ pub enum Refusal {
     LoadFault(FileKind),
     NoFile(FileKind),
     TooLarge(FileKind),
+    /// The executable is no image that is read.
+    Executable(ElfFault),
+    /// The core file is no image that is read.
+    CoreImage(ElfFault),
+    /// The core file's notes don't give the registers of one thread.
+    Core(CoreFault),
     NotBuilt(Unbuilt),
     Inconsistent(ConflictKind),
     InputFault,
@@ -55,6 +62,8 @@ impl Refusal {
             Refusal::LoadFault(_) => Status::LoadFault,
             Refusal::NoFile(_) => Status::NoFile,
             Refusal::TooLarge(_) => Status::TooLarge,
+            Refusal::Executable(_) => Status::Executable,
+            Refusal::CoreImage(_) | Refusal::Core(_) => Status::Core,
             Refusal::NotBuilt(_) => Status::NotBuilt,
             Refusal::Inconsistent(_) => Status::Inconsistent,
             Refusal::InputFault => Status::InputFault,
@@ -74,6 +83,9 @@ impl Refusal {
             Refusal::LoadFault(file) => push_file(&mut text, b"load-fault ", *file)?,
             Refusal::NoFile(file) => push_file(&mut text, b"no-file ", *file)?,
             Refusal::TooLarge(file) => push_file(&mut text, b"too-large ", *file)?,
+            Refusal::Executable(fault) => push_elf_fault(&mut text, b"executable ", fault)?,
+            Refusal::CoreImage(fault) => push_elf_fault(&mut text, b"core-image ", fault)?,
+            Refusal::Core(fault) => push_core_fault(&mut text, fault)?,
             Refusal::NotBuilt(what) => push_unbuilt(&mut text, *what)?,
             Refusal::Inconsistent(kind) => push_conflict(&mut text, kind)?,
             Refusal::InputFault => text.push(b"input-fault")?,
@@ -96,6 +108,47 @@ fn push_file(text: &mut Text, word: &[u8], file: FileKind) -> Result<(), OutOfMe
     })
 }
 
+/// The line's word, and the number of a fault of an image with its argument.
+fn push_elf_fault(text: &mut Text, word: &[u8], fault: &ElfFault) -> Result<(), OutOfMemory>
+    ensures { OnOk result (text.new ≡ text.old ++ (word.now ++ elf_fault_text fault.now)) }
+{
+    text.push(word)?;
+    match fault {
+        ElfFault::NotElf => text.push(b"1"),
+        ElfFault::NotClass32 => text.push(b"2"),
+        ElfFault::NotLittle => text.push(b"3"),
+        ElfFault::NotRiscv => text.push(b"4"),
+        ElfFault::WrongType(kind) => push_numbered(text, b"5 ", u64::from(*kind)),
+        ElfFault::HeaderPastEnd => text.push(b"6"),
+        ElfFault::EntrySize(size) => push_numbered(text, b"7 ", u64::from(*size)),
+        ElfFault::TooMany(count) => push_numbered(text, b"8 ", u64::from(*count)),
+        ElfFault::SegmentPastEnd(index) => push_numbered(text, b"9 ", u64::from(*index)),
+        ElfFault::SegmentSize(index) => push_numbered(text, b"10 ", u64::from(*index)),
+        ElfFault::AddressWrap(index) => push_numbered(text, b"11 ", u64::from(*index)),
+    }
+}
+
+/// `core`, and the number of a fault of the notes with its argument.
+fn push_core_fault(text: &mut Text, fault: &CoreFault) -> Result<(), OutOfMemory>
+    ensures { OnOk result (text.new ≡ text.old ++ core_fault_text fault.now) }
+{
+    match fault {
+        CoreFault::NoStatus => text.push(b"core 1"),
+        CoreFault::ShortStatus(size) => push_numbered(text, b"core 2 ", *size),
+        CoreFault::NotePastEnd(offset) => push_numbered(text, b"core 3 ", *offset),
+        CoreFault::SeveralThreads(count) => push_numbered(text, b"core 4 ", *count),
+    }
+}
+
+/// A number as it stands, and its argument in decimal.
+fn push_numbered(text: &mut Text, number: &[u8], argument: u64) -> Result<(), OutOfMemory>
+    ensures { OnOk result (text.new ≡ text.old ++ (number.now ++ decimal argument)) }
+{
+    text.push(number)?;
+    text.push_count(argument)?;
+    Ok(())
+}
+
 fn push_unbuilt(text: &mut Text, what: Unbuilt) -> Result<(), OutOfMemory>
     ensures { OnOk result (text.new ≡ text.old ++ unbuilt_text what) }
 {
@@ -108,7 +161,6 @@ fn push_unbuilt_word(text: &mut Text, what: Unbuilt) -> Result<(), OutOfMemory>
 {
     match what {
         Unbuilt::Words => text.push(b"words"),
-        Unbuilt::Exe => text.push(b"exe"),
         Unbuilt::Core => text.push(b"core"),
         Unbuilt::Trace => text.push(b"trace"),
         Unbuilt::Code(address) => push_code(text, address),

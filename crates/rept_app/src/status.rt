@@ -16,6 +16,10 @@ pub enum Status {
     NoFile,
     /// A file is over its limit.
     TooLarge,
+    /// The executable is refused.
+    Executable,
+    /// The core file is refused.
+    Core,
     /// The input can't be read.
     InputFault,
     /// The output can't be written.
@@ -38,6 +42,8 @@ impl Status {
             Status::LoadFault => 3,
             Status::NoFile => 4,
             Status::TooLarge => 5,
+            Status::Executable => 6,
+            Status::Core => 7,
             Status::InputFault => 9,
             Status::OutputFault => 10,
             Status::OutOfMemory => 11,

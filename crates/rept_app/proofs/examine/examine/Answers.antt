@@ -1,93 +1,79 @@
-use Rattle.std.proofs.Common.{◌≡◌, ◌≢◌, ◌⊎◌, ℕ, ◌+◌, ◌*◌, List, length, Some, None, true, false, inl, inr, refl, sym, ap, ◌∙◌, subst, arith, eq-eqb, ne_eqb, eqb}
-use Rattle.rept_app.specs.Examine.{Examines}
-use Rattle.rept_app.specs.Forms.{end_pc, last_values}
-use Rattle.rept_app.specs.Path.{StopsAt, address_of}
-use Rattle.rept_app.specs.Study.{Studies, IsStudied, ReportIsSound}
-use Rattle.rept_engine.specs.Soundness.{HasNoExecution}
-use Rattle.rept_app.specs.Told.{unread_form}
+use Rattle.std.proofs.Common.{◌≡◌, ℕ, List, length, Option, Some, None, Result, Ok, Err, true, false, inl, inr, refl, sym, ap, ◌∙◌, subst}
+use Rattle.rept_elf.specs.Segments.{ElfSegment, segments}
+use Rattle.rept_elf.specs.Image.{file_of}
+use Rattle.rept_dump.specs.Dump.{exe_of, registers_of}
+use Rattle.rept_dump.specs.declared.fault.CoreFault.{CoreFault}
+use Rattle.rept_app.specs.Examine.{Examines, Walks, PathHolds, PathExcludes}
 use Rattle.rept_app.specs.declared.status.Status.TheVariants as ends
 use Rattle.rept_app.proofs.DeliveredLemmas.{delivers_as, ends_told}
 use Rattle.rept_app.proofs.SessionLemmas.{where_told, at_some}
-use Rattle.rept_app.proofs.ExamineLemmas.{all_read, told_examined, unread_yields, stop_yields, memory_yields, yields_stopped, elsewhere_yields, studied_examined, no_memory_examines, unread_examines, stop_examines, elsewhere_examines, studies_examine, files_hold, studies_at, studied_at, sound_at}
+use Rattle.rept_app.proofs.ExamineLemmas.{exe_end, core_end, notes_end, told_examined, walked_examined, exe_examines, core_examines, notes_refused, untraced_examines, walks_examine, files_hold, files_exclude, says_at, only_at, segments_at, as_exe, as_core, as_unbuilt, untraced, traced, walked_at}
 use Rattle.rept_app.proofs.examine.examine.Goals as goal
 
-pub returns-in-Some-clause-text : goal.returns-in-Some-clause-text
-returns-in-Some-clause-text g c =
-    let e = sym c.unread.ensures ∙ c.in-Some.is in
-    where_told _ _ (λ left told. delivers_as _ (Examines c.args.exe.now c.args.core.now c.args.trace.now left) _ _ _ _ _ (λ text status. unread_examines c.args.exe.now c.args.core.now c.args.trace.now left text status c.in-Some.what e) c.tell.ensures)
-
-pub returns-in-Some-clause-causes : goal.returns-in-Some-clause-causes
-returns-in-Some-clause-causes g c =
-    let told = ends_told _ _ _ _ _ c.tell.result c.tell.ensures in
-    told_examined c.args.exe.now c.args.core.now c.args.trace.now c.tell.result _ _ _ told.0 (λ e. told.1 e (λ (same : ends.NotBuilt ≡ ends.OutputFault). cc)) told.2
-    (unread_yields c.args.exe.now c.args.core.now c.args.trace.now c.tell.result c.in-Some.what (sym c.unread.ensures ∙ c.in-Some.is) told.2)
-
-pub straight_path-requires : goal.straight_path-requires
-straight_path-requires g c = (all_read c.args.exe.now c.args.core.now c.args.trace.now (sym c.unread.ensures ∙ c.in_default.is)).1
-
-pub returns-in-Err-Code-clause-text : goal.returns-in-Err-Code-clause-text
-returns-in-Err-Code-clause-text g c =
-    let e = sym c.unread.ensures ∙ c.in_default.is in
-    let s : StopsAt c.args.exe.now c.args.trace.now c.in-Err-Code.address = rw c.in-Err-Code.field-0-is at c.in-Err-Code.ensures.stop in
+pub returns-in-Err-clause-text : goal.returns-in-Err-clause-text
+returns-in-Err-clause-text g c =
     where_told _ _ (λ left told. delivers_as _ (Examines c.args.exe.now c.args.core.now c.args.trace.now left) _ _ _ _ _
-    (λ text status. stop_examines c.args.exe.now c.args.core.now c.args.trace.now left text status e c.in-Err-Code.address s) c.tell-in-Err-Code.ensures)
+    (λ text status. exe_examines c.args.exe.now c.args.core.now c.args.trace.now left text status c.in-Err.fault c.in-Err.ensures.fault) c.tell.ensures)
 
-pub returns-in-Err-Code-clause-causes : goal.returns-in-Err-Code-clause-causes
-returns-in-Err-Code-clause-causes g c =
-    let e = sym c.unread.ensures ∙ c.in_default.is in
-    let s : StopsAt c.args.exe.now c.args.trace.now c.in-Err-Code.address = rw c.in-Err-Code.field-0-is at c.in-Err-Code.ensures.stop in
-    let told = ends_told _ _ _ _ _ c.tell-in-Err-Code.result c.tell-in-Err-Code.ensures in
-    told_examined c.args.exe.now c.args.core.now c.args.trace.now c.tell-in-Err-Code.result _ _ _ told.0 (λ e. told.1 e (λ (same : ends.NotBuilt ≡ ends.OutputFault). cc)) told.2
-    (stop_yields c.args.exe.now c.args.core.now c.args.trace.now c.tell-in-Err-Code.result e c.in-Err-Code.address s told.2)
-
-pub returns-in-Err-OutOfMemory-clause-text : goal.returns-in-Err-OutOfMemory-clause-text
-returns-in-Err-OutOfMemory-clause-text g c =
-    where_told _ _ (λ left told. delivers_as _ (Examines c.args.exe.now c.args.core.now c.args.trace.now left) _ _ _ _ _ (no_memory_examines c.args.exe.now c.args.core.now c.args.trace.now left) c.tell-in-Err-OutOfMemory.ensures)
-
-pub returns-in-Err-OutOfMemory-clause-causes : goal.returns-in-Err-OutOfMemory-clause-causes
-returns-in-Err-OutOfMemory-clause-causes g c =
-    let told = ends_told _ _ _ _ _ c.tell-in-Err-OutOfMemory.result c.tell-in-Err-OutOfMemory.ensures in
-    let stopped = yields_stopped c.tell-in-Err-OutOfMemory.result told.2 in
-    told_examined c.args.exe.now c.args.core.now c.args.trace.now c.tell-in-Err-OutOfMemory.result _ _ _ told.0 (λ e. told.1 e (λ (same : ends.OutOfMemory ≡ ends.OutputFault). cc)) (inr stopped)
-    (memory_yields c.args.exe.now c.args.core.now c.args.trace.now c.tell-in-Err-OutOfMemory.result stopped)
-
-pub returns-then-end_pc-steps-clause-text : goal.returns-then-end_pc-steps-clause-text
-returns-then-end_pc-steps-clause-text g c =
-    let e = sym c.unread.ensures ∙ c.in_default.is in
-    let elsewhere : eqb (end_pc c.args.core.now) (address_of (length c.in-Ok.rows.items)) ≡ false = ne_eqb _ _ (λ same. c.if-end_pc-steps.true (c.pc_of-end_pc.ensures ∙ same ∙ ap (λ n. 65536 + 4 * n) (ap length (sym c.as_slice-steps.ensures.value)))) in
+pub returns-in-Err-read-clause-text : goal.returns-in-Err-read-clause-text
+returns-in-Err-read-clause-text g c =
     where_told _ _ (λ left told. delivers_as _ (Examines c.args.exe.now c.args.core.now c.args.trace.now left) _ _ _ _ _
-    (λ text status. elsewhere_examines c.args.exe.now c.args.core.now c.args.trace.now left text status e c.in-Ok.rows.items c.in-Ok.ensures.path elsewhere) c.tell-then-end_pc-steps.ensures)
+    (λ text status. core_examines c.args.exe.now c.args.core.now c.args.trace.now left text status c.in-Err-read.fault c.in-Ok.ensures.fault c.in-Err-read.ensures.fault) c.tell-in-Err-read.ensures)
 
-pub returns-then-end_pc-steps-clause-causes : goal.returns-then-end_pc-steps-clause-causes
-returns-then-end_pc-steps-clause-causes g c =
-    let e = sym c.unread.ensures ∙ c.in_default.is in
-    let elsewhere : eqb (end_pc c.args.core.now) (address_of (length c.in-Ok.rows.items)) ≡ false = ne_eqb _ _ (λ same. c.if-end_pc-steps.true (c.pc_of-end_pc.ensures ∙ same ∙ ap (λ n. 65536 + 4 * n) (ap length (sym c.as_slice-steps.ensures.value)))) in
-    let told = ends_told _ _ _ _ _ c.tell-then-end_pc-steps.result c.tell-then-end_pc-steps.ensures in
-    told_examined c.args.exe.now c.args.core.now c.args.trace.now c.tell-then-end_pc-steps.result _ _ _ told.0 (λ e. told.1 e (λ (same : ends.NotBuilt ≡ ends.OutputFault). cc)) told.2
-    (elsewhere_yields c.args.exe.now c.args.core.now c.args.trace.now c.tell-then-end_pc-steps.result e c.in-Ok.rows.items c.in-Ok.ensures.path c.in-Ok.ensures.only_path elsewhere told.2)
+pub returns-in-Err-read-2-clause-text : goal.returns-in-Err-read-2-clause-text
+returns-in-Err-read-2-clause-text g c =
+    let says = says_at (file_of c.in-Ok-read.image) c.args.core.now (Err c.in-Err-read-2.fault) c.in-Ok-read.ensures.image c.in-Err-read-2.ensures.said in
+    where_told _ _ (λ left told. delivers_as _ (Examines c.args.exe.now c.args.core.now c.args.trace.now left) _ _ _ _ _
+    (λ text status. notes_refused c.args.exe.now c.args.core.now c.args.trace.now left text status c.in-Ok.ensures.fault c.in-Ok-read.ensures.fault c.in-Err-read-2.fault says) c.tell-in-Err-read-2.ensures)
+
+pub returns-in-Err-read-2-clause-causes : goal.returns-in-Err-read-2-clause-causes
+returns-in-Err-read-2-clause-causes g c =
+    let only = only_at (file_of c.in-Ok-read.image) c.args.core.now (Err c.in-Err-read-2.fault) c.in-Ok-read.ensures.image c.in-Err-read-2.ensures.only in
+    let told = ends_told _ _ _ _ _ c.tell-in-Err-read-2.result c.tell-in-Err-read-2.ensures in
+    told_examined c.args.exe.now c.args.core.now c.args.trace.now c.tell-in-Err-read-2.result _ _ _ told.0 (λ e. told.1 e (λ (same : ends.Core ≡ ends.OutputFault). cc)) (as_core c.tell-in-Err-read-2.result told.2)
+    (notes_end c.args.exe.now c.args.core.now c.args.trace.now c.tell-in-Err-read-2.result c.in-Ok.ensures.fault c.in-Ok-read.ensures.fault (Err c.in-Err-read-2.fault) only told.2)
+
+pub returns-then-not-is_trace_file-clause-text : goal.returns-then-not-is_trace_file-clause-text
+returns-then-not-is_trace_file-clause-text g c =
+    let says = says_at (file_of c.in-Ok-read.image) c.args.core.now (Ok (registers_of c.in-Ok-read-2.dump)) c.in-Ok-read.ensures.image c.in-Ok-read-2.ensures.said in
+    where_told _ _ (λ left told. delivers_as _ (Examines c.args.exe.now c.args.core.now c.args.trace.now left) _ _ _ _ _
+    (λ text status. untraced_examines c.args.exe.now c.args.core.now c.args.trace.now left text status c.in-Ok.ensures.fault c.in-Ok-read.ensures.fault (registers_of c.in-Ok-read-2.dump) says
+    (sym c.is_trace_file.ensures ∙ c.if-not-is_trace_file.true)) c.tell-then-not-is_trace_file.ensures)
+
+pub returns-then-not-is_trace_file-clause-causes : goal.returns-then-not-is_trace_file-clause-causes
+returns-then-not-is_trace_file-clause-causes g c =
+    let only = only_at (file_of c.in-Ok-read.image) c.args.core.now (Ok (registers_of c.in-Ok-read-2.dump)) c.in-Ok-read.ensures.image c.in-Ok-read-2.ensures.only in
+    let told = ends_told _ _ _ _ _ c.tell-then-not-is_trace_file.result c.tell-then-not-is_trace_file.ensures in
+    told_examined c.args.exe.now c.args.core.now c.args.trace.now c.tell-then-not-is_trace_file.result _ _ _ told.0 (λ e. told.1 e (λ (same : ends.NotBuilt ≡ ends.OutputFault). cc)) (as_unbuilt c.tell-then-not-is_trace_file.result told.2)
+    (notes_end c.args.exe.now c.args.core.now c.args.trace.now c.tell-then-not-is_trace_file.result c.in-Ok.ensures.fault c.in-Ok-read.ensures.fault (Ok (registers_of c.in-Ok-read-2.dump)) only
+    (untraced (segments c.args.exe.now) c.args.trace.now (registers_of c.in-Ok-read-2.dump) c.tell-then-not-is_trace_file.result (sym c.is_trace_file.ensures ∙ c.if-not-is_trace_file.true) told.2))
 
 pub returns-clause-text : goal.returns-clause-text
 returns-clause-text g c =
-    let e = sym c.unread.ensures ∙ c.in_default.is in
-    let same : end_pc c.args.core.now ≡ address_of (length c.in-Ok.rows.items) = sym c.pc_of-end_pc.ensures ∙ c.if-end_pc-steps.false ∙ ap (λ n. 65536 + 4 * n) (ap length c.as_slice-steps.ensures.value) in
-    let is : eqb (end_pc c.args.core.now) (address_of (length c.in-Ok.rows.items)) ≡ true = eq-eqb _ _ same in
+    let says = says_at (file_of c.in-Ok-read.image) c.args.core.now (Ok (registers_of c.in-Ok-read-2.dump)) c.in-Ok-read.ensures.image c.in-Ok-read-2.ensures.said in
+    let here = segments_at (exe_of c.in-Ok-read-2.dump) (file_of c.in-Ok.image) c.args.exe.now c.in-Ok-read-2.ensures.exe c.in-Ok.ensures.image in
     where_told _ _ (λ left told. delivers_as _ (Examines c.args.exe.now c.args.core.now c.args.trace.now left) _ _ _ _ _
-    (λ text status h. studies_examine c.args.exe.now c.args.core.now c.args.trace.now left text status e c.in-Ok.rows.items c.in-Ok.ensures.path is same
-    (studies_at _ _ _ _ _ _ left text status c.as_slice-steps.ensures.value c.registers_of-registers.ensures c.pc_of-end_pc.ensures h))
-    (at_some (g.S.Source.left c.args.input.now) left _ told c.study.ensures.text))
+    (λ text status h. walks_examine c.args.exe.now c.args.core.now c.args.trace.now left text status c.in-Ok.ensures.fault c.in-Ok-read.ensures.fault (registers_of c.in-Ok-read-2.dump) says
+    (sym c.is_trace_file.ensures ∙ c.if-not-is_trace_file.false) (subst (λ (s : List ElfSegment). Walks s (registers_of c.in-Ok-read-2.dump) c.args.trace.now left text status) here h))
+    (at_some (g.S.Source.left c.args.input.now) left _ told c.walk.ensures.text))
 
 pub returns-clause-causes : goal.returns-clause-causes
 returns-clause-causes g c =
-    let e = sym c.unread.ensures ∙ c.in_default.is in
-    let same : end_pc c.args.core.now ≡ address_of (length c.in-Ok.rows.items) = sym c.pc_of-end_pc.ensures ∙ c.if-end_pc-steps.false ∙ ap (λ n. 65536 + 4 * n) (ap length c.as_slice-steps.ensures.value) in
-    let is : eqb (end_pc c.args.core.now) (address_of (length c.in-Ok.rows.items)) ≡ true = eq-eqb _ _ same in
-    studied_examined c.args.exe.now c.args.core.now c.args.trace.now c.study.result e c.in-Ok.rows.items c.in-Ok.ensures.path c.in-Ok.ensures.only_path is _ _ _ _ (studied_at _ _ _ _ _ _ _ _ _ c.as_slice-steps.ensures.value c.registers_of-registers.ensures c.study.ensures.causes)
+    let only = only_at (file_of c.in-Ok-read.image) c.args.core.now (Ok (registers_of c.in-Ok-read-2.dump)) c.in-Ok-read.ensures.image c.in-Ok-read-2.ensures.only in
+    let here = segments_at (exe_of c.in-Ok-read-2.dump) (file_of c.in-Ok.image) c.args.exe.now c.in-Ok-read-2.ensures.exe c.in-Ok.ensures.image in
+    let walked = walked_at (exe_of c.in-Ok-read-2.dump) (segments c.args.exe.now) (registers_of c.in-Ok-read-2.dump) c.args.trace.now _ _ _ _ c.walk.result here c.walk.ensures.causes in
+    walked_examined c.args.exe.now c.args.core.now c.args.trace.now c.walk.result (registers_of c.in-Ok-read-2.dump)
+    (notes_end c.args.exe.now c.args.core.now c.args.trace.now c.walk.result c.in-Ok.ensures.fault c.in-Ok-read.ensures.fault (Ok (registers_of c.in-Ok-read-2.dump)) only
+    (traced (segments c.args.exe.now) c.args.trace.now (registers_of c.in-Ok-read-2.dump) c.walk.result (sym c.is_trace_file.ensures ∙ c.if-not-is_trace_file.false) walked.yields)) _ _ _ _ walked
 
 pub returns-clause-sound : goal.returns-clause-sound
-returns-clause-sound g c ok = files_hold c.args.exe.now c.args.core.now c.args.trace.now c.in-Ok.rows.items c.in-Ok.ensures.only_path (sound_at _ _ _ _ c.as_slice-steps.ensures.value c.registers_of-registers.ensures (c.study.ensures.sound ok))
+returns-clause-sound g c ok =
+    let only = only_at (file_of c.in-Ok-read.image) c.args.core.now (Ok (registers_of c.in-Ok-read-2.dump)) c.in-Ok-read.ensures.image c.in-Ok-read-2.ensures.only in
+    let here = segments_at (exe_of c.in-Ok-read-2.dump) (file_of c.in-Ok.image) c.args.exe.now c.in-Ok-read-2.ensures.exe c.in-Ok.ensures.image in
+    files_hold c.args.exe.now c.args.core.now c.args.trace.now (registers_of c.in-Ok-read-2.dump) only (subst (λ (s : List ElfSegment). PathHolds s (registers_of c.in-Ok-read-2.dump) c.args.trace.now) here (c.walk.ensures.sound ok))
 
-pub pc_of-end_pc-requires : goal.pc_of-end_pc-requires
-pc_of-end_pc-requires g c = (all_read c.args.exe.now c.args.core.now c.args.trace.now (sym c.unread.ensures ∙ c.in_default.is)).0
-
-pub registers_of-registers-requires : goal.registers_of-registers-requires
-registers_of-registers-requires g c = (all_read c.args.exe.now c.args.core.now c.args.trace.now (sym c.unread.ensures ∙ c.in_default.is)).0
+pub returns-clause-impossible : goal.returns-clause-impossible
+returns-clause-impossible g c none =
+    let only = only_at (file_of c.in-Ok-read.image) c.args.core.now (Ok (registers_of c.in-Ok-read-2.dump)) c.in-Ok-read.ensures.image c.in-Ok-read-2.ensures.only in
+    let here = segments_at (exe_of c.in-Ok-read-2.dump) (file_of c.in-Ok.image) c.args.exe.now c.in-Ok-read-2.ensures.exe c.in-Ok.ensures.image in
+    files_exclude c.args.exe.now c.args.core.now c.args.trace.now (registers_of c.in-Ok-read-2.dump) only (subst (λ (s : List ElfSegment). PathExcludes s (registers_of c.in-Ok-read-2.dump) c.args.trace.now) here (c.walk.ensures.impossible none))

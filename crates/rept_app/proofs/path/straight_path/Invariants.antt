@@ -1,7 +1,8 @@
 use Rattle.std.proofs.Common.{◌≡◌}
+use Rattle.rept_dump.specs.Dump.{exe_of}
 use Rattle.rept_app.specs.Forms.{step_count}
 use Rattle.rept_app.proofs.PathLemmas.{RowsTo}
 use Rattle.rept_app.proofs.path.straight_path.Given as goal
 
 abbrev pub invariant-loop-i : goal.invariant-loop-i
-invariant-loop-i l = RowsTo l.exe l.i l.rows.items
+invariant-loop-i l = RowsTo (exe_of l.dump) l.i l.rows.items
