@@ -43,9 +43,9 @@ no_path exe trace address rows s p =
     s.none (at.0, subst (λ a. IsRow exe a at.0) (sym s.place) (p.each s.step at.0 at.1))
 
 -- the three ends of a call that tells that something isn't built, or stops
-told_so : (status : Status) → Yields ends.NotBuilt status → (status ≡ ends.Inconsistent) ⊎ (status ≡ ends.Ok) ⊎ (status ≡ ends.NotBuilt) ⊎ (status ≡ ends.InputFault) ⊎ Stopped status
+told_so : (status : Status) → Yields ends.NotBuilt status → (status ≡ ends.Inconsistent) ⊎ (status ≡ ends.Ok) ⊎ (status ≡ ends.NotBuilt) ⊎ (status ≡ ends.InputFault) ⊎ (status ≡ ends.TooMuchInput) ⊎ Stopped status
 told_so status (inl h) = inr (inr (inl h))
-told_so status (inr h) = inr (inr (inr (inr h)))
+told_so status (inr h) = inr (inr (inr (inr (inr h))))
 
 no_input_fault : (status : Status) → Yields ends.NotBuilt status → status ≡ ends.InputFault → ⊥
 no_input_fault status (inl h) e = cc
@@ -85,7 +85,7 @@ module _ (exe core trace : List ℕ) (status : Status) where
     where
       at : (o : Option Unbuilt) → Yield o
       at (Some what) = inr s
-      at None = record { stopped = λ _ _. inr s; walked = λ rows p. either (eqb (end_pc core) (address_of (length rows))) (PathYields core rows status) (Yields ends.NotBuilt status) (record { conflict = λ _ _. inr s; report = λ _. inr (inr (inr s)) }) (inr s) }
+      at None = record { stopped = λ _ _. inr s; walked = λ rows p. either (eqb (end_pc core) (address_of (length rows))) (PathYields core rows status) (Yields ends.NotBuilt status) (record { conflict = λ _ _. inr s; report = λ _. inr (inr (inr (inr s))) }) (inr s) }
 
   module _ (e : unread_form exe core trace ≡ None) (rows : List StepRow) (path : IsPath exe trace rows) (only : (others : List StepRow) → IsPath exe trace others → others ≡ rows) where
     abbrev Walk : List StepRow → Bool → Type 0

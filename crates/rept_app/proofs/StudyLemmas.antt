@@ -64,7 +64,7 @@ served_causes rows registers reads reads' writes writes' status consistent c = r
   ends_so = inr (held c.answered);
 }
   where
-    held : (status ≡ ends.Ok) ⊎ (status ≡ ends.NotBuilt) ⊎ (status ≡ ends.InputFault) ⊎ (status ≡ ends.OutputFault) ⊎ (status ≡ ends.OutOfMemory) → (status ≡ ends.Ok) ⊎ (status ≡ ends.NotBuilt) ⊎ (status ≡ ends.InputFault) ⊎ Stopped status
+    held : (status ≡ ends.Ok) ⊎ (status ≡ ends.NotBuilt) ⊎ (status ≡ ends.InputFault) ⊎ (status ≡ ends.TooMuchInput) ⊎ (status ≡ ends.OutputFault) ⊎ (status ≡ ends.OutOfMemory) → (status ≡ ends.Ok) ⊎ (status ≡ ends.NotBuilt) ⊎ (status ≡ ends.InputFault) ⊎ (status ≡ ends.TooMuchInput) ⊎ Stopped status
     held h = h
 
 -- where it has a conflict, one is told
@@ -85,6 +85,6 @@ told_causes rows registers reads writes writes' status kind has later rose so = 
     never e (inr (inl h)) = cc
     never e (inr (inr h)) = cc
 
-    to_all : (status ≡ ends.Inconsistent) ⊎ Stopped status → (status ≡ ends.Inconsistent) ⊎ (status ≡ ends.Ok) ⊎ (status ≡ ends.NotBuilt) ⊎ (status ≡ ends.InputFault) ⊎ Stopped status
+    to_all : (status ≡ ends.Inconsistent) ⊎ Stopped status → (status ≡ ends.Inconsistent) ⊎ (status ≡ ends.Ok) ⊎ (status ≡ ends.NotBuilt) ⊎ (status ≡ ends.InputFault) ⊎ (status ≡ ends.TooMuchInput) ⊎ Stopped status
     to_all (inl h) = inl h
-    to_all (inr h) = inr (inr (inr (inr h)))
+    to_all (inr h) = inr (inr (inr (inr (inr h))))

@@ -51,6 +51,7 @@ module _ (words : List (List ℕ)) (files : Files) where
   refused_ends (refusal.NotBuilt what) status h (inl e) = subst (Ends status) (sym h) (inl e)
   refused_ends (refusal.Inconsistent kind) status h (inl e) = subst (Ends status) (sym h) (inl e)
   refused_ends refusal.InputFault status h (inl e) = subst (Ends status) (sym h) (inl e)
+  refused_ends refusal.TooMuchInput status h (inl e) = subst (Ends status) (sym h) (inl e)
 
   module _ (input text : List ℕ) (status : Status) where
     abbrev Whole : Loading → Type 0
@@ -66,6 +67,7 @@ module _ (words : List (List ℕ)) (files : Files) where
     refused_writes (refusal.NotBuilt what) h (inl s) = inl (subst Whole (sym h) s)
     refused_writes (refusal.Inconsistent kind) h (inl s) = inl (subst Whole (sym h) s)
     refused_writes refusal.InputFault h (inl s) = inl (subst Whole (sym h) s)
+    refused_writes refusal.TooMuchInput h (inl s) = inl (subst Whole (sym h) s)
 
     pub examined_writes : (exe core trace : List ℕ) → loading words files ≡ Loaded exe core trace → Examines exe core trace input text status → Writes words files input text status
     examined_writes exe core trace at (inl h) = inl (subst Whole (sym at) h)
@@ -99,12 +101,10 @@ completed words files told input loads loads' reads reads' writes writes' old ne
 completed words files told input loads loads' reads reads' writes writes' old new status c (later, inl (text, inl h, appended)) no_load no_read no_write = inr (text, h, appended)
 completed words files told input loads loads' reads reads' writes writes' old new status c (later, inl (text, inr (inl (kind, comes, says)), appended)) no_load no_read no_write = absurd (no_load (c.load says.ending))
 completed words files told input loads loads' reads reads' writes writes' old new status c (later, inl (text, inr (inr (inl says)), appended)) no_load no_read no_write = inl says.ending
-completed words files told input loads loads' reads reads' writes writes' old new status c (later, inl (text, inr (inr (inr (exe, core, trace, rows, known, opens, report, inl says))), appended)) no_load no_read no_write =
-    absurd (no_read (c.input says.ending))
-completed words files told input loads loads' reads reads' writes writes' old new status c (later, inl (text, inr (inr (inr (exe, core, trace, rows, known, opens, report, inr (inl says)))), appended)) no_load no_read no_write =
-    inl says.ending
-completed words files told input loads loads' reads reads' writes writes' old new status c (later, inl (text, inr (inr (inr (exe, core, trace, rows, known, opens, report, inr (inr (commands, script, ran))))), appended)) no_load no_read no_write =
-    inl ran.1
+completed words files told input loads loads' reads reads' writes writes' old new status c (later, inl (text, inr (inr (inr (exe, core, trace, rows, known, opens, report, inl failed))), appended)) no_load no_read no_write =
+    absurd (no_read (c.input failed.ending))
+completed words files told input loads loads' reads reads' writes writes' old new status c (later, inl (text, inr (inr (inr (exe, core, trace, rows, known, opens, report, inr ran))), appended)) no_load no_read no_write =
+    inl ran.ending
 
 -- the causes of a call whose files were loaded
 pub examined_causes : (told : Option Files) (exe core trace : List ℕ) (loads loads' reads reads' writes writes' : ℕ) (status : Status) → loads ≤ loads' → IsExamined exe core trace reads reads' writes writes' status → TopCauses told loads loads' reads reads' writes writes' status
@@ -119,25 +119,28 @@ examined_causes told exe core trace loads loads' reads reads' writes writes' sta
 }
   where
     not_loading : (status ≡ ends.LoadFault) ⊎ (status ≡ ends.NoFile) ⊎ (status ≡ ends.TooLarge)
-        → (status ≡ ends.Inconsistent) ⊎ (status ≡ ends.Ok) ⊎ (status ≡ ends.NotBuilt) ⊎ (status ≡ ends.InputFault) ⊎ Stopped status → ⊥
+        → (status ≡ ends.Inconsistent) ⊎ (status ≡ ends.Ok) ⊎ (status ≡ ends.NotBuilt) ⊎ (status ≡ ends.InputFault) ⊎ (status ≡ ends.TooMuchInput) ⊎ Stopped status → ⊥
     not_loading (inl e) (inl h) = cc
     not_loading (inl e) (inr (inl h)) = cc
     not_loading (inl e) (inr (inr (inl h))) = cc
     not_loading (inl e) (inr (inr (inr (inl h)))) = cc
     not_loading (inl e) (inr (inr (inr (inr (inl h))))) = cc
-    not_loading (inl e) (inr (inr (inr (inr (inr h))))) = cc
+    not_loading (inl e) (inr (inr (inr (inr (inr (inl h)))))) = cc
+    not_loading (inl e) (inr (inr (inr (inr (inr (inr h)))))) = cc
     not_loading (inr (inl e)) (inl h) = cc
     not_loading (inr (inl e)) (inr (inl h)) = cc
     not_loading (inr (inl e)) (inr (inr (inl h))) = cc
     not_loading (inr (inl e)) (inr (inr (inr (inl h)))) = cc
     not_loading (inr (inl e)) (inr (inr (inr (inr (inl h))))) = cc
-    not_loading (inr (inl e)) (inr (inr (inr (inr (inr h))))) = cc
+    not_loading (inr (inl e)) (inr (inr (inr (inr (inr (inl h)))))) = cc
+    not_loading (inr (inl e)) (inr (inr (inr (inr (inr (inr h)))))) = cc
     not_loading (inr (inr e)) (inl h) = cc
     not_loading (inr (inr e)) (inr (inl h)) = cc
     not_loading (inr (inr e)) (inr (inr (inl h))) = cc
     not_loading (inr (inr e)) (inr (inr (inr (inl h)))) = cc
     not_loading (inr (inr e)) (inr (inr (inr (inr (inl h))))) = cc
-    not_loading (inr (inr e)) (inr (inr (inr (inr (inr h))))) = cc
+    not_loading (inr (inr e)) (inr (inr (inr (inr (inr (inl h)))))) = cc
+    not_loading (inr (inr e)) (inr (inr (inr (inr (inr (inr h)))))) = cc
 
     any : (o : Option Files) → MatchOption o ((status ≡ ends.NoFile) ⊎ (status ≡ ends.TooLarge) → Rose loads loads') (λ _. Unit {0})
     any None = λ h. absurd (not_loading (inr h) c.ends_so)

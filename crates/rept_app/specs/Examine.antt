@@ -36,7 +36,7 @@ Yields expected status = (status ≡ expected) ⊎ Stopped status
 -- how a path ends the call
 pub record PathYields (core : List ℕ) (rows : List StepRow) (status : Status) : Type 0 where
   pub conflict : (kind : ConflictKind) → ClosureHas rows (last_values core) kind → Yields ends.Inconsistent status
-  pub report : IsConsistent rows (last_values core) → (status ≡ ends.Ok) ⊎ (status ≡ ends.NotBuilt) ⊎ (status ≡ ends.InputFault) ⊎ Stopped status
+  pub report : IsConsistent rows (last_values core) → (status ≡ ends.Ok) ⊎ (status ≡ ends.NotBuilt) ⊎ (status ≡ ends.InputFault) ⊎ (status ≡ ends.TooMuchInput) ⊎ Stopped status
 
 -- how the files end the call, whatever the input is
 pub record FilesYield (exe core trace : List ℕ) (status : Status) : Type 0 where
@@ -50,7 +50,7 @@ pub record IsExamined (exe core trace : List ℕ) (reads reads' writes writes' :
   pub input : status ≡ ends.InputFault → Rose reads reads'
   pub output : status ≡ ends.OutputFault → Rose writes writes'
   pub files : MatchOption (unread_form exe core trace) (FilesYield exe core trace status) (λ _. Yields ends.NotBuilt status)
-  pub ends_so : (status ≡ ends.Inconsistent) ⊎ (status ≡ ends.Ok) ⊎ (status ≡ ends.NotBuilt) ⊎ (status ≡ ends.InputFault) ⊎ Stopped status
+  pub ends_so : (status ≡ ends.Inconsistent) ⊎ (status ≡ ends.Ok) ⊎ (status ≡ ends.NotBuilt) ⊎ (status ≡ ends.InputFault) ⊎ (status ≡ ends.TooMuchInput) ⊎ Stopped status
 
 -- each value of the report holds at its point of every execution of the path that ends in the dump
 abbrev pub FilesHold : List ℕ → List ℕ → List ℕ → Type 0

@@ -13,4 +13,5 @@ number_of_status ends.TooLarge = 5
 number_of_status ends.InputFault = 9
 number_of_status ends.OutputFault = 10
 number_of_status ends.OutOfMemory = 11
+number_of_status ends.TooMuchInput = 12
 number_of_status ends.NotBuilt = 13
