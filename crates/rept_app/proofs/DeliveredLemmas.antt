@@ -1,5 +1,5 @@
 -- What was delivered, one part behind another.
-use Rattle.std.proofs.Common.{◌≡◌, ◌≢◌, ◌⊎◌, ℕ, ◌+◌, ◌≤◌, List, ◌++◌, length, take, Option, inl, inr, refl, sym, ap, subst, ◌∙◌, arith}
+use Rattle.std.proofs.Common.{◌≡◌, ◌≢◌, ◌⊎◌, ℕ, ◌+◌, ◌≤◌, List, ◌++◌, length, take, Option, inl, inr, refl, sym, subst, ◌∙◌, arith}
 use Rattle.std.proofs.lemmas.List.{length-append, take-append-le}
 use Rattle.std.proofs.Math.Seq.{take-append-add}
 use Rattle.std.specs.Io.KnownBytes.{Appends}
@@ -40,10 +40,10 @@ delivers_behind Goes Whole old mid new faults between faults' front result earli
     (omega (arith, earlier, later), inr (d.0, then-Rose faults between faults' earlier d.1, (front ++ d.2.0, d.2.1, wider d.2.0 d.2.1 d.2.2, prefix_behind old mid new front d.2.0 h d.2.3)))
 
 -- the output failed behind a text
-pub fails_behind : (Whole : List ℕ → Status → Type 0) (old mid new : Option (List ℕ)) (faults between faults' : ℕ) (front next rest all : List ℕ)
-    → faults ≤ between → between ≤ faults' → Rose between faults' → Appends old mid front → AppendsPrefix mid new next → all ≡ front ++ (next ++ rest) → Whole all ends.Ok → Delivers Whole old new faults faults' ends.OutputFault
-fails_behind Whole old mid new faults between faults' front next rest all earlier later rose h p e goes =
-    (omega (arith, earlier, later), inr (refl, then-Rose faults between faults' earlier rose, (all, ends.Ok, goes, rw e (prefix_behind old mid new front (next ++ rest) h (prefix_of_longer mid new next rest p)))))
+pub fails_behind : (Whole : List ℕ → Status → Type 0) (old mid new : Option (List ℕ)) (faults between faults' : ℕ) (front next rest all : List ℕ) (status : Status)
+    → faults ≤ between → between ≤ faults' → Rose between faults' → Appends old mid front → AppendsPrefix mid new next → all ≡ front ++ (next ++ rest) → Whole all status → Delivers Whole old new faults faults' ends.OutputFault
+fails_behind Whole old mid new faults between faults' front next rest all status earlier later rose h p e goes =
+    (omega (arith, earlier, later), inr (refl, then-Rose faults between faults' earlier rose, (all, status, goes, rw e (prefix_behind old mid new front (next ++ rest) h (prefix_of_longer mid new next rest p)))))
 
 -- how a call ends that tells a refusal: with its status, or cut short
 pub ends_told : (r : Refusal) (old new : Option (List ℕ)) (faults faults' : ℕ) (result : Status) → Delivers (Tells r) old new faults faults' result

@@ -1,22 +1,18 @@
 -- How the bytes of the files end the call.
-use Rattle.std.proofs.Common.{◌≡◌, ◌≢◌, ◌⊎◌, ℕ, zero, suc, ◌<◌, ◌≤◌, List, [], ◌∷◌, length, slice_get, Bool, true, false, Option, None, Some, Result, Ok, Err, MatchOption, MatchBool, MatchResult, inl, inr, refl, sym, ap, subst, ◌∙◌, arith, eqb}
+use Rattle.std.proofs.Common.{◌≡◌, ◌⊎◌, ℕ, zero, suc, ◌<◌, ◌≤◌, List, [], ◌∷◌, length, slice_get, Bool, true, false, Option, None, Some, Result, Ok, Err, MatchOption, MatchBool, inl, inr, refl, sym, ap, subst, ◌∙◌, arith, eqb}
 use Rattle.rept_elf.specs.Segments.{ElfSegment, segments}
 use Rattle.rept_elf.specs.declared.fault.ElfFault.{ElfFault}
 use Rattle.rept_dump.specs.Registers.{Says as NotesSay}
 use Rattle.rept_dump.specs.declared.fault.CoreFault.{CoreFault}
 use Rattle.rept_isa.specs.declared.row.StepRow.{StepRow}
 use Rattle.rept_ports.specs.Causes.{Rose}
-use Rattle.rept_engine.specs.Closure.{ClosureHas, IsConsistent}
-use Rattle.rept_engine.specs.Report.{IsReport}
 use Rattle.rept_engine.specs.Soundness.{HasNoExecution}
-use Rattle.rept_engine.specs.declared.conflict.ConflictKind.{ConflictKind}
 use Rattle.rept_app.specs.Delivered.{Says, Tells}
-use Rattle.rept_app.specs.Examine.{Walks, WalkCut, Examines, Yields, PathYields, WalkYields, NoteYields, FilesEnd, IsWalkStatus, IsWalked, IsExamined, PathHolds, PathExcludes, FilesHold, FilesExclude}
-use Rattle.rept_app.specs.Forms.{executable_fault, core_image_fault, is_trace, end_pc, last_values, step_count}
-use Rattle.rept_app.specs.Path.{IsPath, StopsAt, HasRow, IsRow, address_of}
-use Rattle.rept_app.specs.Session.{Serves}
-use Rattle.rept_app.specs.Study.{Studies, Stopped, IsStudied, ReportIsSound, shown_at}
-use Rattle.rept_app.specs.Told.{Examined, NotesTold, Walked, Analysed, Reads, Follows, Leads}
+use Rattle.rept_app.specs.Examine.{Walks, Examines, Yields, PathYields, WalkYields, NoteYields, FilesEnd, IsWalkStatus, IsWalked, IsExamined, PathHolds, PathExcludes, FilesHold, FilesExclude}
+use Rattle.rept_app.specs.Forms.{executable_fault, core_image_fault, is_trace, end_pc, last_values}
+use Rattle.rept_app.specs.Path.{IsPath, StopsAt, IsRow, address_of}
+use Rattle.rept_app.specs.Study.{Studies, Stopped, IsStudied, ReportIsSound}
+use Rattle.rept_app.specs.Told.{Examined, NotesTold, Walked, Analysed}
 use Rattle.rept_app.specs.declared.refusal.Unbuilt.TheVariants as unbuilt
 use Rattle.rept_app.specs.declared.refusal.Refusal.TheVariants as refusal
 use Rattle.rept_app.specs.declared.status.Status.{Status}
@@ -34,9 +30,9 @@ no_path exe trace address rows s p =
     s.none (at.0, subst (λ a. IsRow exe a at.0) (sym s.place) (p.each s.step at.0 at.1))
 
 -- the three ends of a call that tells that something isn't built, or stops
-told_so : (status : Status) → Yields ends.NotBuilt status → (status ≡ ends.Inconsistent) ⊎ (status ≡ ends.Ok) ⊎ (status ≡ ends.NotBuilt) ⊎ (status ≡ ends.InputFault) ⊎ Stopped status
+told_so : (status : Status) → Yields ends.NotBuilt status → (status ≡ ends.Inconsistent) ⊎ (status ≡ ends.Ok) ⊎ (status ≡ ends.NotBuilt) ⊎ (status ≡ ends.InputFault) ⊎ (status ≡ ends.TooMuchInput) ⊎ Stopped status
 told_so status (inl h) = inr (inr (inl h))
-told_so status (inr h) = inr (inr (inr (inr h)))
+told_so status (inr h) = inr (inr (inr (inr (inr h))))
 
 no_input_fault : (status : Status) → Yields ends.NotBuilt status → status ≡ ends.InputFault → ⊥
 no_input_fault status (inl h) e = cc
@@ -68,7 +64,7 @@ module _ (exe : List ElfSegment) (note trace : List ℕ) (status : Status) where
   pub memory_yields : Stopped status → WalkYields exe note trace status
   memory_yields s = record {
     stopped = λ _ _. inr s;
-    walked = λ rows p. either (eqb (end_pc note) (address_of (length rows))) (PathYields note rows status) (Yields ends.NotBuilt status) (record { conflict = λ _ _. inr s; report = λ _. inr (inr (inr s)) }) (inr s);
+    walked = λ rows p. either (eqb (end_pc note) (address_of (length rows))) (PathYields note rows status) (Yields ends.NotBuilt status) (record { conflict = λ _ _. inr s; report = λ _. inr (inr (inr (inr s))) }) (inr s);
   }
 
   module _ (rows : List StepRow) (path : IsPath exe trace rows) (only : (others : List StepRow) → IsPath exe trace others → others ≡ rows) where
@@ -175,7 +171,7 @@ module _ (exe core trace : List ℕ) (status : Status) where
   all_statuses (inl h) = inl h
   all_statuses (inr (inl h)) = inr (inl h)
   all_statuses (inr (inr (inl h))) = inr (inr (inr (inr (inl h))))
-  all_statuses (inr (inr (inr h))) = inr (inr (inr (inr (inr (inr h)))))
+  all_statuses (inr (inr (inr h))) = inr (inr (inr (inr (inr (inr (inr h))))))
 
   not_input : (status ≡ ends.Executable) ⊎ (status ≡ ends.Core) ⊎ (status ≡ ends.NotBuilt) ⊎ Stopped status → status ≡ ends.InputFault → ⊥
   not_input (inl h) e = cc

@@ -1,5 +1,5 @@
 -- What the tests of the forms come to.
-use Rattle.std.proofs.Common.{◌≡◌, ℕ, zero, suc, get_or, cond, false, ◌+◌, ◌*◌, ◌-◌, ◌<◌, ◌≤◌, List, length, take, drop, Bool, true, ◌&&◌, eqb, refl, arith, ap, ◌∙◌, sym, subst}
+use Rattle.std.proofs.Common.{◌≡◌, ℕ, zero, suc, get_or, cond, false, ◌+◌, ◌*◌, ◌-◌, ◌<◌, List, length, take, drop, Bool, true, ◌&&◌, eqb, refl, arith, ap, ◌∙◌, sym}
 use Rattle.std.proofs.lemmas.List.{take_all, length-drop}
 use Rattle.std.proofs.lemmas.List.FromFn.{fill_by_all}
 use Rattle.std.proofs.lemmas.Bool.Decides.{nat_tests}
@@ -7,7 +7,6 @@ use Rattle.rept_elf.specs.Header.{word_at}
 use Rattle.rept_dump.specs.Status.{IsStatus}
 use Rattle.rept_dump.specs.declared.status.Status.{Status}
 use Rattle.rept_app.specs.Forms.{last_value, last_values}
-use Rattle.std.specs.Str.{bytes_eq}
 
 -- the rest of the bytes, as it is cut from the slice
 pub rest_of : (xs : List ℕ) (k n : ℕ) → length xs ≡ n → take (length xs - k) (drop k xs) ≡ drop k xs

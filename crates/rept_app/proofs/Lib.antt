@@ -1,5 +1,5 @@
 pub mod AnswerLemmas
-pub mod CommandLemmas
+pub mod LineLemmas
 pub mod DeliveredLemmas
 pub mod ExamineLemmas
 pub mod FormLemmas

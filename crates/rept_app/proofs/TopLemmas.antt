@@ -1,15 +1,14 @@
 -- How the top call ends, from how its parts end.
 use Rattle.std.proofs.Common.{◌≡◌, ◌⊎◌, ℕ, ◌≤◌, List, Option, None, Some, MatchOption, IfSome, inl, inr, refl, sym, ap, subst, ◌∙◌}
-use Rattle.std.specs.Io.KnownBytes.{Appends}
 use Rattle.rept_ports.specs.Causes.{Rose}
 use Rattle.rept_ports.specs.Shelves.{Files}
 use Rattle.rept_app.specs.Delivered.{Delivers, Says, Tells}
 use Rattle.rept_app.specs.Examine.{Examines, FilesEnd, IsExamined, IsWalkStatus, FilesHold, FilesExclude}
 use Rattle.rept_app.specs.Lines.{status_of}
-use Rattle.rept_app.specs.Loading.{Loading, loading, MatchLoading, ComesTo, AllRefuse}
+use Rattle.rept_app.specs.Loading.{Loading, loading, MatchLoading, AllRefuse}
 use Rattle.rept_app.specs.Loading.Loading.{Refused, Loaded}
 use Rattle.rept_app.specs.Study.{Stopped}
-use Rattle.rept_app.specs.Told.{Examined, Told, Opens, Interrupted, Writes, ReportHolds, NoExecution}
+use Rattle.rept_app.specs.Told.{Examined, Writes, ReportHolds, NoExecution}
 use Rattle.rept_app.specs.Top.{TopCauses, EndsBy, EndsByFiles, Completes}
 use Rattle.rept_app.specs.declared.refusal.Refusal.{Refusal}
 use Rattle.rept_app.specs.declared.refusal.Refusal.TheVariants as refusal
@@ -36,6 +35,7 @@ module _ (words : List (List ℕ)) (files : Files) where
   refused_ends (refusal.NoFile kind) status h (inl e) = subst (Ends status) (sym h) (inl e)
   refused_ends (refusal.TooLarge kind) status h (inl e) = subst (Ends status) (sym h) (inl e)
   refused_ends (refusal.NotBuilt what) status h (inl e) = subst (Ends status) (sym h) (inl e)
+  refused_ends refusal.TooMuchInput status h (inl e) = subst (Ends status) (sym h) (inl e)
   refused_ends (refusal.Executable f) status h (inl e) = subst (Ends status) (sym h) (inl e)
   refused_ends (refusal.CoreImage f) status h (inl e) = subst (Ends status) (sym h) (inl e)
   refused_ends (refusal.Core f) status h (inl e) = subst (Ends status) (sym h) (inl e)
@@ -54,6 +54,7 @@ module _ (words : List (List ℕ)) (files : Files) where
     refused_writes (refusal.NoFile kind) h (inl s) = inl (subst Whole (sym h) s)
     refused_writes (refusal.TooLarge kind) h (inl s) = inl (subst Whole (sym h) s)
     refused_writes (refusal.NotBuilt what) h (inl s) = inl (subst Whole (sym h) s)
+    refused_writes refusal.TooMuchInput h (inl s) = inl (subst Whole (sym h) s)
     refused_writes (refusal.Executable f) h (inl s) = inl (subst Whole (sym h) s)
     refused_writes (refusal.CoreImage f) h (inl s) = inl (subst Whole (sym h) s)
     refused_writes (refusal.Core f) h (inl s) = inl (subst Whole (sym h) s)
@@ -92,12 +93,10 @@ completed words files told input loads loads' reads reads' writes writes' old ne
 completed words files told input loads loads' reads reads' writes writes' old new status c (later, inl (text, inl h, appended)) no_load no_read no_write = inr (text, h, appended)
 completed words files told input loads loads' reads reads' writes writes' old new status c (later, inl (text, inr (inl (kind, comes, says)), appended)) no_load no_read no_write = absurd (no_load (c.load says.ending))
 completed words files told input loads loads' reads reads' writes writes' old new status c (later, inl (text, inr (inr (inl says)), appended)) no_load no_read no_write = inl says.ending
-completed words files told input loads loads' reads reads' writes writes' old new status c (later, inl (text, inr (inr (inr (exe, core, trace, note, rows, known, opens, report, inl says))), appended)) no_load no_read no_write =
-    absurd (no_read (c.input says.ending))
-completed words files told input loads loads' reads reads' writes writes' old new status c (later, inl (text, inr (inr (inr (exe, core, trace, note, rows, known, opens, report, inr (inl says)))), appended)) no_load no_read no_write =
-    inl says.ending
-completed words files told input loads loads' reads reads' writes writes' old new status c (later, inl (text, inr (inr (inr (exe, core, trace, note, rows, known, opens, report, inr (inr (commands, script, ran))))), appended)) no_load no_read no_write =
-    inl ran.1
+completed words files told input loads loads' reads reads' writes writes' old new status c (later, inl (text, inr (inr (inr (exe, core, trace, note, rows, known, opens, report, inl failed))), appended)) no_load no_read no_write =
+    absurd (no_read (c.input failed.ending))
+completed words files told input loads loads' reads reads' writes writes' old new status c (later, inl (text, inr (inr (inr (exe, core, trace, note, rows, known, opens, report, inr ran))), appended)) no_load no_read no_write =
+    inl ran.ending
 
 -- the causes of a call whose files were loaded
 pub examined_causes : (told : Option Files) (exe core trace : List ℕ) (loads loads' reads reads' writes writes' : ℕ) (status : Status) → loads ≤ loads' → IsExamined exe core trace reads reads' writes writes' status → TopCauses told loads loads' reads reads' writes writes' status
@@ -117,19 +116,22 @@ examined_causes told exe core trace loads loads' reads reads' writes writes' sta
     not_walked (inl e) (inr (inr (inl h))) = cc
     not_walked (inl e) (inr (inr (inr (inl h)))) = cc
     not_walked (inl e) (inr (inr (inr (inr (inl h))))) = cc
-    not_walked (inl e) (inr (inr (inr (inr (inr h))))) = cc
+    not_walked (inl e) (inr (inr (inr (inr (inr (inl h)))))) = cc
+    not_walked (inl e) (inr (inr (inr (inr (inr (inr h)))))) = cc
     not_walked (inr (inl e)) (inl h) = cc
     not_walked (inr (inl e)) (inr (inl h)) = cc
     not_walked (inr (inl e)) (inr (inr (inl h))) = cc
     not_walked (inr (inl e)) (inr (inr (inr (inl h)))) = cc
     not_walked (inr (inl e)) (inr (inr (inr (inr (inl h))))) = cc
-    not_walked (inr (inl e)) (inr (inr (inr (inr (inr h))))) = cc
+    not_walked (inr (inl e)) (inr (inr (inr (inr (inr (inl h)))))) = cc
+    not_walked (inr (inl e)) (inr (inr (inr (inr (inr (inr h)))))) = cc
     not_walked (inr (inr e)) (inl h) = cc
     not_walked (inr (inr e)) (inr (inl h)) = cc
     not_walked (inr (inr e)) (inr (inr (inl h))) = cc
     not_walked (inr (inr e)) (inr (inr (inr (inl h)))) = cc
     not_walked (inr (inr e)) (inr (inr (inr (inr (inl h))))) = cc
-    not_walked (inr (inr e)) (inr (inr (inr (inr (inr h))))) = cc
+    not_walked (inr (inr e)) (inr (inr (inr (inr (inr (inl h)))))) = cc
+    not_walked (inr (inr e)) (inr (inr (inr (inr (inr (inr h)))))) = cc
 
     not_loading : (status ≡ ends.LoadFault) ⊎ (status ≡ ends.NoFile) ⊎ (status ≡ ends.TooLarge) → (status ≡ ends.Executable) ⊎ (status ≡ ends.Core) ⊎ IsWalkStatus status → ⊥
     not_loading (inl e) (inl h) = cc

@@ -1,12 +1,16 @@
 -- The answers of the session. A path of n steps has the points 0 to n; the cursor is one of them, and begins at n.
-use Rattle.std.specs.Prelude.{ℕ, ◌+◌, ◌<◌, List, [], ◌∷◌, ◌++◌, length, Option, None, Some, MatchOption, slice_get, codes}
-use Rattle.std.specs.List.{flat_map, range_with_len}
+use Rattle.std.specs.Prelude.{ℕ, List, [], ◌∷◌, ◌++◌, length, Bool, Option, None, Some, slice_get, codes, if◌then◌else◌}
+use Rattle.std.specs.List.{flat_map, list_all, range_with_len}
 use Rattle.std.specs.Option.{option_map_or}
 use Rattle.std.specs.Fmt.{decimal}
 use Rattle.rept_word.specs.Hex.{hex_word}
 use Rattle.rept_isa.specs.declared.row.StepRow.{StepRow}
+use Rattle.rept_ports.specs.Lines.{given}
+use Rattle.rept_app.specs.Commands.{is_built, meaning_of_line}
 use Rattle.rept_app.specs.declared.command.Command.{Command}
 use Rattle.rept_app.specs.declared.command.Command.TheVariants.{Goto, Regs}
+use Rattle.rept_app.specs.declared.command.LineMeaning.{LineMeaning}
+use Rattle.rept_app.specs.declared.command.LineMeaning.TheVariants as meaning
 
 -- what the session tells of: the steps, the address behind the last one, and the value of each register at each point
 pub record Shown : Type 0 where
@@ -45,7 +49,25 @@ abbrev pub cursor_after : ℕ → Command → ℕ
 cursor_after cursor (Goto point) = point
 cursor_after cursor Regs = cursor
 
--- the answers to all commands, in order
-abbrev pub answers : Shown → ℕ → List Command → List ℕ
-answers s cursor [] = []
-answers s cursor (command ∷ commands) = answer_to s cursor command ++ answers s (cursor_after cursor command) commands
+-- the answer to a line, and the cursor behind it
+abbrev pub line_answer : Shown → ℕ → LineMeaning → List ℕ
+line_answer s cursor meaning.Nothing = []
+line_answer s cursor (meaning.Asked command) = answer_to s cursor command
+line_answer s cursor meaning.NotBuilt = []
+
+abbrev pub line_cursor : ℕ → LineMeaning → ℕ
+line_cursor cursor meaning.Nothing = cursor
+line_cursor cursor (meaning.Asked command) = cursor_after cursor command
+line_cursor cursor meaning.NotBuilt = cursor
+
+-- The answers to lines from a cursor on, in order, up to the first line that isn't built. The points that a line may name end at `last`.
+abbrev pub answers : Shown → ℕ → ℕ → List (List ℕ) → List ℕ
+answers s last cursor [] = []
+answers s last cursor (line ∷ lines) =
+    if is_built (meaning_of_line last (given line))
+    then line_answer s cursor (meaning_of_line last (given line)) ++ answers s last (line_cursor cursor (meaning_of_line last (given line))) lines
+    else []
+
+-- each of the lines is built
+abbrev pub all_built : ℕ → List (List ℕ) → Bool
+all_built last lines = list_all (λ line. is_built (meaning_of_line last (given line))) lines

@@ -41,7 +41,7 @@ Yields expected status = (status ≡ expected) ⊎ Stopped status
 -- how a path ends the call
 pub record PathYields (note : List ℕ) (rows : List StepRow) (status : Status) : Type 0 where
   pub conflict : (kind : ConflictKind) → ClosureHas rows (last_values note) kind → Yields ends.Inconsistent status
-  pub report : IsConsistent rows (last_values note) → (status ≡ ends.Ok) ⊎ (status ≡ ends.NotBuilt) ⊎ (status ≡ ends.InputFault) ⊎ Stopped status
+  pub report : IsConsistent rows (last_values note) → (status ≡ ends.Ok) ⊎ (status ≡ ends.NotBuilt) ⊎ (status ≡ ends.InputFault) ⊎ (status ≡ ends.TooMuchInput) ⊎ Stopped status
 
 -- how a trace ends the call, whatever the input is
 pub record WalkYields (exe : List ElfSegment) (note trace : List ℕ) (status : Status) : Type 0 where
@@ -61,7 +61,7 @@ FilesEnd exe core trace status =
 
 -- the statuses of a path that is walked
 abbrev pub IsWalkStatus : Status → Type 0
-IsWalkStatus status = (status ≡ ends.Inconsistent) ⊎ (status ≡ ends.Ok) ⊎ (status ≡ ends.NotBuilt) ⊎ (status ≡ ends.InputFault) ⊎ Stopped status
+IsWalkStatus status = (status ≡ ends.Inconsistent) ⊎ (status ≡ ends.Ok) ⊎ (status ≡ ends.NotBuilt) ⊎ (status ≡ ends.InputFault) ⊎ (status ≡ ends.TooMuchInput) ⊎ Stopped status
 
 -- No count falls; faults come only where their count rose; and each status comes where the trace says so.
 pub record IsWalked (exe : List ElfSegment) (note trace : List ℕ) (reads reads' writes writes' : ℕ) (status : Status) : Type 0 where

@@ -4,7 +4,7 @@ use Rattle.std.specs.Prelude.{ℕ, ◌+◌, ◌*◌, ◌/◌, ◌%◌, List, [],
 use Rattle.std.specs.List.{range_with_len}
 use Rattle.std.specs.Str.{bytes_eq}
 use Rattle.rept_elf.specs.Header.{word_at}
-use Rattle.rept_elf.specs.Segments.{ElfSegment, segments, greatest_end}
+use Rattle.rept_elf.specs.Segments.{segments, greatest_end}
 use Rattle.rept_elf.specs.Checks.{checks, first_failure}
 use Rattle.rept_elf.specs.declared.fault.ElfFault.{ElfFault}
 use Rattle.rept_elf.specs.declared.fault.Want.TheVariants as want

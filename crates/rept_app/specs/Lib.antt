@@ -4,7 +4,6 @@ pub mod Commands
 pub mod Delivered
 pub mod Examine
 pub mod Forms
-pub mod Input
 pub mod Lines
 pub mod Loading
 pub mod Path

@@ -31,6 +31,7 @@ status_of (refusal.NotBuilt u) = ends.NotBuilt
 status_of (refusal.Inconsistent kind) = ends.Inconsistent
 status_of refusal.InputFault = ends.InputFault
 status_of refusal.OutOfMemory = ends.OutOfMemory
+status_of refusal.TooMuchInput = ends.TooMuchInput
 
 abbrev pub file_word : FileKind → List ℕ
 file_word file.Exe = codes "exe"
@@ -97,6 +98,7 @@ words_of (refusal.NotBuilt what) = unbuilt_text what
 words_of (refusal.Inconsistent kind) = conflict_text kind
 words_of refusal.InputFault = codes "input-fault"
 words_of refusal.OutOfMemory = codes "out-of-memory"
+words_of refusal.TooMuchInput = codes "too-much-input"
 
 abbrev pub line_of : Refusal → List ℕ
 line_of r = words_of r ++ 10 ∷ []

@@ -15,4 +15,5 @@ number_of_status ends.Core = 7
 number_of_status ends.InputFault = 9
 number_of_status ends.OutputFault = 10
 number_of_status ends.OutOfMemory = 11
+number_of_status ends.TooMuchInput = 12
 number_of_status ends.NotBuilt = 13

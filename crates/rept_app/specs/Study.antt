@@ -35,8 +35,8 @@ pub record IsStudied (rows : List StepRow) (registers : List ℕ) (reads reads' 
   pub input : status ≡ ends.InputFault → Rose reads reads'
   pub output : status ≡ ends.OutputFault → Rose writes writes'
   pub conflict : (kind : ConflictKind) → ClosureHas rows registers kind → (status ≡ ends.Inconsistent) ⊎ Stopped status
-  pub report : IsConsistent rows registers → (status ≡ ends.Ok) ⊎ (status ≡ ends.NotBuilt) ⊎ (status ≡ ends.InputFault) ⊎ Stopped status
-  pub ends_so : (status ≡ ends.Inconsistent) ⊎ (status ≡ ends.Ok) ⊎ (status ≡ ends.NotBuilt) ⊎ (status ≡ ends.InputFault) ⊎ Stopped status
+  pub report : IsConsistent rows registers → (status ≡ ends.Ok) ⊎ (status ≡ ends.NotBuilt) ⊎ (status ≡ ends.InputFault) ⊎ (status ≡ ends.TooMuchInput) ⊎ Stopped status
+  pub ends_so : (status ≡ ends.Inconsistent) ⊎ (status ≡ ends.Ok) ⊎ (status ≡ ends.NotBuilt) ⊎ (status ≡ ends.InputFault) ⊎ (status ≡ ends.TooMuchInput) ⊎ Stopped status
 
 -- each value of the report holds in every execution
 abbrev pub ReportIsSound : List StepRow → List ℕ → Type 0

@@ -21,7 +21,6 @@ use Rattle.rept_app.specs.declared.refusal.FileKind.{FileKind}
 use Rattle.rept_app.specs.declared.refusal.Unbuilt.TheVariants as unbuilt
 use Rattle.rept_app.specs.declared.refusal.Refusal.TheVariants as refusal
 use Rattle.rept_app.specs.declared.status.Status.{Status}
-use Rattle.rept_app.specs.declared.status.Status.TheVariants as ends
 
 -- the path ends where the register note says that the program stood
 abbrev pub EndsAtPc : List ℕ → List StepRow → Type 0 → Type 0 → Type 0

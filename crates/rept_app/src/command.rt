@@ -1,10 +1,9 @@
-ghost use Rattle.std.specs.Prelude.{◌≡◌, ◌≤◌, IfOk, IfSome, All, MatchOption, Some, None};
-ghost use Rattle.std.specs.List.{position, slice_split};
-ghost use Rattle.rept_app.specs.Commands.{point_of, command_of, is_newline, commands_in, script_of, IsWithin};
+ghost use Rattle.std.specs.Prelude.{◌≡◌, ◌≤◌, ◌∷◌, []};
+ghost use Rattle.rept_app.specs.Commands.{meaning_of_words, meaning_of_line, goto_meaning, regs_meaning, said_of_line, words_in, IsAskedWithin};
 
-use crate::number::number;
-use rept_word::OutOfMemory;
-use std::alloc::Global;
+use crate::line::first_word;
+use crate::number::any_number;
+use rept_ports::Line;
 
 /// A command of the session.
 #[derive(Clone, Copy, Debug, PartialEq, Eq)]
@@ -15,68 +14,69 @@ pub enum Command {
     Regs,
 }
 
-/// The commands of an input of at most 64 bytes, over a path whose last point is `last`. None exactly where it isn't a list of
-/// lines `regs` or `goto I`, each ended by a newline, with I of one or two digits and at most `last`. The only fault is want of
-/// memory.
-pub fn script(alloc: Global, input: &[u8], last: u32) -> Result<Option<Vec<Command>>, OutOfMemory>
-    ensures commands { IfOk result (λ found. MatchOption found (script_of last input.now ≡ None) (λ commands. script_of last input.now ≡ Some commands.items)) }
-    ensures within { IfOk result (λ found. IfSome found (λ commands. All (IsWithin last) commands.items)) }
-{
-    if input.len() > 64 {
-        return Ok(None);
-    }
-    commands(alloc, input, last)
+/// What a line of the session asks for.
+#[derive(Clone, Copy, Debug, PartialEq, Eq)]
+pub enum LineMeaning {
+    /// Nothing: it has no words.
+    Nothing,
+    /// A command.
+    Asked(Command),
+    /// A command that isn't built yet, or none.
+    NotBuilt,
 }
 
-fn commands(alloc: Global, input: &[u8], last: u32) -> Result<Option<Vec<Command>>, OutOfMemory>
-    ensures commands { IfOk result (λ found. MatchOption found (commands_in last (slice_split is_newline input.now) ≡ None) (λ commands. commands_in last (slice_split is_newline input.now) ≡ Some commands.items)) }
-    ensures within { IfOk result (λ found. IfSome found (λ commands. All (IsWithin last) commands.items)) }
+/// What a line asks for, over a path whose last point is `last`.
+///
+/// Its words are parted by spaces and tabs. They are `regs`, or `goto` and a number of at most `last`; a line of more than 256
+/// bytes is no command.
+pub fn read_line(line: Line<'_>, last: u32) -> LineMeaning
+    ensures value { result ≡ meaning_of_line last (said_of_line line.entry) }
+    ensures within { IsAskedWithin last result }
 {
-    let mut found = Vec::new(alloc);
-    let mut rest = input;
-    while let Some(end) = newline(rest) {
-        let Some(command) = command_in(&rest[..end], last) else {
-            return Ok(None);
-        };
-        found.push(command)?;
-        rest = &rest[end + 1..];
+    match line {
+        Line::Text(text) => read_text(text, last),
+        Line::Long => LineMeaning::NotBuilt,
     }
-    if !rest.is_empty() {
-        return Ok(None);
-    }
-    Ok(Some(found))
 }
 
-/// Where the first newline is.
-fn newline(text: &[u8]) -> Option<usize>
-    ensures { result ≡ position is_newline text.now }
+/// What a line of at most 256 bytes asks for.
+fn read_text(text: &[u8], last: u32) -> LineMeaning
+    ensures value { result ≡ meaning_of_words last (words_in text.now) }
+    ensures within { IsAskedWithin last result }
 {
-    text.iter().position(|byte| *byte == b'\n')
+    let Some((command, behind)) = first_word(text) else {
+        return LineMeaning::Nothing;
+    };
+    let Some((argument, rest)) = first_word(behind) else {
+        return read_lone(command);
+    };
+    if first_word(rest).is_some() {
+        return LineMeaning::NotBuilt;
+    }
+    read_pair(command, argument, last)
 }
 
-/// The command of a line.
-fn command_in(line: &[u8], last: u32) -> Option<Command>
-    ensures value { result ≡ command_of last line.now }
-    ensures within { IfSome result (IsWithin last) }
+/// A line of one word.
+fn read_lone(word: &[u8]) -> LineMeaning
+    ensures { result ≡ regs_meaning word.now }
 {
-    if line == b"regs".as_slice() {
-        return Some(Command::Regs);
-    }
-    if !line.starts_with(b"goto ") {
-        return None;
-    }
-    Some(Command::Goto(point(&line[5..], last)?))
-}
-
-/// A point up to the last one, in one or two digits.
-fn point(digits: &[u8], last: u32) -> Option<u32>
-    ensures value { result ≡ point_of last digits.now }
-    ensures within { IfSome result (λ i. i ≤ last) }
-{
-    let i = number(digits)?;
-    if digits.len() <= 2 && i <= last {
-        Some(i)
+    if word == b"regs".as_slice() {
+        LineMeaning::Asked(Command::Regs)
     } else {
-        None
+        LineMeaning::NotBuilt
+    }
+}
+
+/// A line of two words.
+fn read_pair(word: &[u8], argument: &[u8], last: u32) -> LineMeaning
+    ensures value { result ≡ goto_meaning last word.now argument.now }
+    ensures within { IsAskedWithin last result }
+{
+    if word != b"goto".as_slice() {
+        return LineMeaning::NotBuilt;
+    }
+    match any_number(argument) {
+        Some(point) if point <= last => LineMeaning::Asked(Command::Goto(point)),
+        _ => LineMeaning::NotBuilt,
     }
 }

@@ -5,7 +5,7 @@ mod answers;
 mod command;
 mod examine;
 mod forms;
-mod input;
+mod line;
 mod load;
 mod number;
 mod path;

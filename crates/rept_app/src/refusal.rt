@@ -29,11 +29,11 @@ pub enum Unbuilt {
     Trace,
     /// The path comes to this address, where no code word is, or none of an instruction that is read.
     Code(u32),
-    /// An input of another form.
+    /// A line of the input is no command that is built.
     Input,
 }
 
-/// What ends a call before the session.
+/// What ends a call, or its session.
 #[derive(Clone, Copy, Debug, PartialEq, Eq)]
 pub enum Refusal {
     Usage,
@@ -50,6 +50,7 @@ pub enum Refusal {
     Inconsistent(ConflictKind),
     InputFault,
     OutOfMemory,
+    TooMuchInput,
 }
 
 impl Refusal {
@@ -68,6 +69,7 @@ impl Refusal {
             Refusal::Inconsistent(_) => Status::Inconsistent,
             Refusal::InputFault => Status::InputFault,
             Refusal::OutOfMemory => Status::OutOfMemory,
+            Refusal::TooMuchInput => Status::TooMuchInput,
         }
     }
 
@@ -90,6 +92,7 @@ impl Refusal {
             Refusal::Inconsistent(kind) => push_conflict(&mut text, kind)?,
             Refusal::InputFault => text.push(b"input-fault")?,
             Refusal::OutOfMemory => text.push(b"out-of-memory")?,
+            Refusal::TooMuchInput => text.push(b"too-much-input")?,
         }
         text.push(b"\n")?;
         Ok(text)

@@ -1,46 +1,61 @@
-ghost use Rattle.std.specs.Prelude.{◌≡◌, ◌≤◌, length, All, IfSome};
-ghost use Rattle.rept_ports.specs.Causes.{Rose};
-ghost use Rattle.rept_app.specs.Commands.{IsWithin};
+ghost use Rattle.std.specs.Prelude.{◌≡◌, ◌≤◌, length, IfSome};
+ghost use Rattle.rept_app.specs.Commands.{said_of_line};
 ghost use Rattle.rept_app.specs.Delivered.{Delivers};
-ghost use Rattle.rept_app.specs.Session.{AnswersAll, Serves, IsCaused};
+ghost use Rattle.rept_app.specs.Session.{Replies, Serves, IsCaused};
 ghost use Rattle.rept_app.specs.Showing.{shown_by};
 
 use crate::answers::{answer, next_cursor};
-use crate::command::{Command, script};
-use crate::input::{FrontFault, read_front};
+use crate::command::{LineMeaning, read_line};
 use crate::refusal::{Refusal, Unbuilt};
 use crate::status::Status;
 use crate::tell::{deliver, tell};
 use rept_engine::Analysis;
-use rept_ports::{Sink, Source, write_all};
+use rept_ports::{BoundedLines, Line, LineFault, Sink, Source, write_all};
 use std::alloc::Global;
 
-/// Answers all commands, the first at the last point.
-fn answer_all<K: Sink>(
+/// What comes behind a line.
+#[derive(Clone, Copy, Debug, PartialEq, Eq)]
+pub enum Next {
+    /// The next line, with the cursor at this point.
+    Line(u32),
+    /// The line isn't built, and nothing is written.
+    NotBuilt,
+    /// The answer can't be written.
+    OutputFault,
+    /// There is no memory for the answer, and nothing is written.
+    OutOfMemory,
+}
+
+/// Writes the answer to a line.
+fn reply<K: Sink>(
     alloc: Global,
     analysis: &Analysis<'_>,
     end_pc: u32,
-    commands: &[Command],
+    cursor: u32,
+    line: Line<'_>,
     out: &mut K,
-) -> Status
+) -> Next
     requires few { length analysis.now.rows ≤ 65536 }
-    requires within { All (IsWithin (length analysis.now.rows)) commands.now }
-    ensures { Delivers (AnswersAll (shown_by analysis.now end_pc) (length analysis.now.rows) commands.now) (K.written out.old) (K.written out.new) (K.faults out.old) (K.faults out.new) result }
+    requires cursor { cursor ≤ length analysis.now.rows }
+    ensures { Replies (shown_by analysis.now end_pc) (length analysis.now.rows) cursor (said_of_line line.entry) (K.written out.old) (K.written out.new) (K.faults out.old) (K.faults out.new) result }
 {
-    let mut cursor = analysis.rows().len() as u32;
-    for command in commands {
-        let Ok(text) = answer(alloc, analysis, end_pc, cursor, command) else {
-            return deliver(out, b"out-of-memory\n", Status::OutOfMemory);
-        };
-        if let Err(_) = write_all(out, text.bytes()) {
-            return Status::OutputFault;
-        }
-        cursor = next_cursor(cursor, command);
+    let last = analysis.rows().len() as u32;
+    let command = match read_line(line, last) {
+        LineMeaning::Nothing => return Next::Line(cursor),
+        LineMeaning::Asked(command) => command,
+        LineMeaning::NotBuilt => return Next::NotBuilt,
+    };
+    let Ok(text) = answer(alloc, analysis, end_pc, cursor, &command) else {
+        return Next::OutOfMemory;
+    };
+    match write_all(out, text.bytes()) {
+        Ok(()) => Next::Line(next_cursor(cursor, &command)),
+        Err(_) => Next::OutputFault,
     }
-    Status::Ok
 }
 
-/// Reads the input and answers its commands. `analysis` has its report; `end_pc` is the address behind the last step.
+/// Answers the lines of the input, each before the next one is read. `analysis` has its report; `end_pc` is the address behind
+/// the last step.
 pub fn serve<S: Source, K: Sink>(
     alloc: Global,
     analysis: &Analysis<'_>,
@@ -52,15 +67,19 @@ pub fn serve<S: Source, K: Sink>(
     ensures text { IfSome (S.left input.old) (λ left. Delivers (Serves (shown_by analysis.now end_pc) (length analysis.now.rows) left) (K.written out.old) (K.written out.new) (K.faults out.old) (K.faults out.new) result) }
     ensures causes { IsCaused (S.faults input.old) (S.faults input.new) (K.faults out.old) (K.faults out.new) result }
 {
-    let last = analysis.rows().len() as u32;
-    let text = match read_front(alloc, input) {
-        Ok(text) => text,
-        Err(FrontFault::Failed) => return tell(alloc, out, &Refusal::InputFault),
-        Err(FrontFault::OutOfMemory) => return tell(alloc, out, &Refusal::OutOfMemory),
-    };
-    match script(alloc, text.bytes(), last) {
-        Ok(Some(commands)) => answer_all(alloc, analysis, end_pc, commands.as_slice(), out),
-        Ok(None) => tell(alloc, out, &Refusal::NotBuilt(Unbuilt::Input)),
-        Err(_) => tell(alloc, out, &Refusal::OutOfMemory),
+    let mut cursor = analysis.rows().len() as u32;
+    let mut lines = BoundedLines::new(input);
+    'session: loop {
+        match lines.next_line() {
+            Ok(None) => return Status::Ok,
+            Ok(Some(line)) => match reply(alloc, analysis, end_pc, cursor, line, out) {
+                Next::Line(next) => cursor = next,
+                Next::NotBuilt => return tell(alloc, out, &Refusal::NotBuilt(Unbuilt::Input)),
+                Next::OutputFault => return Status::OutputFault,
+                Next::OutOfMemory => return deliver(out, b"out-of-memory\n", Status::OutOfMemory),
+            },
+            Err(LineFault::ReadFault) => return tell(alloc, out, &Refusal::InputFault),
+            Err(LineFault::TooMuchInput) => return tell(alloc, out, &Refusal::TooMuchInput),
+        }
     }
 }

@@ -26,7 +26,9 @@ pub enum Status {
     OutputFault,
     /// Memory ran out.
     OutOfMemory,
-    /// The words, a file or the input are of a form that isn't read yet.
+    /// The input has more than 1,048,576 bytes.
+    TooMuchInput,
+    /// The words or a file are of a form that isn't read yet, or a line of the input is no command that is built.
     NotBuilt,
 }
 
@@ -47,6 +49,7 @@ impl Status {
             Status::InputFault => 9,
             Status::OutputFault => 10,
             Status::OutOfMemory => 11,
+            Status::TooMuchInput => 12,
             Status::NotBuilt => 13,
         }
     }

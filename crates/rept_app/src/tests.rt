@@ -1,6 +1,7 @@
 use crate::{Status, rept};
-use rept_ports::{CalmShelf, CalmSource, MemShelf, MemSink, MemSource};
+use rept_ports::{CalmShelf, CalmSource, Failed, MemShelf, MemSink, MemSource, Sink, Source};
 use std::alloc::{AllocError, Global};
+use std::cell::Cell;
 use std::test::Fail;
 
 /// An executable of one code segment at 0x10000, by the ELF specification.
@@ -221,7 +222,7 @@ const CASES: &[Case] = &[
         registers: [7, 10, 17],
         difference: 0x0a,
         input: "",
-        output: "not-built exe\n",
+        output: "not-built code 0x00010000\n",
         status: Status::NotBuilt,
     },
     Case {
@@ -231,8 +232,8 @@ const CASES: &[Case] = &[
         registers: [7, 10, 17],
         difference: 0x0a,
         input: "",
-        output: "not-built core\n",
-        status: Status::NotBuilt,
+        output: "core-image 5 2\n",
+        status: Status::Core,
     },
     Case {
         words: OPEN,
@@ -252,26 +253,6 @@ const CASES: &[Case] = &[
         difference: 0x0b,
         input: "",
         output: "not-built trace\n",
-        status: Status::NotBuilt,
-    },
-    Case {
-        words: OPEN,
-        code: THREE,
-        pc: 0x1000c,
-        registers: [7, 10, 17],
-        difference: 0x0a,
-        input: "goto 0\ngoto 4\n",
-        output: "not-built input\n",
-        status: Status::NotBuilt,
-    },
-    Case {
-        words: OPEN,
-        code: THREE,
-        pc: 0x1000c,
-        registers: [7, 10, 17],
-        difference: 0x0a,
-        input: "goto 0\nregs",
-        output: "not-built input\n",
         status: Status::NotBuilt,
     },
 ];
@@ -301,6 +282,7 @@ fn crashes_are_told(rt: HostRuntime) -> Result<(), Fail> {
 
 /// The calls of the ports that fail in one run of the first crash, and what must come of it.
 struct FailingCase {
+    input: &'static str,
     loads: &'static [u64],
     reads: &'static [u64],
     writes: &'static [u64],
@@ -308,10 +290,13 @@ struct FailingCase {
     status: Status,
 }
 
+const COMMANDS: &str = "goto 0\nregs\n";
+
 const FIRST_LINE: &str = "point 0 of 3 pc 0x00010000\n";
 
 const FAILING: &[FailingCase] = &[
     FailingCase {
+        input: COMMANDS,
         loads: &[1],
         reads: &[],
         writes: &[],
@@ -319,6 +304,7 @@ const FAILING: &[FailingCase] = &[
         status: Status::LoadFault,
     },
     FailingCase {
+        input: COMMANDS,
         loads: &[2],
         reads: &[],
         writes: &[],
@@ -326,6 +312,7 @@ const FAILING: &[FailingCase] = &[
         status: Status::LoadFault,
     },
     FailingCase {
+        input: COMMANDS,
         loads: &[3],
         reads: &[],
         writes: &[],
@@ -333,6 +320,7 @@ const FAILING: &[FailingCase] = &[
         status: Status::LoadFault,
     },
     FailingCase {
+        input: COMMANDS,
         loads: &[4],
         reads: &[],
         writes: &[],
@@ -340,6 +328,7 @@ const FAILING: &[FailingCase] = &[
         status: Status::Ok,
     },
     FailingCase {
+        input: COMMANDS,
         loads: &[],
         reads: &[1],
         writes: &[],
@@ -347,20 +336,23 @@ const FAILING: &[FailingCase] = &[
         status: Status::InputFault,
     },
     FailingCase {
+        input: "goto 0\ngoto 1",
         loads: &[],
         reads: &[2],
         writes: &[],
-        output: "input-fault\n",
+        output: "point 0 of 3 pc 0x00010000\ninput-fault\n",
         status: Status::InputFault,
     },
     FailingCase {
+        input: "goto 0\ngoto 1",
         loads: &[],
         reads: &[3],
         writes: &[],
-        output: UNKNOWN_AT_0,
+        output: "point 0 of 3 pc 0x00010000\npoint 1 of 3 pc 0x00010004\n",
         status: Status::Ok,
     },
     FailingCase {
+        input: COMMANDS,
         loads: &[],
         reads: &[],
         writes: &[1],
@@ -368,6 +360,7 @@ const FAILING: &[FailingCase] = &[
         status: Status::OutputFault,
     },
     FailingCase {
+        input: COMMANDS,
         loads: &[],
         reads: &[],
         writes: &[2],
@@ -375,6 +368,7 @@ const FAILING: &[FailingCase] = &[
         status: Status::OutputFault,
     },
     FailingCase {
+        input: COMMANDS,
         loads: &[],
         reads: &[],
         writes: &[3],
@@ -382,6 +376,7 @@ const FAILING: &[FailingCase] = &[
         status: Status::Ok,
     },
     FailingCase {
+        input: COMMANDS,
         loads: &[1],
         reads: &[],
         writes: &[1],
@@ -400,11 +395,389 @@ fn failing_ports_are_told(rt: HostRuntime) -> Result<(), Fail> {
         shelf.put("e", executable(alloc, THREE)?.as_slice())?;
         shelf.put("c", core_file(alloc, 0x1000c, 7, 10, 17)?.as_slice())?;
         shelf.put("t", trace_file(alloc, 0x0a)?.as_slice())?;
-        let mut source = MemSource::new(alloc, b"goto 0\nregs\n", case.reads)?;
+        let mut source = MemSource::new(alloc, case.input.as_bytes(), case.reads)?;
         let mut sink = MemSink::new(alloc, 2000, case.writes)?;
         let status = rept(alloc, words.as_slice(), &mut shelf, &mut source, &mut sink);
         assert_eq!(rt; sink.bytes(), case.output.as_bytes());
         assert_eq!(rt; status, case.status);
+    }
+    Ok(())
+}
+
+/// A shelf with the files of the first crash.
+fn first_crash(alloc: Global) -> Result<CalmShelf, Fail> {
+    let mut shelf = CalmShelf::new(alloc);
+    shelf.put("e", executable(alloc, THREE)?.as_slice())?;
+    shelf.put("c", core_file(alloc, 0x1000c, 7, 10, 17)?.as_slice())?;
+    shelf.put("t", trace_file(alloc, 0x0a)?.as_slice())?;
+    Ok(shelf)
+}
+
+/// An input over the first crash, and what must come of it.
+struct SessionCase {
+    input: &'static str,
+    output: &'static str,
+    status: Status,
+}
+
+const SECOND_LINE: &str = "point 1 of 3 pc 0x00010004\n";
+
+const NOT_BUILT: &str = "not-built input\n";
+
+const SESSIONS: &[SessionCase] = &[
+    SessionCase {
+        input: "goto 0x1\n",
+        output: SECOND_LINE,
+        status: Status::Ok,
+    },
+    SessionCase {
+        input: "goto 0X00000001\n",
+        output: SECOND_LINE,
+        status: Status::Ok,
+    },
+    SessionCase {
+        input: "\n\t goto\t \t01 \n \t\n",
+        output: SECOND_LINE,
+        status: Status::Ok,
+    },
+    SessionCase {
+        input: "goto 1\r\n\r\n",
+        output: SECOND_LINE,
+        status: Status::Ok,
+    },
+    SessionCase {
+        input: "goto 1",
+        output: SECOND_LINE,
+        status: Status::Ok,
+    },
+    SessionCase {
+        input: "goto 1\r",
+        output: NOT_BUILT,
+        status: Status::NotBuilt,
+    },
+    SessionCase {
+        input: "goto 0\nregs",
+        output: UNKNOWN_AT_0,
+        status: Status::Ok,
+    },
+    SessionCase {
+        input: "goto 0\ngoto 1\ngoto 4\ngoto 2\n",
+        output: "point 0 of 3 pc 0x00010000\npoint 1 of 3 pc 0x00010004\nnot-built input\n",
+        status: Status::NotBuilt,
+    },
+    SessionCase {
+        input: "goto 0\nfoo\n",
+        output: "point 0 of 3 pc 0x00010000\nnot-built input\n",
+        status: Status::NotBuilt,
+    },
+    SessionCase {
+        input: "regs 1\n",
+        output: NOT_BUILT,
+        status: Status::NotBuilt,
+    },
+    SessionCase {
+        input: "goto\n",
+        output: NOT_BUILT,
+        status: Status::NotBuilt,
+    },
+    SessionCase {
+        input: "goto 1 1\n",
+        output: NOT_BUILT,
+        status: Status::NotBuilt,
+    },
+    SessionCase {
+        input: "Regs\n",
+        output: NOT_BUILT,
+        status: Status::NotBuilt,
+    },
+    SessionCase {
+        input: "goto 0x\n",
+        output: NOT_BUILT,
+        status: Status::NotBuilt,
+    },
+    SessionCase {
+        input: "goto 0x000000001\n",
+        output: NOT_BUILT,
+        status: Status::NotBuilt,
+    },
+    SessionCase {
+        input: "goto 00000000001\n",
+        output: NOT_BUILT,
+        status: Status::NotBuilt,
+    },
+    SessionCase {
+        input: "goto 4294967297\n",
+        output: NOT_BUILT,
+        status: Status::NotBuilt,
+    },
+    SessionCase {
+        input: "goto +1\n",
+        output: NOT_BUILT,
+        status: Status::NotBuilt,
+    },
+];
+
+// The lines of a session, and those that end it.
+#[test]
+fn lines_are_answered(rt: HostRuntime) -> Result<(), Fail> {
+    let alloc = rt.alloc();
+    let words = word_list(alloc, OPEN)?;
+    let mut shelf = first_crash(alloc)?;
+    for case in SESSIONS {
+        let mut source = CalmSource::new(case.input.as_bytes());
+        let mut sink = MemSink::new(alloc, 2000, &[])?;
+        let status = rept(alloc, words.as_slice(), &mut shelf, &mut source, &mut sink);
+        assert_eq!(rt; sink.bytes(), case.output.as_bytes());
+        assert_eq!(rt; status, case.status);
+    }
+    Ok(())
+}
+
+// An input of so many bytes, all alike: lines without words, one long line of spaces, and one byte too many.
+#[test]
+fn long_inputs_are_told(rt: HostRuntime) -> Result<(), Fail> {
+    let alloc = rt.alloc();
+    let words = word_list(alloc, OPEN)?;
+    let mut shelf = first_crash(alloc)?;
+    for (count, byte, output, status) in [
+        (256, b' ', "", Status::Ok),
+        (257, b' ', NOT_BUILT, Status::NotBuilt),
+        (1048576, b'\n', "", Status::Ok),
+        (1048577, b'\n', "too-much-input\n", Status::TooMuchInput),
+    ] {
+        let input = vec![in alloc; byte; count]?;
+        let mut source = CalmSource::new(input.as_slice());
+        let mut sink = MemSink::new(alloc, 100, &[])?;
+        let got = rept(alloc, words.as_slice(), &mut shelf, &mut source, &mut sink);
+        assert_eq!(rt; sink.bytes(), output.as_bytes());
+        assert_eq!(rt; got, status);
+    }
+    assert_eq!(rt; Status::TooMuchInput.number(), 12);
+    Ok(())
+}
+
+/// A source that gives one line a read, and notes its calls.
+#[derive(Drop)]
+struct LineByLine<'a> {
+    text: &'a [u8],
+    notes: &'a Cell<u64>,
+    faults: u64,
+}
+
+impl<'a> Source for LineByLine<'a> {
+    ghost use Rattle.std.specs.Prelude.{None};
+
+    ghost left = { λ _. None };
+
+    ghost faults = { λ s. s.faults };
+
+    fn read(&mut self, into: &mut [u8]) -> Result<usize, Failed> {
+        self.notes
+            .set(self.notes.get().wrapping_mul(10).wrapping_add(1));
+        let found = self.text.iter().position(|b| *b == b'\n');
+        let len = found.map_or(self.text.len(), |at| at + 1);
+        if len > into.len() {
+            self.faults = self.faults.saturating_add(1);
+            return Err(Failed);
+        }
+        let (line, rest) = self.text.split_at(len);
+        into[..len].copy_from_slice(line);
+        self.text = rest;
+        Ok(len)
+    }
+}
+
+/// A sink that notes its calls.
+#[derive(Drop)]
+struct Noting<'a> {
+    notes: &'a Cell<u64>,
+}
+
+impl<'a> Sink for Noting<'a> {
+    ghost use Rattle.std.specs.Prelude.{None};
+
+    ghost written = { λ _. None };
+
+    ghost faults = { λ _. 0 };
+
+    fn write(&mut self, piece: &[u8]) -> Result<usize, Failed> {
+        self.notes
+            .set(self.notes.get().wrapping_mul(10).wrapping_add(2));
+        Ok(piece.len())
+    }
+}
+
+// Each answer is written before the next line is asked for: 1 is a read, and 2 a write.
+#[test]
+fn answers_before_it_asks(rt: HostRuntime) -> Result<(), Fail> {
+    let alloc = rt.alloc();
+    let words = word_list(alloc, OPEN)?;
+    let mut shelf = first_crash(alloc)?;
+    let notes = Cell::new(0u64);
+    let mut source = LineByLine {
+        text: b"goto 0\n\nregs\ngoto 2\n",
+        notes: &notes,
+        faults: 0,
+    };
+    let mut sink = Noting { notes: &notes };
+    let got = rept(alloc, words.as_slice(), &mut shelf, &mut source, &mut sink);
+    assert_eq!(rt; got, Status::Ok);
+    assert_eq!(rt; notes.get(), 12112121);
+    Ok(())
+}
+
+/// A file of the first crash with some bytes replaced, and the line that it brings.
+struct Damage {
+    name: &'static str,
+    at: usize,
+    bytes: &'static [u8],
+    output: &'static str,
+    status: Status,
+}
+
+const DAMAGES: &[Damage] = &[
+    Damage {
+        name: "e",
+        at: 0,
+        bytes: &[0],
+        output: "executable 1\n",
+        status: Status::Executable,
+    },
+    Damage {
+        name: "e",
+        at: 4,
+        bytes: &[2],
+        output: "executable 2\n",
+        status: Status::Executable,
+    },
+    Damage {
+        name: "e",
+        at: 5,
+        bytes: &[2],
+        output: "executable 3\n",
+        status: Status::Executable,
+    },
+    Damage {
+        name: "e",
+        at: 18,
+        bytes: &[0],
+        output: "executable 4\n",
+        status: Status::Executable,
+    },
+    Damage {
+        name: "e",
+        at: 16,
+        bytes: &[3],
+        output: "executable 5 3\n",
+        status: Status::Executable,
+    },
+    Damage {
+        name: "e",
+        at: 44,
+        bytes: &[2],
+        output: "executable 6\n",
+        status: Status::Executable,
+    },
+    Damage {
+        name: "e",
+        at: 42,
+        bytes: &[40],
+        output: "executable 7 40\n",
+        status: Status::Executable,
+    },
+    Damage {
+        name: "e",
+        at: 44,
+        bytes: &[0x88, 0x13],
+        output: "executable 8 5000\n",
+        status: Status::Executable,
+    },
+    Damage {
+        name: "e",
+        at: 68,
+        bytes: &[13, 0, 0, 0, 13],
+        output: "executable 9 0\n",
+        status: Status::Executable,
+    },
+    Damage {
+        name: "e",
+        at: 68,
+        bytes: &[13],
+        output: "executable 10 0\n",
+        status: Status::Executable,
+    },
+    Damage {
+        name: "e",
+        at: 60,
+        bytes: &[0xfc, 0xff, 0xff, 0xff],
+        output: "executable 11 0\n",
+        status: Status::Executable,
+    },
+    Damage {
+        name: "c",
+        at: 52,
+        bytes: &[0],
+        output: "core 1\n",
+        status: Status::Core,
+    },
+    Damage {
+        name: "c",
+        at: 88,
+        bytes: &[200],
+        output: "core 2 200\n",
+        status: Status::Core,
+    },
+    Damage {
+        name: "c",
+        at: 88,
+        bytes: &[44, 1],
+        output: "core 3 84\n",
+        status: Status::Core,
+    },
+    Damage {
+        name: "c",
+        at: 0,
+        bytes: &[0],
+        output: "core-image 1\n",
+        status: Status::Core,
+    },
+];
+
+/// The file with some bytes replaced from a place on.
+fn damaged(alloc: Global, file: &[u8], at: usize, bytes: &[u8]) -> Result<Vec<u8>, AllocError> {
+    let (front, rest) = file.split_at(at.min(file.len()));
+    let mut whole = Vec::from_slice(alloc, front)?;
+    whole.extend_from_slice(bytes)?;
+    whole.extend_from_slice(&rest[bytes.len().min(rest.len())..])?;
+    Ok(whole)
+}
+
+// Each fault of an executable and of a core file, with its number and what it holds.
+#[test]
+fn damaged_files_are_told(rt: HostRuntime) -> Result<(), Fail> {
+    let alloc = rt.alloc();
+    let words = word_list(alloc, OPEN)?;
+    for damage in DAMAGES {
+        let exe = executable(alloc, THREE)?;
+        let core = core_file(alloc, 0x1000c, 7, 10, 17)?;
+        let mut shelf = CalmShelf::new(alloc);
+        shelf.put("e", exe.as_slice())?;
+        shelf.put("c", core.as_slice())?;
+        shelf.put("t", trace_file(alloc, 0x0a)?.as_slice())?;
+        let file = if damage.name == "e" {
+            exe.as_slice()
+        } else {
+            core.as_slice()
+        };
+        shelf.put(
+            damage.name,
+            damaged(alloc, file, damage.at, damage.bytes)?.as_slice(),
+        )?;
+        let mut source = CalmSource::new(b"");
+        let mut sink = MemSink::new(alloc, 100, &[])?;
+        let status = rept(alloc, words.as_slice(), &mut shelf, &mut source, &mut sink);
+        assert_eq!(rt; sink.bytes(), damage.output.as_bytes());
+        assert_eq!(rt; status, damage.status);
     }
     Ok(())
 }

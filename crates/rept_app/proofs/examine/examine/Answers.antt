@@ -1,13 +1,12 @@
-use Rattle.std.proofs.Common.{◌≡◌, ℕ, List, length, Option, Some, None, Result, Ok, Err, true, false, inl, inr, refl, sym, ap, ◌∙◌, subst}
+use Rattle.std.proofs.Common.{◌≡◌, List, Ok, Err, sym, ◌∙◌, subst}
 use Rattle.rept_elf.specs.Segments.{ElfSegment, segments}
 use Rattle.rept_elf.specs.Image.{file_of}
 use Rattle.rept_dump.specs.Dump.{exe_of, registers_of}
-use Rattle.rept_dump.specs.declared.fault.CoreFault.{CoreFault}
 use Rattle.rept_app.specs.Examine.{Examines, Walks, PathHolds, PathExcludes}
 use Rattle.rept_app.specs.declared.status.Status.TheVariants as ends
 use Rattle.rept_app.proofs.DeliveredLemmas.{delivers_as, ends_told}
 use Rattle.rept_app.proofs.SessionLemmas.{where_told, at_some}
-use Rattle.rept_app.proofs.ExamineLemmas.{exe_end, core_end, notes_end, told_examined, walked_examined, exe_examines, core_examines, notes_refused, untraced_examines, walks_examine, files_hold, files_exclude, says_at, only_at, segments_at, as_exe, as_core, as_unbuilt, untraced, traced, walked_at}
+use Rattle.rept_app.proofs.ExamineLemmas.{notes_end, told_examined, walked_examined, exe_examines, core_examines, notes_refused, untraced_examines, walks_examine, files_hold, files_exclude, says_at, only_at, segments_at, as_core, as_unbuilt, untraced, traced, walked_at}
 use Rattle.rept_app.proofs.examine.examine.Goals as goal
 
 pub returns-in-Err-clause-text : goal.returns-in-Err-clause-text

@@ -1,7 +1,7 @@
-use Rattle.std.proofs.Common.{◌≡◌, ℕ, ◌+◌, ◌*◌, List, length, true, false, inl, inr, refl, sym, ap, ◌∙◌, subst, eq-eqb, ne_eqb, eqb, rules}
+use Rattle.std.proofs.Common.{◌≡◌, ◌+◌, ◌*◌, length, true, false, inr, sym, ap, ◌∙◌, eq-eqb, ne_eqb, eqb, rules}
 use Rattle.rept_dump.specs.Dump.{exe_of, registers_of}
 use Rattle.rept_app.specs.Examine.{Walks}
-use Rattle.rept_app.specs.Forms.{end_pc, last_values}
+use Rattle.rept_app.specs.Forms.{end_pc}
 use Rattle.rept_app.specs.Path.{StopsAt, address_of}
 use Rattle.rept_app.specs.declared.status.Status.TheVariants as ends
 use Rattle.rept_app.proofs.DeliveredLemmas.{delivers_as, ends_told}
