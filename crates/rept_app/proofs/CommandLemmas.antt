@@ -2,7 +2,7 @@
 use Rattle.std.proofs.Common.{◌≡◌, ℕ, zero, suc, All, ◌+◌, ◌<◌, ◌≤◌, List, [], ◌∷◌, ◌++◌, length, take, drop, Bool, true, false, not, Option, Some, None, cond, refl, sym, ap, ◌∙◌, arith, append_assoc, nat_lt, ◌==◌}
 use Rattle.std.proofs.lemmas.List.{append-nil}
 use Rattle.std.proofs.lemmas.List.Splits.{length-slice_split, slice_split_first, slice_split-cons_no}
-use Rattle.std.specs.List.{position, position_or_len, slice_split, count_by, onto_first}
+use Rattle.std.specs.List.{position, position_or_len, slice_split, onto_first}
 use Rattle.std.specs.Option.{option_and_then}
 use borrow.Author.Tests.{ltb-true, ltb-false}
 use Rattle.rept_app.specs.declared.command.Command.{Command}

@@ -1,20 +1,14 @@
 -- How the bytes of the files end the call.
-use Rattle.std.proofs.Common.{◌≡◌, ◌≢◌, ◌⊎◌, ℕ, zero, suc, ◌<◌, ◌≤◌, List, [], ◌∷◌, length, slice_get, Bool, true, false, not, cond, Option, None, Some, MatchOption, MatchBool, inl, inr, refl, sym, ap, subst, ◌∙◌, arith, eqb}
-use Rattle.std.proofs.lemmas.Bool.{false≢true}
-use Rattle.std.proofs.lemmas.Option.{slice_get-get_or}
+use Rattle.std.proofs.Common.{◌≡◌, ◌⊎◌, ℕ, zero, suc, ◌<◌, ◌≤◌, List, [], ◌∷◌, length, slice_get, Bool, true, false, not, cond, Option, None, Some, MatchOption, MatchBool, inl, inr, refl, sym, subst, arith, eqb}
 use Rattle.rept_isa.specs.declared.row.StepRow.{StepRow}
 use Rattle.rept_ports.specs.Causes.{Rose}
-use Rattle.rept_engine.specs.Closure.{ClosureHas, IsConsistent}
-use Rattle.rept_engine.specs.Report.{IsReport}
 use Rattle.rept_engine.specs.Soundness.{HasNoExecution}
-use Rattle.rept_engine.specs.declared.conflict.ConflictKind.{ConflictKind}
 use Rattle.rept_app.specs.Delivered.{Says, Tells}
-use Rattle.rept_app.specs.Examine.{Leads, Examines, Yields, PathYields, FilesYield, IsExamined, FilesHold, FilesExclude}
-use Rattle.rept_app.specs.Forms.{is_executable, is_core, is_trace, end_pc, last_values, step_count}
-use Rattle.rept_app.specs.Path.{IsPath, StopsAt, HasRow, IsRow, address_of}
-use Rattle.rept_app.specs.Session.{Serves}
-use Rattle.rept_app.specs.Study.{Studies, Stopped, IsStudied, ReportIsSound, shown_at}
-use Rattle.rept_app.specs.Told.{unread_form, Examined, Walked, Analysed}
+use Rattle.rept_app.specs.Examine.{Examines, Yields, PathYields, FilesYield, IsExamined, FilesHold, FilesExclude}
+use Rattle.rept_app.specs.Forms.{is_executable, is_core, is_trace, end_pc, last_values}
+use Rattle.rept_app.specs.Path.{IsPath, StopsAt, IsRow, address_of}
+use Rattle.rept_app.specs.Study.{Studies, Stopped, IsStudied, ReportIsSound}
+use Rattle.rept_app.specs.Told.{unread_form, Walked, Analysed}
 use Rattle.rept_app.specs.declared.refusal.Unbuilt.{Unbuilt}
 use Rattle.rept_app.specs.declared.refusal.Unbuilt.TheVariants as unbuilt
 use Rattle.rept_app.specs.declared.refusal.Refusal.TheVariants as refusal

@@ -1,7 +1,6 @@
 -- What the tests of the forms come to.
-use Rattle.std.proofs.Common.{◌≡◌, ℕ, ◌-◌, ◌<◌, ◌≤◌, List, length, take, drop, Bool, true, ◌&&◌, eqb, refl, arith, ap, ◌∙◌, sym, subst}
+use Rattle.std.proofs.Common.{◌≡◌, ℕ, ◌-◌, List, length, take, drop, Bool, true, ◌&&◌, refl, arith}
 use Rattle.std.proofs.lemmas.List.{take_all, length-drop}
-use Rattle.std.specs.Str.{bytes_eq}
 
 -- the rest of the bytes, as it is cut from the slice
 pub rest_of : (xs : List ℕ) (k n : ℕ) → length xs ≡ n → take (length xs - k) (drop k xs) ≡ drop k xs

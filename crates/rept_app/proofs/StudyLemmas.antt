@@ -1,5 +1,5 @@
 -- From the report of the analysis to what is written of it.
-use Rattle.std.proofs.Common.{◌≡◌, ◌⊎◌, ℕ, zero, suc, ◌<◌, ◌≤◌, List, length, Option, Some, inl, inr, refl, sym, ap, subst, ◌∙◌, arith}
+use Rattle.std.proofs.Common.{◌≡◌, ◌⊎◌, ℕ, ◌<◌, ◌≤◌, List, length, Some, inl, inr, sym, subst, ◌∙◌, arith}
 use Rattle.std.proofs.lemmas.Bool.{cases_eq}
 use Rattle.rept_isa.specs.declared.row.StepRow.{StepRow}
 use Rattle.rept_ports.specs.Causes.{Rose}
@@ -8,7 +8,7 @@ use Rattle.rept_engine.specs.Report.{IsReport}
 use Rattle.rept_engine.specs.Soundness.{IsSound, AlwaysHolds}
 use Rattle.rept_engine.specs.View.{View, known_in}
 use Rattle.rept_engine.specs.declared.conflict.ConflictKind.{ConflictKind}
-use Rattle.rept_app.specs.Delivered.{Says, Tells}
+use Rattle.rept_app.specs.Delivered.{Tells}
 use Rattle.rept_app.specs.Session.{Serves, IsCaused}
 use Rattle.rept_app.specs.Showing.{shown_by}
 use Rattle.rept_app.specs.Study.{Studies, Stopped, IsStudied, ReportIsSound, shown_at}

@@ -1,15 +1,14 @@
 -- How the top call ends, from how its parts end.
 use Rattle.std.proofs.Common.{◌≡◌, ◌⊎◌, ℕ, ◌≤◌, List, Option, None, Some, MatchOption, IfSome, inl, inr, refl, sym, ap, subst, ◌∙◌}
-use Rattle.std.specs.Io.KnownBytes.{Appends}
 use Rattle.rept_ports.specs.Causes.{Rose}
 use Rattle.rept_ports.specs.Shelves.{Files}
 use Rattle.rept_app.specs.Delivered.{Delivers, Says, Tells}
 use Rattle.rept_app.specs.Examine.{Examines, Yields, FilesYield, IsExamined, FilesHold, FilesExclude}
 use Rattle.rept_app.specs.Lines.{status_of}
-use Rattle.rept_app.specs.Loading.{Loading, loading, MatchLoading, ComesTo, AllRefuse}
+use Rattle.rept_app.specs.Loading.{Loading, loading, MatchLoading, AllRefuse}
 use Rattle.rept_app.specs.Loading.Loading.{Refused, Loaded}
 use Rattle.rept_app.specs.Study.{Stopped}
-use Rattle.rept_app.specs.Told.{unread_form, Examined, Told, Opens, Interrupted, Writes, ReportHolds, NoExecution}
+use Rattle.rept_app.specs.Told.{unread_form, Examined, Writes, ReportHolds, NoExecution}
 use Rattle.rept_app.specs.Top.{TopCauses, EndsBy, EndsByFiles, Completes}
 use Rattle.rept_app.specs.declared.refusal.Unbuilt.{Unbuilt}
 use Rattle.rept_app.specs.declared.refusal.Refusal.{Refusal}

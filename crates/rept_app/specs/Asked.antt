@@ -1,5 +1,4 @@
 -- The meaning that a request stands for.
-use Rattle.std.specs.Prelude.{ℕ, Option}
 use Rattle.rept_app.specs.Words.{Names, Meaning}
 use Rattle.rept_app.specs.Words.Meaning.{Open, Made}
 use Rattle.rept_app.specs.declared.words.FileNames.{FileNames}

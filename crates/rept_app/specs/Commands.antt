@@ -1,5 +1,5 @@
 -- The commands of an input.
-use Rattle.std.specs.Prelude.{ℕ, ◌-◌, List, [], ◌∷◌, length, take, drop, ◌≤◌, Bool, ◌&&◌, ◌==◌, nat_eq, nat_le, Option, None, Some, codes, if◌then◌else◌}
+use Rattle.std.specs.Prelude.{ℕ, List, [], ◌∷◌, length, drop, ◌≤◌, Bool, ◌&&◌, ◌==◌, nat_eq, nat_le, Option, None, Some, codes, if◌then◌else◌}
 use Rattle.std.specs.List.{starts_with, slice_split}
 use Rattle.std.specs.Option.{option_and_then}
 use Rattle.std.specs.Str.{bytes_eq}

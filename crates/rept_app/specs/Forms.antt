@@ -1,6 +1,6 @@
 -- The files in the one form that is read: an executable of one code segment, a core file of one status note, and a trace
 -- of one stretch of code without branches (ELF-32 Object File Format; Linux core notes of RISC-V; Efficient Trace 2.0).
-use Rattle.std.specs.Prelude.{ℕ, ◌+◌, ◌-◌, ◌*◌, ◌/◌, ◌%◌, List, [], ◌∷◌, ◌++◌, length, take, drop, map, replicate, slice_index, slice_get, Bool, not, ◌&&◌, ◌==◌, nat_lt, nat_le, Option, None, Some, if◌then◌else◌}
+use Rattle.std.specs.Prelude.{ℕ, ◌+◌, ◌-◌, ◌*◌, ◌/◌, ◌%◌, List, [], ◌∷◌, ◌++◌, length, take, drop, map, replicate, slice_index, slice_get, Bool, ◌&&◌, ◌==◌, nat_lt, nat_le, Option, None, Some, if◌then◌else◌}
 use Rattle.std.specs.Int.{w16, w32, to_le_bytes, from_le_bytes}
 use Rattle.std.specs.List.{range_with_len}
 use Rattle.std.specs.Str.{bytes_eq}

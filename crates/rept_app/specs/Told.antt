@@ -3,7 +3,7 @@ use Rattle.std.specs.Prelude.{◌≡◌, ◌⊎◌, ℕ, ◌≤◌, ◌<◌, Lis
 use Rattle.rept_isa.specs.declared.row.StepRow.{StepRow}
 use Rattle.rept_machine.specs.State.{State}
 use Rattle.rept_machine.specs.Execution.{Execution}
-use Rattle.rept_engine.specs.Closure.{ClosureHas, IsConsistent}
+use Rattle.rept_engine.specs.Closure.{ClosureHas}
 use Rattle.rept_engine.specs.Report.{IsReport}
 use Rattle.rept_engine.specs.declared.conflict.ConflictKind.{ConflictKind}
 use Rattle.rept_ports.specs.Shelves.{Files}
@@ -19,7 +19,6 @@ use Rattle.rept_app.specs.declared.refusal.Unbuilt.{Unbuilt}
 use Rattle.rept_app.specs.declared.refusal.Unbuilt.TheVariants as unbuilt
 use Rattle.rept_app.specs.declared.refusal.Refusal.TheVariants as refusal
 use Rattle.rept_app.specs.declared.status.Status.{Status}
-use Rattle.rept_app.specs.declared.status.Status.TheVariants as ends
 
 -- the first file that isn't of the form that is read
 abbrev pub unread_form : List ℕ → List ℕ → List ℕ → Option Unbuilt

@@ -5,7 +5,10 @@ use std::test::Fail;
 
 /// An executable of one code segment at 0x10000, by the ELF specification.
 fn executable(alloc: Global, words: &[u32]) -> Result<Vec<u8>, AllocError> {
-    let size = (words.len() as u32).wrapping_mul(4).to_le_bytes();
+    let Ok(count) = u32::try_from(words.len()) else {
+        return Err(AllocError);
+    };
+    let size = count.wrapping_mul(4).to_le_bytes();
     let mut file = Vec::from_slice(
         alloc,
         b"\x7fELF\x01\x01\x01\0\0\0\0\0\0\0\0\0\x02\0\xf3\0\x01\0\0\0\0\0\x01\0\x34\0\0\0\0\0\0\0\0\0\0\0\x34\0\x20\0\x01\0\0\0\0\0\0\0",

@@ -1,4 +1,4 @@
-use Rattle.std.proofs.Common.{◌≡◌, arith, ap, ◌∙◌, ◌-◌, sym}
+use Rattle.std.proofs.Common.{◌≡◌, arith, ap, ◌∙◌, ◌-◌}
 use Rattle.std.specs.List.{flat_map, range_with_len}
 use Rattle.rept_app.specs.Answers.{register_line, register_lines}
 use Rattle.rept_engine.specs.Facts.{flat}

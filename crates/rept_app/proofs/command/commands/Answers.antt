@@ -1,4 +1,4 @@
-use Rattle.std.proofs.Common.{◌+◌, ◌-◌, ◌≡◌, arith, ap, sym, ◌∙◌, length, drop, take, Some, ◌∷◌, []}
+use Rattle.std.proofs.Common.{◌+◌, ◌-◌, arith, sym, ◌∙◌, length, drop, ◌∷◌, []}
 use Rattle.std.proofs.lemmas.List.{take_all, length-drop}
 use Rattle.std.proofs.lemmas.List.Elements.{All-append}
 use Rattle.rept_app.specs.Commands.{IsWithin}

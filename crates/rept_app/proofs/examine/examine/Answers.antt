@@ -1,10 +1,7 @@
-use Rattle.std.proofs.Common.{◌≡◌, ◌≢◌, ◌⊎◌, ℕ, ◌+◌, ◌*◌, List, length, Some, None, true, false, inl, inr, refl, sym, ap, ◌∙◌, subst, arith, eq-eqb, ne_eqb, eqb}
+use Rattle.std.proofs.Common.{◌≡◌, ◌+◌, ◌*◌, length, true, false, inr, sym, ap, ◌∙◌, eq-eqb, ne_eqb, eqb}
 use Rattle.rept_app.specs.Examine.{Examines}
-use Rattle.rept_app.specs.Forms.{end_pc, last_values}
+use Rattle.rept_app.specs.Forms.{end_pc}
 use Rattle.rept_app.specs.Path.{StopsAt, address_of}
-use Rattle.rept_app.specs.Study.{Studies, IsStudied, ReportIsSound}
-use Rattle.rept_engine.specs.Soundness.{HasNoExecution}
-use Rattle.rept_app.specs.Told.{unread_form}
 use Rattle.rept_app.specs.declared.status.Status.TheVariants as ends
 use Rattle.rept_app.proofs.DeliveredLemmas.{delivers_as, ends_told}
 use Rattle.rept_app.proofs.SessionLemmas.{where_told, at_some}

@@ -1,4 +1,4 @@
-use Rattle.std.proofs.Common.{refl, sym, ◌∙◌}
+use Rattle.std.proofs.Common.{refl}
 use Rattle.rept_app.proofs.path.push_row.Goals as goal
 
 pub returns-in_default-clause-stop : goal.returns-in_default-clause-stop

@@ -1,5 +1,3 @@
-use Rattle.std.proofs.Common.{◌≡◌}
-use Rattle.rept_app.specs.Forms.{step_count}
 use Rattle.rept_app.proofs.PathLemmas.{RowsTo}
 use Rattle.rept_app.proofs.path.straight_path.Given as goal
 

@@ -1,7 +1,6 @@
-use Rattle.std.proofs.Common.{◌≡◌, ◌≤◌, ℕ, length, take, drop, List, ◌++◌, inl, inr, refl, sym, ap, ◌∙◌, subst, arith}
+use Rattle.std.proofs.Common.{◌≤◌, ℕ, length, take, List, ◌++◌, inl, inr, refl, sym, ap, ◌∙◌, subst, arith}
 use Rattle.std.specs.Io.KnownBytes.{Appends}
 use Rattle.rept_ports.proofs.CallerLemmas.{Appends-trans}
-use Rattle.rept_ports.specs.Causes.{AppendsPrefix}
 use Rattle.rept_app.specs.Answers.{Shown, answers}
 use Rattle.rept_app.specs.Session.{AnswersAll}
 use Rattle.rept_app.specs.Showing.{shown_by}

@@ -1,4 +1,4 @@
-use Rattle.std.proofs.Common.{◌≡◌, ℕ, length, List, Some, None, refl, sym, ap, ◌∙◌, subst, Option}
+use Rattle.std.proofs.Common.{◌≡◌, ℕ, length, List, Some, None, sym, ap, ◌∙◌}
 use Rattle.rept_isa.specs.declared.row.StepRow.{StepRow}
 use Rattle.rept_app.specs.Answers.{Shown}
 use Rattle.rept_app.specs.Commands.{script_of}

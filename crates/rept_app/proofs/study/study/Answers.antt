@@ -1,5 +1,4 @@
-use Rattle.std.proofs.Common.{◌≡◌, ℕ, List, length, Some, inl, inr, refl, sym, ap, ◌∙◌, subst}
-use Rattle.rept_isa.specs.declared.row.StepRow.{StepRow}
+use Rattle.std.proofs.Common.{◌≡◌, ap, ◌∙◌, subst}
 use Rattle.rept_engine.specs.Closure.{ClosureHas}
 use Rattle.rept_engine.specs.View.{View}
 use Rattle.rept_app.specs.Study.{Studies}

@@ -1,7 +1,6 @@
-use Rattle.std.proofs.Common.{◌≡◌, sym, ap, ◌∙◌, string_bytes, true, false, take, length}
+use Rattle.std.proofs.Common.{sym, ap, ◌∙◌, string_bytes}
 use Rattle.std.proofs.lemmas.List.Folds.{list_all-map, list_all_at}
 use Rattle.std.proofs.lemmas.List.{take_all}
-use Rattle.std.specs.List.{list_all}
 use Rattle.rept_app.specs.Words.{is_plain}
 use Rattle.rept_app.proofs.words.are_plain.Goals as goal
 

@@ -1,4 +1,4 @@
-use Rattle.std.proofs.Common.{◌≡◌, true, map, string_bytes, take}
+use Rattle.std.proofs.Common.{◌≡◌, true, string_bytes, take}
 use Rattle.std.specs.List.{list_all}
 use Rattle.rept_app.specs.Words.{is_plain}
 use Rattle.rept_app.proofs.words.are_plain.Given as goal
