@@ -1,0 +1,174 @@
+-- The definitions refuse no path for want of memory.
+use Rattle.std.proofs.Common.{◌≡◌, ◌≢◌, ℕ, ◌+◌, ◌%◌, ◌==◌, nat_le, List, [], ◌∷◌, ◌++◌, length, reverse, drop, slice_get, Bool, true, false, cond, ◌&&◌, Option, Some, None, Result, Ok, Err, refl, subst, inl, inr}
+use Rattle.rept_elf.specs.Segments.{ElfSegment}
+use Rattle.rept_isa.specs.declared.row.StepRow.{StepRow}
+use Rattle.rept_isa.specs.declared.instr.Instr.{Instr}
+use Rattle.rept_isa.specs.declared.instr.Instr.TheVariants.{Ecall}
+use Rattle.rept_isa.specs.Numbers.{plus, following}
+use Rattle.rept_dump.specs.declared.dump.Dump.{Dump}
+use Rattle.rept_dump.specs.Dump.{exe_of}
+use Rattle.rept_dump.specs.Memory.{code_at}
+use Rattle.rept_trace.specs.declared.packet.Packet.{Packet}
+use Rattle.rept_trace.specs.declared.packet.Packet.TheVariants.{Start, Context, Support, Address, Map, MapAddress}
+use Rattle.rept_trace.specs.declared.packets.Packets.{Packets}
+use Rattle.rept_path.specs.declared.aim.Aim.{Aim}
+use Rattle.rept_path.specs.declared.flow.Flow.{Flow}
+use Rattle.rept_path.specs.declared.flow.Flow.TheVariants.{Plain, Branch, Jump, Fixed, Far, Call, Stop}
+use Rattle.rept_path.specs.declared.fault.PathFault.{PathFault}
+use Rattle.rept_path.specs.declared.fault.PathFault.TheVariants.{TooLong, Gap, End, Unaligned, OutOfMemory}
+use Rattle.rept_path.specs.Code.{instruction, by_instruction, by_word, look, flow_of, is_call}
+use Rattle.rept_path.specs.Gap.{row, by_successor, crossing, gap}
+use Rattle.rept_path.specs.Legs.{PhaseFault}
+use Rattle.rept_path.specs.Moves.{Lead, Place, along, by_bit, successor, position, next_of, ◌>>=◌}
+use Rattle.rept_path.specs.Packets.{bits, bits_of, waiting}
+use Rattle.rept_path.specs.Route.{Phase, PhasesFault, lead_of, phases_of, Met, met_by, admits, FirstFault, WaitingFault, RunningFault, FaultBy, Fault, place}
+use Rattle.rept_path.specs.Trace.{IsRefused}
+use Rattle.rept_path.specs.Traced.{pc_of, IsRefusedBy}
+
+-- each fault of a result is another
+abbrev Others : {A : Type 0} → Result A PathFault → Type 0
+Others r = (e : PathFault) → r ≡ Err e → e ≢ OutOfMemory
+
+others_ok : {A : Type 0} (x : A) → Others (Ok x)
+others_ok x e h = cc
+
+others_bind : {A B : Type 0} (r : Result A PathFault) (f : A → Result B PathFault) → Others r → ((x : A) → Others (f x)) → Others (r >>= f)
+others_bind (Ok x) f hr hf = hf x
+others_bind (Err d) f hr hf = λ e h. let same : d ≡ e = cc in subst (λ (x : PathFault). x ≢ OutOfMemory) same (hr d refl)
+
+others_cond : {A : Type 0} (b : Bool) (r s : Result A PathFault) → Others r → Others s → Others (cond b r s)
+others_cond true r s hr hs = hr
+others_cond false r s hr hs = hs
+
+others_instruction : (a spelled : ℕ) (i : Option Instr) → Others (by_instruction a spelled i)
+others_instruction a spelled None e h = λ m. cc
+others_instruction a spelled (Some i) e h = λ m. cc
+
+others_word : (a : ℕ) (w : Option ℕ) → Others (by_word a w)
+others_word a None e h = λ m. cc
+others_word a (Some spelled) e h = others_instruction a spelled (instruction spelled) e h
+
+others_unaligned : (a : ℕ) → Others {A = Instr} (Err (Unaligned a))
+others_unaligned a e h = λ m. cc
+
+others_bit : (k p : ℕ) (bit : Option Bool) (target : Option ℕ) (flow : Flow) → Others (successor k p flow bit target)
+others_bit k p bit target Plain e h = λ m. cc
+others_bit k p bit target (Jump imm) e h = λ m. cc
+others_bit k p bit target (Fixed to) e h = λ m. cc
+others_bit k p None target (Branch imm) e h = λ m. cc
+others_bit k p (Some true) target (Branch imm) e h = λ m. cc
+others_bit k p (Some false) target (Branch imm) e h = λ m. cc
+others_bit k p bit None Far e h = λ m. cc
+others_bit k p bit (Some a) Far e h = λ m. cc
+others_bit k p bit target Call e h = λ m. cc
+others_bit k p bit target Stop e h = λ m. cc
+
+others_long : {A : Type 0} (k : ℕ) → Others {A = A} (Err (TooLong k))
+others_long k e h = λ m. cc
+
+others_err : {A : Type 0} (d : PathFault) → d ≢ OutOfMemory → Others {A = A} (Err d)
+others_err d other e h = let same : d ≡ e = cc in subst (λ (x : PathFault). x ≢ OutOfMemory) same other
+
+module _ (code : List ElfSegment) where
+  others_look : (a : ℕ) → Others (look code a)
+  unfolding look
+  others_look a = others_cond (a % 4 == 0) (by_word a (code_at code a)) (Err (Unaligned a)) (others_word a (code_at code a)) (others_unaligned a)
+
+  others_position : (a : ℕ) → Others (position code a)
+  others_position a = others_bind (look code a) (λ _. Ok a) (others_look a) (λ _. others_ok a)
+
+  others_next : (how : Lead) (p : Place) → Others (next_of code how p)
+  unfolding next_of
+  others_next how p =
+      let onward : ℕ → Result ℕ PathFault = λ a. cond (nat_le 65536 (length p.rows)) (Err (TooLong how.packet)) (position code a) in
+      let from : Instr → Result ℕ PathFault = λ i. successor how.packet p.at (flow_of i) (slice_get how.bits p.branches) how.target in
+      others_bind (look code p.at) (λ i. from i >>= onward) (others_look p.at)
+      (λ i. others_bind (from i) onward (others_bit how.packet p.at (slice_get how.bits p.branches) how.target (flow_of i))
+      (λ a. others_cond (nat_le 65536 (length p.rows)) (Err (TooLong how.packet)) (position code a) (others_long how.packet) (others_position a)))
+
+  module _ (k p : ℕ) (i : Instr) (a : ℕ) (otherwise : PathFault) (other : otherwise ≢ OutOfMemory) where
+    others_successor : (n : ℕ) → Others (by_successor code p i a otherwise n)
+    others_successor n =
+        others_cond (n == a) _ _ (others_ok (row p i n false ∷ []))
+        (others_cond (is_call (look code n) && a == following n) _ _ (others_ok (row n Ecall a true ∷ row p i n false ∷ [])) (others_err otherwise other))
+
+    others_by_bit : (imm : _) (bit : Option Bool) → Others (by_bit k p imm bit)
+    others_by_bit imm bit = others_bit k p bit None (Branch imm)
+
+    others_crossing : (bit : Option Bool) (flow : Flow) → Others (crossing code k p i a otherwise bit flow)
+    others_crossing bit Call = others_cond (a == following p) _ _ (others_ok (row p i a true ∷ [])) (others_err otherwise other)
+    others_crossing bit Far = others_cond (a % 4 == 0) _ _ (others_ok (row p i a false ∷ [])) (others_err otherwise other)
+    others_crossing bit Stop = others_err otherwise other
+    others_crossing bit Plain = others_successor (following p)
+    others_crossing bit (Jump imm) = others_successor (plus p imm)
+    others_crossing bit (Fixed to) = others_successor to
+    others_crossing bit (Branch imm) = others_bind (by_bit k p imm bit) (by_successor code p i a otherwise) (others_by_bit imm bit) others_successor
+
+  others_gap : (k : ℕ) (all : List Bool) (p : Place) (a : ℕ) (otherwise : PathFault) → otherwise ≢ OutOfMemory → Others (gap code k all p a otherwise)
+  unfolding gap
+  others_gap k all p a otherwise other =
+      let room : List StepRow → Result (List StepRow) PathFault = λ rows. cond (nat_le (length p.rows + length rows) 65536) (Ok rows) (Err (TooLong k)) in
+      let cross : Instr → Result (List StepRow) PathFault = λ i. crossing code k p.at i a otherwise (slice_get all p.branches) (flow_of i) in
+      others_bind (look code p.at) (λ i. cross i >>= room) (others_look p.at)
+      (λ i. others_bind (cross i) room (others_crossing k p.at i a otherwise other (slice_get all p.branches) (flow_of i))
+      (λ rows. others_cond (nat_le (length p.rows + length rows) 65536) (Ok rows) (Err (TooLong k)) (others_ok rows) (others_long k)))
+
+  phase_other : (how : Lead) (aim : Aim) (past : Place) (e : PathFault) → PhaseFault code how aim past e → e ≢ OutOfMemory
+  phase_other how aim past e (inl blocked) = others_next how (along code past blocked.leg) e blocked.blocked.1
+  phase_other how aim past e (inr misfit) = λ m. let is = misfit.fault in cc
+
+  phases_other : (k : ℕ) (all : List Bool) (phases : List Phase) (past : Place) (e : PathFault) → PhasesFault code k all phases past e → e ≢ OutOfMemory
+  phases_other k all [] past e f = elim f [ ]
+  phases_other k all (phase ∷ phases) past e (inl f) = phase_other (lead_of k all phase) phase.aim past e f
+  phases_other k all (phase ∷ phases) past e (inr (first, leg, f)) = phases_other k all phases (along code past first) e f
+
+  admits_other : (packet : Packet) → Others (admits code packet)
+  admits_other (Start branch privilege a) = others_position a
+  admits_other (Address report) = others_ok 0
+  admits_other (MapAddress count map report) = others_ok 0
+  admits_other (Map map) = others_ok 0
+  admits_other (Context privilege) = others_ok 0
+  admits_other (Support enabled status) = others_ok 0
+
+  running_other : (packet : Packet) (met : Met) (e : PathFault) → RunningFault code packet met e → e ≢ OutOfMemory
+  running_other packet met e (inl f) = admits_other packet e f
+  running_other packet met e (inr (admitted, f)) = phases_other met.number (met.bits ++ bits_of code packet) (phases_of packet met.marked met.reported) met.place e f
+
+  gap_other : (k last a : ℕ) → Gap k last a ≢ OutOfMemory
+  gap_other k last a = λ m. cc
+
+  waiting_other : (packet : Packet) (met : Met) (e : PathFault) → WaitingFault code packet met e → e ≢ OutOfMemory
+  waiting_other (Start branch privilege a) met e (inl f) = others_gap met.number met.bits met.place a (Gap met.number met.place.at a) (gap_other met.number met.place.at a) e f
+  waiting_other (Start branch privilege a) met e (inr (closed, f)) = others_position a e f
+  waiting_other (Address report) met e f = λ m. cc
+  waiting_other (MapAddress count map report) met e f = λ m. cc
+  waiting_other (Map map) met e f = λ m. cc
+  waiting_other (Context privilege) met e f = elim f [ ]
+  waiting_other (Support enabled status) met e f = elim f [ ]
+
+  by_other : (packet : Packet) (waits : Bool) (met : Met) (e : PathFault) → FaultBy code packet waits met e → e ≢ OutOfMemory
+  by_other packet true met e f = waiting_other packet met e f
+  by_other packet false met e f = running_other packet met e f
+
+  first_other : (packet : Packet) (e : PathFault) → FirstFault code packet e → e ≢ OutOfMemory
+  first_other (Start branch privilege a) e f = others_position a e f
+  first_other (Address report) e f = elim f [ ]
+  first_other (MapAddress count map report) e f = elim f [ ]
+  first_other (Map map) e f = elim f [ ]
+  first_other (Context privilege) e f = elim f [ ]
+  first_other (Support enabled status) e f = elim f [ ]
+
+  fault_other : (skipped : ℕ) (packet : Packet) (earlier : List Packet) (legs : List (List StepRow)) (e : PathFault) → Fault code skipped packet earlier legs e → e ≢ OutOfMemory
+  fault_other skipped packet [] legs e f = first_other packet e f
+  fault_other skipped packet (last ∷ earlier) legs e f = by_other packet (waiting (last ∷ earlier)) (met_by code skipped (last ∷ earlier) legs) e f
+
+  refused_other : (packets : List Packet) (from pc : ℕ) (e : PathFault) → IsRefused code packets from pc e → e ≢ OutOfMemory
+  refused_other packets from pc e (inl (none, is)) = λ m. cc
+  refused_other packets from pc e (inr (skipped, window, inl s)) = fault_other skipped s.packet s.earlier s.legs e s.fault
+  refused_other packets from pc e (inr (skipped, window, inr s)) =
+      let p = place code (reverse (drop skipped packets)) s.legs in
+      others_gap (length packets) (bits code (reverse (drop skipped packets))) p pc (End p.at pc) (λ m. cc) e s.end
+
+pub refused_otherwise : (packets : Packets) (dump : Dump) (from : ℕ) (e : PathFault) → IsRefusedBy packets dump from e → e ≢ OutOfMemory
+refused_otherwise packets dump from e (inl (list, refused, fails, is)) = λ m. cc
+refused_otherwise packets dump from e (inr (list, hold, f)) = refused_other (exe_of dump) list from (pc_of dump) e f

@@ -1,0 +1,160 @@
+-- Walks over one packet more.
+use Rattle.std.proofs.Common.{◌≡◌, ℕ, ◌+◌, ◌<◌, ◌≤◌, List, [], ◌∷◌, ◌++◌, length, reverse, Bool, false, Option, Some, None, Ok, Err, refl, sym, ◌∙◌, ap, subst, append_assoc, length-append, arith, ◌⊎◌, inl, inr}
+use Rattle.std.specs.Prelude.{IfSome, IfNone}
+use Rattle.std.proofs.lemmas.List.{reverse-append, reverse-reverse, length-reverse, append-nil}
+use Rattle.rept_trace.specs.declared.fault.TraceFault.{TraceFault}
+use Rattle.rept_trace.specs.Stream.{Hold, Answers}
+use Rattle.rept_trace.proofs.Frames.{one_answer, one_packet}
+use Rattle.rept_trace.proofs.Going.{not_both}
+use Rattle.rept_path.proofs.Followed.{same_position}
+use Rattle.rept_elf.specs.Segments.{ElfSegment}
+use Rattle.rept_path.specs.declared.fault.PathFault.{PathFault}
+use Rattle.rept_path.specs.declared.fault.PathFault.TheVariants.{OutOfMemory}
+use Rattle.rept_isa.specs.declared.row.StepRow.{StepRow}
+use Rattle.rept_trace.specs.declared.packet.Packet.{Packet}
+use Rattle.rept_trace.specs.declared.packet.Packet.TheVariants.{Start}
+use Rattle.rept_path.specs.declared.walk.Walk.{Walk}
+use Rattle.rept_path.specs.Packets.{bits, bits_of, reported, reported_after, waiting, waits_after}
+use Rattle.rept_path.specs.Moves.{position}
+use Rattle.rept_path.specs.Route.{Leg, LegBy, Fault, FaultBy, FirstFault, met_by, marked, place}
+use Rattle.rept_path.specs.State.{here, met, Followed, Stands}
+use Rattle.rept_path.specs.Trace.{StopsAt}
+
+-- a walk that stands at the address of a start packet
+pub begun : (code : List ElfSegment) (skipped : ℕ) (branch : Bool) (privilege a at : ℕ) (w : Walk) → position code a ≡ Ok at → w.at ≡ a → w.steps ≡ [] → w.bits.items ≡ bits_of code (Start branch privilege a) → length w.bits.items ≤ 1 → w.used ≡ 0 → w.reported ≡ a → w.inferred ≡ false → w.waiting ≡ false
+    → Stands code skipped (Start branch privilege a ∷ []) ([] ∷ []) w
+unfolding bits reported marked waiting place
+begun code skipped branch privilege a at w admitted stands none all size used report plain runs =
+    let same = same_position code a at admitted in
+    record {
+      route = ((rw same at admitted, refl), tt);
+      seen = (let e : reverse w.steps ≡ [] = ap reverse none in cc);
+      counts = record { enough = rw used (omega arith); few = rw none (omega arith); spare = rw used (omega arith); linked = rw none tt };
+      bits = all;
+      reported = report;
+      waiting = runs;
+      marked = plain;
+      rests = rw used size;
+    }
+
+-- a packet that is not the first has its leg
+pub leg_after : (code : List ElfSegment) (skipped : ℕ) (packet : Packet) (earlier : List Packet) (legs : List (List StepRow)) (leg : List StepRow) → 0 < length earlier → LegBy code packet (waiting earlier) (met_by code skipped earlier legs) leg → Leg code skipped packet earlier legs leg
+leg_after code skipped packet [] legs leg some h = absurd (omega arith)
+leg_after code skipped packet (last ∷ earlier) legs leg some h = h
+
+fault_after : (code : List ElfSegment) (skipped : ℕ) (packet : Packet) (earlier : List Packet) (legs : List (List StepRow)) (e : PathFault) → 0 < length earlier → FaultBy code packet (waiting earlier) (met_by code skipped earlier legs) e → Fault code skipped packet earlier legs e
+fault_after code skipped packet [] legs e some h = absurd (omega arith)
+fault_after code skipped packet (last ∷ earlier) legs e some h = h
+
+module _ (code : List ElfSegment) (skipped k : ℕ) (packet : Packet) (earlier : List Packet) (legs : List (List StepRow)) (old : Walk) (some : 0 < length earlier) (number : k ≡ skipped + length earlier) (s : Stands code skipped earlier legs old) where
+  same_met : met k old ≡ met_by code skipped earlier legs
+  same_met = let a = s.seen in let b = s.bits in let c = s.reported in let d = s.marked in cc
+
+  pub stands_on : (new : Walk) → (f : Followed code k packet old new) → Stands code skipped (packet ∷ earlier) (f.leg ∷ legs) new
+  unfolding bits reported marked waiting place
+  stands_on new f =
+      let all : new.bits.items ≡ bits code (packet ∷ earlier) = rw (← s.bits, ← s.waiting) f.bits in
+      let report : new.reported ≡ reported (packet ∷ earlier) = f.reported ∙ ap (λ (r : ℕ). reported_after packet r) s.reported in
+      let seen : here new ≡ place code (packet ∷ earlier) (f.leg ∷ legs) = rw (← s.seen, ← s.waiting) f.seen in
+      let leg : LegBy code packet (waiting earlier) (met_by code skipped earlier legs) f.leg = rw (← s.waiting, ← same_met) f.goes in
+      record {
+        route = (leg_after code skipped packet earlier legs f.leg some leg, s.route);
+        seen = seen;
+        counts = f.counts;
+        bits = all;
+        reported = report;
+        waiting = f.waiting ∙ ap (λ (b : Bool). waits_after packet b) s.waiting;
+        marked = rw (← s.marked, ← all, ← report, ← seen) f.marked;
+        rests = f.rests;
+      }
+
+  pub faults : (e : PathFault) → FaultBy code packet old.waiting (met k old) e → Fault code skipped packet earlier legs e
+  faults e f = fault_after code skipped packet earlier legs e some (rw (← s.waiting, ← same_met) f)
+
+-- A walk over the packets of a window: those that it went over, newest first, and those that the bytes still hold.
+pub record Going (code : List ElfSegment) (skipped : ℕ) (window : List Packet) (number : ℕ) (rest : List ℕ) (w : Walk) : Type 0 where
+  pub done : List Packet
+  pub more : List Packet
+  pub legs : List (List StepRow)
+  pub hold : Hold rest more
+  pub whole : window ≡ reverse done ++ more
+  pub stands : Stands code skipped done legs w
+  pub numbered : number ≡ skipped + length done
+  pub some : 0 < length done
+
+pub goes_first : (code : List ElfSegment) (skipped : ℕ) (first : Packet) (later : List Packet) (rest : List ℕ) (w : Walk) (legs : List (List StepRow)) → Hold rest later → Stands code skipped (first ∷ []) legs w → Going code skipped (first ∷ later) (skipped + 1) rest w
+goes_first code skipped first later rest w legs h s = record { done = first ∷ []; more = later; legs = legs; hold = h; whole = refl; stands = s; numbered = refl; some = omega arith }
+
+-- what is left begins with the packet that is read
+taken : (k n : ℕ) (rest after : List ℕ) (packet : Packet) (more : List Packet) → Hold rest more → Answers k rest (Ok (Some packet)) n after → (later : List Packet) × (more ≡ packet ∷ later) × Hold after later
+taken k n rest after packet [] h a = let o = one_answer k rest (Ok None) (Ok (Some packet)) k n rest after (h, refl, refl) a in absurd (let e = o.0 in cc)
+taken k n rest after packet (p ∷ more) h a =
+    let o = one_packet rest p packet h.0 after h.1 a.0 in
+    (more, ap (λ (q : Packet). q ∷ more) o.0, subst (λ (l : List ℕ). Hold l more) o.1 h.2)
+
+pub none_left : (k n : ℕ) (rest after : List ℕ) (more : List Packet) → Hold rest more → Answers k rest (Ok None) n after → more ≡ []
+none_left k n rest after [] h a = refl
+none_left k n rest after (p ∷ more) h a = let o = one_answer k rest (Ok (Some p)) (Ok None) (k + 1) n h.0 after (h.1, refl) a in absurd (let e = o.0 in cc)
+
+pub no_fault : (k n : ℕ) (rest after : List ℕ) (more : List Packet) (fault : TraceFault) → Hold rest more → Answers k rest (Err fault) n after → ⊥
+no_fault k n rest after more fault h a = not_both k rest more [] fault h a.0
+
+pub some_of : (k n : ℕ) (rest after : List ℕ) (next : Option Packet) → Answers k rest (Ok next) n after → IfSome next (λ packet. Answers k rest (Ok (Some packet)) n after)
+some_of k n rest after None a = tt
+some_of k n rest after (Some packet) a = a
+
+pub none_of : (k n : ℕ) (rest after : List ℕ) (next : Option Packet) → Answers k rest (Ok next) n after → IfNone next (Answers k rest (Ok None) n after)
+none_of k n rest after None a = a
+none_of k n rest after (Some packet) a = tt
+
+module _ (code : List ElfSegment) (skipped : ℕ) (window : List Packet) (number : ℕ) (rest : List ℕ) (w : Walk) (g : Going code skipped window number rest w) where
+  pub goes_on : (k n : ℕ) (after : List ℕ) (packet : Packet) (new : Walk) → Answers k rest (Ok (Some packet)) n after → Followed code number packet w new → Going code skipped window (number + 1) after new
+  goes_on k n after packet new a f =
+      let t = taken k n rest after packet g.more g.hold a in
+      let numbered = g.numbered in
+      record {
+        done = packet ∷ g.done;
+        more = t.0;
+        legs = f.leg ∷ g.legs;
+        hold = t.2;
+        whole = g.whole ∙ ap (λ (xs : List Packet). reverse g.done ++ xs) t.1 ∙ sym (append_assoc (reverse g.done) (packet ∷ []) t.0) ∙ ap (λ (xs : List Packet). xs ++ t.0) (sym (reverse-append (packet ∷ []) g.done));
+        stands = stands_on code skipped number packet g.done g.legs w g.some g.numbered g.stands new f;
+        numbered = omega (arith, numbered);
+        some = omega arith;
+      }
+
+  pub stops_or : (k n : ℕ) (after : List ℕ) (packet : Packet) (e : PathFault) → Answers k rest (Ok (Some packet)) n after → (e ≡ OutOfMemory) ⊎ FaultBy code packet w.waiting (met number w) e → (e ≡ OutOfMemory) ⊎ StopsAt code skipped window e
+  stops_or k n after packet e a h =
+      let t = taken k n rest after packet g.more g.hold a in
+      elim h [
+        | inl m ↦ inl m
+        | inr f ↦ inr (record {
+          earlier = g.done;
+          packet = packet;
+          later = t.0;
+          cut = g.whole ∙ ap (λ (xs : List Packet). reverse g.done ++ xs) t.1;
+          legs = g.legs;
+          route = g.stands.route;
+          fault = faults code skipped number packet g.done g.legs w g.some g.numbered g.stands e f;
+        })
+      ]
+
+  pub room : (k n : ℕ) (after : List ℕ) (packet : Packet) → Answers k rest (Ok (Some packet)) n after → number + 1 ≤ skipped + length window
+  room k n after packet a =
+      let t = taken k n rest after packet g.more g.hold a in
+      let numbered = g.numbered in
+      let whole = ap (length {A = Packet}) g.whole in
+      let more = ap (length {A = Packet}) t.1 in
+      omega (arith, numbered, whole, more, length-append (reverse g.done) g.more, length-reverse g.done)
+
+  pub arrives : g.more ≡ [] → (legs : List (List StepRow)) × Stands code skipped (reverse window) legs w
+  arrives none =
+      let e : reverse window ≡ g.done = ap reverse (g.whole ∙ ap (λ (xs : List Packet). reverse g.done ++ xs) none ∙ append-nil (reverse g.done)) ∙ reverse-reverse g.done in
+      (g.legs, subst (λ (xs : List Packet). Stands code skipped xs g.legs w) (sym e) g.stands)
+
+-- the first packet
+pub first_or : (code : List ElfSegment) (skipped : ℕ) (first : Packet) (later : List Packet) (e : PathFault) → (e ≡ OutOfMemory) ⊎ FirstFault code first e → (e ≡ OutOfMemory) ⊎ StopsAt code skipped (first ∷ later) e
+first_or code skipped first later e h = elim h [
+  | inl m ↦ inl m
+  | inr f ↦ inr (record { earlier = []; packet = first; later = later; cut = refl; legs = []; route = tt; fault = f })
+]

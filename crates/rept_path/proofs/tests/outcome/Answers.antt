@@ -1,0 +1,11 @@
+use Rattle.std.proofs.Common.{◌≡◌, ℕ, ◌++◌, length, arith, ap, length-append}
+use Rattle.rept_trace.specs.Stream.{header}
+use Rattle.rept_trace.specs.Packets.{rest_of}
+use Rattle.rept_path.proofs.tests.outcome.Goals as goal
+
+pub rebuild-requires : goal.rebuild-requires
+rebuild-requires c =
+    let whole : length c.args.trace.now ≡ length (header ++ rest_of c.in_ok-open.field-0) = ap (length {A = ℕ}) c.in_ok-open.ensures.ok.0 in
+    let parts = length-append header (rest_of c.in_ok-open.field-0) in
+    let few = c.if-trace-ge4294967296.false in
+    omega (arith, whole, parts, few)

@@ -1,0 +1,14 @@
+pub mod Code
+pub mod Crossed
+pub mod Gap
+pub mod Index
+pub mod Legs
+pub mod Moves
+pub mod Packets
+pub mod Route
+pub mod Rows
+pub mod State
+pub mod Stops
+pub mod Survey
+pub mod Trace
+pub mod Traced

@@ -1,0 +1,111 @@
+-- One move, and where moves stop: in the reference decoder of Efficient Trace for RISC-V 2.0 `next_pc`, and the conditions under
+-- which `follow_execution_path` ends. Lists of rows are newest first.
+use Rattle.std.specs.Prelude.{◌≡◌, ℕ, ◌+◌, ◌-◌, ◌==◌, nat_le, ℤ, List, [], ◌∷◌, length, slice_get, Option, Some, None, Result, Ok, Err, Bool, true, false, not, ◌&&◌, ◌||◌, if◌then◌else◌}
+use Rattle.rept_elf.specs.Segments.{ElfSegment}
+use Rattle.rept_path.specs.declared.flow.Flow.TheVariants.{Plain, Branch, Jump, Fixed, Far, Call, Stop}
+use Rattle.rept_path.specs.declared.fault.PathFault.{PathFault}
+use Rattle.rept_path.specs.declared.fault.PathFault.TheVariants.{NoBranchBit, JumpInMap, TooLong, Trapped}
+use Rattle.rept_path.specs.declared.aim.Aim.{Aim}
+use Rattle.rept_path.specs.declared.aim.Aim.TheVariants.{Jumped, Start, Report, LastBit}
+use Rattle.rept_isa.specs.declared.row.StepRow.{StepRow}
+use Rattle.rept_isa.specs.Numbers.{plus, following}
+use Rattle.rept_path.specs.declared.flow.Flow.{Flow}
+use Rattle.rept_path.specs.Code.{look, flow_of, jumps_far, is_branch, branches_at}
+
+infixl 10 ◌>>=◌
+abbrev pub ◌>>=◌ : {A B : Type 0} → Result A PathFault → (A → Result B PathFault) → Result B PathFault
+(Ok x) >>= f = f x
+(Err e) >>= f = Err e
+
+-- where a route has come: its last position, its rows, and how many branches of the stretch they pass
+pub record Place : Type 0 where
+  pub at : ℕ
+  pub rows : List StepRow
+  pub branches : ℕ
+
+-- the place after one row more, and after a leg
+abbrev pub after : List ElfSegment → Place → StepRow → Place
+after code p row = record { at = row.next; rows = row ∷ p.rows; branches = p.branches + branches_at code row.at }
+
+abbrev pub along : List ElfSegment → Place → List StepRow → Place
+along code p [] = p
+along code p (row ∷ leg) = after code (along code p leg) row
+
+-- what leads the moves: the packet's number, where an uninferable jump goes, and all branch bits of the stretch
+pub record Lead : Type 0 where
+  pub packet : ℕ
+  pub target : Option ℕ
+  pub bits : List Bool
+
+abbrev pub by_bit : ℕ → ℕ → ℤ → Option Bool → Result ℕ PathFault
+by_bit k p imm None = Err (NoBranchBit k p)
+by_bit k p imm (Some false) = Ok (plus p imm)
+by_bit k p imm (Some true) = Ok (following p)
+
+abbrev pub by_target : ℕ → ℕ → Option ℕ → Result ℕ PathFault
+by_target k p None = Err (JumpInMap k p)
+by_target k p (Some a) = Ok a
+
+-- the address after p in packet k, by what stands at p, the bit of a branch there and where an uninferable jump goes
+abbrev pub successor : ℕ → ℕ → Flow → Option Bool → Option ℕ → Result ℕ PathFault
+successor k p Plain bit target = Ok (following p)
+successor k p (Jump imm) bit target = Ok (plus p imm)
+successor k p (Fixed a) bit target = Ok a
+successor k p (Branch imm) bit target = by_bit k p imm bit
+successor k p Far bit target = by_target k p target
+successor k p Call bit target = Err (Trapped k p)
+successor k p Stop bit target = Err (Trapped k p)
+
+-- an address that becomes a position
+abbrev pub position : List ElfSegment → ℕ → Result ℕ PathFault
+position code a = look code a >>= (λ i. Ok a)
+
+-- the position after a place: the bit of a branch is the one whose number is the branch's in its stretch, 0 for taken
+unfoldable pub next_of : List ElfSegment → Lead → Place → Result ℕ PathFault
+next_of code lead p = do
+  i ← look code p.at
+  a ← successor lead.packet p.at (flow_of i) (slice_get lead.bits p.branches) lead.target
+  if nat_le 65536 (length p.rows) then Err (TooLong lead.packet) else position code a
+
+-- the row of a move is from a place to the position after it
+pub record IsMove (code : List ElfSegment) (lead : Lead) (p : Place) (row : StepRow) : Type 0 where
+  pub next : next_of code lead p ≡ Ok row.next
+  pub at : row.at ≡ p.at
+  pub instr : look code p.at ≡ Ok row.instr
+  pub call : row.call ≡ false
+
+-- whether the last row is that of an uninferable jump
+unfoldable pub by_jump : List StepRow → Bool
+by_jump [] = false
+by_jump (row ∷ rows) = jumps_far (flow_of row.instr)
+
+-- how many bits the branches before the position have left
+abbrev pub unused : List Bool → Place → ℕ
+unused bits p = length bits - p.branches
+
+-- whether bits fit at the position: a branch there keeps its bit, which is the only one that is left
+unfoldable pub bits_fit : List ElfSegment → List Bool → Place → Bool
+bits_fit code bits p = unused bits p == branches_at code p.at
+
+-- whether the place is a stop: the target of an uninferable jump, the address of a start packet or the reported one, which counts
+-- where `notify` says something or `updiscon` says nothing, or the branch of the last bit of a map
+unfoldable pub stops : List ElfSegment → List Bool → Aim → Place → Bool
+stops code bits Jumped p = by_jump p.rows
+stops code bits (Start a) p = by_jump p.rows || (p.at == a && bits_fit code bits p)
+stops code bits (Report a notify updiscon) p = by_jump p.rows || (p.at == a && bits_fit code bits p && (notify || not updiscon))
+stops code bits LastBit p = is_branch code p.at && bits_fit code bits p
+
+-- At a stop by an uninferable jump the bits must fit, but for one that ends the first phase.
+abbrev pub wants_fit : Aim → Bool
+wants_fit Jumped = false
+wants_fit (Start a) = true
+wants_fit (Report a notify updiscon) = true
+wants_fit LastBit = false
+
+unfoldable pub misfits : List ElfSegment → List Bool → Aim → Place → Bool
+misfits code bits aim p = wants_fit aim && by_jump p.rows && not (bits_fit code bits p)
+
+-- whether the place is a stop only since it is at the reported address and `updiscon` says nothing, so that the program may come
+-- there again (`inferred_address` in the reference decoder)
+unfoldable pub is_inferred : List ElfSegment → List Bool → ℕ → Bool → Bool → Place → Bool
+is_inferred code bits a notify updiscon p = p.at == a && bits_fit code bits p && not updiscon && not notify && not (by_jump p.rows)

@@ -1,0 +1,70 @@
+use rept_trace::TraceFault;
+use std::alloc::{AllocError, AllocFailed};
+use thiserror::Error;
+
+/// Why a trace has no path over the program. Packets are numbered from 0. What comes first along the trace is the fault,
+/// but for `Packet` and `NoStart`, which come before all others.
+#[derive(Clone, Copy, Debug, PartialEq, Eq, Error)]
+pub enum PathFault {
+    /// No start packet may begin the path: the count of all packets. Or this packet comes where only a start packet may.
+    #[error("no start packet before packet {0}")]
+    NoStart(u32),
+    /// No code is at this address.
+    #[error("no code at {0:#010x}")]
+    NotCode(u32),
+    /// The word at this address, the second number, spells no instruction.
+    #[error("no instruction at {0:#010x}: {1:#010x}")]
+    NotRv32im(u32, u32),
+    /// The address is no multiple of 4.
+    #[error("a path to {0:#010x}, which is no multiple of 4")]
+    Unaligned(u32),
+    /// On the way of this packet there is no bit for the branch at this address.
+    #[error("packet {0} has no bit for the branch at {1:#010x}")]
+    NoBranchBit(u32, u32),
+    /// So many branch bits are not used where an uninferable jump ends the way of this packet.
+    #[error("packet {0} leaves {1} branch bits")]
+    BranchesLeft(u32, u32),
+    /// This packet tells branches alone, and its way meets the uninferable jump at this address.
+    #[error("packet {0} doesn't say where the jump at {1:#010x} goes")]
+    JumpInMap(u32, u32),
+    /// This start packet doesn't go on from the last address before it, the second number, at its own, the third.
+    #[error("packet {0} doesn't go on from {1:#010x} at {2:#010x}")]
+    Gap(u32, u32, u32),
+    /// The path doesn't go on from its last address, the first number, to the dump's program counter, the second.
+    #[error("the path ends at {0:#010x} and not before {1:#010x}")]
+    End(u32, u32),
+    /// On the way of this packet, or behind the last of so many packets, there are more than 65,536 steps.
+    #[error("more than 65536 steps at packet {0}")]
+    TooLong(u32),
+    /// A packet is refused.
+    #[error("{0}")]
+    Packet(TraceFault),
+    /// The way of this packet meets the ECALL or EBREAK at this address.
+    #[error("packet {0} goes on from the trap at {1:#010x}")]
+    Trapped(u32, u32),
+    /// No memory was left.
+    #[error("out of memory")]
+    OutOfMemory,
+}
+
+impl From<AllocError> for PathFault {
+    ghost use Rattle.std.specs.Prelude.{◌≡◌};
+    ghost use Rattle.rept_path.specs.declared.fault.PathFault.TheVariants.{OutOfMemory};
+
+    ghost from_gives = { λ _ e. e ≡ OutOfMemory };
+
+    fn from(_e: AllocError) -> PathFault {
+        PathFault::OutOfMemory
+    }
+}
+
+impl<T: Drop> From<AllocFailed<T>> for PathFault {
+    ghost use Rattle.std.specs.Prelude.{◌≡◌};
+    ghost use Rattle.rept_path.specs.declared.fault.PathFault.TheVariants.{OutOfMemory};
+
+    ghost from_gives = { λ _ e. e ≡ OutOfMemory };
+
+    fn from(_e: AllocFailed<T>) -> PathFault {
+        PathFault::OutOfMemory
+    }
+}

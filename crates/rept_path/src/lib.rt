@@ -1,0 +1,18 @@
+// The path of a program, rebuilt from its instruction trace.
+#![tactic(auto)]
+
+pub mod aim;
+mod bits;
+pub mod fault;
+pub mod flow;
+pub mod laws;
+mod look;
+mod rebuilding;
+mod walk;
+mod window;
+
+pub use fault::PathFault;
+pub use rebuilding::{Path, rebuild};
+
+#[cfg(test)]
+mod tests;

@@ -1,0 +1,161 @@
+ghost use Rattle.std.specs.Prelude.{◌≡◌, ◌≢◌, ◌⊎◌, ◌<◌, ◌+◌, ◌^◌, ◌∷◌, [], List, ℕ, length, reverse, IfOk, IfErr, IfSome, IfNone, MatchResult, Ok, Some, None, true};
+ghost use Rattle.rept_isa.specs.declared.row.StepRow.{StepRow};
+ghost use Rattle.rept_dump.specs.Dump.{exe_of, registers_of};
+ghost use Rattle.rept_elf.specs.Header.{word_at};
+ghost use Rattle.rept_trace.specs.declared.packet.Packet.{Packet};
+ghost use Rattle.rept_trace.specs.declared.fault.TraceFault.{TraceFault};
+ghost use Rattle.rept_trace.specs.Packets.{rest_of, number_of};
+ghost use Rattle.rept_trace.specs.Stream.{Hold, Answers};
+ghost use Rattle.rept_steps.specs.Linked.{AreLinked, EndBefore};
+ghost use Rattle.rept_path.specs.declared.fault.PathFault.{PathFault};
+ghost use Rattle.rept_path.specs.declared.fault.PathFault.TheVariants.{OutOfMemory};
+ghost use Rattle.rept_path.specs.Route.{FirstFault};
+ghost use Rattle.rept_path.specs.Rows.{CarryCode};
+ghost use Rattle.rept_path.specs.State.{Stands};
+ghost use Rattle.rept_path.specs.Stops.{HaveStops};
+ghost use Rattle.rept_path.specs.Trace.{starts, StopsAt, IsPath, IsRefused};
+ghost use Rattle.rept_path.specs.Traced.{pc_of, IsPathOf, IsRefusedBy};
+
+use crate::bits::push_branch;
+use crate::fault::PathFault;
+use crate::look::position_of;
+use crate::walk::Walk;
+use crate::window::{Begin, go_through};
+use rept_dump::Dump;
+use rept_steps::Steps;
+use rept_trace::{Packet, Packets};
+use std::alloc::Global;
+
+/// The path of a program up to its crash.
+#[derive(Drop)]
+pub struct Path {
+    /// The executed steps, the first one first.
+    pub steps: Steps,
+    /// How many packets of the trace stand before the start packet with which the path begins.
+    pub skipped: u32,
+}
+
+/// A walk that stands at the address of the first packet.
+fn begin_walk(
+    alloc: Global,
+    dump: &Dump<'_>,
+    skipped: u32,
+    packet: Packet,
+) -> Result<Walk, PathFault>
+    requires { starts (Some packet) ≡ true }
+    ensures ok { IfOk result (λ w. (legs : List (List StepRow)) × Stands (exe_of dump.now) skipped (packet ∷ []) legs w) }
+    ensures err { IfErr result (λ e. (e ≡ OutOfMemory) ⊎ FirstFault (exe_of dump.now) packet e) }
+{
+    match packet {
+        Packet::Start {
+            branch,
+            address,
+            ..
+        } => {
+            position_of(dump, address)?;
+            let mut bits = Vec::new(alloc);
+            push_branch(&mut bits, dump, address, branch)?;
+            Ok(Walk {
+                at: address,
+                steps: Steps::new(alloc),
+                bits,
+                used: 0,
+                reported: address,
+                inferred: false,
+                waiting: false,
+            })
+        }
+        _ => unreachable!(),
+    }
+}
+
+/// The next packet of bytes that hold whole packets alone.
+fn next_packet(rest: &mut Packets<'_>) -> Option<Packet>
+    requires { (more : List Packet) × Hold (rest_of rest.old) more }
+    ensures some { IfSome result (λ packet. Answers (number_of rest.old) (rest_of rest.old) (Ok (Some packet)) (number_of rest.new) (rest_of rest.new)) }
+    ensures none { IfNone result (Answers (number_of rest.old) (rest_of rest.old) (Ok None) (number_of rest.new) (rest_of rest.new)) }
+{
+    if let Ok(next) = rest.next() {
+        return next;
+    }
+    None
+}
+
+/// A walk over the packets of a window.
+fn walk_over(alloc: Global, dump: &Dump<'_>, begin: Begin<'_>) -> Result<Walk, PathFault>
+    requires starts { starts (Some begin.first) ≡ true }
+    requires few { (later : List Packet) × Hold (rest_of begin.later) later × (begin.number + 1 + length later < 2 ^ 32) }
+    ensures ok { (later : List Packet) → Hold (rest_of begin.entry.later) later → IfOk result (λ w. (legs : List (List StepRow)) × Stands (exe_of dump.now) begin.entry.number (reverse (begin.entry.first ∷ later)) legs w) }
+    ensures err { (later : List Packet) → Hold (rest_of begin.entry.later) later → IfErr result (λ e. (e ≡ OutOfMemory) ⊎ StopsAt (exe_of dump.now) begin.entry.number (begin.entry.first ∷ later) e) }
+{
+    let mut walk = begin_walk(alloc, dump, begin.number, begin.first)?;
+    let mut rest = begin.later;
+    let mut number = begin.number + 1;
+    while let Some(packet) = next_packet(&mut rest) {
+        walk.follow(dump, number, packet)?;
+        number += 1;
+    }
+    Ok(walk)
+}
+
+/// As `rebuild`.
+fn rebuild_once(
+    alloc: Global,
+    packets: Packets<'_>,
+    dump: &Dump<'_>,
+    from: u32,
+) -> Result<Path, PathFault>
+    requires { length (rest_of packets) < 2 ^ 32 }
+    ensures path { IfOk result (λ path. IsPathOf packets.entry dump.now from path.skipped path.steps) }
+    ensures some { IfOk result (λ path. 0 < length path.steps) }
+    ensures linked { IfOk result (λ path. AreLinked path.steps) }
+    ensures ends { IfOk result (λ path. EndBefore path.steps (pc_of dump.now)) }
+    ensures instructions { IfOk result (λ path. CarryCode (exe_of dump.now) path.steps) }
+    ensures refusal { IfErr result (λ e. (e ≡ OutOfMemory) ⊎ IsRefusedBy packets.entry dump.now from e) }
+{
+    let survey = match go_through(packets, from) {
+        Ok(survey) => survey,
+        Err(fault) => return Err(PathFault::Packet(fault)),
+    };
+    let Some(begin) = survey.begin else {
+        return Err(PathFault::NoStart(survey.count));
+    };
+    let mut walk = walk_over(alloc, dump, begin)?;
+    let pc = dump.status().pc;
+    let otherwise = PathFault::End(walk.at, pc);
+    walk.join(dump, survey.count, pc, otherwise)?;
+    Ok(Path {
+        steps: walk.steps,
+        skipped: begin.number,
+    })
+}
+
+/// The path that a trace tells of the program of a dump: the steps from the first start packet whose number is `from` or more
+/// and behind which no packets were lost, to the dump's program counter (Efficient Trace for RISC-V 2.0, reference decoder;
+/// `docs/PATH.md` explains the rules). `packets` is as `Packets::open` gave it, of fewer than 2^32 bytes. A `Packet` fault comes
+/// before any other; else the fault is the one that comes first along the trace. `OutOfMemory` alone may come at any time. The
+/// memory that is taken grows with the steps, and not with the packets.
+pub fn rebuild(
+    alloc: Global,
+    packets: Packets<'_>,
+    dump: &Dump<'_>,
+    from: u32,
+) -> Result<Path, PathFault>
+    requires { length (rest_of packets) < 2 ^ 32 }
+    ensures path { IfOk result (λ path. IsPathOf packets.entry dump.now from path.skipped path.steps) }
+    ensures some { IfOk result (λ path. 0 < length path.steps) }
+    ensures linked { IfOk result (λ path. AreLinked path.steps) }
+    ensures ends { IfOk result (λ path. EndBefore path.steps (pc_of dump.now)) }
+    ensures instructions { IfOk result (λ path. CarryCode (exe_of dump.now) path.steps) }
+    ensures refusal { IfErr result (λ e. (e ≡ OutOfMemory) ⊎ IsRefusedBy packets.entry dump.now from e) }
+
+    // The same by index: each packet has its stop on the path.
+    ensures stops { IfOk result (λ path. HaveStops packets.entry dump.now from path.skipped path.steps) }
+
+    // There is no other path, and no other refusal. Want of memory is none of the definition's.
+    ensures only_path { (skipped : ℕ) (rows : List StepRow) → IsPathOf packets.entry dump.now from skipped rows → MatchResult result (λ path. (path.skipped ≡ skipped) × (path.steps ≡ rows)) (λ e. e ≡ OutOfMemory) }
+    ensures only_refusal { (fault : PathFault) → IsRefusedBy packets.entry dump.now from fault → MatchResult result (λ _. ⊥) (λ e. (e ≡ OutOfMemory) ⊎ (e ≡ fault)) }
+    ensures other { (fault : PathFault) → IsRefusedBy packets.entry dump.now from fault → fault ≢ OutOfMemory }
+{
+    rebuild_once(alloc, packets, dump, from)
+}

@@ -1,0 +1,215 @@
+mod cases;
+mod sent;
+
+use crate::{PathFault, rebuild};
+use cases::{
+    Case, JOINS, LONG, LOOP, LongCase, MAPS, PHASES, REFUSALS, STARTS, STOPS, THREE, WAITING,
+    WINDOWS, Wanted, Window,
+};
+use rept_dump::Dump;
+use rept_elf::{Image, Want};
+use rept_isa::{Instr, StepRow, decode};
+use rept_trace::Packets;
+use sent::{Sent, push_sent};
+use std::alloc::{AllocError, Global};
+use std::process::Abort;
+use std::test::Fail;
+
+/// An executable of one code segment at 0x10000, by the ELF specification.
+fn executable(alloc: Global, code: &[u32]) -> Result<Vec<u8>, AllocError> {
+    let Ok(count) = u32::try_from(code.len()) else {
+        return Err(AllocError);
+    };
+    let size = count.wrapping_mul(4).to_le_bytes();
+    let mut file = Vec::from_slice(
+        alloc,
+        b"\x7fELF\x01\x01\x01\0\0\0\0\0\0\0\0\0\x02\0\xf3\0\x01\0\0\0\0\0\x01\0\x34\0\0\0\0\0\0\0\0\0\0\0\x34\0\x20\0\x01\0\0\0\0\0\0\0",
+    )?;
+    file.extend_from_slice(b"\x01\0\0\0\x54\0\0\0\0\0\x01\0\0\0\x01\0")?;
+    file.extend_from_slice(&size)?;
+    file.extend_from_slice(&size)?;
+    file.extend_from_slice(b"\x05\0\0\0\x04\0\0\0")?;
+    for word in code {
+        file.extend_from_slice(&word.to_le_bytes())?;
+    }
+    Ok(file)
+}
+
+/// A core file of one status note, whose registers but for the program counter are 0.
+fn core_file(alloc: Global, pc: u32) -> Result<Vec<u8>, AllocError> {
+    let mut file = Vec::from_slice(
+        alloc,
+        b"\x7fELF\x01\x01\x01\0\0\0\0\0\0\0\0\0\x04\0\xf3\0\x01\0\0\0\0\0\0\0\x34\0\0\0\0\0\0\0\0\0\0\0\x34\0\x20\0\x01\0\0\0\0\0\0\0",
+    )?;
+    file.extend_from_slice(
+        b"\x04\0\0\0\x54\0\0\0\0\0\0\0\0\0\0\0\xe0\0\0\0\0\0\0\0\0\0\0\0\0\0\0\0",
+    )?;
+    file.extend_from_slice(b"\x05\0\0\0\xcc\0\0\0\x01\0\0\0CORE\0\0\0\0")?;
+    file.extend_from_slice(&[0; 72])?;
+    file.extend_from_slice(&pc.to_le_bytes())?;
+    file.extend_from_slice(&[0; 128])?;
+    Ok(file)
+}
+
+/// The skipped packets and the steps of a path, or why there is none.
+type Outcome = Result<(u32, Vec<StepRow>), PathFault>;
+
+/// What comes of a trace over a program whose dump has this program counter.
+fn outcome(alloc: Global, code: &[u32], trace: &[u8], pc: u32, from: u32) -> Result<Outcome, Fail> {
+    if trace.len() >= 0x1_0000_0000 {
+        return Ok(Err(PathFault::OutOfMemory));
+    }
+    let exe = executable(alloc, code)?;
+    let core = core_file(alloc, pc)?;
+    let dump = Dump::read(
+        Image::read(exe.as_slice(), Want::Exec)?,
+        Image::read(core.as_slice(), Want::Core)?,
+    )?;
+    match rebuild(alloc, Packets::open(trace)?, &dump, from) {
+        Ok(path) => {
+            let rows = path.steps.rows().to_vec(alloc)?;
+            Ok(Ok((path.skipped, rows)))
+        }
+        Err(fault) => Ok(Err(fault)),
+    }
+}
+
+/// The steps of a program at these addresses, the last of which is where they lead.
+fn steps_of(alloc: Global, code: &[u32], addresses: &[u32]) -> Result<Vec<StepRow>, Fail> {
+    let mut rows = Vec::new(alloc);
+    for pair in addresses.windows(2) {
+        let [at, next] = *pair else {
+            continue;
+        };
+        let word = code.get((at.wrapping_sub(0x10000) / 4) as usize);
+        let Some(instr) = word.and_then(|word| decode(*word)) else {
+            continue;
+        };
+        rows.push(StepRow {
+            at,
+            instr,
+            next,
+            call: instr == Instr::Ecall,
+        })?;
+    }
+    Ok(rows)
+}
+
+/// What is wanted of a path over a program to this program counter.
+fn wanted(alloc: Global, code: &[u32], pc: u32, wanted: Wanted) -> Result<Outcome, Fail> {
+    let mut addresses = Vec::new(alloc);
+    let mut skipped = 0;
+    match wanted {
+        Wanted::Refusal(fault) => return Ok(Err(fault)),
+        Wanted::Rows(rows) => addresses.extend_from_slice(rows)?,
+        Wanted::Behind(count, rows) => {
+            skipped = count;
+            addresses.extend_from_slice(rows)?;
+        }
+        Wanted::Rounds(before, times, round, after) => {
+            addresses.extend_from_slice(before)?;
+            for _ in 0..times {
+                addresses.extend_from_slice(round)?;
+            }
+            addresses.extend_from_slice(after)?;
+        }
+    }
+    addresses.push(pc)?;
+    Ok(Ok((skipped, steps_of(alloc, code, addresses.as_slice())?)))
+}
+
+/// A trace of these packets.
+fn trace_of(alloc: Global, sent: &[Sent]) -> Result<Vec<u8>, AllocError> {
+    let mut trace = Vec::from_slice(alloc, b"RTR1\x01\0\0\0")?;
+    push_sent(&mut trace, alloc, sent)?;
+    Ok(trace)
+}
+
+/// Compares what comes of traces with what is wanted.
+fn check_cases(rt: &impl Abort, alloc: Global, cases: &[Case]) -> Result<(), Fail> {
+    for case in cases {
+        let trace = trace_of(alloc, case.sent)?;
+        let got = outcome(alloc, case.code, trace.as_slice(), case.pc, 0)?;
+        let wanted = wanted(alloc, case.code, case.pc, case.wanted)?;
+        assert_eq!(rt; got, wanted, "{}", case.name);
+    }
+    Ok(())
+}
+
+#[test]
+fn traces_tell_paths(rt: HostRuntime) -> Result<(), Fail> {
+    let alloc = rt.alloc();
+    check_cases(&rt, alloc, STOPS)?;
+    check_cases(&rt, alloc, PHASES)?;
+    check_cases(&rt, alloc, MAPS)?;
+    check_cases(&rt, alloc, STARTS)?;
+    check_cases(&rt, alloc, JOINS)?;
+    check_cases(&rt, alloc, WAITING)?;
+    check_cases(&rt, alloc, REFUSALS)?;
+    Ok(())
+}
+
+/// Compares what comes of traces with what is wanted, where the packets before a number are left out.
+fn check_windows(rt: &impl Abort, alloc: Global, windows: &[Window]) -> Result<(), Fail> {
+    for window in windows {
+        let trace = trace_of(alloc, window.sent)?;
+        let got = outcome(alloc, THREE, trace.as_slice(), 0x1000c, window.from)?;
+        let wanted = wanted(alloc, THREE, 0x1000c, window.wanted)?;
+        assert_eq!(rt; got, wanted, "{}", window.name);
+    }
+    Ok(())
+}
+
+#[test]
+fn packets_are_skipped(rt: HostRuntime) -> Result<(), Fail> {
+    let alloc = rt.alloc();
+    check_windows(&rt, alloc, WINDOWS)
+}
+
+/// A loop that is left at its last branch, for each width of a map.
+#[test]
+fn branches_are_counted(rt: HostRuntime) -> Result<(), Fail> {
+    let alloc = rt.alloc();
+    for (count, map) in [
+        (1, 1),
+        (2, 2),
+        (3, 4),
+        (4, 8),
+        (7, 0x40),
+        (8, 0x80),
+        (15, 0x4000),
+        (16, 0x8000),
+        (31, 0x4000_0000),
+    ] {
+        let trace = trace_of(
+            alloc,
+            &[Sent::Start(0x10000), Sent::Branches(count, map, 4)],
+        )?;
+        let got = outcome(alloc, LOOP, trace.as_slice(), 0x10008, 0)?;
+        let rounds = Wanted::Rounds(&[], u32::from(count), &[0x10000, 0x10004], &[]);
+        let wanted = wanted(alloc, LOOP, 0x10008, rounds)?;
+        assert_eq!(rt; got, wanted, "{count} branches");
+    }
+    Ok(())
+}
+
+/// As `check_cases`, for long traces.
+fn check_long_cases(rt: &impl Abort, alloc: Global, cases: &[LongCase]) -> Result<(), Fail> {
+    for case in cases {
+        let mut trace = trace_of(alloc, &[Sent::Start(0x10000)])?;
+        for _ in 0..case.maps {
+            push_sent(&mut trace, alloc, &[Sent::Map(0)])?;
+        }
+        push_sent(&mut trace, alloc, case.sent)?;
+        let got = outcome(alloc, case.code, trace.as_slice(), case.pc, 0)?;
+        let wanted = wanted(alloc, case.code, case.pc, case.wanted)?;
+        assert!(rt; got == wanted, "{}", case.name);
+    }
+    Ok(())
+}
+
+#[test]
+fn paths_are_limited(rt: HostRuntime) -> Result<(), Fail> {
+    let alloc = rt.alloc();
+    check_long_cases(&rt, alloc, LONG)
+}
