@@ -1,125 +1,209 @@
 -- How the bytes of the files end the call.
-use Rattle.std.proofs.Common.{◌≡◌, ◌⊎◌, ℕ, zero, suc, ◌<◌, ◌≤◌, List, [], ◌∷◌, length, slice_get, Bool, true, false, Option, None, Some, Result, Ok, Err, MatchOption, MatchBool, inl, inr, refl, sym, ap, subst, ◌∙◌, arith, eqb}
+use Rattle.std.proofs.Common.{◌≡◌, ◌≢◌, ◌⊎◌, ℕ, ◌≤◌, List, length, Option, None, Some, Result, Ok, Err, MatchOption, inl, inr, refl, sym, ap, subst, ◌∙◌, arith}
 use Rattle.rept_elf.specs.Segments.{ElfSegment, segments}
 use Rattle.rept_elf.specs.declared.fault.ElfFault.{ElfFault}
 use Rattle.rept_dump.specs.Registers.{Says as NotesSay}
 use Rattle.rept_dump.specs.declared.fault.CoreFault.{CoreFault}
 use Rattle.rept_isa.specs.declared.row.StepRow.{StepRow}
+use Rattle.rept_path.specs.declared.fault.PathFault.{PathFault}
+use Rattle.rept_path.specs.declared.fault.PathFault.TheVariants as fault
 use Rattle.rept_ports.specs.Causes.{Rose}
 use Rattle.rept_engine.specs.Soundness.{HasNoExecution}
 use Rattle.rept_app.specs.Delivered.{Says, Tells}
-use Rattle.rept_app.specs.Examine.{Walks, Examines, Yields, PathYields, WalkYields, NoteYields, FilesEnd, IsWalkStatus, IsWalked, IsExamined, PathHolds, PathExcludes, FilesHold, FilesExclude}
-use Rattle.rept_app.specs.Forms.{executable_fault, core_image_fault, is_trace, end_pc, last_values}
-use Rattle.rept_app.specs.Path.{IsPath, StopsAt, IsRow, address_of}
-use Rattle.rept_app.specs.Study.{Studies, Stopped, IsStudied, ReportIsSound}
-use Rattle.rept_app.specs.Told.{Examined, NotesTold, Walked, Analysed}
+use Rattle.rept_app.specs.Examine.{Walks, Examines, Yields, PathYields, RowsYield, WalkYields, NoteYields, FilesEnd, IsPathStatus, IsWalkStatus, IsWalked, IsExamined, PathExcludes, FilesExclude}
+use Rattle.rept_app.specs.Forms.{executable_fault, core_image_fault, end_pc, last_values}
+use Rattle.rept_app.specs.Lines.{status_of}
+use Rattle.rept_app.specs.Path.{IsTracePath, HasNoPath, unread}
+use Rattle.rept_app.specs.Study.{Studies, Stopped, IsStudied}
+use Rattle.rept_app.specs.Told.{Examined, NotesTold, Analysed}
 use Rattle.rept_app.specs.declared.refusal.Unbuilt.TheVariants as unbuilt
 use Rattle.rept_app.specs.declared.refusal.Refusal.TheVariants as refusal
 use Rattle.rept_app.specs.declared.status.Status.{Status}
 use Rattle.rept_app.specs.declared.status.Status.TheVariants as ends
 
-nth : (rows : List StepRow) (i : ℕ) → i < length rows → (row : StepRow) × (slice_get rows i ≡ Some row)
-nth [] i h = absurd (omega arith)
-nth (row ∷ rows) zero h = (row, refl)
-nth (row ∷ rows) (suc i) h = nth rows i (omega arith)
+-- how a call ends that tells why the path isn't analysed
+abbrev pub WalkTold : Status → Type 0
+WalkTold status = (status ≡ ends.Trace) ⊎ (status ≡ ends.NotBuilt) ⊎ Stopped status
 
--- a path doesn't stop
-pub no_path : (exe : List ElfSegment) (trace : List ℕ) (address : ℕ) (rows : List StepRow) → StopsAt exe trace address → IsPath exe trace rows → ⊥
-no_path exe trace address rows s p =
-    let at = nth rows s.step (subst (λ n. s.step < n) (sym p.count) s.within) in
-    s.none (at.0, subst (λ a. IsRow exe a at.0) (sym s.place) (p.each s.step at.0 at.1))
+all_walks : (status : Status) → WalkTold status → IsWalkStatus status
+all_walks status (inl h) = inl h
+all_walks status (inr (inl h)) = inr (inr (inr (inl h)))
+all_walks status (inr (inr h)) = inr (inr (inr (inr (inr (inr h)))))
 
--- the three ends of a call that tells that something isn't built, or stops
-told_so : (status : Status) → Yields ends.NotBuilt status → (status ≡ ends.Inconsistent) ⊎ (status ≡ ends.Ok) ⊎ (status ≡ ends.NotBuilt) ⊎ (status ≡ ends.InputFault) ⊎ (status ≡ ends.TooMuchInput) ⊎ Stopped status
-told_so status (inl h) = inr (inr (inl h))
-told_so status (inr h) = inr (inr (inr (inr (inr h))))
-
-no_input_fault : (status : Status) → Yields ends.NotBuilt status → status ≡ ends.InputFault → ⊥
+no_input_fault : (status : Status) → WalkTold status → status ≡ ends.InputFault → ⊥
 no_input_fault status (inl h) e = cc
 no_input_fault status (inr (inl h)) e = cc
-no_input_fault status (inr (inr h)) e = cc
+no_input_fault status (inr (inr (inl h))) e = cc
+no_input_fault status (inr (inr (inr h))) e = cc
 
-pub yields_stopped : (status : Status) → (status ≡ ends.OutOfMemory) ⊎ Stopped status → Stopped status
-yields_stopped status (inl h) = inr h
-yields_stopped status (inr h) = h
+-- a path that is told has another status than a trace that has none
+no_trace : (status : Status) → IsPathStatus status → status ≡ ends.Trace → ⊥
+no_trace status (inl h) e = cc
+no_trace status (inr (inl h)) e = cc
+no_trace status (inr (inr (inl h))) e = cc
+no_trace status (inr (inr (inr (inl h)))) e = cc
+no_trace status (inr (inr (inr (inr (inl h))))) e = cc
+no_trace status (inr (inr (inr (inr (inr (inl h)))))) e = cc
+no_trace status (inr (inr (inr (inr (inr (inr h)))))) e = cc
 
-either : (b : Bool) (P Q : Type 0) → P → Q → MatchBool b P Q
-either true P Q p q = p
-either false P Q p q = q
+stopped_path : (status : Status) → Stopped status → IsPathStatus status
+stopped_path status h = inr (inr (inr (inr (inr h))))
 
-module _ (exe : List ElfSegment) (note trace : List ℕ) (status : Status) where
-  pub told_walked : (reads writes writes' : ℕ) → writes ≤ writes' → (status ≡ ends.OutputFault → Rose writes writes') → Yields ends.NotBuilt status → WalkYields exe note trace status → IsWalked exe note trace reads reads writes writes' status
+-- the status of a trace without a path
+trace_told : (f : PathFault) (status : Status) → (f ≡ fault.OutOfMemory → ⊥) → Yields (status_of (refusal.Path f)) status → Yields ends.Trace status
+trace_told (fault.NoStart k) status never h = h
+trace_told (fault.NotCode a) status never h = h
+trace_told (fault.NotRv32im a w) status never h = h
+trace_told (fault.Unaligned a) status never h = h
+trace_told (fault.NoBranchBit k a) status never h = h
+trace_told (fault.BranchesLeft k n) status never h = h
+trace_told (fault.JumpInMap k a) status never h = h
+trace_told (fault.Gap k a b) status never h = h
+trace_told (fault.End a b) status never h = h
+trace_told (fault.TooLong k) status never h = h
+trace_told (fault.Packet p) status never h = h
+trace_told (fault.Trapped k a) status never h = h
+trace_told fault.OutOfMemory status never h = absurd (never refl)
+
+pub not_output : (f : PathFault) → status_of (refusal.Path f) ≡ ends.OutputFault → ⊥
+not_output (fault.NoStart k) e = cc
+not_output (fault.NotCode a) e = cc
+not_output (fault.NotRv32im a w) e = cc
+not_output (fault.Unaligned a) e = cc
+not_output (fault.NoBranchBit k a) e = cc
+not_output (fault.BranchesLeft k n) e = cc
+not_output (fault.JumpInMap k a) e = cc
+not_output (fault.Gap k a b) e = cc
+not_output (fault.End a b) e = cc
+not_output (fault.TooLong k) e = cc
+not_output (fault.Packet p) e = cc
+not_output (fault.Trapped k a) e = cc
+not_output fault.OutOfMemory e = cc
+
+pub as_code : (status : Status) → Yields ends.NotBuilt status → WalkTold status
+as_code status (inl h) = inr (inl h)
+as_code status (inr h) = inr (inr h)
+
+either : (o : Option ℕ) (P : Type 0) (Q : ℕ → Type 0) → P → ((x : ℕ) → Q x) → MatchOption o P Q
+either None P Q p q = p
+either (Some x) P Q p q = q x
+
+-- where no step is left unread
+pub none_left : (o : Option ℕ) → ((x : ℕ) → o ≡ Some x → ⊥) → None ≡ o
+none_left None h = refl
+none_left (Some x) h = absurd (h x refl)
+
+module _ (exe : List ElfSegment) (note trace : List ℕ) (from : ℕ) (status : Status) where
+  pub told_walked : (reads writes writes' : ℕ) → writes ≤ writes' → (status ≡ ends.OutputFault → Rose writes writes') → WalkTold status → WalkYields exe note trace from status → IsWalked exe note trace from reads reads writes writes' status
   told_walked reads writes writes' later rose so yields = record {
     reads_later = omega arith;
     writes_later = later;
     input = λ e. absurd (no_input_fault status so e);
     output = rose;
     yields = yields;
-    ends_so = told_so status so;
+    ends_so = all_walks status so;
   }
 
-  pub stop_yields : (address : ℕ) → StopsAt exe trace address → Yields ends.NotBuilt status → WalkYields exe note trace status
-  stop_yields address s so = record { stopped = λ _ _. so; walked = λ rows p. absurd (no_path exe trace address rows s p) }
+  -- a call that stopped ends so whatever the path is
+  stopped_rows : Stopped status → (rows : List StepRow) → RowsYield note rows status
+  stopped_rows s rows = either (unread rows) (PathYields note rows status) (λ _. Yields ends.NotBuilt status) (record { conflict = λ _ _. inr s; report = λ _. stopped_report s }) (λ _. inr s)
+    where
+      stopped_report : Stopped status → (status ≡ ends.Ok) ⊎ (status ≡ ends.NotBuilt) ⊎ (status ≡ ends.InputFault) ⊎ (status ≡ ends.TooMuchInput) ⊎ Stopped status
+      stopped_report h = inr (inr (inr (inr h)))
 
-  pub memory_yields : Stopped status → WalkYields exe note trace status
+  pub memory_yields : Stopped status → WalkYields exe note trace from status
   memory_yields s = record {
-    stopped = λ _ _. inr s;
-    walked = λ rows p. either (eqb (end_pc note) (address_of (length rows))) (PathYields note rows status) (Yields ends.NotBuilt status) (record { conflict = λ _ _. inr s; report = λ _. inr (inr (inr (inr s))) }) (inr s);
+    refused = λ _ _. inr s;
+    walked = λ rows _. stopped_rows s rows;
+    only = λ e. absurd (no_trace status (stopped_path status s) e);
   }
 
-  module _ (rows : List StepRow) (path : IsPath exe trace rows) (only : (others : List StepRow) → IsPath exe trace others → others ≡ rows) where
-    abbrev Walk : List StepRow → Bool → Type 0
-    Walk others b = MatchBool b (PathYields note others status) (Yields ends.NotBuilt status)
+  -- where memory ran out
+  memory_stops : (f : PathFault) → f ≡ fault.OutOfMemory → Yields (status_of (refusal.Path f)) status → Stopped status
+  memory_stops f e y = stops (subst (λ (g : PathFault). Yields (status_of (refusal.Path g)) status) e y)
+    where
+      stops : Yields ends.OutOfMemory status → Stopped status
+      stops (inl h) = inr h
+      stops (inr h) = h
 
-    walk_yields : (b : Bool) → eqb (end_pc note) (address_of (length rows)) ≡ b → Walk rows b → WalkYields exe note trace status
-    walk_yields b is w = record {
-      stopped = λ address s. absurd (no_path exe trace address rows s path);
-      walked = λ others p. subst (λ os. Walk os (eqb (end_pc note) (address_of (length os)))) (sym (only others p)) (subst (Walk rows) (sym is) w);
+  module _ (f : PathFault) (none : (rows : List StepRow) → IsTracePath exe note trace from rows → f ≡ fault.OutOfMemory) (one : (g : PathFault) → HasNoPath exe note trace from g → (f ≡ fault.OutOfMemory) ⊎ (f ≡ g)) (no_memory : (g : PathFault) → HasNoPath exe note trace from g → g ≢ fault.OutOfMemory) where
+    pub refused_told : (f ≡ fault.OutOfMemory) ⊎ HasNoPath exe note trace from f → Yields (status_of (refusal.Path f)) status → WalkTold status
+    refused_told (inl e) so = inr (inr (memory_stops f e so))
+    refused_told (inr has) so = elim (trace_told f status (no_memory f has) so) [ inl h ↦ inl h | inr h ↦ inr (inr h) ]
+
+    pub refused_yields : (f ≡ fault.OutOfMemory) ⊎ HasNoPath exe note trace from f → Yields (status_of (refusal.Path f)) status → WalkYields exe note trace from status
+    refused_yields why so = record {
+      refused = λ g has. same g has (one g has);
+      walked = λ rows path. stopped_rows (memory_stops f (none rows path) so) rows;
+      only = λ e. which e why;
+    }
+      where
+        same : (g : PathFault) → HasNoPath exe note trace from g → (f ≡ fault.OutOfMemory) ⊎ (f ≡ g) → Yields ends.Trace status
+        same g has (inl e) = inr (memory_stops f e so)
+        same g has (inr e) = trace_told g status (no_memory g has) (subst (λ (x : PathFault). Yields (status_of (refusal.Path x)) status) e so)
+
+        which : status ≡ ends.Trace → (f ≡ fault.OutOfMemory) ⊎ HasNoPath exe note trace from f → (g : PathFault) × HasNoPath exe note trace from g
+        which e (inl m) = absurd (no_trace status (stopped_path status (memory_stops f m so)) e)
+        which e (inr has) = (f, has)
+
+  -- where it has a path
+  module _ (rows : List StepRow) (only : (others : List StepRow) → IsTracePath exe note trace from others → rows ≡ others) (none : (f : PathFault) → HasNoPath exe note trace from f → ⊥) where
+    rows_yield : RowsYield note rows status → (status ≡ ends.Trace → ⊥) → WalkYields exe note trace from status
+    rows_yield yields never = record {
+      refused = λ f has. absurd (none f has);
+      walked = λ others path. subst (λ rs. RowsYield note rs status) (only others path) yields;
+      only = λ e. absurd (never e);
     }
 
-    pub elsewhere_yields : eqb (end_pc note) (address_of (length rows)) ≡ false → Yields ends.NotBuilt status → WalkYields exe note trace status
-    elsewhere_yields is so = walk_yields false is so
+    abbrev At : Option ℕ → Type 0
+    At o = MatchOption o (PathYields note rows status) (λ _. Yields ends.NotBuilt status)
 
-    pub studied_walked : eqb (end_pc note) (address_of (length rows)) ≡ true → (reads reads' writes writes' : ℕ) → IsStudied rows (last_values note) reads reads' writes writes' status → IsWalked exe note trace reads reads' writes writes' status
+    pub unread_yields : (address : ℕ) → Some address ≡ unread rows → Yields ends.NotBuilt status → WalkYields exe note trace from status
+    unread_yields address is so = rows_yield (subst At is so) (told so)
+      where
+        told : Yields ends.NotBuilt status → status ≡ ends.Trace → ⊥
+        told (inl h) e = cc
+        told (inr h) e = no_trace status (stopped_path status h) e
+
+    pub studied_walked : None ≡ unread rows → (reads reads' writes writes' : ℕ) → IsStudied rows (last_values note) reads reads' writes writes' status → IsWalked exe note trace from reads reads' writes writes' status
     studied_walked is reads reads' writes writes' s = record {
       reads_later = s.reads_later;
       writes_later = s.writes_later;
       input = s.input;
       output = s.output;
-      yields = walk_yields true is (record { conflict = s.conflict; report = s.report });
-      ends_so = s.ends_so;
+      yields = rows_yield (subst At is (record { conflict = s.conflict; report = s.report })) (no_trace status s.ends_so);
+      ends_so = inr s.ends_so;
     }
 
-module _ (exe : List ElfSegment) (note trace input text : List ℕ) (status : Status) where
-  pub no_memory_walks : Tells refusal.OutOfMemory text status → Walks exe note trace input text status
-  no_memory_walks (inl h) = inr (inl h)
-  no_memory_walks (inr h) = inr (inl h)
+module _ (exe : List ElfSegment) (note trace : List ℕ) (from : ℕ) (input text : List ℕ) (status : Status) where
+  as_memory : (f : PathFault) → f ≡ fault.OutOfMemory → Says (refusal.Path f) text status → Says refusal.OutOfMemory text status
+  as_memory f e h = plain (subst (λ (g : PathFault). Says (refusal.Path g) text status) e h)
+    where
+      plain : Says (refusal.Path fault.OutOfMemory) text status → Says refusal.OutOfMemory text status
+      plain s = record { line = s.line; ending = s.ending }
 
-  pub stop_walks : (address : ℕ) → StopsAt exe trace address → Tells (refusal.NotBuilt (unbuilt.Code address)) text status → Walks exe note trace input text status
-  stop_walks address s (inl h) = inl (inl (address, s, h))
-  stop_walks address s (inr h) = inr (inl h)
+  pub refused_walks : (f : PathFault) → (f ≡ fault.OutOfMemory) ⊎ HasNoPath exe note trace from f → Tells (refusal.Path f) text status → Walks exe note trace from input text status
+  refused_walks f (inl e) (inl h) = inr (inl (as_memory f e h))
+  refused_walks f (inr has) (inl h) = inl (inl (f, has, h))
+  refused_walks f why (inr h) = inr (inl h)
 
-  module _ (rows : List StepRow) (path : IsPath exe trace rows) where
-    abbrev End : Bool → Type 0
-    End b = MatchBool b (Analysed note rows input text status) (Says (refusal.NotBuilt unbuilt.Core) text status)
+  module _ (rows : List StepRow) (path : IsTracePath exe note trace from rows) where
+    abbrev Then : Option ℕ → Type 0
+    Then o = MatchOption o (Analysed note rows input text status) (λ address. Says (refusal.NotBuilt (unbuilt.Code address)) text status)
 
-    pub elsewhere_walks : eqb (end_pc note) (address_of (length rows)) ≡ false → Tells (refusal.NotBuilt unbuilt.Core) text status → Walks exe note trace input text status
-    elsewhere_walks is (inl h) = inl (inr (rows, path, subst End (sym is) h))
-    elsewhere_walks is (inr h) = inr (inl h)
+    pub unread_walks : (address : ℕ) → Some address ≡ unread rows → Tells (refusal.NotBuilt (unbuilt.Code address)) text status → Walks exe note trace from input text status
+    unread_walks address is (inl h) = inl (inr (rows, path, subst Then is h))
+    unread_walks address is (inr h) = inr (inl h)
 
-    pub studies_walk : eqb (end_pc note) (address_of (length rows)) ≡ true → end_pc note ≡ address_of (length rows) → Studies rows (last_values note) (end_pc note) input text status → Walks exe note trace input text status
-    studies_walk is same (inl h) = inl (inr (rows, path, subst End (sym is) (inl h)))
-    studies_walk is same (inr (inl (known, report, inl h))) = inl (inr (rows, path, subst End (sym is) (inr (known, report, h))))
-    studies_walk is same (inr (inl (known, report, inr h))) = inr (inr (rows, known, record { path = path; ended = same }, report, h))
-    studies_walk is same (inr (inr h)) = inr (inl h)
+    pub studies_walk : None ≡ unread rows → Studies rows (last_values note) (end_pc note) input text status → Walks exe note trace from input text status
+    studies_walk is (inl h) = inl (inr (rows, path, subst Then is (inl h)))
+    studies_walk is (inr (inl (known, report, inl h))) = inl (inr (rows, path, subst Then is (inr (known, report, h))))
+    studies_walk is (inr (inl (known, report, inr h))) = inr (inr (rows, known, record { path = path; read = sym is }, report, h))
+    studies_walk is (inr (inr h)) = inr (inl h)
 
-module _ (exe : List ElfSegment) (note trace : List ℕ) (rows : List StepRow) (only : (others : List StepRow) → IsPath exe trace others → others ≡ rows) where
-  pub path_holds : ReportIsSound rows (last_values note) → PathHolds exe note trace
-  path_holds sound others known follows report =
-      subst (λ rs. ReportIsSound rs (last_values note)) (sym (only others follows.path)) sound known report
-
-  pub path_excludes : HasNoExecution rows (last_values note) → PathExcludes exe note trace
-  path_excludes none others follows = subst (λ rs. HasNoExecution rs (last_values note)) (sym (only others follows.path)) none
+module _ (exe : List ElfSegment) (note trace : List ℕ) (from : ℕ) (rows : List StepRow) (only : (others : List StepRow) → IsTracePath exe note trace from others → rows ≡ others) where
+  pub path_excludes : HasNoExecution rows (last_values note) → PathExcludes exe note trace from
+  path_excludes none others follows = subst (λ rs. HasNoExecution rs (last_values note)) (only others follows.path) none
 
 -- what is said of the same path, values and address
 pub studies_at : (rows rows' : List StepRow) (registers registers' : List ℕ) (pc pc' : ℕ) (left text : List ℕ) (status : Status) → rows' ≡ rows → registers' ≡ registers → pc' ≡ pc → Studies rows' registers' pc' left text status → Studies rows registers pc left text status
@@ -130,58 +214,53 @@ pub studied_at : (rows rows' : List StepRow) (registers registers' : List ℕ) (
 studied_at rows rows' registers registers' reads reads' writes writes' status er el h =
     subst (λ r. IsStudied r registers reads reads' writes writes' status) er (subst (λ l. IsStudied rows' l reads reads' writes writes' status) el h)
 
-pub sound_at : (rows rows' : List StepRow) (registers registers' : List ℕ) → rows' ≡ rows → registers' ≡ registers → ReportIsSound rows' registers' → ReportIsSound rows registers
-sound_at rows rows' registers registers' er el h = subst (λ r. ReportIsSound r registers) er (subst (λ l. ReportIsSound rows' l) el h)
-
 pub none_at : (rows rows' : List StepRow) (registers registers' : List ℕ) → rows' ≡ rows → registers' ≡ registers → HasNoExecution rows' registers' → HasNoExecution rows registers
 none_at rows rows' registers registers' er el h = subst (λ r. HasNoExecution r registers) er (subst (λ l. HasNoExecution rows' l) el h)
 
 -- the files of the examination
-module _ (exe core trace : List ℕ) (status : Status) where
+module _ (exe core trace : List ℕ) (from : ℕ) (status : Status) where
   abbrev AfterExe : Option ElfFault → Type 0
-  AfterExe o = MatchOption o (MatchOption (core_image_fault core) ((said : Result (List ℕ) CoreFault) → NotesSay (length core) (segments core) said → NoteYields (segments exe) trace said status) (λ _. Yields ends.Core status)) (λ _. Yields ends.Executable status)
+  AfterExe o = MatchOption o (MatchOption (core_image_fault core) ((said : Result (List ℕ) CoreFault) → NotesSay (length core) (segments core) said → NoteYields (segments exe) trace from said status) (λ _. Yields ends.Core status)) (λ _. Yields ends.Executable status)
 
   abbrev AfterCore : Option ElfFault → Type 0
-  AfterCore o = MatchOption o ((said : Result (List ℕ) CoreFault) → NotesSay (length core) (segments core) said → NoteYields (segments exe) trace said status) (λ _. Yields ends.Core status)
+  AfterCore o = MatchOption o ((said : Result (List ℕ) CoreFault) → NotesSay (length core) (segments core) said → NoteYields (segments exe) trace from said status) (λ _. Yields ends.Core status)
 
-  pub exe_end : (fault : ElfFault) → Some fault ≡ executable_fault exe → Yields ends.Executable status → FilesEnd exe core trace status
+  pub exe_end : (fault : ElfFault) → Some fault ≡ executable_fault exe → Yields ends.Executable status → FilesEnd exe core trace from status
   exe_end fault e so = subst AfterExe e so
 
-  pub core_end : (fault : ElfFault) → None ≡ executable_fault exe → Some fault ≡ core_image_fault core → Yields ends.Core status → FilesEnd exe core trace status
+  pub core_end : (fault : ElfFault) → None ≡ executable_fault exe → Some fault ≡ core_image_fault core → Yields ends.Core status → FilesEnd exe core trace from status
   core_end fault e k so = subst AfterExe e (subst AfterCore k so)
 
   module _ (e : None ≡ executable_fault exe) (k : None ≡ core_image_fault core) (here : Result (List ℕ) CoreFault) (only : (said : Result (List ℕ) CoreFault) → NotesSay (length core) (segments core) said → said ≡ here) where
-    pub notes_end : NoteYields (segments exe) trace here status → FilesEnd exe core trace status
-    notes_end yields = subst AfterExe e (subst AfterCore k (λ said says. subst (λ s. NoteYields (segments exe) trace s status) (sym (only said says)) yields))
+    pub notes_end : NoteYields (segments exe) trace from here status → FilesEnd exe core trace from status
+    notes_end yields = subst AfterExe e (subst AfterCore k (λ said says. subst (λ s. NoteYields (segments exe) trace from s status) (sym (only said says)) yields))
 
   -- a call that stopped ends so whatever the files are
-  pub stopped_end : Stopped status → FilesEnd exe core trace status
+  pub stopped_end : Stopped status → FilesEnd exe core trace from status
   stopped_end s = at (executable_fault exe) (core_image_fault core)
     where
-      note : (said : Result (List ℕ) CoreFault) → NoteYields (segments exe) trace said status
+      note : (said : Result (List ℕ) CoreFault) → NoteYields (segments exe) trace from said status
       note (Err fault) = inr s
-      note (Ok n) = either (is_trace trace) (WalkYields (segments exe) n trace status) (Yields ends.NotBuilt status) (memory_yields (segments exe) n trace status s) (inr s)
+      note (Ok n) = memory_yields (segments exe) n trace from status s
 
-      at : (a b : Option ElfFault) → MatchOption a (MatchOption b ((said : Result (List ℕ) CoreFault) → NotesSay (length core) (segments core) said → NoteYields (segments exe) trace said status) (λ _. Yields ends.Core status)) (λ _. Yields ends.Executable status)
+      at : (a b : Option ElfFault) → MatchOption a (MatchOption b ((said : Result (List ℕ) CoreFault) → NotesSay (length core) (segments core) said → NoteYields (segments exe) trace from said status) (λ _. Yields ends.Core status)) (λ _. Yields ends.Executable status)
       at (Some f) b = inr s
       at None (Some f) = inr s
       at None None = λ said says. note said
 
-  all_statuses : (status ≡ ends.Executable) ⊎ (status ≡ ends.Core) ⊎ (status ≡ ends.NotBuilt) ⊎ Stopped status → (status ≡ ends.Executable) ⊎ (status ≡ ends.Core) ⊎ IsWalkStatus status
+  all_statuses : (status ≡ ends.Executable) ⊎ (status ≡ ends.Core) ⊎ Stopped status → (status ≡ ends.Executable) ⊎ (status ≡ ends.Core) ⊎ IsWalkStatus status
   all_statuses (inl h) = inl h
   all_statuses (inr (inl h)) = inr (inl h)
-  all_statuses (inr (inr (inl h))) = inr (inr (inr (inr (inl h))))
-  all_statuses (inr (inr (inr h))) = inr (inr (inr (inr (inr (inr (inr h))))))
+  all_statuses (inr (inr h)) = inr (inr (inr (stopped_path status h)))
 
-  not_input : (status ≡ ends.Executable) ⊎ (status ≡ ends.Core) ⊎ (status ≡ ends.NotBuilt) ⊎ Stopped status → status ≡ ends.InputFault → ⊥
+  not_input : (status ≡ ends.Executable) ⊎ (status ≡ ends.Core) ⊎ Stopped status → status ≡ ends.InputFault → ⊥
   not_input (inl h) e = cc
   not_input (inr (inl h)) e = cc
   not_input (inr (inr (inl h))) e = cc
-  not_input (inr (inr (inr (inl h)))) e = cc
-  not_input (inr (inr (inr (inr h)))) e = cc
+  not_input (inr (inr (inr h))) e = cc
 
-  pub told_examined : (reads writes writes' : ℕ) → writes ≤ writes' → (status ≡ ends.OutputFault → Rose writes writes') → (status ≡ ends.Executable) ⊎ (status ≡ ends.Core) ⊎ (status ≡ ends.NotBuilt) ⊎ Stopped status
-      → FilesEnd exe core trace status → IsExamined exe core trace reads reads writes writes' status
+  pub told_examined : (reads writes writes' : ℕ) → writes ≤ writes' → (status ≡ ends.OutputFault → Rose writes writes') → (status ≡ ends.Executable) ⊎ (status ≡ ends.Core) ⊎ Stopped status
+      → FilesEnd exe core trace from status → IsExamined exe core trace from reads reads writes writes' status
   told_examined reads writes writes' later rose so yields = record {
     reads_later = omega arith;
     writes_later = later;
@@ -191,7 +270,7 @@ module _ (exe core trace : List ℕ) (status : Status) where
     ends_so = all_statuses so;
   }
 
-  pub walked_examined : (note : List ℕ) → FilesEnd exe core trace status → (reads reads' writes writes' : ℕ) → IsWalked (segments exe) note trace reads reads' writes writes' status → IsExamined exe core trace reads reads' writes writes' status
+  pub walked_examined : (note : List ℕ) → FilesEnd exe core trace from status → (reads reads' writes writes' : ℕ) → IsWalked (segments exe) note trace from reads reads' writes writes' status → IsExamined exe core trace from reads reads' writes writes' status
   walked_examined note yields reads reads' writes writes' w = record {
     reads_later = w.reads_later;
     writes_later = w.writes_later;
@@ -202,59 +281,46 @@ module _ (exe core trace : List ℕ) (status : Status) where
   }
 
 -- what is written of them
-module _ (exe core trace input text : List ℕ) (status : Status) where
+module _ (exe core trace : List ℕ) (from : ℕ) (input text : List ℕ) (status : Status) where
   abbrev TextExe : Option ElfFault → Type 0
-  TextExe o = MatchOption o (MatchOption (core_image_fault core) (NotesTold exe core trace input text status) (λ fault. Says (refusal.CoreImage fault) text status)) (λ fault. Says (refusal.Executable fault) text status)
+  TextExe o = MatchOption o (MatchOption (core_image_fault core) (NotesTold exe core trace from input text status) (λ fault. Says (refusal.CoreImage fault) text status)) (λ fault. Says (refusal.Executable fault) text status)
 
   abbrev TextCore : Option ElfFault → Type 0
-  TextCore o = MatchOption o (NotesTold exe core trace input text status) (λ fault. Says (refusal.CoreImage fault) text status)
+  TextCore o = MatchOption o (NotesTold exe core trace from input text status) (λ fault. Says (refusal.CoreImage fault) text status)
 
-  pub exe_examines : (fault : ElfFault) → Some fault ≡ executable_fault exe → Tells (refusal.Executable fault) text status → Examines exe core trace input text status
+  pub exe_examines : (fault : ElfFault) → Some fault ≡ executable_fault exe → Tells (refusal.Executable fault) text status → Examines exe core trace from input text status
   exe_examines fault e (inl h) = inl (subst TextExe e h)
   exe_examines fault e (inr h) = inr (inl h)
 
-  pub core_examines : (fault : ElfFault) → None ≡ executable_fault exe → Some fault ≡ core_image_fault core → Tells (refusal.CoreImage fault) text status → Examines exe core trace input text status
+  pub core_examines : (fault : ElfFault) → None ≡ executable_fault exe → Some fault ≡ core_image_fault core → Tells (refusal.CoreImage fault) text status → Examines exe core trace from input text status
   core_examines fault e k (inl h) = inl (subst TextExe e (subst TextCore k h))
   core_examines fault e k (inr h) = inr (inl h)
 
   module _ (e : None ≡ executable_fault exe) (k : None ≡ core_image_fault core) where
-    notes_examine : NotesTold exe core trace input text status → Examined exe core trace input text status
+    notes_examine : NotesTold exe core trace from input text status → Examined exe core trace from input text status
     notes_examine h = subst TextExe e (subst TextCore k h)
 
-    pub notes_refused : (fault : CoreFault) → NotesSay (length core) (segments core) (Err fault) → Tells (refusal.Core fault) text status → Examines exe core trace input text status
+    pub notes_refused : (fault : CoreFault) → NotesSay (length core) (segments core) (Err fault) → Tells (refusal.Core fault) text status → Examines exe core trace from input text status
     notes_refused fault says (inl h) = inl (notes_examine (Err fault, says, h))
     notes_refused fault says (inr h) = inr (inl h)
 
     module _ (note : List ℕ) (says : NotesSay (length core) (segments core) (Ok note)) where
-      abbrev Traced : Bool → Type 0
-      Traced b = MatchBool b (Walked (segments exe) note trace input text status) (Says (refusal.NotBuilt unbuilt.Trace) text status)
-
-      pub untraced_examines : is_trace trace ≡ false → Tells (refusal.NotBuilt unbuilt.Trace) text status → Examines exe core trace input text status
-      untraced_examines t (inl h) = inl (notes_examine (Ok note, says, subst Traced (sym t) h))
-      untraced_examines t (inr h) = inr (inl h)
-
-      pub walks_examine : is_trace trace ≡ true → Walks (segments exe) note trace input text status → Examines exe core trace input text status
-      walks_examine t (inl h) = inl (notes_examine (Ok note, says, subst Traced (sym t) h))
-      walks_examine t (inr (inl h)) = inr (inl h)
-      walks_examine t (inr (inr cut)) = inr (inr (note, record { exe_accepted = sym e; core_accepted = sym k; noted = says }, t, cut))
+      pub walks_examine : Walks (segments exe) note trace from input text status → Examines exe core trace from input text status
+      walks_examine (inl h) = inl (notes_examine (Ok note, says, h))
+      walks_examine (inr (inl h)) = inr (inl h)
+      walks_examine (inr (inr cut)) = inr (inr (note, record { exe_accepted = sym e; core_accepted = sym k; noted = says }, cut))
 
 abbrev pub said_ok : List ℕ → Result (List ℕ) CoreFault
 said_ok n = Ok n
 
-module _ (exe core trace note : List ℕ) (only : (said : Result (List ℕ) CoreFault) → NotesSay (length core) (segments core) said → said ≡ Ok note) where
+module _ (exe core trace : List ℕ) (from : ℕ) (note : List ℕ) (only : (said : Result (List ℕ) CoreFault) → NotesSay (length core) (segments core) said → said ≡ Ok note) where
   same_note : (n : List ℕ) → said_ok n ≡ said_ok note → n ≡ note
   same_note n e = cc
 
-  pub files_hold : PathHolds (segments exe) note trace → FilesHold exe core trace
-  files_hold hold n rows known leads report run x p r v early in_file e =
-      let same = same_note n (only (Ok n) leads.read.noted) in
-      let hold' : PathHolds (segments exe) n trace = subst (λ m. PathHolds (segments exe) m trace) (sym same) hold in
-      hold' rows known leads.follows report p r v early in_file e _ _ run x
-
-  pub files_exclude : PathExcludes (segments exe) note trace → FilesExclude exe core trace
+  pub files_exclude : PathExcludes (segments exe) note trace from → FilesExclude exe core trace from
   files_exclude none n rows leads run x =
       let same = same_note n (only (Ok n) leads.read.noted) in
-      let none' : PathExcludes (segments exe) n trace = subst (λ m. PathExcludes (segments exe) m trace) (sym same) none in
+      let none' : PathExcludes (segments exe) n trace from = subst (λ m. PathExcludes (segments exe) m trace from) (sym same) none in
       none' rows leads.follows _ _ run x
 
 -- what is said of the bytes that an image borrows
@@ -268,24 +334,14 @@ only_at bytes core here e only said h = only said (subst (λ b. NotesSay (length
 pub segments_at : (all : List ElfSegment) (bytes exe : List ℕ) → all ≡ segments bytes → bytes ≡ exe → all ≡ segments exe
 segments_at all bytes exe h e = h ∙ ap segments e
 
--- the three ends of a call that tells a refusal of the files
-pub as_exe : (status : Status) → (status ≡ ends.Executable) ⊎ Stopped status → (status ≡ ends.Executable) ⊎ (status ≡ ends.Core) ⊎ (status ≡ ends.NotBuilt) ⊎ Stopped status
+-- the ends of a call that tells a refusal of the files
+pub as_exe : (status : Status) → (status ≡ ends.Executable) ⊎ Stopped status → (status ≡ ends.Executable) ⊎ (status ≡ ends.Core) ⊎ Stopped status
 as_exe status (inl h) = inl h
-as_exe status (inr h) = inr (inr (inr h))
+as_exe status (inr h) = inr (inr h)
 
-pub as_core : (status : Status) → (status ≡ ends.Core) ⊎ Stopped status → (status ≡ ends.Executable) ⊎ (status ≡ ends.Core) ⊎ (status ≡ ends.NotBuilt) ⊎ Stopped status
+pub as_core : (status : Status) → (status ≡ ends.Core) ⊎ Stopped status → (status ≡ ends.Executable) ⊎ (status ≡ ends.Core) ⊎ Stopped status
 as_core status (inl h) = inr (inl h)
-as_core status (inr h) = inr (inr (inr h))
+as_core status (inr h) = inr (inr h)
 
-pub as_unbuilt : (status : Status) → (status ≡ ends.NotBuilt) ⊎ Stopped status → (status ≡ ends.Executable) ⊎ (status ≡ ends.Core) ⊎ (status ≡ ends.NotBuilt) ⊎ Stopped status
-as_unbuilt status (inl h) = inr (inr (inl h))
-as_unbuilt status (inr h) = inr (inr (inr h))
-
-pub untraced : (exe : List ElfSegment) (trace note : List ℕ) (status : Status) → is_trace trace ≡ false → Yields ends.NotBuilt status → NoteYields exe trace (said_ok note) status
-untraced exe trace note status t so = subst (λ (b : Bool). MatchBool b (WalkYields exe note trace status) (Yields ends.NotBuilt status)) (sym t) so
-
-pub traced : (exe : List ElfSegment) (trace note : List ℕ) (status : Status) → is_trace trace ≡ true → WalkYields exe note trace status → NoteYields exe trace (said_ok note) status
-traced exe trace note status t h = subst (λ (b : Bool). MatchBool b (WalkYields exe note trace status) (Yields ends.NotBuilt status)) (sym t) h
-
-pub walked_at : (here there : List ElfSegment) (note trace : List ℕ) (reads reads' writes writes' : ℕ) (status : Status) → here ≡ there → IsWalked here note trace reads reads' writes writes' status → IsWalked there note trace reads reads' writes writes' status
-walked_at here there note trace reads reads' writes writes' status e h = subst (λ s. IsWalked s note trace reads reads' writes writes' status) e h
+pub walked_at : (here there : List ElfSegment) (note trace : List ℕ) (from reads reads' writes writes' : ℕ) (status : Status) → here ≡ there → IsWalked here note trace from reads reads' writes writes' status → IsWalked there note trace from reads reads' writes writes' status
+walked_at here there note trace from reads reads' writes writes' status e h = subst (λ s. IsWalked s note trace from reads reads' writes writes' status) e h

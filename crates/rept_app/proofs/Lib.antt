@@ -1,9 +1,9 @@
 pub mod AnswerLemmas
 pub mod LineLemmas
+pub mod PathLemmas
 pub mod DeliveredLemmas
 pub mod ExamineLemmas
 pub mod FormLemmas
-pub mod PathLemmas
 pub mod SessionLemmas
 pub mod StudyLemmas
 pub mod TopLemmas

@@ -1,17 +1,15 @@
 -- From the report of the analysis to what is written of it.
-use Rattle.std.proofs.Common.{◌≡◌, ◌⊎◌, ℕ, ◌<◌, ◌≤◌, List, length, Some, inl, inr, sym, subst, ◌∙◌, arith}
-use Rattle.std.proofs.lemmas.Bool.{cases_eq}
+use Rattle.std.proofs.Common.{◌≡◌, ◌⊎◌, ℕ, ◌≤◌, List, length, inl, inr, subst, arith}
 use Rattle.rept_isa.specs.declared.row.StepRow.{StepRow}
 use Rattle.rept_ports.specs.Causes.{Rose}
 use Rattle.rept_engine.specs.Closure.{ClosureHas, IsConsistent}
 use Rattle.rept_engine.specs.Report.{IsReport}
-use Rattle.rept_engine.specs.Soundness.{IsSound, AlwaysHolds}
 use Rattle.rept_engine.specs.View.{View, known_in}
 use Rattle.rept_engine.specs.declared.conflict.ConflictKind.{ConflictKind}
 use Rattle.rept_app.specs.Delivered.{Tells}
 use Rattle.rept_app.specs.Session.{Serves, IsCaused}
 use Rattle.rept_app.specs.Showing.{shown_by}
-use Rattle.rept_app.specs.Study.{Studies, Stopped, IsStudied, ReportIsSound, shown_at}
+use Rattle.rept_app.specs.Study.{Studies, Stopped, IsStudied, shown_at}
 use Rattle.rept_app.specs.declared.refusal.Refusal.TheVariants as refusal
 use Rattle.rept_app.specs.declared.status.Status.{Status}
 use Rattle.rept_app.specs.declared.status.Status.TheVariants as ends
@@ -32,25 +30,6 @@ module _ (a : View) (rows : List StepRow) (registers : List ℕ) (at_rows : a.ro
   pub serves_studies : (end_pc : ℕ) (left text : List ℕ) (status : Status) → Serves (shown_by a end_pc) (length a.rows) left text status → Studies rows registers end_pc left text status
   serves_studies end_pc left text status h =
       inr (inl (known_in a, report_here, subst (λ r. Serves (shown_at r end_pc (known_in a)) (length r) left text status) at_rows h))
-
-  pub sound_here : IsSound a.rows a.last (known_in a) → ReportIsSound rows registers
-  sound_here sound known other p r v early in_file e image_end dump run x =
-      elim (cases_eq r 0) [
-        | inl z ↦
-            let e₀ : known p 0 ≡ Some v = subst (λ n. known p n ≡ Some v) z e in
-            let v₀ : 0 ≡ v = same (sym (other.zero p) ∙ e₀) in
-            subst (λ n. (run p).register n ≡ v) (sym z) (holds 0 0 (omega arith) (report.zero p) ∙ v₀)
-        | inr ne ↦ holds r v in_file ((report_here.exact p r v early (omega arith) in_file).1 ((other.exact p r v early (omega arith) in_file).0 e))
-      ]
-    where
-      same : {x y : ℕ} → Some x ≡ Some y → x ≡ y
-      same e = cc
-
-      holds : (r v : ℕ) → r < 32 → known_in a p r ≡ Some v → (run p).register r ≡ v
-      holds r v in_file e =
-          let s : AlwaysHolds a.rows a.last p r v = sound p r v (subst (λ (rs : List StepRow). p ≤ length rs) (sym at_rows) early) in_file e in
-          let t : AlwaysHolds rows registers p r v = subst (λ rs. AlwaysHolds rs registers p r v) at_rows (subst (λ l. AlwaysHolds a.rows l p r v) at_last s) in
-          t image_end dump run x
 
 -- where the closure is consistent, a session is held
 pub served_causes : (rows : List StepRow) (registers : List ℕ) (reads reads' writes writes' : ℕ) (status : Status) → IsConsistent rows registers → IsCaused reads reads' writes writes' status → IsStudied rows registers reads reads' writes writes' status

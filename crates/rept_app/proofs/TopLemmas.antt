@@ -2,8 +2,12 @@
 use Rattle.std.proofs.Common.{◌≡◌, ◌⊎◌, ℕ, ◌≤◌, List, Option, None, Some, MatchOption, IfSome, inl, inr, refl, sym, ap, subst, ◌∙◌}
 use Rattle.rept_ports.specs.Causes.{Rose}
 use Rattle.rept_ports.specs.Shelves.{Files}
+use Rattle.rept_isa.specs.declared.row.StepRow.{StepRow}
+use Rattle.rept_engine.specs.Report.{IsReport}
+use Rattle.rept_engine.specs.Soundness.{IsSound}
 use Rattle.rept_app.specs.Delivered.{Delivers, Says, Tells}
-use Rattle.rept_app.specs.Examine.{Examines, FilesEnd, IsExamined, IsWalkStatus, FilesHold, FilesExclude}
+use Rattle.rept_app.specs.Forms.{last_values, dump_of, image_end}
+use Rattle.rept_app.specs.Examine.{Examines, FilesEnd, IsExamined, IsWalkStatus, FilesExclude}
 use Rattle.rept_app.specs.Lines.{status_of}
 use Rattle.rept_app.specs.Loading.{Loading, loading, MatchLoading, AllRefuse}
 use Rattle.rept_app.specs.Loading.Loading.{Refused, Loaded}
@@ -18,13 +22,13 @@ use Rattle.rept_app.proofs.ExamineLemmas.{stopped_end}
 
 module _ (words : List (List ℕ)) (files : Files) where
   abbrev Ends : Status → Loading → Type 0
-  Ends status l = MatchLoading l (λ r. EndsBy (status_of r) status) (λ exe core trace. FilesEnd exe core trace status ⊎ (status ≡ ends.LoadFault))
+  Ends status l = MatchLoading l (λ r. EndsBy (status_of r) status) (λ exe core trace from. FilesEnd exe core trace from status ⊎ (status ≡ ends.LoadFault))
 
   -- a call that stopped, or that couldn't load a file
   interrupted : (status : Status) → (status ≡ ends.LoadFault) ⊎ Stopped status → (l : Loading) → Ends status l
   interrupted status h (Refused r) = inr h
-  interrupted status (inl h) (Loaded exe core trace) = inr h
-  interrupted status (inr h) (Loaded exe core trace) = inl (stopped_end exe core trace status h)
+  interrupted status (inl h) (Loaded exe core trace from) = inr h
+  interrupted status (inr h) (Loaded exe core trace from) = inl (stopped_end exe core trace from status h)
 
   -- where no files were loaded
   pub refused_ends : (r : Refusal) (status : Status) → AllRefuse words files r → (status ≡ status_of r) ⊎ Stopped status → EndsByFiles words files status
@@ -39,12 +43,13 @@ module _ (words : List (List ℕ)) (files : Files) where
   refused_ends (refusal.Executable f) status h (inl e) = subst (Ends status) (sym h) (inl e)
   refused_ends (refusal.CoreImage f) status h (inl e) = subst (Ends status) (sym h) (inl e)
   refused_ends (refusal.Core f) status h (inl e) = subst (Ends status) (sym h) (inl e)
+  refused_ends (refusal.Path f) status h (inl e) = subst (Ends status) (sym h) (inl e)
   refused_ends (refusal.Inconsistent kind) status h (inl e) = subst (Ends status) (sym h) (inl e)
   refused_ends refusal.InputFault status h (inl e) = subst (Ends status) (sym h) (inl e)
 
   module _ (input text : List ℕ) (status : Status) where
     abbrev Whole : Loading → Type 0
-    Whole l = MatchLoading l (λ r. Says r text status) (λ exe core trace. Examined exe core trace input text status)
+    Whole l = MatchLoading l (λ r. Says r text status) (λ exe core trace from. Examined exe core trace from input text status)
 
     pub refused_writes : (r : Refusal) → AllRefuse words files r → Tells r text status → Writes words files input text status
     refused_writes r h (inr s) = inr (inr (inl s))
@@ -58,33 +63,37 @@ module _ (words : List (List ℕ)) (files : Files) where
     refused_writes (refusal.Executable f) h (inl s) = inl (subst Whole (sym h) s)
     refused_writes (refusal.CoreImage f) h (inl s) = inl (subst Whole (sym h) s)
     refused_writes (refusal.Core f) h (inl s) = inl (subst Whole (sym h) s)
+    refused_writes (refusal.Path f) h (inl s) = inl (subst Whole (sym h) s)
     refused_writes (refusal.Inconsistent kind) h (inl s) = inl (subst Whole (sym h) s)
     refused_writes refusal.InputFault h (inl s) = inl (subst Whole (sym h) s)
 
-    pub examined_writes : (exe core trace : List ℕ) → loading words files ≡ Loaded exe core trace → Examines exe core trace input text status → Writes words files input text status
-    examined_writes exe core trace at (inl h) = inl (subst Whole (sym at) h)
-    examined_writes exe core trace at (inr (inl h)) = inr (inr (inl h))
-    examined_writes exe core trace at (inr (inr (note, read, traced, (rows, known, follows, report, cut)))) =
-        inr (inr (inr (exe, core, trace, note, rows, known, record { loaded = at; leads = record { read = read; traced = traced; follows = follows } }, report, cut)))
+    pub examined_writes : (exe core trace : List ℕ) (from : ℕ) → loading words files ≡ Loaded exe core trace from → Examines exe core trace from input text status → Writes words files input text status
+    examined_writes exe core trace from at (inl h) = inl (subst Whole (sym at) h)
+    examined_writes exe core trace from at (inr (inl h)) = inr (inr (inl h))
+    examined_writes exe core trace from at (inr (inr (note, read, (rows, known, follows, report, cut)))) =
+        inr (inr (inr (exe, core, trace, from, note, rows, known, record { loaded = at; leads = record { read = read; follows = follows } }, report, cut)))
 
-  module _ (exe core trace : List ℕ) (at : loading words files ≡ Loaded exe core trace) where
-    pub examined_ends : (reads reads' writes writes' : ℕ) (status : Status) → IsExamined exe core trace reads reads' writes writes' status → EndsByFiles words files status
+  module _ (exe core trace : List ℕ) (from : ℕ) (at : loading words files ≡ Loaded exe core trace from) where
+    pub examined_ends : (reads reads' writes writes' : ℕ) (status : Status) → IsExamined exe core trace from reads reads' writes writes' status → EndsByFiles words files status
     examined_ends reads reads' writes writes' status c = subst (Ends status) (sym at) (inl c.yields)
 
-    same_files : (e c t : List ℕ) → loading words files ≡ Loaded e c t → (exe ≡ e) × (core ≡ c) × (trace ≡ t)
-    same_files e c t h = by_loaded (sym at ∙ h)
+    same_files : (e c t : List ℕ) (k : ℕ) → loading words files ≡ Loaded e c t k → (exe ≡ e) × (core ≡ c) × (trace ≡ t) × (from ≡ k)
+    same_files e c t k h = by_loaded (sym at ∙ h)
       where
-        by_loaded : Loaded exe core trace ≡ Loaded e c t → (exe ≡ e) × (core ≡ c) × (trace ≡ t)
-        by_loaded same = (cc, cc, cc)
+        by_loaded : Loaded exe core trace from ≡ Loaded e c t k → (exe ≡ e) × (core ≡ c) × (trace ≡ t) × (from ≡ k)
+        by_loaded same = (cc, cc, cc, cc)
 
-    moved : (P : List ℕ → List ℕ → List ℕ → Type 0) (e c t : List ℕ) → loading words files ≡ Loaded e c t → P exe core trace → P e c t
-    moved P e c t h p = let same = same_files e c t h in subst (λ x. P e c x) same.2 (subst (λ x. P e x trace) same.1 (subst (λ x. P x core trace) same.0 p))
+    moved : (P : List ℕ → List ℕ → List ℕ → ℕ → Type 0) (e c t : List ℕ) (k : ℕ) → loading words files ≡ Loaded e c t k → P exe core trace from → P e c t k
+    moved P e c t k h p =
+        let same = same_files e c t k h in
+        subst (λ n. P e c t n) same.3 (subst (λ x. P e c x from) same.2 (subst (λ x. P e x trace from) same.1 (subst (λ x. P x core trace from) same.0 p)))
 
-    pub examined_holds : FilesHold exe core trace → ReportHolds words files
-    examined_holds hold e c t note rows known opens = moved FilesHold e c t opens.loaded hold note rows known opens.leads
+    pub examined_excludes : FilesExclude exe core trace from → NoExecution words files
+    examined_excludes none e c t k note rows opens = moved FilesExclude e c t k opens.loaded none note rows opens.leads
 
-    pub examined_excludes : FilesExclude exe core trace → NoExecution words files
-    examined_excludes none e c t note rows opens = moved FilesExclude e c t opens.loaded none note rows opens.leads
+-- what reports say of any path that is analysed, they say of that of the files
+pub reports_hold : (words : List (List ℕ)) (files : Files) → ((rows : List StepRow) (last : List ℕ) (known : ℕ → ℕ → Option ℕ) → IsReport rows last known → IsSound rows last known) → ReportHolds words files
+reports_hold words files sound exe core trace from note rows known opens report run x p r v early in_file e = sound rows (last_values note) known report p r v early in_file e (image_end exe) (dump_of exe core) run x
 
 -- what is written where no count rose
 pub completed : (words : List (List ℕ)) (files : Files) (told : Option Files) (input : List ℕ) (loads loads' reads reads' writes writes' : ℕ) (old new : Option (List ℕ)) (status : Status)
@@ -93,14 +102,14 @@ completed words files told input loads loads' reads reads' writes writes' old ne
 completed words files told input loads loads' reads reads' writes writes' old new status c (later, inl (text, inl h, appended)) no_load no_read no_write = inr (text, h, appended)
 completed words files told input loads loads' reads reads' writes writes' old new status c (later, inl (text, inr (inl (kind, comes, says)), appended)) no_load no_read no_write = absurd (no_load (c.load says.ending))
 completed words files told input loads loads' reads reads' writes writes' old new status c (later, inl (text, inr (inr (inl says)), appended)) no_load no_read no_write = inl says.ending
-completed words files told input loads loads' reads reads' writes writes' old new status c (later, inl (text, inr (inr (inr (exe, core, trace, note, rows, known, opens, report, inl failed))), appended)) no_load no_read no_write =
+completed words files told input loads loads' reads reads' writes writes' old new status c (later, inl (text, inr (inr (inr (exe, core, trace, from, note, rows, known, opens, report, inl failed))), appended)) no_load no_read no_write =
     absurd (no_read (c.input failed.ending))
-completed words files told input loads loads' reads reads' writes writes' old new status c (later, inl (text, inr (inr (inr (exe, core, trace, note, rows, known, opens, report, inr ran))), appended)) no_load no_read no_write =
+completed words files told input loads loads' reads reads' writes writes' old new status c (later, inl (text, inr (inr (inr (exe, core, trace, from, note, rows, known, opens, report, inr ran))), appended)) no_load no_read no_write =
     inl ran.ending
 
 -- the causes of a call whose files were loaded
-pub examined_causes : (told : Option Files) (exe core trace : List ℕ) (loads loads' reads reads' writes writes' : ℕ) (status : Status) → loads ≤ loads' → IsExamined exe core trace reads reads' writes writes' status → TopCauses told loads loads' reads reads' writes writes' status
-examined_causes told exe core trace loads loads' reads reads' writes writes' status later c = record {
+pub examined_causes : (told : Option Files) (exe core trace : List ℕ) (from loads loads' reads reads' writes writes' : ℕ) (status : Status) → loads ≤ loads' → IsExamined exe core trace from reads reads' writes writes' status → TopCauses told loads loads' reads reads' writes writes' status
+examined_causes told exe core trace from loads loads' reads reads' writes writes' status later c = record {
   loads_later = later;
   reads_later = c.reads_later;
   writes_later = c.writes_later;
@@ -117,21 +126,24 @@ examined_causes told exe core trace loads loads' reads reads' writes writes' sta
     not_walked (inl e) (inr (inr (inr (inl h)))) = cc
     not_walked (inl e) (inr (inr (inr (inr (inl h))))) = cc
     not_walked (inl e) (inr (inr (inr (inr (inr (inl h)))))) = cc
-    not_walked (inl e) (inr (inr (inr (inr (inr (inr h)))))) = cc
+    not_walked (inl e) (inr (inr (inr (inr (inr (inr (inl h))))))) = cc
+    not_walked (inl e) (inr (inr (inr (inr (inr (inr (inr h))))))) = cc
     not_walked (inr (inl e)) (inl h) = cc
     not_walked (inr (inl e)) (inr (inl h)) = cc
     not_walked (inr (inl e)) (inr (inr (inl h))) = cc
     not_walked (inr (inl e)) (inr (inr (inr (inl h)))) = cc
     not_walked (inr (inl e)) (inr (inr (inr (inr (inl h))))) = cc
     not_walked (inr (inl e)) (inr (inr (inr (inr (inr (inl h)))))) = cc
-    not_walked (inr (inl e)) (inr (inr (inr (inr (inr (inr h)))))) = cc
+    not_walked (inr (inl e)) (inr (inr (inr (inr (inr (inr (inl h))))))) = cc
+    not_walked (inr (inl e)) (inr (inr (inr (inr (inr (inr (inr h))))))) = cc
     not_walked (inr (inr e)) (inl h) = cc
     not_walked (inr (inr e)) (inr (inl h)) = cc
     not_walked (inr (inr e)) (inr (inr (inl h))) = cc
     not_walked (inr (inr e)) (inr (inr (inr (inl h)))) = cc
     not_walked (inr (inr e)) (inr (inr (inr (inr (inl h))))) = cc
     not_walked (inr (inr e)) (inr (inr (inr (inr (inr (inl h)))))) = cc
-    not_walked (inr (inr e)) (inr (inr (inr (inr (inr (inr h)))))) = cc
+    not_walked (inr (inr e)) (inr (inr (inr (inr (inr (inr (inl h))))))) = cc
+    not_walked (inr (inr e)) (inr (inr (inr (inr (inr (inr (inr h))))))) = cc
 
     not_loading : (status ≡ ends.LoadFault) ⊎ (status ≡ ends.NoFile) ⊎ (status ≡ ends.TooLarge) → (status ≡ ends.Executable) ⊎ (status ≡ ends.Core) ⊎ IsWalkStatus status → ⊥
     not_loading (inl e) (inl h) = cc
@@ -161,5 +173,5 @@ of_both o p Q files input e e' h =
 pub at_told : (o : Option Files) (P : Type 0) (Q : Files → Type 0) (files : Files) → o ≡ Some files → MatchOption o P Q → Q files
 at_told o P Q files e h = subst (λ (x : Option Files). MatchOption x P Q) e h
 
-pub loaded_at : (l : Loading) (exe exe' core core' trace trace' : List ℕ) → l ≡ Loaded exe core trace → exe' ≡ exe → core' ≡ core → trace' ≡ trace → l ≡ Loaded exe' core' trace'
-loaded_at l exe exe' core core' trace trace' h e c t = h ∙ ap (λ x. Loaded x core trace) (sym e) ∙ ap (λ x. Loaded exe' x trace) (sym c) ∙ ap (λ x. Loaded exe' core' x) (sym t)
+pub loaded_at : (l : Loading) (exe exe' core core' trace trace' : List ℕ) (from : ℕ) → l ≡ Loaded exe core trace from → exe' ≡ exe → core' ≡ core → trace' ≡ trace → l ≡ Loaded exe' core' trace' from
+loaded_at l exe exe' core core' trace trace' from h e c t = h ∙ ap (λ x. Loaded x core trace from) (sym e) ∙ ap (λ x. Loaded exe' x trace from) (sym c) ∙ ap (λ x. Loaded exe' core' x from) (sym t)

@@ -6,6 +6,10 @@ use Rattle.rept_elf.specs.declared.fault.ElfFault.{ElfFault}
 use Rattle.rept_elf.specs.declared.fault.ElfFault.TheVariants as elf
 use Rattle.rept_dump.specs.declared.fault.CoreFault.{CoreFault}
 use Rattle.rept_dump.specs.declared.fault.CoreFault.TheVariants as notes
+use Rattle.rept_trace.specs.declared.fault.TraceFault.{TraceFault}
+use Rattle.rept_trace.specs.declared.fault.TraceFault.TheVariants as packets
+use Rattle.rept_path.specs.declared.fault.PathFault.{PathFault}
+use Rattle.rept_path.specs.declared.fault.PathFault.TheVariants as path
 use Rattle.rept_engine.specs.declared.fact.Cell.{Cell}
 use Rattle.rept_engine.specs.declared.fact.Cell.TheVariants.{Register, Byte}
 use Rattle.rept_engine.specs.declared.conflict.ConflictKind.{ConflictKind}
@@ -19,6 +23,11 @@ use Rattle.rept_app.specs.declared.refusal.Refusal.TheVariants as refusal
 use Rattle.rept_app.specs.declared.status.Status.{Status}
 use Rattle.rept_app.specs.declared.status.Status.TheVariants as ends
 
+-- a trace that is refused or has no path; or memory ran out
+abbrev pub status_of_path : PathFault → Status
+status_of_path path.OutOfMemory = ends.OutOfMemory
+status_of_path _ = ends.Trace
+
 abbrev pub status_of : Refusal → Status
 status_of refusal.Usage = ends.Usage
 status_of (refusal.LoadFault f) = ends.LoadFault
@@ -27,6 +36,7 @@ status_of (refusal.TooLarge f) = ends.TooLarge
 status_of (refusal.Executable f) = ends.Executable
 status_of (refusal.CoreImage f) = ends.Core
 status_of (refusal.Core f) = ends.Core
+status_of (refusal.Path f) = status_of_path f
 status_of (refusal.NotBuilt u) = ends.NotBuilt
 status_of (refusal.Inconsistent kind) = ends.Inconsistent
 status_of refusal.InputFault = ends.InputFault
@@ -59,10 +69,35 @@ core_fault_text (notes.ShortStatus size) = codes "core 2 " ++ decimal size
 core_fault_text (notes.NotePastEnd offset) = codes "core 3 " ++ decimal offset
 core_fault_text (notes.SeveralThreads count) = codes "core 4 " ++ decimal count
 
+-- The number of a fault of the trace's bytes, and what it holds: the number of the byte of the header, or of the packet. The
+-- packets are those of Efficient Trace for RISC-V 2.0.
+abbrev pub trace_fault_text : TraceFault → List ℕ
+trace_fault_text packets.BadMagic = codes "1"
+trace_fault_text (packets.BadHeader i) = codes "2 " ++ decimal i
+trace_fault_text (packets.Truncated k) = codes "3 " ++ decimal k
+trace_fault_text (packets.Optional k) = codes "4 " ++ decimal k
+trace_fault_text (packets.Trap k) = codes "5 " ++ decimal k
+trace_fault_text (packets.BadSupport k) = codes "6 " ++ decimal k
+
+-- The number of the reason why a trace has no path, and what it holds: numbers of packets and counts in decimal, addresses and
+-- code words in hexadecimal.
+abbrev pub path_fault_text : PathFault → List ℕ
+path_fault_text (path.NoStart k) = codes "path 1 " ++ decimal k
+path_fault_text (path.NotCode a) = codes "path 2 " ++ hex_word a
+path_fault_text (path.NotRv32im a w) = codes "path 3 " ++ hex_word a ++ codes " " ++ hex_word w
+path_fault_text (path.Unaligned a) = codes "path 4 " ++ hex_word a
+path_fault_text (path.NoBranchBit k a) = codes "path 5 " ++ decimal k ++ codes " " ++ hex_word a
+path_fault_text (path.BranchesLeft k count) = codes "path 6 " ++ decimal k ++ codes " " ++ decimal count
+path_fault_text (path.JumpInMap k a) = codes "path 7 " ++ decimal k ++ codes " " ++ hex_word a
+path_fault_text (path.Gap k last start) = codes "path 8 " ++ decimal k ++ codes " " ++ hex_word last ++ codes " " ++ hex_word start
+path_fault_text (path.End last pc) = codes "path 9 " ++ hex_word last ++ codes " " ++ hex_word pc
+path_fault_text (path.TooLong k) = codes "path 10 " ++ decimal k
+path_fault_text (path.Packet f) = codes "path 11 " ++ trace_fault_text f
+path_fault_text (path.Trapped k a) = codes "path 12 " ++ decimal k ++ codes " " ++ hex_word a
+path_fault_text path.OutOfMemory = codes "out-of-memory"
+
 abbrev pub unbuilt_word : Unbuilt → List ℕ
 unbuilt_word unbuilt.Words = codes "words"
-unbuilt_word unbuilt.Core = codes "core"
-unbuilt_word unbuilt.Trace = codes "trace"
 unbuilt_word (unbuilt.Code address) = codes "code " ++ hex_word address
 unbuilt_word unbuilt.Input = codes "input"
 
@@ -94,6 +129,7 @@ words_of (refusal.TooLarge f) = codes "too-large " ++ file_word f
 words_of (refusal.Executable f) = codes "executable " ++ elf_fault_text f
 words_of (refusal.CoreImage f) = codes "core-image " ++ elf_fault_text f
 words_of (refusal.Core f) = core_fault_text f
+words_of (refusal.Path f) = path_fault_text f
 words_of (refusal.NotBuilt what) = unbuilt_text what
 words_of (refusal.Inconsistent kind) = conflict_text kind
 words_of refusal.InputFault = codes "input-fault"

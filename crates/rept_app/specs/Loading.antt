@@ -10,10 +10,10 @@ use Rattle.rept_app.specs.declared.refusal.Unbuilt.TheVariants as unbuilt
 use Rattle.rept_app.specs.declared.refusal.Refusal.{Refusal}
 use Rattle.rept_app.specs.declared.refusal.Refusal.TheVariants as refusal
 
--- a refusal, or the bytes of the executable, the core file and the trace
+-- a refusal, or the bytes of the executable, the core file and the trace, and the number of the packet to begin from
 pub data Loading : Type 0 where
   Refused : Refusal → Loading
-  Loaded : List ℕ → List ℕ → List ℕ → Loading
+  Loaded : List ℕ → List ℕ → List ℕ → ℕ → Loading
 
 -- the most bytes of a file: 64 MiB, 256 MiB and 16 MiB
 abbrev pub limit_of : FileKind → ℕ
@@ -27,23 +27,27 @@ fetched kind None next = Refused (refusal.NoFile kind)
 fetched kind (Some bytes) next = if nat_lt (limit_of kind) (length bytes) then Refused (refusal.TooLarge kind) else next bytes
 
 -- the three files, one after the other
-abbrev pub fetched_all : Files → Names → Loading
-fetched_all files names =
-    fetched file.Exe (files names.exe) (λ exe. fetched file.Core (files names.core) (λ core. fetched file.Trace (files names.trace) (λ trace. Loaded exe core trace)))
+abbrev pub fetched_all : Files → Names → ℕ → Loading
+fetched_all files names from =
+    fetched file.Exe (files names.exe) (λ exe. fetched file.Core (files names.core) (λ core. fetched file.Trace (files names.trace) (λ trace. Loaded exe core trace from)))
+
+-- the packet to begin from: the first one, where the words name none
+abbrev pub first_packet : Option ℕ → ℕ
+first_packet None = 0
+first_packet (Some from) = from
 
 abbrev pub loading_by : Files → Option Meaning → Loading
 loading_by files None = Refused refusal.Usage
 loading_by files (Some (Made seed steps)) = Refused (refusal.NotBuilt unbuilt.Words)
-loading_by files (Some (Open names (Some from))) = Refused (refusal.NotBuilt unbuilt.Words)
-loading_by files (Some (Open names None)) = fetched_all files names
+loading_by files (Some (Open names from)) = fetched_all files names (first_packet from)
 
 -- what words and files come to: no meaning, words that aren't read yet, the first file that is missing or too large, or all files
 abbrev pub loading : List (List ℕ) → Files → Loading
 loading words files = loading_by files (meaning_of words)
 
-abbrev pub MatchLoading : Loading → (Refusal → Type 0) → (List ℕ → List ℕ → List ℕ → Type 0) → Type 0
+abbrev pub MatchLoading : Loading → (Refusal → Type 0) → (List ℕ → List ℕ → List ℕ → ℕ → Type 0) → Type 0
 MatchLoading (Refused r) P Q = P r
-MatchLoading (Loaded exe core trace) P Q = Q exe core trace
+MatchLoading (Loaded exe core trace from) P Q = Q exe core trace from
 
 -- the file of that name is there and within the limit
 abbrev pub Fits : Files → FileKind → List ℕ → Type 0
@@ -57,7 +61,7 @@ FitBefore files names file.Trace = Fits files file.Exe names.exe × Fits files f
 
 -- the words name three files, of which those before this one are there and within their limits
 abbrev pub ComesTo : List (List ℕ) → Files → FileKind → Type 0
-ComesTo words files kind = (names : Names) × (meaning_of words ≡ Some (Open names None)) × FitBefore files names kind
+ComesTo words files kind = (names : Names) × (from : Option ℕ) × (meaning_of words ≡ Some (Open names from)) × FitBefore files names kind
 
 -- Why a file isn't loaded: by the files where they are told, and otherwise by the count of the shelf's faults.
 abbrev pub LoadRefuses : Option Files → List ℕ → FileKind → ℕ → ℕ → Refusal → Type 0
@@ -68,10 +72,10 @@ LoadRefuses files name kind before now refusal.OutOfMemory = Unit {0}
 LoadRefuses files name kind before now other = ⊥
 
 -- why the files of these names aren't loaded, where they are told
-abbrev pub NamesRefuse : Files → Names → Refusal → Type 0
-NamesRefuse files names (refusal.LoadFault kind) = FitBefore files names kind
-NamesRefuse files names refusal.OutOfMemory = Unit {0}
-NamesRefuse files names other = fetched_all files names ≡ Refused other
+abbrev pub NamesRefuse : Files → Names → ℕ → Refusal → Type 0
+NamesRefuse files names from (refusal.LoadFault kind) = FitBefore files names kind
+NamesRefuse files names from refusal.OutOfMemory = Unit {0}
+NamesRefuse files names from other = fetched_all files names from ≡ Refused other
 
 -- the same by the count of the shelf's faults, where they aren't told
 abbrev pub CountsRefuse : ℕ → ℕ → Refusal → Type 0

@@ -12,6 +12,7 @@ number_of_status ends.NoFile = 4
 number_of_status ends.TooLarge = 5
 number_of_status ends.Executable = 6
 number_of_status ends.Core = 7
+number_of_status ends.Trace = 8
 number_of_status ends.InputFault = 9
 number_of_status ends.OutputFault = 10
 number_of_status ends.OutOfMemory = 11

@@ -4,7 +4,6 @@ use Rattle.rept_isa.specs.declared.row.StepRow.{StepRow}
 use Rattle.rept_ports.specs.Causes.{Rose}
 use Rattle.rept_engine.specs.Closure.{ClosureHas, IsConsistent}
 use Rattle.rept_engine.specs.Report.{IsReport}
-use Rattle.rept_engine.specs.Soundness.{IsSound}
 use Rattle.rept_engine.specs.declared.conflict.ConflictKind.{ConflictKind}
 use Rattle.rept_app.specs.Answers.{Shown}
 use Rattle.rept_app.specs.Delivered.{Says}
@@ -37,7 +36,3 @@ pub record IsStudied (rows : List StepRow) (registers : List ℕ) (reads reads' 
   pub conflict : (kind : ConflictKind) → ClosureHas rows registers kind → (status ≡ ends.Inconsistent) ⊎ Stopped status
   pub report : IsConsistent rows registers → (status ≡ ends.Ok) ⊎ (status ≡ ends.NotBuilt) ⊎ (status ≡ ends.InputFault) ⊎ (status ≡ ends.TooMuchInput) ⊎ Stopped status
   pub ends_so : (status ≡ ends.Inconsistent) ⊎ (status ≡ ends.Ok) ⊎ (status ≡ ends.NotBuilt) ⊎ (status ≡ ends.InputFault) ⊎ (status ≡ ends.TooMuchInput) ⊎ Stopped status
-
--- each value of the report holds in every execution
-abbrev pub ReportIsSound : List StepRow → List ℕ → Type 0
-ReportIsSound rows registers = (known : ℕ → ℕ → Option ℕ) → IsReport rows registers known → IsSound rows registers known

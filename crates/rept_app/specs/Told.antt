@@ -1,5 +1,5 @@
 -- What the program writes, and with which status.
-use Rattle.std.specs.Prelude.{◌≡◌, ◌⊎◌, ℕ, ◌≤◌, ◌<◌, List, length, true, ◌==◌, Option, None, Some, Result, Ok, MatchOption, MatchBool, MatchResult}
+use Rattle.std.specs.Prelude.{◌≡◌, ◌⊎◌, ℕ, ◌≤◌, ◌<◌, List, length, Option, None, Some, Result, Ok, MatchOption, MatchResult}
 use Rattle.rept_elf.specs.Segments.{ElfSegment, segments}
 use Rattle.rept_dump.specs.Registers.{Says as NotesSay}
 use Rattle.rept_dump.specs.declared.fault.CoreFault.{CoreFault}
@@ -9,22 +9,19 @@ use Rattle.rept_machine.specs.Execution.{Execution}
 use Rattle.rept_engine.specs.Closure.{ClosureHas}
 use Rattle.rept_engine.specs.Report.{IsReport}
 use Rattle.rept_engine.specs.declared.conflict.ConflictKind.{ConflictKind}
+use Rattle.rept_path.specs.declared.fault.PathFault.{PathFault}
 use Rattle.rept_ports.specs.Shelves.{Files}
 use Rattle.rept_app.specs.Answers.{Shown}
 use Rattle.rept_app.specs.Delivered.{Says}
-use Rattle.rept_app.specs.Forms.{executable_fault, core_image_fault, is_trace, end_pc, last_values, dump_of, image_end}
+use Rattle.rept_app.specs.Forms.{executable_fault, core_image_fault, end_pc, last_values, dump_of, image_end}
 use Rattle.rept_app.specs.Loading.{loading, MatchLoading, ComesTo}
 use Rattle.rept_app.specs.Loading.Loading.{Loaded}
-use Rattle.rept_app.specs.Path.{IsPath, StopsAt, address_of}
+use Rattle.rept_app.specs.Path.{IsTracePath, HasNoPath, unread}
 use Rattle.rept_app.specs.Session.{Answers, CutShort}
 use Rattle.rept_app.specs.declared.refusal.FileKind.{FileKind}
 use Rattle.rept_app.specs.declared.refusal.Unbuilt.TheVariants as unbuilt
 use Rattle.rept_app.specs.declared.refusal.Refusal.TheVariants as refusal
 use Rattle.rept_app.specs.declared.status.Status.{Status}
-
--- the path ends where the register note says that the program stood
-abbrev pub EndsAtPc : List ℕ → List StepRow → Type 0 → Type 0 → Type 0
-EndsAtPc note rows P Q = MatchBool (end_pc note == address_of (length rows)) P Q
 
 -- what a session tells of the path and the register note
 abbrev pub shown : List ℕ → List StepRow → (ℕ → ℕ → Option ℕ) → Shown
@@ -36,28 +33,33 @@ Analysed note rows input text status =
     ((kind : ConflictKind) × ClosureHas rows (last_values note) kind × Says (refusal.Inconsistent kind) text status)
     ⊎ ((known : ℕ → ℕ → Option ℕ) × IsReport rows (last_values note) known × Answers (shown note rows known) (length rows) input text status)
 
--- The path stops at an address whose code isn't read; or it ends elsewhere than the core file says; or it is analysed.
-abbrev pub Walked : List ElfSegment → List ℕ → List ℕ → List ℕ → List ℕ → Status → Type 0
-Walked exe note trace input text status =
-    ((address : ℕ) × StopsAt exe trace address × Says (refusal.NotBuilt (unbuilt.Code address)) text status)
-    ⊎ ((rows : List StepRow) × IsPath exe trace rows × EndsAtPc note rows (Analysed note rows input text status) (Says (refusal.NotBuilt unbuilt.Core) text status))
+-- The path has a first step whose instruction isn't read, or it is analysed.
+abbrev pub PathTold : List ℕ → List StepRow → List ℕ → List ℕ → Status → Type 0
+PathTold note rows input text status = MatchOption (unread rows) (Analysed note rows input text status) (λ address. Says (refusal.NotBuilt (unbuilt.Code address)) text status)
 
--- The core file's notes are refused; or they give the registers, and then the trace isn't of the form that is read, or its path is walked.
-abbrev pub NotesTold : List ℕ → List ℕ → List ℕ → List ℕ → List ℕ → Status → Type 0
-NotesTold exe core trace input text status =
+-- The trace has no path, for a reason that the line tells; or what it has is told.
+abbrev pub Walked : List ElfSegment → List ℕ → List ℕ → ℕ → List ℕ → List ℕ → Status → Type 0
+Walked exe note trace from input text status =
+    ((fault : PathFault) × HasNoPath exe note trace from fault × Says (refusal.Path fault) text status)
+    ⊎ ((rows : List StepRow) × IsTracePath exe note trace from rows × PathTold note rows input text status)
+
+-- The core file's notes are refused; or they give the registers, and the trace is walked.
+abbrev pub NotesTold : List ℕ → List ℕ → List ℕ → ℕ → List ℕ → List ℕ → Status → Type 0
+NotesTold exe core trace from input text status =
     (said : Result (List ℕ) CoreFault) × NotesSay (length core) (segments core) said
-    × MatchResult said (λ note. MatchBool (is_trace trace) (Walked (segments exe) note trace input text status) (Says (refusal.NotBuilt unbuilt.Trace) text status)) (λ fault. Says (refusal.Core fault) text status)
+    × MatchResult said (λ note. Walked (segments exe) note trace from input text status) (λ fault. Says (refusal.Core fault) text status)
 
 -- The executable is refused; or the core file is refused as an image; or its notes are read.
-abbrev pub Examined : List ℕ → List ℕ → List ℕ → List ℕ → List ℕ → Status → Type 0
-Examined exe core trace input text status =
-    MatchOption (executable_fault exe) (MatchOption (core_image_fault core) (NotesTold exe core trace input text status) (λ fault. Says (refusal.CoreImage fault) text status))
+abbrev pub Examined : List ℕ → List ℕ → List ℕ → ℕ → List ℕ → List ℕ → Status → Type 0
+Examined exe core trace from input text status =
+    MatchOption (executable_fault exe) (MatchOption (core_image_fault core) (NotesTold exe core trace from input text status) (λ fault. Says (refusal.CoreImage fault) text status))
     (λ fault. Says (refusal.Executable fault) text status)
 
 -- Words, files and input that are all there: the text that is written, and the status. The cases stand in the order in which
--- they are looked at: the words, the files, the executable, the core file, the trace, the path, its end, the analysis, the input.
+-- they are looked at: the words, the files, the executable, the core file, the trace and its path, the instructions, the analysis,
+-- the input.
 abbrev pub Told : List (List ℕ) → Files → List ℕ → List ℕ → Status → Type 0
-Told words files input text status = MatchLoading (loading words files) (λ r. Says r text status) (λ exe core trace. Examined exe core trace input text status)
+Told words files input text status = MatchLoading (loading words files) (λ r. Says r text status) (λ exe core trace from. Examined exe core trace from input text status)
 
 -- the executable and the core file are accepted, and this is the descriptor of the register note
 pub record Reads (exe core note : List ℕ) : Type 0 where
@@ -65,21 +67,20 @@ pub record Reads (exe core note : List ℕ) : Type 0 where
   pub core_accepted : core_image_fault core ≡ None
   pub noted : NotesSay (length core) (segments core) (Ok note)
 
--- the trace has this path, and it ends where the register note says
-pub record Follows (exe : List ElfSegment) (note trace : List ℕ) (rows : List StepRow) : Type 0 where
-  pub path : IsPath exe trace rows
-  pub ended : end_pc note ≡ address_of (length rows)
+-- the trace has this path, and each of its instructions is read
+pub record Follows (exe : List ElfSegment) (note trace : List ℕ) (from : ℕ) (rows : List StepRow) : Type 0 where
+  pub path : IsTracePath exe note trace from rows
+  pub read : unread rows ≡ None
 
 -- the files come to a path that is analysed
-pub record Leads (exe core trace note : List ℕ) (rows : List StepRow) : Type 0 where
+pub record Leads (exe core trace : List ℕ) (from : ℕ) (note : List ℕ) (rows : List StepRow) : Type 0 where
   pub read : Reads exe core note
-  pub traced : is_trace trace ≡ true
-  pub follows : Follows (segments exe) note trace rows
+  pub follows : Follows (segments exe) note trace from rows
 
 -- so do the words and the files
-pub record Opens (words : List (List ℕ)) (files : Files) (exe core trace note : List ℕ) (rows : List StepRow) : Type 0 where
-  pub loaded : loading words files ≡ Loaded exe core trace
-  pub leads : Leads exe core trace note rows
+pub record Opens (words : List (List ℕ)) (files : Files) (exe core trace : List ℕ) (from : ℕ) (note : List ℕ) (rows : List StepRow) : Type 0 where
+  pub loaded : loading words files ≡ Loaded exe core trace from
+  pub leads : Leads exe core trace from note rows
 
 -- A call that was cut short: a file couldn't be loaded, of which those before it are there and within their limits; memory ran
 -- out; or, where all came to a report, the session was cut short.
@@ -87,7 +88,7 @@ abbrev pub Interrupted : List (List ℕ) → Files → List ℕ → List ℕ →
 Interrupted words files input text status =
     ((kind : FileKind) × ComesTo words files kind × Says (refusal.LoadFault kind) text status)
     ⊎ Says refusal.OutOfMemory text status
-    ⊎ ((exe : List ℕ) × (core : List ℕ) × (trace : List ℕ) × (note : List ℕ) × (rows : List StepRow) × (known : ℕ → ℕ → Option ℕ) × Opens words files exe core trace note rows
+    ⊎ ((exe : List ℕ) × (core : List ℕ) × (trace : List ℕ) × (from : ℕ) × (note : List ℕ) × (rows : List StepRow) × (known : ℕ → ℕ → Option ℕ) × Opens words files exe core trace from note rows
     × IsReport rows (last_values note) known × CutShort (shown note rows known) (length rows) input text status)
 
 -- what is written where the output doesn't fail
@@ -101,10 +102,10 @@ EndsInDump exe core note rows run = Execution (image_end exe) rows (last_values 
 -- each value of the report holds at its point of every execution of the path that ends in the dump
 abbrev pub ReportHolds : List (List ℕ) → Files → Type 0
 ReportHolds words files =
-    (exe core trace note : List ℕ) (rows : List StepRow) (known : ℕ → ℕ → Option ℕ) → Opens words files exe core trace note rows → IsReport rows (last_values note) known
+    (exe core trace : List ℕ) (from : ℕ) (note : List ℕ) (rows : List StepRow) (known : ℕ → ℕ → Option ℕ) → Opens words files exe core trace from note rows → IsReport rows (last_values note) known
     → (run : ℕ → State) → EndsInDump exe core note rows run → (p r v : ℕ) → p ≤ length rows → r < 32 → known p r ≡ Some v → (run p).register r ≡ v
 
 -- no execution of the path ends in the dump
 abbrev pub NoExecution : List (List ℕ) → Files → Type 0
 NoExecution words files =
-    (exe core trace note : List ℕ) (rows : List StepRow) → Opens words files exe core trace note rows → (run : ℕ → State) → EndsInDump exe core note rows run → ⊥
+    (exe core trace : List ℕ) (from : ℕ) (note : List ℕ) (rows : List StepRow) → Opens words files exe core trace from note rows → (run : ℕ → State) → EndsInDump exe core note rows run → ⊥

@@ -29,7 +29,7 @@ EndsBy expected status = (status ≡ expected) ⊎ (status ≡ ends.LoadFault) �
 -- Each status comes where the words and the files say so: a refusal has its status; files that are there end the call by what they
 -- hold.
 abbrev pub EndsByFiles : List (List ℕ) → Files → Status → Type 0
-EndsByFiles words files status = MatchLoading (loading words files) (λ r. EndsBy (status_of r) status) (λ exe core trace. FilesEnd exe core trace status ⊎ (status ≡ ends.LoadFault))
+EndsByFiles words files status = MatchLoading (loading words files) (λ r. EndsBy (status_of r) status) (λ exe core trace from. FilesEnd exe core trace from status ⊎ (status ≡ ends.LoadFault))
 
 -- where no count rose: all of the text is written, or memory ran out
 abbrev pub Completes : List (List ℕ) → Files → List ℕ → ℕ → ℕ → ℕ → ℕ → ℕ → ℕ → Option (List ℕ) → Option (List ℕ) → Status → Type 0

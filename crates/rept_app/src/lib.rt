@@ -4,11 +4,11 @@
 mod answers;
 mod command;
 mod examine;
-mod forms;
 mod line;
 mod load;
 mod number;
 mod path;
+mod path_line;
 mod refusal;
 mod session;
 mod status;
@@ -16,6 +16,7 @@ mod study;
 mod tell;
 #[cfg(test)]
 mod tests;
+mod texts;
 mod top;
 mod words;
 

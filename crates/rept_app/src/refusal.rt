@@ -1,12 +1,13 @@
-ghost use Rattle.std.specs.Prelude.{◌≡◌, ◌++◌, IfOk, OnOk, codes};
-ghost use Rattle.std.specs.Fmt.{decimal};
-ghost use Rattle.rept_word.specs.Hex.{hex_word};
-ghost use Rattle.rept_app.specs.Lines.{line_of, status_of, file_word, elf_fault_text, core_fault_text, unbuilt_text, unbuilt_word, conflict_text, two_values_text, cell_text, value_text_in};
+ghost use Rattle.std.specs.Prelude.{◌≡◌, ◌++◌, IfOk, OnOk};
+ghost use Rattle.rept_app.specs.Lines.{line_of, status_of, status_of_path, file_word, elf_fault_text, core_fault_text, unbuilt_text, unbuilt_word, conflict_text, two_values_text, cell_text, value_text_in};
 
+use crate::path_line::push_path_fault;
 use crate::status::Status;
+use crate::texts::{push_numbered, push_placed};
 use rept_dump::CoreFault;
 use rept_elf::ElfFault;
 use rept_engine::{Cell, ConflictKind};
+use rept_path::PathFault;
 use rept_word::{OutOfMemory, Text};
 use std::alloc::Global;
 
@@ -21,13 +22,9 @@ pub enum FileKind {
 /// What isn't read yet.
 #[derive(Clone, Copy, Debug, PartialEq, Eq)]
 pub enum Unbuilt {
-    /// `open` with a packet to begin from, or `self`.
+    /// `self`.
     Words,
-    /// A core file whose program counter isn't the end of the path.
-    Core,
-    /// A trace of another form.
-    Trace,
-    /// The path comes to this address, where no code word is, or none of an instruction that is read.
+    /// The instruction at this address, the first of the path that isn't read.
     Code(u32),
     /// A line of the input is no command that is built.
     Input,
@@ -46,6 +43,8 @@ pub enum Refusal {
     CoreImage(ElfFault),
     /// The core file's notes don't give the registers of one thread.
     Core(CoreFault),
+    /// The trace is refused, or has no path.
+    Path(PathFault),
     NotBuilt(Unbuilt),
     Inconsistent(ConflictKind),
     InputFault,
@@ -65,6 +64,7 @@ impl Refusal {
             Refusal::TooLarge(_) => Status::TooLarge,
             Refusal::Executable(_) => Status::Executable,
             Refusal::CoreImage(_) | Refusal::Core(_) => Status::Core,
+            Refusal::Path(fault) => path_status(fault),
             Refusal::NotBuilt(_) => Status::NotBuilt,
             Refusal::Inconsistent(_) => Status::Inconsistent,
             Refusal::InputFault => Status::InputFault,
@@ -88,6 +88,7 @@ impl Refusal {
             Refusal::Executable(fault) => push_elf_fault(&mut text, b"executable ", fault)?,
             Refusal::CoreImage(fault) => push_elf_fault(&mut text, b"core-image ", fault)?,
             Refusal::Core(fault) => push_core_fault(&mut text, fault)?,
+            Refusal::Path(fault) => push_path_fault(&mut text, fault)?,
             Refusal::NotBuilt(what) => push_unbuilt(&mut text, *what)?,
             Refusal::Inconsistent(kind) => push_conflict(&mut text, kind)?,
             Refusal::InputFault => text.push(b"input-fault")?,
@@ -96,6 +97,16 @@ impl Refusal {
         }
         text.push(b"\n")?;
         Ok(text)
+    }
+}
+
+/// That a trace has no path has a status of its own, want of memory while it is rebuilt has not.
+fn path_status(fault: &PathFault) -> Status
+    ensures { result ≡ status_of_path fault.now }
+{
+    match fault {
+        PathFault::OutOfMemory => Status::OutOfMemory,
+        _ => Status::Trace,
     }
 }
 
@@ -143,15 +154,6 @@ fn push_core_fault(text: &mut Text, fault: &CoreFault) -> Result<(), OutOfMemory
     }
 }
 
-/// A number as it stands, and its argument in decimal.
-fn push_numbered(text: &mut Text, number: &[u8], argument: u64) -> Result<(), OutOfMemory>
-    ensures { OnOk result (text.new ≡ text.old ++ (number.now ++ decimal argument)) }
-{
-    text.push(number)?;
-    text.push_count(argument)?;
-    Ok(())
-}
-
 fn push_unbuilt(text: &mut Text, what: Unbuilt) -> Result<(), OutOfMemory>
     ensures { OnOk result (text.new ≡ text.old ++ unbuilt_text what) }
 {
@@ -164,19 +166,9 @@ fn push_unbuilt_word(text: &mut Text, what: Unbuilt) -> Result<(), OutOfMemory>
 {
     match what {
         Unbuilt::Words => text.push(b"words"),
-        Unbuilt::Core => text.push(b"core"),
-        Unbuilt::Trace => text.push(b"trace"),
-        Unbuilt::Code(address) => push_code(text, address),
+        Unbuilt::Code(address) => push_placed(text, b"code ", address),
         Unbuilt::Input => text.push(b"input"),
     }
-}
-
-fn push_code(text: &mut Text, address: u32) -> Result<(), OutOfMemory>
-    ensures { OnOk result (text.new ≡ text.old ++ (codes "code " ++ hex_word address)) }
-{
-    text.push(b"code ")?;
-    text.push_word(address)?;
-    Ok(())
 }
 
 fn push_conflict(text: &mut Text, kind: &ConflictKind) -> Result<(), OutOfMemory>

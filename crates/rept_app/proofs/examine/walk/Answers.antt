@@ -1,76 +1,65 @@
-use Rattle.std.proofs.Common.{◌≡◌, ◌+◌, ◌*◌, length, true, false, inr, sym, ap, ◌∙◌, eq-eqb, ne_eqb, eqb, rules}
+use Rattle.std.proofs.Common.{◌≡◌, None, ap, ◌∙◌, rules}
 use Rattle.rept_dump.specs.Dump.{exe_of, registers_of}
 use Rattle.rept_app.specs.Examine.{Walks}
-use Rattle.rept_app.specs.Forms.{end_pc}
-use Rattle.rept_app.specs.Path.{StopsAt, address_of}
+use Rattle.rept_app.specs.Path.{unread}
 use Rattle.rept_app.specs.declared.status.Status.TheVariants as ends
 use Rattle.rept_app.proofs.DeliveredLemmas.{delivers_as, ends_told}
 use Rattle.rept_app.proofs.SessionLemmas.{where_told, at_some}
 use Rattle.rept_app.proofs.FormLemmas.{last_are}
-use Rattle.rept_app.proofs.ExamineLemmas.{told_walked, stop_yields, memory_yields, yields_stopped, elsewhere_yields, studied_walked, no_memory_walks, stop_walks, elsewhere_walks, studies_walk, path_holds, path_excludes, studies_at, studied_at, sound_at, none_at}
+use Rattle.rept_app.proofs.ExamineLemmas.{none_left, refused_told, as_code, not_output, told_walked, refused_yields, unread_yields, studied_walked, refused_walks, unread_walks, studies_walk, path_excludes, studies_at, studied_at, none_at}
 use Rattle.rept_app.proofs.examine.walk.Goals as goal
 
-pub returns-in-Err-Code-clause-text : goal.returns-in-Err-Code-clause-text
-returns-in-Err-Code-clause-text g c =
-    let s : StopsAt (exe_of c.args.dump.now) c.args.trace.now c.in-Err-Code.address = rw c.in-Err-Code.field-0-is at c.in-Err-Code.ensures.stop in
-    where_told _ _ (λ left told. delivers_as _ (Walks (exe_of c.args.dump.now) (registers_of c.args.dump.now) c.args.trace.now left) _ _ _ _ _
-    (λ text status. stop_walks (exe_of c.args.dump.now) (registers_of c.args.dump.now) c.args.trace.now left text status c.in-Err-Code.address s) c.tell.ensures)
+pub returns-in-Err-clause-text : goal.returns-in-Err-clause-text
+returns-in-Err-clause-text g c =
+    let exe = exe_of c.args.dump.now in
+    let note = registers_of c.args.dump.now in
+    where_told _ _ (λ left told. delivers_as _ (Walks exe note c.args.trace.now c.args.from left) _ _ _ _ _
+    (λ text status. refused_walks exe note c.args.trace.now c.args.from left text status c.in-Err.fault c.in-Err.ensures.refusal) c.tell.ensures)
 
-pub returns-in-Err-Code-clause-causes : goal.returns-in-Err-Code-clause-causes
-returns-in-Err-Code-clause-causes g c =
-    let s : StopsAt (exe_of c.args.dump.now) c.args.trace.now c.in-Err-Code.address = rw c.in-Err-Code.field-0-is at c.in-Err-Code.ensures.stop in
+pub returns-in-Err-clause-causes : goal.returns-in-Err-clause-causes
+returns-in-Err-clause-causes g c =
+    let exe = exe_of c.args.dump.now in
+    let note = registers_of c.args.dump.now in
     let told = ends_told _ _ _ _ _ c.tell.result c.tell.ensures in
-    told_walked (exe_of c.args.dump.now) (registers_of c.args.dump.now) c.args.trace.now c.tell.result _ _ _ told.0 (λ e. told.1 e (λ (same : ends.NotBuilt ≡ ends.OutputFault). cc)) told.2
-    (stop_yields (exe_of c.args.dump.now) (registers_of c.args.dump.now) c.args.trace.now c.tell.result c.in-Err-Code.address s told.2)
+    told_walked exe note c.args.trace.now c.args.from c.tell.result _ _ _ told.0 (λ e. told.1 e (not_output c.in-Err.fault)) (refused_told exe note c.args.trace.now c.args.from c.tell.result c.in-Err.fault c.in-Err.ensures.only_path c.in-Err.ensures.only_refusal c.in-Err.ensures.other c.in-Err.ensures.refusal told.2)
+    (refused_yields exe note c.args.trace.now c.args.from c.tell.result c.in-Err.fault c.in-Err.ensures.only_path c.in-Err.ensures.only_refusal c.in-Err.ensures.other c.in-Err.ensures.refusal told.2)
 
-pub returns-in-Err-OutOfMemory-clause-text : goal.returns-in-Err-OutOfMemory-clause-text
-returns-in-Err-OutOfMemory-clause-text g c =
-    where_told _ _ (λ left told. delivers_as _ (Walks (exe_of c.args.dump.now) (registers_of c.args.dump.now) c.args.trace.now left) _ _ _ _ _ (no_memory_walks (exe_of c.args.dump.now) (registers_of c.args.dump.now) c.args.trace.now left) c.tell-in-Err-OutOfMemory.ensures)
+pub returns-in-Some-clause-text : goal.returns-in-Some-clause-text
+returns-in-Some-clause-text g c =
+    let exe = exe_of c.args.dump.now in
+    let note = registers_of c.args.dump.now in
+    where_told _ _ (λ left told. delivers_as _ (Walks exe note c.args.trace.now c.args.from left) _ _ _ _ _
+    (λ text status. unread_walks exe note c.args.trace.now c.args.from left text status c.in-Ok.path.steps c.in-Ok.ensures.path c.in-Some.address (c.in-Some.ensures ∙ ap unread c.rows-steps.ensures.list)) c.tell-in-Some.ensures)
 
-pub returns-in-Err-OutOfMemory-clause-causes : goal.returns-in-Err-OutOfMemory-clause-causes
-returns-in-Err-OutOfMemory-clause-causes g c =
-    let told = ends_told _ _ _ _ _ c.tell-in-Err-OutOfMemory.result c.tell-in-Err-OutOfMemory.ensures in
-    let stopped = yields_stopped c.tell-in-Err-OutOfMemory.result told.2 in
-    told_walked (exe_of c.args.dump.now) (registers_of c.args.dump.now) c.args.trace.now c.tell-in-Err-OutOfMemory.result _ _ _ told.0 (λ e. told.1 e (λ (same : ends.OutOfMemory ≡ ends.OutputFault). cc)) (inr stopped)
-    (memory_yields (exe_of c.args.dump.now) (registers_of c.args.dump.now) c.args.trace.now c.tell-in-Err-OutOfMemory.result stopped)
-
-pub returns-then-status-steps-clause-text : goal.returns-then-status-steps-clause-text
-returns-then-status-steps-clause-text g c =
-    let elsewhere : eqb (end_pc (registers_of c.args.dump.now)) (address_of (length c.in-Ok.rows.items)) ≡ false =
-    ne_eqb _ _ (λ same. c.if-status-steps.true (c.status-status.ensures.pc ∙ same ∙ ap (λ n. 65536 + 4 * n) (ap length (sym c.as_slice-steps.ensures.value)))) in
-    where_told _ _ (λ left told. delivers_as _ (Walks (exe_of c.args.dump.now) (registers_of c.args.dump.now) c.args.trace.now left) _ _ _ _ _
-    (λ text status. elsewhere_walks (exe_of c.args.dump.now) (registers_of c.args.dump.now) c.args.trace.now left text status c.in-Ok.rows.items c.in-Ok.ensures.path elsewhere) c.tell-then-status-steps.ensures)
-
-pub returns-then-status-steps-clause-causes : goal.returns-then-status-steps-clause-causes
-returns-then-status-steps-clause-causes g c =
-    let elsewhere : eqb (end_pc (registers_of c.args.dump.now)) (address_of (length c.in-Ok.rows.items)) ≡ false =
-    ne_eqb _ _ (λ same. c.if-status-steps.true (c.status-status.ensures.pc ∙ same ∙ ap (λ n. 65536 + 4 * n) (ap length (sym c.as_slice-steps.ensures.value)))) in
-    let told = ends_told _ _ _ _ _ c.tell-then-status-steps.result c.tell-then-status-steps.ensures in
-    told_walked (exe_of c.args.dump.now) (registers_of c.args.dump.now) c.args.trace.now c.tell-then-status-steps.result _ _ _ told.0 (λ e. told.1 e (λ (same : ends.NotBuilt ≡ ends.OutputFault). cc)) told.2
-    (elsewhere_yields (exe_of c.args.dump.now) (registers_of c.args.dump.now) c.args.trace.now c.tell-then-status-steps.result c.in-Ok.rows.items c.in-Ok.ensures.path c.in-Ok.ensures.only_path elsewhere told.2)
+pub returns-in-Some-clause-causes : goal.returns-in-Some-clause-causes
+returns-in-Some-clause-causes g c =
+    let exe = exe_of c.args.dump.now in
+    let note = registers_of c.args.dump.now in
+    let told = ends_told _ _ _ _ _ c.tell-in-Some.result c.tell-in-Some.ensures in
+    told_walked exe note c.args.trace.now c.args.from c.tell-in-Some.result _ _ _ told.0 (λ e. told.1 e (λ (same : ends.NotBuilt ≡ ends.OutputFault). cc)) (as_code c.tell-in-Some.result told.2)
+    (unread_yields exe note c.args.trace.now c.args.from c.tell-in-Some.result c.in-Ok.path.steps c.in-Ok.ensures.only_path c.in-Ok.ensures.only_refusal c.in-Some.address (c.in-Some.ensures ∙ ap unread c.rows-steps.ensures.list) told.2)
 
 pub returns-clause-text : goal.returns-clause-text
 returns-clause-text g c =
-    let same : end_pc (registers_of c.args.dump.now) ≡ address_of (length c.in-Ok.rows.items) = sym c.status-status.ensures.pc ∙ c.if-status-steps.false ∙ ap (λ n. 65536 + 4 * n) (ap length c.as_slice-steps.ensures.value) in
-    let is : eqb (end_pc (registers_of c.args.dump.now)) (address_of (length c.in-Ok.rows.items)) ≡ true = eq-eqb _ _ same in
-    where_told _ _ (λ left told. delivers_as _ (Walks (exe_of c.args.dump.now) (registers_of c.args.dump.now) c.args.trace.now left) _ _ _ _ _
-    (λ text status h. studies_walk (exe_of c.args.dump.now) (registers_of c.args.dump.now) c.args.trace.now left text status c.in-Ok.rows.items c.in-Ok.ensures.path is same
-    (studies_at _ _ _ _ _ _ left text status c.as_slice-steps.ensures.value (last_are (registers_of c.args.dump.now) c.status-status.result c.status-status.ensures (search rules)) c.status-status.ensures.pc h))
+    let exe = exe_of c.args.dump.now in
+    let note = registers_of c.args.dump.now in
+    let all : None ≡ unread c.in-Ok.path.steps = none_left c.first_unread.result c.in_default.not-Some ∙ c.first_unread.ensures ∙ ap unread c.rows-steps.ensures.list in
+    where_told _ _ (λ left told. delivers_as _ (Walks exe note c.args.trace.now c.args.from left) _ _ _ _ _
+    (λ text status h. studies_walk exe note c.args.trace.now c.args.from left text status c.in-Ok.path.steps c.in-Ok.ensures.path all
+    (studies_at _ _ _ _ _ _ left text status c.rows-steps.ensures.list (last_are note c.status-status.result c.status-status.ensures (search rules)) c.status-status.ensures.pc h))
     (at_some (g.S.Source.left c.args.input.now) left _ told c.study.ensures.text))
 
 pub returns-clause-causes : goal.returns-clause-causes
 returns-clause-causes g c =
-    let same : end_pc (registers_of c.args.dump.now) ≡ address_of (length c.in-Ok.rows.items) = sym c.status-status.ensures.pc ∙ c.if-status-steps.false ∙ ap (λ n. 65536 + 4 * n) (ap length c.as_slice-steps.ensures.value) in
-    let is : eqb (end_pc (registers_of c.args.dump.now)) (address_of (length c.in-Ok.rows.items)) ≡ true = eq-eqb _ _ same in
-    studied_walked (exe_of c.args.dump.now) (registers_of c.args.dump.now) c.args.trace.now c.study.result c.in-Ok.rows.items c.in-Ok.ensures.path c.in-Ok.ensures.only_path is _ _ _ _
-    (studied_at _ _ _ _ _ _ _ _ _ c.as_slice-steps.ensures.value (last_are (registers_of c.args.dump.now) c.status-status.result c.status-status.ensures (search rules)) c.study.ensures.causes)
-
-pub returns-clause-sound : goal.returns-clause-sound
-returns-clause-sound g c ok =
-    path_holds (exe_of c.args.dump.now) (registers_of c.args.dump.now) c.args.trace.now c.in-Ok.rows.items c.in-Ok.ensures.only_path
-    (sound_at _ _ _ _ c.as_slice-steps.ensures.value (last_are (registers_of c.args.dump.now) c.status-status.result c.status-status.ensures (search rules)) (c.study.ensures.sound ok))
+    let exe = exe_of c.args.dump.now in
+    let note = registers_of c.args.dump.now in
+    let all : None ≡ unread c.in-Ok.path.steps = none_left c.first_unread.result c.in_default.not-Some ∙ c.first_unread.ensures ∙ ap unread c.rows-steps.ensures.list in
+    studied_walked exe note c.args.trace.now c.args.from c.study.result c.in-Ok.path.steps c.in-Ok.ensures.only_path c.in-Ok.ensures.only_refusal all _ _ _ _
+    (studied_at _ _ _ _ _ _ _ _ _ c.rows-steps.ensures.list (last_are note c.status-status.result c.status-status.ensures (search rules)) c.study.ensures.causes)
 
 pub returns-clause-impossible : goal.returns-clause-impossible
 returns-clause-impossible g c none =
-    path_excludes (exe_of c.args.dump.now) (registers_of c.args.dump.now) c.args.trace.now c.in-Ok.rows.items c.in-Ok.ensures.only_path
-    (none_at _ _ _ _ c.as_slice-steps.ensures.value (last_are (registers_of c.args.dump.now) c.status-status.result c.status-status.ensures (search rules)) (c.study.ensures.impossible none))
+    let exe = exe_of c.args.dump.now in
+    let note = registers_of c.args.dump.now in
+    path_excludes exe note c.args.trace.now c.args.from c.in-Ok.path.steps c.in-Ok.ensures.only_path
+    (none_at _ _ _ _ c.rows-steps.ensures.list (last_are note c.status-status.result c.status-status.ensures (search rules)) (c.study.ensures.impossible none))

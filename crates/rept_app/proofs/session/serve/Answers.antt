@@ -18,10 +18,10 @@ pub session-init : goal.session-init
 session-init g c = record {
   same = refl;
   none = c.new-lines.ensures.no_fault;
-  within = omega (arith, ap length c.rows.ensures);
+  within = omega (arith, ap length c.rows.ensures.list);
   read_later = omega arith;
   wrote_later = omega arith;
-  so_far = starts (shown_by c.args.analysis.now c.args.end_pc) (length c.args.analysis.now.rows) (g.S.Source.left c.new-lines.result.source.now) c.new-lines.result.intake (length c.rows.result.now) (g.K.Sink.written c.args.out.now) c.new-lines.ensures.none (ap length c.rows.ensures);
+  so_far = starts (shown_by c.args.analysis.now c.args.end_pc) (length c.args.analysis.now.rows) (g.S.Source.left c.new-lines.result.source.now) c.new-lines.result.intake (length c.rows.result.now) (g.K.Sink.written c.args.out.now) c.new-lines.ensures.none (ap length c.rows.ensures.list);
 }
 
 pub session-preserved : goal.session-preserved

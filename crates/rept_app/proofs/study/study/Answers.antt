@@ -5,7 +5,7 @@ use Rattle.rept_app.specs.Study.{Studies}
 use Rattle.rept_app.specs.declared.status.Status.TheVariants as ends
 use Rattle.rept_app.proofs.DeliveredLemmas.{delivers_as, ends_told}
 use Rattle.rept_app.proofs.SessionLemmas.{where_told, at_some}
-use Rattle.rept_app.proofs.StudyLemmas.{conflict_studies, serves_studies, report_here, sound_here, served_causes, told_causes}
+use Rattle.rept_app.proofs.StudyLemmas.{conflict_studies, serves_studies, report_here, served_causes, told_causes}
 use Rattle.rept_app.proofs.study.study.Goals as goal
 
 pub returns-in-Ok-refine-clause-text : goal.returns-in-Ok-refine-clause-text
@@ -23,12 +23,6 @@ returns-in-Ok-refine-clause-causes g c =
     let at_last = c.refine.ensures.path.last ∙ ap (λ (a : View). a.last) c.in-Ok.ensures.nothing in
     let here = report_here c.refine.new.self c.args.rows.now c.args.registers.now at_rows at_last c.in-Ok-refine.ensures.report in
     served_causes c.args.rows.now c.args.registers.now _ _ _ _ c.serve.result here.consistent c.serve.ensures.causes
-
-pub returns-in-Ok-refine-clause-sound : goal.returns-in-Ok-refine-clause-sound
-returns-in-Ok-refine-clause-sound g c ok =
-    let at_rows = c.refine.ensures.path.rows ∙ ap (λ (a : View). a.rows) c.in-Ok.ensures.nothing in
-    let at_last = c.refine.ensures.path.last ∙ ap (λ (a : View). a.last) c.in-Ok.ensures.nothing in
-    sound_here c.refine.new.self c.args.rows.now c.args.registers.now at_rows at_last c.in-Ok-refine.ensures.report c.in-Ok-refine.ensures.sound
 
 pub returns-in-Err-Conflict-clause-text : goal.returns-in-Err-Conflict-clause-text
 returns-in-Err-Conflict-clause-text g c =

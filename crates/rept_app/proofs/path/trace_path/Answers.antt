@@ -1,0 +1,22 @@
+use Rattle.std.proofs.Common.{sym, subst}
+use Rattle.rept_dump.specs.Dump.{exe_of, registers_of}
+use Rattle.rept_trace.specs.Packets.{rest_of}
+use Rattle.rept_path.specs.Traced.{IsUntraced}
+use Rattle.rept_app.specs.Forms.{end_pc}
+use Rattle.rept_app.proofs.PathLemmas.{traced_behind, untraced_behind, same_steps}
+use Rattle.rept_app.proofs.path.trace_path.Goals as goal
+
+pub returns-in-Ok-clause-only_path : goal.returns-in-Ok-clause-only_path
+returns-in-Ok-clause-only_path c = λ rows path.
+    let traced = traced_behind (exe_of c.args.dump.now) (registers_of c.args.dump.now) c.args.trace.now c.args.from (rest_of c.in-Ok.packets) c.in-Ok.ensures.ok.0 rows path in
+    same_steps c.rebuild.result traced.0 rows (c.rebuild.ensures.only_path traced.0 rows traced.1)
+
+pub returns-in-Ok-clause-only_refusal : goal.returns-in-Ok-clause-only_refusal
+returns-in-Ok-clause-only_refusal c = λ fault has.
+    let untraced = untraced_behind (exe_of c.args.dump.now) (registers_of c.args.dump.now) c.args.trace.now c.args.from (rest_of c.in-Ok.packets) c.in-Ok.ensures.ok.0 (λ refused h. let e = c.in-Ok.ensures.every_fault refused h in cc) fault has in
+    c.rebuild.ensures.only_refusal fault (subst (λ n. IsUntraced (exe_of c.args.dump.now) n (rest_of c.in-Ok.packets) c.args.from (end_pc (registers_of c.args.dump.now)) fault) (sym c.in-Ok.ensures.ok.1) untraced)
+
+pub returns-in-Ok-clause-other : goal.returns-in-Ok-clause-other
+returns-in-Ok-clause-other c = λ fault has.
+    let untraced = untraced_behind (exe_of c.args.dump.now) (registers_of c.args.dump.now) c.args.trace.now c.args.from (rest_of c.in-Ok.packets) c.in-Ok.ensures.ok.0 (λ refused h. let e = c.in-Ok.ensures.every_fault refused h in cc) fault has in
+    c.rebuild.ensures.other fault (subst (λ n. IsUntraced (exe_of c.args.dump.now) n (rest_of c.in-Ok.packets) c.args.from (end_pc (registers_of c.args.dump.now)) fault) (sym c.in-Ok.ensures.ok.1) untraced)
