@@ -43,7 +43,8 @@ pub fn rept<H: Shelf, S: Source, K: Sink>(
     ensures complete { IfSome (H.files shelf.old) (λ files. IfSome (S.left input.old) (λ left.
         Completes (map string_bytes words.now) files left (H.faults shelf.old) (H.faults shelf.new) (S.faults input.old) (S.faults input.new) (K.faults out.old) (K.faults out.new) (K.written out.old) (K.written out.new) result)) }
 
-    // What is told of the registers holds in every execution of the path that ends in the dump; a conflict is told only where there is none.
+    // What is told of the registers holds in every execution of the path that ends in the dump; a conflict is told only where
+    // there is none.
     ensures sound { IfSome (H.files shelf.old) (λ files. ReportHolds (map string_bytes words.now) files) }
     ensures impossible { IfSome (H.files shelf.old) (λ files. result ≡ Status.Inconsistent → NoExecution (map string_bytes words.now) files) }
 {

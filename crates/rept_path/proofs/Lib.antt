@@ -1,4 +1,5 @@
 pub mod BitLemmas
+pub mod Decided
 pub mod Decoding
 pub mod Followed
 pub mod GapLemmas

@@ -42,7 +42,7 @@ from how p i = successor how.packet p.at (flow_of i) (slice_get how.bits p.branc
 
 module _ (code : List ElfSegment) (how : Lead) (p : Place) where
   -- a move has an instruction, and its successor
-  made : (a : ℕ) → next_of code how p ≡ Ok a → (i : Instr) × (look code p.at ≡ Ok i) × ((x : ℕ) × (from how p i ≡ Ok x) × (limited code how p x ≡ Ok a))
+  pub made : (a : ℕ) → next_of code how p ≡ Ok a → (i : Instr) × (look code p.at ≡ Ok i) × ((x : ℕ) × (from how p i ≡ Ok x) × (limited code how p x ≡ Ok a))
   unfolding next_of
   made a h =
       let b = bind_ok (look code p.at) (λ (i : Instr). from how p i >>= limited code how p) a h in

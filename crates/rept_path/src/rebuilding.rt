@@ -5,7 +5,7 @@ ghost use Rattle.rept_elf.specs.Header.{word_at};
 ghost use Rattle.rept_trace.specs.declared.packet.Packet.{Packet};
 ghost use Rattle.rept_trace.specs.declared.fault.TraceFault.{TraceFault};
 ghost use Rattle.rept_trace.specs.Packets.{rest_of, number_of};
-ghost use Rattle.rept_trace.specs.Stream.{Hold, Answers};
+ghost use Rattle.rept_trace.specs.Stream.{Hold, FailsAfter, Answers};
 ghost use Rattle.rept_steps.specs.Linked.{AreLinked, EndBefore};
 ghost use Rattle.rept_path.specs.declared.fault.PathFault.{PathFault};
 ghost use Rattle.rept_path.specs.declared.fault.PathFault.TheVariants.{OutOfMemory};
@@ -112,6 +112,9 @@ fn rebuild_once(
     ensures ends { IfOk result (λ path. EndBefore path.steps (pc_of dump.now)) }
     ensures instructions { IfOk result (λ path. CarryCode (exe_of dump.now) path.steps) }
     ensures refusal { IfErr result (λ e. (e ≡ OutOfMemory) ⊎ IsRefusedBy packets.entry dump.now from e) }
+
+    // The bytes hold whole packets alone, or they begin with some and then have a fault.
+    ensures whole { ((list : List Packet) × Hold (rest_of packets.entry) list) ⊎ ((list : List Packet) × (refused : TraceFault) × FailsAfter (number_of packets.entry) (rest_of packets.entry) list refused) }
 {
     let survey = match go_through(packets, from) {
         Ok(survey) => survey,
@@ -156,6 +159,9 @@ pub fn rebuild(
     ensures only_path { (skipped : ℕ) (rows : List StepRow) → IsPathOf packets.entry dump.now from skipped rows → MatchResult result (λ path. (path.skipped ≡ skipped) × (path.steps ≡ rows)) (λ e. e ≡ OutOfMemory) }
     ensures only_refusal { (fault : PathFault) → IsRefusedBy packets.entry dump.now from fault → MatchResult result (λ _. ⊥) (λ e. (e ≡ OutOfMemory) ⊎ (e ≡ fault)) }
     ensures other { (fault : PathFault) → IsRefusedBy packets.entry dump.now from fault → fault ≢ OutOfMemory }
+
+    // There is a path or a refusal.
+    ensures decided { ((skipped : ℕ) × (rows : List StepRow) × IsPathOf packets.entry dump.now from skipped rows) ⊎ ((fault : PathFault) × IsRefusedBy packets.entry dump.now from fault) }
 {
     rebuild_once(alloc, packets, dump, from)
 }

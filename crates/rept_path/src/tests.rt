@@ -1,11 +1,12 @@
 mod cases;
+mod refusals;
 mod sent;
+mod stops;
+mod stretches;
 
 use crate::{PathFault, rebuild};
-use cases::{
-    Case, JOINS, LONG, LOOP, LongCase, MAPS, PHASES, REFUSALS, STARTS, STOPS, THREE, WAITING,
-    WINDOWS, Wanted, Window,
-};
+use cases::{Case, LOOP, LongCase, THREE, Wanted, Window};
+use refusals::{LONG, REFUSALS, WINDOWS};
 use rept_dump::Dump;
 use rept_elf::{Image, Want};
 use rept_isa::{Instr, StepRow, decode};
@@ -14,6 +15,8 @@ use sent::{Sent, push_sent};
 use std::alloc::{AllocError, Global};
 use std::process::Abort;
 use std::test::Fail;
+use stops::{MAPS, PHASES, STOPS};
+use stretches::{JOINS, STARTS, WAITING};
 
 /// An executable of one code segment at 0x10000, by the ELF specification.
 fn executable(alloc: Global, code: &[u32]) -> Result<Vec<u8>, AllocError> {

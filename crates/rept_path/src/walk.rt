@@ -23,12 +23,18 @@ use rept_trace::{Packet, Qual, Report};
 /// Where a path has come.
 #[derive(Drop)]
 pub struct Walk {
+    /// The last position.
     pub at: u32,
     pub steps: Steps,
+    /// The branch bits of the stretch, the oldest first.
     pub bits: Vec<bool>,
+    /// How many of them the branches before the last position have used.
     pub used: usize,
+    /// The reported address.
     pub reported: u32,
+    /// Whether the last stop was inferred.
     pub inferred: bool,
+    /// Whether only a start packet may go on.
     pub waiting: bool,
 }
 
@@ -322,6 +328,7 @@ impl Walk {
     ) -> Result<(), PathFault>
         requires { Counts self.old }
         ensures ok { OnOk result (Crossed (exe_of dump.now) packet to otherwise self.old self.new) }
+        ensures rest { self.new ≡ record self.old { steps = self.new.steps } }
         ensures err { IfErr result (λ e. (e ≡ OutOfMemory) ⊎ (gap (exe_of dump.now) packet self.old.bits.items (here self.old) to otherwise ≡ Err e)) }
     {
         let instr = match look(dump, self.at) {

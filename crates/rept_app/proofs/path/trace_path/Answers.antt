@@ -1,10 +1,17 @@
 use Rattle.std.proofs.Common.{sym, subst}
+use Rattle.std.proofs.lemmas.Result.{IfOk-weaker}
 use Rattle.rept_dump.specs.Dump.{exe_of, registers_of}
 use Rattle.rept_trace.specs.Packets.{rest_of}
-use Rattle.rept_path.specs.Traced.{IsUntraced}
+use Rattle.rept_path.specs.Traced.{IsPathOf, IsUntraced}
 use Rattle.rept_app.specs.Forms.{end_pc}
+use Rattle.rept_app.specs.Path.{IsTracePath}
 use Rattle.rept_app.proofs.PathLemmas.{traced_behind, untraced_behind, same_steps}
 use Rattle.rept_app.proofs.path.trace_path.Goals as goal
+
+pub returns-in-Ok-clause-path : goal.returns-in-Ok-clause-path
+returns-in-Ok-clause-path c =
+    IfOk-weaker c.rebuild.result (λ path. IsPathOf c.in-Ok.packets c.args.dump.now c.args.from path.skipped path.steps) (λ path. IsTracePath (exe_of c.args.dump.now) (registers_of c.args.dump.now) c.args.trace.now c.args.from path.steps)
+    (λ path is. (rest_of c.in-Ok.packets, c.in-Ok.ensures.ok.0, path.skipped, is)) c.rebuild.ensures.path
 
 pub returns-in-Ok-clause-only_path : goal.returns-in-Ok-clause-only_path
 returns-in-Ok-clause-only_path c = λ rows path.

@@ -6,6 +6,7 @@ use Rattle.rept_path.proofs.OneTrace.{one_path_of, path_or_refusal_of, one_refus
 use Rattle.rept_dump.specs.Dump.{exe_of}
 use Rattle.rept_path.specs.Stops.{HaveStops}
 use Rattle.rept_path.specs.Traced.{pc_of}
+use Rattle.rept_path.proofs.Decided.{decided}
 use Rattle.rept_path.proofs.NoMemory.{refused_otherwise}
 use Rattle.rept_path.proofs.StopLemmas.{stops_of}
 use Rattle.rept_path.proofs.rebuilding.rebuild.Goals as goal
@@ -37,3 +38,6 @@ returns-clause-stops c =
 
 pub returns-clause-other : goal.returns-clause-other
 returns-clause-other c = λ fault h. refused_otherwise c.args.packets c.args.dump.now c.args.from fault h
+
+pub returns-clause-decided : goal.returns-clause-decided
+returns-clause-decided c = decided c.args.packets c.args.dump.now c.args.from c.rebuild_once.ensures.whole

@@ -1,0 +1,77 @@
+// In which order lines are read and answers written.
+
+use super::{OPEN, first_crash, word_list};
+use crate::{Status, rept};
+use rept_ports::{Failed, Sink, Source};
+use std::cell::Cell;
+use std::test::Fail;
+
+/// A source that gives one line a read, and notes its calls.
+#[derive(Drop)]
+struct LineByLine<'a> {
+    text: &'a [u8],
+    notes: &'a Cell<u64>,
+    faults: u64,
+}
+
+impl<'a> Source for LineByLine<'a> {
+    ghost use Rattle.std.specs.Prelude.{None};
+
+    ghost left = { λ _. None };
+
+    ghost faults = { λ s. s.faults };
+
+    fn read(&mut self, into: &mut [u8]) -> Result<usize, Failed> {
+        self.notes
+            .set(self.notes.get().wrapping_mul(10).wrapping_add(1));
+        let found = self.text.iter().position(|b| *b == b'\n');
+        let len = found.map_or(self.text.len(), |at| at + 1);
+        if len > into.len() {
+            self.faults = self.faults.saturating_add(1);
+            return Err(Failed);
+        }
+        let (line, rest) = self.text.split_at(len);
+        into[..len].copy_from_slice(line);
+        self.text = rest;
+        Ok(len)
+    }
+}
+
+/// A sink that notes its calls.
+#[derive(Drop)]
+struct Noting<'a> {
+    notes: &'a Cell<u64>,
+}
+
+impl<'a> Sink for Noting<'a> {
+    ghost use Rattle.std.specs.Prelude.{None};
+
+    ghost written = { λ _. None };
+
+    ghost faults = { λ _. 0 };
+
+    fn write(&mut self, piece: &[u8]) -> Result<usize, Failed> {
+        self.notes
+            .set(self.notes.get().wrapping_mul(10).wrapping_add(2));
+        Ok(piece.len())
+    }
+}
+
+// Each answer is written before the next line is asked for: 1 is a read, and 2 a write.
+#[test]
+fn answers_before_it_asks(rt: HostRuntime) -> Result<(), Fail> {
+    let alloc = rt.alloc();
+    let words = word_list(alloc, OPEN)?;
+    let mut shelf = first_crash(alloc)?;
+    let notes = Cell::new(0u64);
+    let mut source = LineByLine {
+        text: b"goto 0\n\nregs\ngoto 2\n",
+        notes: &notes,
+        faults: 0,
+    };
+    let mut sink = Noting { notes: &notes };
+    let got = rept(alloc, words.as_slice(), &mut shelf, &mut source, &mut sink);
+    assert_eq!(rt; got, Status::Ok);
+    assert_eq!(rt; notes.get(), 12112121);
+    Ok(())
+}

@@ -1,0 +1,84 @@
+// Traces, with and without a path.
+
+use super::{THREE, core_file, executable, word_list};
+use crate::{Status, rept};
+use rept_ports::{CalmShelf, CalmSource, MemSink};
+use std::test::Fail;
+
+/// A program with each kind of instruction that a path may meet.
+///
+/// 0x10000 addi x5, x0, 7; 0x10004 beq x0, x0, 0x1000c; 0x10008 addi x6, x6, 1; 0x1000c jalr x0, 0(x1); 0x10010 ecall;
+/// 0x10014 ebreak; 0x10018 jal x0, 0x1001e; 0x1001c no instruction; 0x10020 jal x0, 0x10020.
+const PROGRAM: &[u32] = &[
+    0x00700293, 0x00000463, 0x00130313, 0x00008067, 0x00000073, 0x00100073, 0x0060006f, 0x0badc0de,
+    0x0000006f,
+];
+
+/// A trace file over a program, the packet to begin from, and what must come of it with the input `goto 0`.
+struct TraceCase {
+    code: &'static [u32],
+    trace: &'static [u8],
+    from: &'static str,
+    pc: u32,
+    output: &'static str,
+    status: Status,
+}
+
+macro_rules! traces {
+    ($($code:ident, $trace:literal, $from:literal, $pc:literal, $output:literal, $status:ident;)+) => {
+        &[$(TraceCase {
+            code: $code,
+            trace: $trace,
+            from: $from,
+            pc: $pc,
+            output: $output,
+            status: Status::$status,
+        }),+]
+    };
+}
+
+// The packets were packed by hand from the field tables of Efficient Trace for RISC-V 2.0: a start packet for 0x10000 is
+// 13 00 20, an address packet of one instruction 06, a map of 31 taken branches 01, and a support packet that ends the trace 4f.
+const TRACES: &[TraceCase] = traces![
+    THREE, b"RTR1\x01\0\0\0\x03\x13\0\x20\x03\x93\0\x20\x01\x06\x01\x4f", "0", 0x1000c, "point 0 of 3 pc 0x00010000\n", Ok;
+    THREE, b"RTR1\x01\0\0\0\x03\x13\0\x20\x03\x93\0\x20\x01\x06\x01\x4f", "01", 0x1000c, "point 0 of 2 pc 0x00010004\n", Ok;
+    THREE, b"RTR1\x01\0\0\0\x03\x13\0\x20\x03\x93\0\x20\x01\x06\x01\x4f", "2", 0x1000c, "path 1 4\n", Trace;
+    PROGRAM, b"RTR1\x01\0\0\0", "0", 0, "path 1 0\n", Trace;
+    PROGRAM, b"RTR1\x01\0\0\0\x03\x13\0\x40", "0", 0, "path 2 0x00020000\n", Trace;
+    PROGRAM, b"RTR1\x01\0\0\0\x03\x93\x03\x20", "0", 0, "path 3 0x0001001c 0x0badc0de\n", Trace;
+    PROGRAM, b"RTR1\x01\0\0\0\x03\x13\x03\x20\x01\x06", "0", 0, "path 4 0x0001001e\n", Trace;
+    PROGRAM, b"RTR1\x01\0\0\0\x03\x13\0\x20\x01\x06", "0", 0x10004, "path 5 1 0x00010004\n", Trace;
+    PROGRAM, b"RTR1\x01\0\0\0\x03\x13\0\x20\x02\x0d\x10", "0", 0x10014, "path 6 1 2\n", Trace;
+    PROGRAM, b"RTR1\x01\0\0\0\x03\x13\0\x20\x01\x01", "0", 0x20, "path 7 1 0x0001000c\n", Trace;
+    PROGRAM, b"RTR1\x01\0\0\0\x03\x13\x02\x20\x01\x4f\x03\x13\x04\x20", "0", 0x10020, "path 8 2 0x00010010 0x00010020\n", Trace;
+    PROGRAM, b"RTR1\x01\0\0\0\x03\x13\0\x20", "0", 0x10008, "path 9 0x00010000 0x00010008\n", Trace;
+    PROGRAM, b"RTR1\x01\0\0\0\x03\x13\x04\x20\x01\x06", "0", 0x10024, "path 10 1\n", Trace;
+    PROGRAM, b"RTR0\x01\0\0\0", "0", 0, "path 11 1\n", Trace;
+    PROGRAM, b"RTR1\x02\0\0\0", "0", 0, "path 11 2 4\n", Trace;
+    PROGRAM, b"RTR1\x01\0\0\0\x03\x13\0\x20\x05\x06", "0", 0x10004, "path 11 3 1\n", Trace;
+    PROGRAM, b"RTR1\x01\0\0\0\x01\0", "0", 0, "path 11 4 0\n", Trace;
+    PROGRAM, b"RTR1\x01\0\0\0\x01\x07", "0", 0, "path 11 5 0\n", Trace;
+    PROGRAM, b"RTR1\x01\0\0\0\x01\x2f", "0", 0, "path 11 6 0\n", Trace;
+    PROGRAM, b"RTR1\x01\0\0\0\x03\x13\x02\x20\x01\x06", "0", 0x10014, "path 12 1 0x00010010\n", Trace;
+    PROGRAM, b"RTR1\x01\0\0\0\x03\x13\0\x20\x02\x05\x03", "0", 0x20, "not-built code 0x00010004\n", NotBuilt;
+];
+
+// Paths from a packet on, and each reason why there is none.
+#[test]
+fn traces_are_told(rt: HostRuntime) -> Result<(), Fail> {
+    let alloc = rt.alloc();
+    for case in TRACES {
+        let mut shelf = CalmShelf::new(alloc);
+        shelf.put("e", executable(alloc, case.code)?.as_slice())?;
+        shelf.put("c", core_file(alloc, case.pc, 7, 10, 17)?.as_slice())?;
+        shelf.put("t", case.trace)?;
+        let words = word_list(alloc, &["open", "e", "c", "t", case.from])?;
+        let mut source = CalmSource::new(b"goto 0\n");
+        let mut sink = MemSink::new(alloc, 100, &[])?;
+        let status = rept(alloc, words.as_slice(), &mut shelf, &mut source, &mut sink);
+        assert_eq!(rt; sink.bytes(), case.output.as_bytes());
+        assert_eq!(rt; status, case.status);
+    }
+    assert_eq!(rt; Status::Trace.number(), 8);
+    Ok(())
+}
