@@ -2,34 +2,56 @@
 #![tactic(auto)]
 
 use rept_app::{Status, rept};
-use rept_ports::{DiskShelf, StdSink, StdSource};
+use rept_ports::{DiskShelf, StdSink, StdSource, write_all};
 use std::process::ExitCode;
 use std::{env, io};
 
 fn main(rt: HostRuntime) -> ExitCode {
-    ExitCode::from(run(&rt))
+    ExitCode::from(run(&rt).number())
 }
 
-/// Runs the top call on the words behind the program's name, and answers the number of its status. Words that aren't text have no
-/// meaning.
-fn run<R: AllocGlobal + env::Env + std::fs::Files + Input + Print>(rt: &R) -> u8 {
-    let alloc = rt.alloc();
-    let Ok(arguments) = env::args(rt) else {
-        return usage(rt);
+/// Why the words behind the program's name can't be read.
+#[derive(Clone, Copy)]
+enum Unreadable {
+    /// One of them isn't text.
+    NotText,
+    OutOfMemory,
+}
+
+/// The words behind the program's name.
+fn words<R: AllocGlobal + env::Env>(rt: &R) -> Result<Vec<String>, Unreadable> {
+    let arguments = match env::args(rt) {
+        Ok(arguments) => arguments,
+        Err(error) => {
+            return Err(match error.kind() {
+                io::ErrorKind::OutOfMemory => Unreadable::OutOfMemory,
+                _ => Unreadable::NotText,
+            });
+        }
     };
-    let Ok(words) = arguments.skip(1).collect::<Vec<String>>(alloc) else {
-        return Status::OutOfMemory.number();
-    };
+    match arguments.skip(1).collect::<Vec<String>>(rt.alloc()) {
+        Ok(words) => Ok(words),
+        Err(_) => Err(Unreadable::OutOfMemory),
+    }
+}
+
+/// Runs the top call on the words behind the program's name. Words that aren't text have no meaning, as no words have none.
+fn run<R: AllocGlobal + env::Env + std::fs::Files + Input + Print>(rt: &R) -> Status {
     let mut shelf = DiskShelf::new(rt);
     let mut source = StdSource::new(rt.reader());
     let mut sink = StdSink::new(io::writer(rt));
-    rept(alloc, words.as_slice(), &mut shelf, &mut source, &mut sink).number()
-}
-
-/// The top call without words, which writes the usage line.
-fn usage<R: AllocGlobal + std::fs::Files + Input + Print>(rt: &R) -> u8 {
-    let mut shelf = DiskShelf::new(rt);
-    let mut source = StdSource::new(rt.reader());
-    let mut sink = StdSink::new(io::writer(rt));
-    rept(rt.alloc(), &[], &mut shelf, &mut source, &mut sink).number()
+    match words(rt) {
+        Ok(words) => rept(
+            rt.alloc(),
+            words.as_slice(),
+            &mut shelf,
+            &mut source,
+            &mut sink,
+        ),
+        Err(Unreadable::NotText) => rept(rt.alloc(), &[], &mut shelf, &mut source, &mut sink),
+        Err(Unreadable::OutOfMemory) => match write_all(&mut sink, b"out-of-memory\n") {
+            Ok(()) => Status::OutOfMemory,
+            Err(_) => Status::OutputFault,
+        },
+    }
 }
