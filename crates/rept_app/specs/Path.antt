@@ -1,5 +1,7 @@
 -- The path of a trace file (Efficient Trace for RISC-V 2.0) over an executable, and which instructions are read of it.
-use Rattle.std.specs.Prelude.{◌≡◌, ◌⊎◌, ℕ, List, [], ◌∷◌, ◌++◌, Bool, true, false, Option, None, Some, if◌then◌else◌}
+use Rattle.std.specs.Prelude.{◌≡◌, ◌⊎◌, ℕ, List, ◌++◌, Bool, true, false, not, Option}
+use Rattle.std.specs.List.{find}
+use Rattle.std.specs.Option.{option_map}
 use Rattle.rept_elf.specs.Segments.{ElfSegment}
 use Rattle.rept_isa.specs.declared.instr.Instr.{Instr}
 use Rattle.rept_isa.specs.declared.instr.Instr.TheVariants.{Lui, Imm, Op}
@@ -43,5 +45,4 @@ is_built _ = false
 
 -- the address of the first step whose instruction isn't read, None where all are
 abbrev pub unread : List StepRow → Option ℕ
-unread [] = None
-unread (row ∷ rows) = if is_built row.instr then unread rows else Some row.at
+unread rows = option_map (λ row. row.at) (find (λ row. not (is_built row.instr)) rows)

@@ -21,4 +21,5 @@ mod top;
 mod words;
 
 pub use status::Status;
+pub use tell::tell_no_memory;
 pub use top::rept;

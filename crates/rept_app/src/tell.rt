@@ -1,5 +1,5 @@
 ghost use Rattle.std.specs.Prelude.{◌≡◌};
-ghost use Rattle.rept_app.specs.Delivered.{Delivers, Tells};
+ghost use Rattle.rept_app.specs.Delivered.{Delivers, Says, Tells};
 
 use crate::refusal::Refusal;
 use crate::status::Status;
@@ -13,8 +13,16 @@ pub fn tell<K: Sink>(alloc: Global, out: &mut K, refusal: &Refusal) -> Status
 {
     match refusal.line(alloc) {
         Ok(line) => deliver(out, line.bytes(), refusal.status()),
-        Err(_) => deliver(out, b"out-of-memory\n", Status::OutOfMemory),
+        Err(_) => tell_no_memory(out),
     }
+}
+
+/// Writes the line of want of memory, which takes none, and answers its status, or that the output failed: for callers that have
+/// no memory to read the words.
+pub fn tell_no_memory<K: Sink>(out: &mut K) -> Status
+    ensures { Delivers (Says Refusal.OutOfMemory) (K.written out.old) (K.written out.new) (K.faults out.old) (K.faults out.new) result }
+{
+    deliver(out, b"out-of-memory\n", Status::OutOfMemory)
 }
 
 /// Writes a text, and answers the status, or that the output failed.

@@ -2,7 +2,7 @@ mod damages;
 mod order;
 mod traces;
 
-use crate::{Status, rept};
+use crate::{Status, rept, tell_no_memory};
 use rept_ports::{CalmShelf, CalmSource, MemShelf, MemSink, MemSource};
 use std::alloc::{AllocError, Global};
 use std::test::Fail;
@@ -546,5 +546,14 @@ fn long_inputs_are_told(rt: HostRuntime) -> Result<(), Fail> {
         assert_eq!(rt; got, status);
     }
     assert_eq!(rt; Status::TooMuchInput.number(), 12);
+    Ok(())
+}
+
+#[test]
+fn want_of_memory_is_told(rt: HostRuntime) -> Result<(), Fail> {
+    let mut sink = MemSink::new(rt.alloc(), 100, &[])?;
+    assert_eq!(rt; tell_no_memory(&mut sink), Status::OutOfMemory);
+    assert_eq!(rt; sink.bytes(), b"out-of-memory\n".as_slice());
+    assert_eq!(rt; Status::OutOfMemory.number(), 11);
     Ok(())
 }

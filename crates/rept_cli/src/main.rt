@@ -1,8 +1,8 @@
 // The debugger over the system's files and streams.
 #![tactic(auto)]
 
-use rept_app::{Status, rept};
-use rept_ports::{DiskShelf, StdSink, StdSource, write_all};
+use rept_app::{Status, rept, tell_no_memory};
+use rept_ports::{DiskShelf, StdSink, StdSource};
 use std::process::ExitCode;
 use std::{env, io};
 
@@ -49,9 +49,6 @@ fn run<R: AllocGlobal + env::Env + std::fs::Files + Input + Print>(rt: &R) -> St
             &mut sink,
         ),
         Err(Unreadable::NotText) => rept(rt.alloc(), &[], &mut shelf, &mut source, &mut sink),
-        Err(Unreadable::OutOfMemory) => match write_all(&mut sink, b"out-of-memory\n") {
-            Ok(()) => Status::OutOfMemory,
-            Err(_) => Status::OutputFault,
-        },
+        Err(Unreadable::OutOfMemory) => tell_no_memory(&mut sink),
     }
 }
