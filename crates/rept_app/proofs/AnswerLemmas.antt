@@ -3,9 +3,9 @@ use Rattle.std.proofs.Common.{◌≡◌, ℕ, zero, suc, ◌+◌, ◌-◌, ◌�
 use Rattle.std.proofs.lemmas.List.{append-nil}
 use Rattle.std.specs.List.{flat_map, range_with_len}
 use Rattle.std.specs.Fmt.{decimal}
-use Rattle.rept_engine.specs.Facts.{flat}
+use Rattle.rept_reason.specs.Facts.{flat}
 use Rattle.rept_engine.specs.View.{View}
-use Rattle.rept_engine.specs.declared.flat.Flat.{Flat}
+use Rattle.rept_partial.specs.declared.flat.Flat.{Flat}
 use Rattle.rept_app.specs.Answers.{register_line, value_text}
 use Rattle.rept_app.specs.Showing.{shown_by, flat_text}
 

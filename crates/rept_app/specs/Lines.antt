@@ -10,8 +10,8 @@ use Rattle.rept_trace.specs.declared.fault.TraceFault.{TraceFault}
 use Rattle.rept_trace.specs.declared.fault.TraceFault.TheVariants as packets
 use Rattle.rept_path.specs.declared.fault.PathFault.{PathFault}
 use Rattle.rept_path.specs.declared.fault.PathFault.TheVariants as path
-use Rattle.rept_engine.specs.declared.fact.Cell.{Cell}
-use Rattle.rept_engine.specs.declared.fact.Cell.TheVariants.{Register, Byte}
+use Rattle.rept_reason.specs.declared.fact.Cell.{Cell}
+use Rattle.rept_reason.specs.declared.fact.Cell.TheVariants.{Register, Byte}
 use Rattle.rept_engine.specs.declared.conflict.ConflictKind.{ConflictKind}
 use Rattle.rept_engine.specs.declared.conflict.ConflictKind.TheVariants.{TwoValues}
 use Rattle.rept_app.specs.declared.refusal.FileKind.{FileKind}

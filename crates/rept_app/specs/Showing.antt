@@ -2,8 +2,8 @@
 use Rattle.std.specs.Prelude.{ℕ, List, codes}
 use Rattle.rept_word.specs.Hex.{hex_word}
 use Rattle.rept_engine.specs.View.{View, known_in}
-use Rattle.rept_engine.specs.declared.flat.Flat.{Flat}
-use Rattle.rept_engine.specs.declared.flat.Flat.TheVariants.{Unknown, Known}
+use Rattle.rept_partial.specs.declared.flat.Flat.{Flat}
+use Rattle.rept_partial.specs.declared.flat.Flat.TheVariants.{Unknown, Known}
 use Rattle.rept_app.specs.Answers.{Shown}
 
 abbrev pub shown_by : View → ℕ → Shown

@@ -2,10 +2,10 @@ use Rattle.std.proofs.Common.{◌≡◌, ℕ, ◌+◌, ◌<◌, length, Option, 
 use Rattle.std.proofs.lemmas.Bool.{cases_lt, cond-false, ne_eqb, or_parts}
 use Rattle.rept_isa.specs.declared.row.StepRow.{StepRow}
 use Rattle.rept_isa.specs.Operands.{written_by, first_read, second_read}
-use Rattle.rept_engine.specs.declared.fact.Cell.TheVariants.{Register}
-use Rattle.rept_engine.specs.declared.flat.Flat.{Flat}
-use Rattle.rept_engine.specs.declared.flat.Flat.TheVariants.{Known}
-use Rattle.rept_engine.specs.Facts.{told, operand, flat}
+use Rattle.rept_reason.specs.declared.fact.Cell.TheVariants.{Register}
+use Rattle.rept_partial.specs.declared.flat.Flat.{Flat}
+use Rattle.rept_partial.specs.declared.flat.Flat.TheVariants.{Known}
+use Rattle.rept_reason.specs.Facts.{told, operand, flat}
 use Rattle.rept_engine.specs.Results.{forward_of}
 use Rattle.rept_engine.specs.Closure.{Keeps, Concludes}
 use Rattle.rept_engine.specs.Closure.RowConcludes.{onward, back, result}

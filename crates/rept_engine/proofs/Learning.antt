@@ -3,10 +3,10 @@ use Rattle.std.proofs.lemmas.List.{get_or-set_other, get_or-set_same, get_or_def
 use Rattle.std.proofs.lemmas.Bool.{cases_eq, cases_lt, false_from_ne_true}
 use Rattle.std.proofs.lemmas.List.Sums.{sum_by-set}
 use Rattle.std.proofs.lemmas.Option.{slice_get-get_or}
-use Rattle.rept_engine.specs.declared.fact.Fact.{Fact}
-use Rattle.rept_engine.specs.declared.fact.Cell.TheVariants.{Register}
+use Rattle.rept_reason.specs.declared.fact.Fact.{Fact}
+use Rattle.rept_reason.specs.declared.fact.Cell.TheVariants.{Register}
 use Rattle.rept_engine.specs.declared.conflict.ConflictKind.TheVariants.{TwoValues}
-use Rattle.rept_engine.specs.Facts.{In, told}
+use Rattle.rept_reason.specs.Facts.{In, told}
 use Rattle.rept_engine.specs.Closure.{Derivation, Concludes, ClosureHas}
 use Rattle.rept_engine.specs.Log.{IsKept, slot, value_at, entry_value}
 use Rattle.rept_engine.specs.Drawing.{Drew, Knows, Grows}

@@ -8,12 +8,12 @@ use Rattle.rept_isa.specs.declared.instr.ImmOp.TheVariants.{Addi, Slti, Sltiu, X
 use Rattle.rept_isa.specs.declared.instr.RegOp.TheVariants.{Add, Sub, Sll, Slt, Sltu, Xor, Srl, Sra, Or, And, Mul, Mulh, Mulhsu, Mulhu, Div, Divu, Rem, Remu}
 use Rattle.rept_isa.specs.declared.row.StepRow.{StepRow}
 use Rattle.rept_isa.specs.Operands.{first_read, second_read}
-use Rattle.rept_engine.specs.declared.fact.Fact.{Fact}
-use Rattle.rept_engine.specs.declared.fact.Cell.{Cell}
-use Rattle.rept_engine.specs.declared.fact.Cell.TheVariants.{Register}
-use Rattle.rept_engine.specs.declared.flat.Flat.{Flat}
-use Rattle.rept_engine.specs.declared.flat.Flat.TheVariants.{Unknown, Known}
-use Rattle.rept_engine.specs.Facts.{Knowledge, flat, operand, register_known}
+use Rattle.rept_reason.specs.declared.fact.Fact.{Fact}
+use Rattle.rept_reason.specs.declared.fact.Cell.{Cell}
+use Rattle.rept_reason.specs.declared.fact.Cell.TheVariants.{Register}
+use Rattle.rept_partial.specs.declared.flat.Flat.{Flat}
+use Rattle.rept_partial.specs.declared.flat.Flat.TheVariants.{Unknown, Known}
+use Rattle.rept_reason.specs.Facts.{Knowledge, flat, operand, register_known}
 use Rattle.rept_engine.specs.Results.{forward_of, immediate_result, register_result}
 use Rattle.rept_engine.specs.Closure.{RowConcludes, IsLastValue, SomeRowConcludes, Concludes}
 use Rattle.rept_engine.specs.Closure.RowConcludes.{onward, back, result}

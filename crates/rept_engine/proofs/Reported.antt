@@ -1,10 +1,10 @@
 use Rattle.std.proofs.Common.{◌≡◌, ℕ, ◌+◌, ◌<◌, ◌⊎◌, List, [], ◌∷◌, length, Some, inl, inr, refl, sym, subst, ◌∙◌, arith}
 use Rattle.std.proofs.lemmas.Option.{slice_get_within}
-use Rattle.rept_engine.specs.declared.fact.Fact.{Fact}
-use Rattle.rept_engine.specs.declared.fact.Cell.{Cell}
-use Rattle.rept_engine.specs.declared.fact.Cell.TheVariants.{Register}
+use Rattle.rept_reason.specs.declared.fact.Fact.{Fact}
+use Rattle.rept_reason.specs.declared.fact.Cell.{Cell}
+use Rattle.rept_reason.specs.declared.fact.Cell.TheVariants.{Register}
 use Rattle.rept_engine.specs.declared.conflict.ConflictKind.TheVariants.{TwoValues}
-use Rattle.rept_engine.specs.Facts.{IsCell, In, told}
+use Rattle.rept_reason.specs.Facts.{IsCell, In, told}
 use Rattle.rept_engine.specs.Closure.{IsLastValue, SomeRowConcludes, Concludes, Derivation, IsConsistent}
 use Rattle.rept_engine.specs.Closure.RowConcludes.{onward, back, result}
 use Rattle.rept_engine.specs.View.{View, known_in}

@@ -14,14 +14,14 @@ use Rattle.rept_machine.specs.State.{State}
 use Rattle.rept_machine.specs.Step.{HasEffect}
 use Rattle.rept_machine.specs.Execution.{Execution}
 use Rattle.rept_machine.proofs.StepLaws.{step-keeps}
-use Rattle.rept_engine.specs.declared.fact.Fact.{Fact}
-use Rattle.rept_engine.specs.declared.fact.Cell.{Cell}
-use Rattle.rept_engine.specs.declared.fact.Cell.TheVariants.{Register, Byte}
-use Rattle.rept_engine.specs.declared.flat.Flat.{Flat}
-use Rattle.rept_engine.specs.declared.flat.Flat.TheVariants.{Unknown, Known}
+use Rattle.rept_reason.specs.declared.fact.Fact.{Fact}
+use Rattle.rept_reason.specs.declared.fact.Cell.{Cell}
+use Rattle.rept_reason.specs.declared.fact.Cell.TheVariants.{Register, Byte}
+use Rattle.rept_partial.specs.declared.flat.Flat.{Flat}
+use Rattle.rept_partial.specs.declared.flat.Flat.TheVariants.{Unknown, Known}
 use Rattle.rept_engine.specs.declared.conflict.ConflictKind.{ConflictKind}
 use Rattle.rept_engine.specs.declared.conflict.ConflictKind.TheVariants.{TwoValues}
-use Rattle.rept_engine.specs.Facts.{Knowledge, In, told, flat, operand, register_known}
+use Rattle.rept_reason.specs.Facts.{Knowledge, In, told, flat, operand, register_known}
 use Rattle.rept_engine.specs.Results.{forward_of, immediate_result, register_result}
 use Rattle.rept_engine.specs.Closure.{IsLastValue, SomeRowConcludes, RowConcludes, Concludes, Derivation, InClosure, ClosureHas}
 use Rattle.rept_engine.specs.Closure.RowConcludes.{onward, back, result}
@@ -144,7 +144,7 @@ module _ (image_end : ℕ) (rows : List StepRow) (last : List ℕ) (dump : ℕ �
       where
         go : IsLastValue rows last f ⊎ SomeRowConcludes rows K f → Holds run f
         go (inl y) =
-            let cell : (0 < y.register) × (y.register < 32) = subst Rattle.rept_engine.specs.Facts.IsCell y.cell h.cell in
+            let cell : (0 < y.register) × (y.register < 32) = subst Rattle.rept_reason.specs.Facts.IsCell y.cell h.cell in
             rw (y.point, y.cell) (x.registers_end y.register f.value cell.0 y.value)
         go (inr (i, row, found, y)) = row_sound i row found f y
 

@@ -1,10 +1,10 @@
 use Rattle.std.proofs.Common.{◌≡◌, ℕ, Bool, true, false, ◌&&◌, eqb, List, [], ◌∷◌, Some, None, inl, inr, refl, sym, ap, ◌∙◌, arith}
 use Rattle.std.proofs.lemmas.Bool.{cases_Bool, and_parts, and_from, eq-eqb, eqb-true, cond-true, cond-false}
-use Rattle.rept_engine.specs.declared.fact.Fact.{Fact}
-use Rattle.rept_engine.specs.declared.fact.Cell.{Cell}
-use Rattle.rept_engine.specs.declared.fact.Cell.TheVariants.{Register, Byte}
+use Rattle.rept_reason.specs.declared.fact.Fact.{Fact}
+use Rattle.rept_reason.specs.declared.fact.Cell.{Cell}
+use Rattle.rept_reason.specs.declared.fact.Cell.TheVariants.{Register, Byte}
 use Rattle.rept_engine.specs.declared.conflict.ConflictKind.TheVariants.{TwoValues}
-use Rattle.rept_engine.specs.Facts.{In, told, same_cell}
+use Rattle.rept_reason.specs.Facts.{In, told, same_cell}
 use Rattle.rept_engine.specs.Closure.{HasNoConflict}
 use Rattle.rept_engine.specs.Log.{OnceEach}
 

@@ -3,12 +3,12 @@
 use Rattle.std.specs.Prelude.{◌≡◌, ◌≢◌, ℕ, ◌+◌, ◌<◌, ◌⊎◌, ⊤, List, [], ◌∷◌, length, Some, slice_get}
 use Rattle.rept_isa.specs.declared.row.StepRow.{StepRow}
 use Rattle.rept_isa.specs.Operands.{written_by, first_read, second_read}
-use Rattle.rept_engine.specs.declared.fact.Fact.{Fact}
-use Rattle.rept_engine.specs.declared.fact.Cell.TheVariants.{Register}
-use Rattle.rept_engine.specs.declared.flat.Flat.TheVariants.{Known}
+use Rattle.rept_reason.specs.declared.fact.Fact.{Fact}
+use Rattle.rept_reason.specs.declared.fact.Cell.TheVariants.{Register}
+use Rattle.rept_partial.specs.declared.flat.Flat.TheVariants.{Known}
 use Rattle.rept_engine.specs.declared.conflict.ConflictKind.{ConflictKind}
 use Rattle.rept_engine.specs.declared.conflict.ConflictKind.TheVariants.{TwoValues}
-use Rattle.rept_engine.specs.Facts.{Knowledge, IsCell, In, told, operand}
+use Rattle.rept_reason.specs.Facts.{Knowledge, IsCell, In, told, operand}
 use Rattle.rept_engine.specs.Results.{forward_of}
 
 -- the row leaves the register as it is

@@ -2,11 +2,11 @@
 use Rattle.std.specs.Prelude.{◌≡◌, ℕ, ◌+◌, ◌*◌, ◌<◌, ◌≤◌, length, Bool, true, false, Some, None, slice_get}
 use Rattle.rept_isa.specs.declared.row.StepRow.{StepRow}
 use Rattle.rept_isa.specs.Operands.{written_by, first_read, second_read}
-use Rattle.rept_engine.specs.declared.fact.Cell.{Cell}
-use Rattle.rept_engine.specs.declared.fact.Cell.TheVariants.{Register}
-use Rattle.rept_engine.specs.declared.flat.Flat.{Flat}
-use Rattle.rept_engine.specs.declared.flat.Flat.TheVariants.{Known}
-use Rattle.rept_engine.specs.Facts.{told, operand}
+use Rattle.rept_reason.specs.declared.fact.Cell.{Cell}
+use Rattle.rept_reason.specs.declared.fact.Cell.TheVariants.{Register}
+use Rattle.rept_partial.specs.declared.flat.Flat.{Flat}
+use Rattle.rept_partial.specs.declared.flat.Flat.TheVariants.{Known}
+use Rattle.rept_reason.specs.Facts.{told, operand}
 use Rattle.rept_engine.specs.Results.{forward_of}
 use Rattle.rept_engine.specs.Closure.{Keeps, Derivation}
 use Rattle.rept_engine.specs.Log.{OnceEach}

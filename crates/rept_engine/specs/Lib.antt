@@ -1,6 +1,5 @@
 pub mod Closure
 pub mod Drawing
-pub mod Facts
 pub mod Log
 pub mod Report
 pub mod Results

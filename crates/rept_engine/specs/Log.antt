@@ -1,12 +1,12 @@
 -- How an analysis is kept: a log of the facts in the order in which they were learnt, and for each register at each
 -- point its place in the log.
 use Rattle.std.specs.Prelude.{◌≡◌, ℕ, ◌+◌, ◌-◌, ◌*◌, ◌<◌, ◌≤◌, ⊤, List, [], ◌∷◌, length, Option, Some, None, slice_get, slice_index_or, count_by, is_none}
-use Rattle.rept_engine.specs.declared.fact.Fact.{Fact}
-use Rattle.rept_engine.specs.declared.fact.Cell.TheVariants.{Register}
+use Rattle.rept_reason.specs.declared.fact.Fact.{Fact}
+use Rattle.rept_reason.specs.declared.fact.Cell.TheVariants.{Register}
 use Rattle.rept_engine.specs.declared.clash.Clash.{Clash}
 use Rattle.rept_engine.specs.declared.conflict.ConflictKind.{ConflictKind}
 use Rattle.rept_engine.specs.declared.conflict.ConflictKind.TheVariants.{TwoValues}
-use Rattle.rept_engine.specs.Facts.{told}
+use Rattle.rept_reason.specs.Facts.{told}
 use Rattle.rept_engine.specs.Closure.{Derivation, ClosureHas}
 use Rattle.rept_engine.specs.View.{View}
 

@@ -1,7 +1,7 @@
 -- The report of a path and its last register values: all that follows from them, where nothing contradicts itself.
 use Rattle.std.specs.Prelude.{◌≡◌, ℕ, ◌<◌, ◌≤◌, ◌↔◌, List, length, Option, Some}
 use Rattle.rept_isa.specs.declared.row.StepRow.{StepRow}
-use Rattle.rept_engine.specs.declared.fact.Cell.TheVariants.{Register}
+use Rattle.rept_reason.specs.declared.fact.Cell.TheVariants.{Register}
 use Rattle.rept_engine.specs.declared.stop.Stop.{Stop}
 use Rattle.rept_engine.specs.declared.stop.Stop.TheVariants.{Conflict, OutOfMemory}
 use Rattle.rept_engine.specs.Closure.{InClosure, ClosureHas, IsConsistent}

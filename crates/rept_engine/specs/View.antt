@@ -1,9 +1,9 @@
 -- An analysis, as its callers see it.
 use Rattle.std.specs.Prelude.{◌≡◌, ℕ, List, Option}
 use Rattle.rept_isa.specs.declared.row.StepRow.{StepRow}
-use Rattle.rept_engine.specs.declared.fact.Fact.{Fact}
+use Rattle.rept_reason.specs.declared.fact.Fact.{Fact}
 use Rattle.rept_engine.specs.declared.conflict.ConflictKind.{ConflictKind}
-use Rattle.rept_engine.specs.Facts.{told, register_known}
+use Rattle.rept_reason.specs.Facts.{told, register_known}
 
 -- the path and the last register values, the facts that were learnt, newest first, and the conflict that was answered
 pub record View : Type 0 where

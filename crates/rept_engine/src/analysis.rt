@@ -1,7 +1,7 @@
 ghost use Rattle.std.specs.Prelude.{◌≡◌, ◌≢◌, ◌+◌, ◌*◌, ◌<◌, ◌≤◌, ◌↔◌, ℕ, [], length, IsTrue, IsOk, IfOk, IfErr, OnOk, OnErr, Some, slice_get, ⊤};
 ghost use Rattle.rept_isa.specs.declared.row.StepRow.{StepRow};
 ghost use Rattle.rept_isa.specs.Operands.{written_by};
-ghost use Rattle.rept_engine.specs.Facts.{told, flat, operand};
+ghost use Rattle.rept_reason.specs.Facts.{told, flat, operand};
 ghost use Rattle.rept_engine.specs.Closure.{Keeps, Concludes, InClosure, ClosureHas, IsConsistent};
 ghost use Rattle.rept_engine.specs.Log.{slot, conflict_of};
 ghost use Rattle.rept_engine.specs.Drawing.{Grows, Drew, Knows, Learnt, Carried, CarriedBelow, Resulted, RowClosed, RowsClosed, LastKnownBelow, IsClosed, IsDerived};
@@ -12,8 +12,8 @@ ghost use Rattle.rept_engine.specs.declared.conflict.ConflictKind.{ConflictKind}
 
 use crate::clash::Clash;
 use crate::conflict::ConflictKind;
-use crate::fact::{Cell, Fact};
-use crate::flat::Flat;
+use rept_reason::{Cell, Fact};
+use rept_partial::Flat;
 use crate::rules::forward;
 use crate::stop::Stop;
 use rept_isa::{Instr, Reg, StepRow, reads, writes};

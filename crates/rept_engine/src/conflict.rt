@@ -1,4 +1,4 @@
-use crate::fact::Cell;
+use rept_reason::Cell;
 
 /// How facts contradict each other.
 #[derive(Clone, Copy, PartialEq, Eq, Debug)]

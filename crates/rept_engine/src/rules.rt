@@ -1,7 +1,7 @@
 ghost use Rattle.std.specs.Prelude.{◌≡◌};
 ghost use Rattle.rept_engine.specs.Results.{immediate_result, register_result, forward_of};
 
-use crate::flat::Flat;
+use rept_partial::Flat;
 use rept_isa::number::plus;
 use rept_isa::{ImmOp, Instr, RegOp};
 

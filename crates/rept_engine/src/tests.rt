@@ -1,7 +1,7 @@
 use crate::analysis::Analysis;
 use crate::conflict::ConflictKind;
-use crate::fact::Cell;
-use crate::flat::Flat;
+use rept_reason::Cell;
+use rept_partial::Flat;
 use crate::rules::forward;
 use crate::stop::Stop;
 use rept_isa::{ImmOp, Instr, Reg, RegOp, StepRow};

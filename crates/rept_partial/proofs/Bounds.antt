@@ -1,5 +1,5 @@
 -- A range by its bounds.
-use Rattle.std.proofs.Common.{◌≡◌, ◌<◌, ◌≤◌, ◌^◌, ℕ, ◌%◌, min, max, arith, refl, sym, subst, ap, Some, Option, nat_le, true, if◌then◌else◌, None, ◌∙◌}
+use Rattle.std.proofs.Common.{◌≡◌, ◌<◌, ◌≤◌, ◌^◌, ℕ, min, max, arith, refl, subst, ap, Some, nat_le, true, ◌∙◌}
 use Rattle.std.proofs.Math.Bridge.{le_prop}
 use Rattle.rept_partial.specs.declared.range.Range.{Range}
 use Rattle.rept_partial.specs.Ranges.{from_to, word, range_meet, bounded}

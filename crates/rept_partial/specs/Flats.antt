@@ -119,7 +119,6 @@ bounds_within Unknown (Known w) h = absurd (not_all (word w) (λ u t. is_known w
 bounds_within (Known v) Unknown h = let b = is_word v in (omega arith, omega arith)
 bounds_within (Known v) (Known w) h = let e = is_known w (word v) (h (word v) (has_known v)) in (omega arith, omega arith)
 
-
 words : (a : Flat) (v : ℕ) → flat_has a v ≡ true → v < 2 ^ 32
 words Unknown v h = below v h
 words (Known w) v h = let e = is_known w v h in let s = is_word w in omega arith

@@ -1,6 +1,6 @@
 -- The words from one bound to another, both included, as sets of values.
-use Rattle.std.specs.Prelude.{◌≡◌, ℕ, ◌<◌, ◌≤◌, ◌%◌, ◌^◌, Bool, true, false, ◌&&◌, nat_le, ◌==◌, min, max, if◌then◌else◌, Option, Some, None, refl}
-use Rattle.std.proofs.Common.{arith, sym, subst, ap, ◌∙◌, inl, inr, ◌⊎◌}
+use Rattle.std.specs.Prelude.{◌≡◌, ℕ, ◌<◌, ◌≤◌, ◌%◌, ◌^◌, Bool, true, ◌&&◌, nat_le, ◌==◌, min, max, if◌then◌else◌, Option, Some, None}
+use Rattle.std.proofs.Common.{arith}
 use Rattle.rept_partial.specs.declared.range.Range.{Range}
 use Rattle.rept_partial.specs.Sets.{Sets, AreLawful, IsWithin}
 
@@ -44,28 +44,39 @@ range_lawful = record { some = some_value; words = words; unknown = in_all; exac
   where
     some_value : (a : Range) → (v : ℕ) × (range_has a v ≡ true)
     some_value a = (a.lo, inside a a.lo (omega arith) a.ordered)
+
     words : (a : Range) (v : ℕ) → range_has a v ≡ true → v < 2 ^ 32
     words a v h = let b = both_sides a v h in let s = a.small in omega arith
+
     in_all : (v : ℕ) → v < 2 ^ 32 → range_has (from_to 0 4294967295) v ≡ true
     in_all v small = grind (arith, small)
+
     exact_has : (v : ℕ) → v < 2 ^ 32 → range_has (from_to v v) v ≡ true
     exact_has v small = grind (arith, small)
+
     exact_only : (v u : ℕ) → v < 2 ^ 32 → range_has (from_to v v) u ≡ true → u ≡ v
     exact_only v u small h = grind (arith, small, h)
+
     met : (a b c : Range) → range_meet a b ≡ Some c → (c.lo ≡ max a.lo b.lo) × (c.hi ≡ min a.hi b.hi) × (max a.lo b.lo ≤ min a.hi b.hi)
     met a b c e = let s = a.small in let t = b.small in grind (arith, e, s, t)
+
     meet_some : (a b c : Range) (v : ℕ) → range_meet a b ≡ Some c → range_has a v ≡ true → range_has b v ≡ true → range_has c v ≡ true
     meet_some a b c v e ha hb = let m = met a b c e in let p = both_sides a v ha in let q = both_sides b v hb in inside c v (grind (arith, m, p, q)) (grind (arith, m, p, q))
+
     meet_within : (a b c : Range) (v : ℕ) → range_meet a b ≡ Some c → range_has c v ≡ true → (range_has a v ≡ true) × (range_has b v ≡ true)
     meet_within a b c v e hc = let m = met a b c e in let p = both_sides c v hc in (inside a v (grind (arith, m, p)) (grind (arith, m, p)), inside b v (grind (arith, m, p)) (grind (arith, m, p)))
+
     meet_none : (a b : Range) (v : ℕ) → range_meet a b ≡ None → range_has a v ≡ true → range_has b v ≡ true → ⊥
     meet_none a b v e ha hb = let p = both_sides a v ha in let q = both_sides b v hb in grind (arith, e, p, q)
+
     as_exact : (a : Range) (v u : ℕ) → range_exact a ≡ Some v → range_has a u ≡ true → u ≡ v
     as_exact a v u e h = let p = both_sides a u h in grind (arith, e, p)
+
     is_exact : (a : Range) (v : ℕ) → ((u : ℕ) → range_has a u ≡ true → u ≡ v) → range_exact a ≡ Some v
     is_exact a v h =
         let l : a.lo ≡ v = h a.lo (inside a a.lo (omega arith) a.ordered) in
         let g : a.hi ≡ v = h a.hi (inside a a.hi a.ordered (omega arith)) in
         grind (arith, l, g)
+
     bounds_within : (a b : Range) → IsWithin range_sets a b → (b.lo ≤ a.lo) × (a.hi ≤ b.hi)
     bounds_within a b h = ((both_sides b a.lo (h a.lo (inside a a.lo (omega arith) a.ordered))).0, (both_sides b a.hi (h a.hi (inside a a.hi a.ordered (omega arith)))).1)

@@ -29,13 +29,7 @@ impl Partial for Flat {
         match (self, other) {
             (Flat::Unknown, _) => Some(other),
             (Flat::Known(_), Flat::Unknown) => Some(self),
-            (Flat::Known(v), Flat::Known(w)) => {
-                if v == w {
-                    Some(self)
-                } else {
-                    None
-                }
-            }
+            (Flat::Known(v), Flat::Known(w)) => { if v == w { Some(self) } else { None } }
         }
     }
 

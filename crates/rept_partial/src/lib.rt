@@ -8,3 +8,6 @@ pub mod range;
 pub use flat::Flat;
 pub use partial::Partial;
 pub use range::Range;
+
+#[cfg(test)]
+mod tests;

@@ -44,7 +44,11 @@ impl Partial for Range {
     fn meet(self, other: Self) -> Option<Self> {
         let lo = self.lo.max(other.lo);
         let hi = self.hi.min(other.hi);
-        if lo <= hi { Some(Range { lo, hi }) } else { None }
+        if lo <= hi {
+            Some(Range { lo, hi })
+        } else {
+            None
+        }
     }
 
     fn as_exact(self) -> Option<u32> {

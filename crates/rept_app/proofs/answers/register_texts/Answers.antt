@@ -1,7 +1,7 @@
 use Rattle.std.proofs.Common.{◌≡◌, arith, ap, ◌∙◌, ◌-◌}
 use Rattle.std.specs.List.{flat_map, range_with_len}
 use Rattle.rept_app.specs.Answers.{register_line, register_lines}
-use Rattle.rept_engine.specs.Facts.{flat}
+use Rattle.rept_reason.specs.Facts.{flat}
 use Rattle.rept_app.specs.Showing.{shown_by}
 use Rattle.rept_app.proofs.AnswerLemmas.{register_more}
 use Rattle.rept_app.proofs.answers.register_texts.Goals as goal

@@ -1,8 +1,8 @@
 use Rattle.std.proofs.Common.{◌≤◌, length, Some, None, sym, subst, reverse}
 use Rattle.std.proofs.lemmas.List.{reverse-append}
-use Rattle.rept_engine.specs.declared.fact.Fact.{Fact}
-use Rattle.rept_engine.specs.declared.fact.Cell.TheVariants.{Register}
-use Rattle.rept_engine.specs.Facts.{told}
+use Rattle.rept_reason.specs.declared.fact.Fact.{Fact}
+use Rattle.rept_reason.specs.declared.fact.Cell.TheVariants.{Register}
+use Rattle.rept_reason.specs.Facts.{told}
 use Rattle.rept_engine.specs.Closure.{Concludes}
 use Rattle.rept_engine.specs.Log.{slot}
 use Rattle.rept_engine.specs.View.{View}

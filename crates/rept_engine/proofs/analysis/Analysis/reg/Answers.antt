@@ -1,5 +1,5 @@
 use Rattle.std.proofs.Common.{sym, ◌∙◌, subst}
-use Rattle.rept_engine.specs.declared.fact.Cell.TheVariants.{Register}
+use Rattle.rept_reason.specs.declared.fact.Cell.TheVariants.{Register}
 use Rattle.rept_engine.specs.Closure.{Derivation}
 use Rattle.rept_engine.specs.View.{View, known_in}
 use Rattle.rept_engine.proofs.Drawn.{known_told, flat_known}
