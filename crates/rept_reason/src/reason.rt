@@ -21,7 +21,8 @@ pub struct Looked {
 
 impl Default for Looked {
     fn default() -> Looked
-        ensures { result.point ≡ 0 }
+        ensures point { result.point ≡ 0 }
+        ensures reg { result.reg ≡ 0 }
     {
         Looked {
             point: 0,
