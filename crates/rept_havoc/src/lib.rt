@@ -1,0 +1,10 @@
+// Which bytes a system call may change, from what is known of its arguments.
+#![tactic(auto)]
+
+pub mod call;
+
+pub use call::havoc;
+pub use rept_alias::CallAccess;
+
+#[cfg(test)]
+mod tests;

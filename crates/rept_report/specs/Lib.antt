@@ -1,0 +1,12 @@
+pub mod Setting
+pub mod Knowing
+pub mod Views
+pub mod Conclusions
+pub mod Conflicts
+pub mod Closure
+pub mod Writers
+pub mod Log
+pub mod Reasons
+pub mod Implied
+pub mod Why
+pub mod Soundness

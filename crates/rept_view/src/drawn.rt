@@ -1,0 +1,42 @@
+// What the rules of a row conclude, and what a conclusion rests on.
+use rept_reason::Cell;
+use std::default::Default;
+
+/// The point before a row, or the one after it.
+#[derive(Clone, Copy, PartialEq, Eq, Debug)]
+pub enum When {
+    /// row i's point i
+    Before,
+    /// row i's point i + 1
+    After,
+}
+
+impl Default for When {
+    fn default() -> When {
+        When::Before
+    }
+}
+
+/// A conclusion of a row: a register or a byte has a value before or after it.
+#[derive(Clone, Copy, Default, PartialEq, Eq, Debug)]
+pub struct Drawn {
+    /// the number of the rule that it comes by
+    pub rule: u8,
+    /// before or after the row
+    pub when: When,
+    /// the register or byte
+    pub cell: Cell,
+    /// the value: a word of a register, or a byte
+    pub value: u32,
+    /// of a byte, which of the row's places for bytes it takes; 0 for a register
+    pub slot: u32,
+}
+
+/// A register or byte before or after a row that a conclusion rests on.
+#[derive(Clone, Copy, Default, PartialEq, Eq, Debug)]
+pub struct Need {
+    /// before or after the row
+    pub when: When,
+    /// the register or byte
+    pub cell: Cell,
+}

@@ -1,0 +1,10 @@
+// What is known around a row of a path, and the rules by which facts are drawn from it: the traits of both, and their laws.
+#![tactic(auto)]
+
+pub mod drawn;
+pub mod rules;
+pub mod view;
+
+pub use drawn::{Drawn, Need, When};
+pub use rules::RowRules;
+pub use view::RowView;

@@ -1,0 +1,53 @@
+// The rules of a row.
+ghost use Rattle.std.specs.Prelude.{◌≡◌, ℕ, ◌+◌, ◌<◌, ◌≤◌, ◌^◌, min, Contains};
+ghost use Rattle.rept_alias.specs.Accesses.{call_hits};
+ghost use Rattle.rept_view.specs.Rules.{Rules, AreLawful};
+
+use crate::drawn::{Drawn, Need};
+use crate::view::RowView;
+use rept_alias::CallAccess;
+use rept_isa::StepRow;
+use smallvec::SmallVec;
+use std::alloc::Global;
+
+/// The rules by which a row lets facts on its own registers and bytes be drawn, and which bytes it may write. An analysis uses
+/// nothing else of an instruction. `rules` names the answers as functions of the row and of what is seen, and each implementation
+/// proves their laws. No call takes memory: each list keeps within the room that it has in place.
+pub trait RowRules: Drop {
+    ghost rules: { Rules };
+
+    /// How often rules were drawn by this value: a number that never falls, and stays at its greatest one.
+    ghost draws: { Self → ℕ };
+
+    /// All that the row lets one conclude.
+    fn draw<V: RowView>(&mut self, alloc: Global, row: &StepRow, view: &V) -> SmallVec<Drawn, 16>
+        ensures list { result.items ≡ rules.draw row.now (V.seen view.now) }
+        ensures inline { result.capacity ≡ 16 }
+        ensures raised { draws self.new ≡ min (draws self.old + 1) 18446744073709551615 };
+
+    /// What one of these conclusions rests on, in the rule's order.
+    fn needs<V: RowView>(
+        alloc: Global,
+        row: &StepRow,
+        view: &V,
+        drawn: &Drawn,
+    ) -> SmallVec<Need, 10>
+        requires { Contains (rules.draw row.now (V.seen view.now)) drawn.now }
+        ensures list { result.items ≡ rules.needs row.now (V.seen view.now) drawn.now }
+        ensures inline { result.capacity ≡ 10 };
+
+    /// The bytes that the row may write, where the program's own memory ends at `image_end`.
+    fn touched<V: RowView>(row: &StepRow, view: &V, image_end: u64) -> CallAccess
+        ensures { (a : ℕ) → a < 2 ^ 32 → call_hits result a ≡ rules.touched row.now (V.seen view.now) image_end a };
+
+    /// Whether the row writes all bytes that it may write.
+    fn sure<V: RowView>(row: &StepRow, view: &V) -> bool
+        ensures { result ≡ rules.sure row.now (V.seen view.now) };
+
+    /// A bound on how many byte facts the row lets one conclude.
+    fn places(row: &StepRow) -> u32
+        ensures value { result ≡ rules.places row.now }
+        ensures few { result ≤ 8 };
+
+    ghost lawful: { AreLawful rules };
+}
