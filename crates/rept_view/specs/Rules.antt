@@ -54,9 +54,9 @@ IsRowCell rules row s Before (Register r) = (first_read row.instr ≡ Some r) �
 IsRowCell rules row s After (Register r) = written_by row.instr ≡ Some r
 IsRowCell rules row s w (Byte a) = IsRowByte rules row s a
 
--- a value that fits the cell
+-- a value that fits a byte; a register takes any word
 abbrev pub Fits : Cell → ℕ → Type 0
-Fits (Register r) v = v < 2 ^ 32
+Fits (Register r) v = Unit {0}
 Fits (Byte a) v = v < 2 ^ 8
 
 -- it has all that the conclusion rests on, with the same values
