@@ -41,7 +41,8 @@ pub fn computed_imm(op: ImmOp, a: u32, imm: i32) -> u32
     computed(register_form(op), a, word(imm))
 }
 
-fn register_form(op: ImmOp) -> RegOp
+/// The operation on two registers that does the same with the immediate as its second operand.
+pub fn register_form(op: ImmOp) -> RegOp
     ensures { result ≡ register_form op }
 {
     match op {

@@ -1,7 +1,7 @@
 // The states and steps of RV32IM, and a machine that makes them.
 #![tactic(auto)]
 
-mod arithmetic;
+pub mod arithmetic;
 mod execute;
 pub mod machine;
 mod memory;

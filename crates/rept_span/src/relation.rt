@@ -1,7 +1,6 @@
 // What the way of a jump tells of the ranges that it read.
 ghost use Rattle.std.specs.Prelude.{◌≡◌, ◌==◌, if◌then◌else◌};
-ghost use Rattle.rept_span.specs.Tables.{if_taken, if_not_taken, relation_of, holds_of_same, both_below, both_at_least, twice, related, branch_leaves, base_leaves, base_of};
-ghost use Rattle.rept_partial.specs.Ranges.{range_meet};
+ghost use Rattle.rept_span.specs.Tables.{if_taken, if_not_taken, relation_of, holds_of_same, both_equal, both_below, both_at_least, related, branch_leaves, base_leaves, base_of};
 
 use crate::bounds::{between, is_positive};
 use rept_isa::number::word;
@@ -67,11 +66,14 @@ fn holds_of_same(told: Relation) -> bool
 }
 
 fn both_equal(a: Range, b: Range) -> Option<(Range, Range)>
-    ensures { result ≡ twice (range_meet a b) }
+    ensures { result ≡ both_equal a b }
 {
-    match a.meet(b) {
-        None => None,
-        Some(c) => Some((c, c)),
+    let lo = a.lo().max(b.lo());
+    let hi = a.hi().min(b.hi());
+    if lo <= hi {
+        Some((between(lo, hi), between(lo, hi)))
+    } else {
+        None
     }
 }
 

@@ -92,7 +92,8 @@ impl<W: Transfer> Spans<W> {
     /// The set of a register at a point. It takes no memory.
     pub fn at(&self, point: u32, r: Reg) -> W
         requires point { point < self.now.points }
-        ensures { entry_at self.now point r ≡ Some result }
+        ensures value { entry_at self.now point r ≡ Some result }
+        ensures in_file { r < 32 }
     {
         let _points = &self.points;
         self.items[place(point, r)]

@@ -1,5 +1,5 @@
 -- The rules of rows as one record of functions, and their laws as another. This project's own.
-use Rattle.std.specs.Prelude.{◌≡◌, ℕ, ◌<◌, ◌≤◌, ◌^◌, ◌⊎◌, Bool, true, false, List, length, Contains, Option, Some, None, ℤ, pos}
+use Rattle.std.specs.Prelude.{◌≡◌, ℕ, ◌<◌, ◌≤◌, ◌^◌, ◌⊎◌, Bool, true, List, length, Contains, Some, ℤ, pos}
 use Rattle.rept_isa.specs.declared.instr.Instr.{Instr}
 use Rattle.rept_isa.specs.declared.instr.Instr.TheVariants.{Load, Store}
 use Rattle.rept_isa.specs.declared.row.StepRow.{StepRow}

@@ -1,0 +1,12 @@
+pub mod ValueLemmas
+pub mod InverseLemmas
+pub mod SolveLemmas
+pub mod ListLemmas
+pub mod Listed
+pub mod Sound
+pub mod Own
+pub mod NeedLemmas
+pub mod WriteLemmas
+pub mod Lengths
+pub mod More
+pub mod BaseLaws

@@ -1,0 +1,228 @@
+-- Each conclusion of a row holds in each step that has all that is seen.
+use Rattle.std.proofs.Common.{◌≡◌, ◌≢◌, ℕ, zero, suc, ◌+◌, ◌-◌, ◌*◌, ◌/◌, ◌%◌, ◌<◌, ◌^◌, ◌⊎◌, true, false, inl, inr, refl, sym, ap, subst, ◌∙◌, if◌then◌else◌, arith, Option, Some, None, ℤ, ◌==◌, nat_lt, lit<}
+use Rattle.std.specs.Prelude.{not}
+use Rattle.rept_isa.specs.declared.instr.Instr.{Instr}
+use Rattle.rept_isa.specs.declared.instr.Instr.TheVariants.{Branch, Load, Store, Imm, Op}
+use Rattle.rept_isa.specs.declared.instr.BranchOp.{BranchOp}
+use Rattle.rept_isa.specs.declared.instr.BranchOp.TheVariants.{Beq, Bne}
+use Rattle.rept_isa.specs.declared.instr.LoadOp.{LoadOp}
+use Rattle.rept_isa.specs.declared.instr.LoadOp.TheVariants.{Lb, Lh, Lw, Lbu, Lhu}
+use Rattle.rept_isa.specs.declared.instr.StoreOp.TheVariants.{Sw}
+use Rattle.rept_isa.specs.declared.class.Turn.{Turn}
+use Rattle.rept_isa.specs.declared.class.Turn.TheVariants.{Taken, NotTaken, Either, NoBranch}
+use Rattle.rept_isa.specs.declared.row.StepRow.{StepRow}
+use Rattle.rept_isa.specs.Numbers.{plus, following}
+use Rattle.rept_isa.specs.Operands.{written_by, first_read, second_read, turn_of, turn_by, way}
+use Rattle.rept_partial.specs.declared.flat.Flat.{Flat}
+use Rattle.rept_partial.specs.declared.flat.Flat.TheVariants.{Known}
+use Rattle.rept_machine.specs.Arithmetic.{beside, loaded, word_at, byte_of, extended, branch_holds}
+use Rattle.rept_machine.specs.State.{State, IsState}
+use Rattle.rept_machine.specs.Step.{HasEffect, IsStep}
+use Rattle.rept_reason.specs.Facts.{flat}
+use Rattle.rept_view.specs.declared.drawn.When.{When}
+use Rattle.rept_view.specs.declared.drawn.When.TheVariants.{Before, After}
+use Rattle.rept_view.specs.declared.drawn.Drawn.{Drawn}
+use Rattle.rept_view.specs.Seen.{Seen, Meets, state_at, held}
+use Rattle.rept_view.specs.Rules.{IsSeenStep}
+use Rattle.rept_rules.specs.Results.{Admits, HoldsIn}
+use Rattle.rept_rules.specs.Operands.{copied, operand_of, opposite, is_neutral}
+use Rattle.rept_rules.specs.Conclusions.{Concludes, Says, IsKnown, AreKnown, on_register, on_byte, seen_operand, load_width, solving_rule, equates}
+use Rattle.rept_rules.specs.Conclusions as rules
+use Rattle.rept_rules.specs.Laws.ValueLemmas.{either_way, true≢false, same_some, no_some, destination, equal, forward_sound}
+use Rattle.rept_rules.specs.Laws.SolveLemmas.{neutral_is, copied_is, solve_sound}
+
+-- the conclusion holds
+abbrev Holds : State → State → Drawn → Type 0
+Holds before after d = held (state_at before after d.when) d.cell ≡ d.value
+
+says_holds : (before after : State) (d : Drawn) (rule : ℕ) (when : When) (r v : ℕ) → Says d rule when r v → (state_at before after when).register r ≡ v → Holds before after d
+says_holds before after d rule when r v says h = subst (λ (x : Drawn). Holds before after x) (sym says.is) h
+
+byte_holds : (before after : State) (d : Drawn) (rule : ℕ) (when : When) (base v k : ℕ) → d ≡ on_byte rule when base v k → (state_at before after when).memory (beside base k) ≡ byte_of v k → Holds before after d
+byte_holds before after d rule when base v k is h = subst (λ (x : Drawn). Holds before after x) (sym is) h
+
+admitted : (x : Option ℕ) (v : ℕ) → ((w : ℕ) → x ≡ Some w → v ≡ w) → Admits (flat x) v
+admitted None v h = tt
+admitted (Some w) v h = h w refl
+
+seen_holds : (view : Seen) (before after : State) (o : Option ℕ) → Meets view before after → HoldsIn before o (seen_operand view o)
+seen_holds view before after None meets = tt
+seen_holds view before after (Some r) meets = admitted (view.register Before r) (before.register r) (λ w e. meets.register Before r w e)
+
+admits_known : (x : Flat) (v w : ℕ) → x ≡ Known w → Admits x v → v ≡ w
+admits_known x v w e h = let g : Admits (Known w) v = subst (λ (y : Flat). Admits y v) e h in g
+
+over_none : (r : ℕ) → 0 < r → r ≢ 0
+over_none r h e = omega (arith, h, e)
+
+-- a load reads its bytes alone
+loaded_same : (op : LoadOp) (m n : ℕ → ℕ) (base : ℕ) → ((k : ℕ) → k < load_width op → m (beside base k) ≡ n (beside base k)) → loaded op m base ≡ loaded op n base
+loaded_same Lb m n base h = ap (extended 8) (h 0 (lit< tt))
+loaded_same Lh m n base h = let p = h 0 (lit< tt) in let q = h 1 (lit< tt) in rw (p, q) refl
+loaded_same Lw m n base h = let p = h 0 (lit< tt) in let q = h 1 (lit< tt) in let r = h 2 (lit< tt) in let s = h 3 (lit< tt) in rw (p, q, r, s) refl
+loaded_same Lbu m n base h = h 0 (lit< tt)
+loaded_same Lhu m n base h = let p = h 0 (lit< tt) in let q = h 1 (lit< tt) in rw (p, q) refl
+
+extended_low : (x : ℕ) → x < 2 ^ 8 → x ≡ extended 8 x % 2 ^ 8
+extended_low x small = elim (either_way (nat_lt x (2 ^ (8 - 1)))) [
+  | inl t ↦ rw t (omega arith)
+  | inr f ↦ rw f (omega arith)
+]
+
+extended_first : (x y : ℕ) → x < 2 ^ 8 → y < 2 ^ 8 → x ≡ extended 16 (x + 2 ^ 8 * y) % 2 ^ 8
+extended_first x y small fits = elim (either_way (nat_lt (x + 2 ^ 8 * y) (2 ^ (16 - 1)))) [
+  | inl t ↦ rw t (omega arith)
+  | inr f ↦ rw f (omega arith)
+]
+
+extended_second : (x y : ℕ) → x < 2 ^ 8 → y < 2 ^ 8 → y ≡ extended 16 (x + 2 ^ 8 * y) / 2 ^ 8 % 2 ^ 8
+extended_second x y small fits = elim (either_way (nat_lt (x + 2 ^ 8 * y) (2 ^ (16 - 1)))) [
+  | inl t ↦ rw t (omega arith)
+  | inr f ↦ rw f (omega arith)
+]
+
+-- the low bytes of what it reads are its bytes
+byte_back : (op : LoadOp) (m : ℕ → ℕ) (base k : ℕ) → ((a : ℕ) → m a < 2 ^ 8) → k < load_width op → m (beside base k) ≡ byte_of (loaded op m base) k
+byte_back Lb m base zero small below = let p = small (beside base 0) in extended_low (m (beside base 0)) p ∙ omega arith
+byte_back Lh m base zero small below = let p = small (beside base 0) in let q = small (beside base 1) in extended_first (m (beside base 0)) (m (beside base 1)) p q ∙ omega arith
+byte_back Lh m base (suc zero) small below = let p = small (beside base 0) in let q = small (beside base 1) in extended_second (m (beside base 0)) (m (beside base 1)) p q
+byte_back Lw m base zero small below = let p = small (beside base 0) in let q = small (beside base 1) in let r = small (beside base 2) in let s = small (beside base 3) in omega arith
+byte_back Lw m base (suc zero) small below = let p = small (beside base 0) in let q = small (beside base 1) in let r = small (beside base 2) in let s = small (beside base 3) in omega arith
+byte_back Lw m base (suc (suc zero)) small below = let p = small (beside base 0) in let q = small (beside base 1) in let r = small (beside base 2) in let s = small (beside base 3) in omega arith
+byte_back Lw m base (suc (suc (suc zero))) small below = let p = small (beside base 0) in let q = small (beside base 1) in let r = small (beside base 2) in let s = small (beside base 3) in omega arith
+byte_back Lbu m base zero small below = let p = small (beside base 0) in omega arith
+byte_back Lhu m base zero small below = let p = small (beside base 0) in let q = small (beside base 1) in omega arith
+byte_back Lhu m base (suc zero) small below = let p = small (beside base 0) in let q = small (beside base 1) in omega arith
+byte_back _ m base k small below = absurd (omega (arith, below))
+
+-- a word is made of its bytes
+word_back : (w : ℕ) → w < 2 ^ 32 → byte_of w 0 + 2 ^ 8 * byte_of w 1 + 2 ^ 16 * byte_of w 2 + 2 ^ 24 * byte_of w 3 ≡ w
+word_back w small = omega arith
+
+word_at_is : (m n : ℕ → ℕ) (base w : ℕ) → w < 2 ^ 32 → ((k : ℕ) → k < 4 → m (beside base k) ≡ n (beside base k)) → ((k : ℕ) → k < 4 → m (beside base k) ≡ byte_of w k) → w ≡ word_at n base
+word_at_is m n base w small same bytes =
+    let p = sym (bytes 0 (lit< tt)) ∙ same 0 (lit< tt) in
+    let q = sym (bytes 1 (lit< tt)) ∙ same 1 (lit< tt) in
+    let r = sym (bytes 2 (lit< tt)) ∙ same 2 (lit< tt) in
+    let s = sym (bytes 3 (lit< tt)) ∙ same 3 (lit< tt) in
+    sym (word_back w small) ∙ rw (p, q, r, s) refl
+
+is_equal : (a b : ℕ) → a ≡ b → (a == b) ≡ true
+is_equal a b e = grind (arith, e)
+
+-- which way a branch went tells whether its operands were equal
+taken : (address target next : ℕ) → way address target next ≡ Taken → (next ≡ target) × (target ≢ following address)
+taken address target next e = elim (either_way (target == following address)) [
+  | inl t ↦ absurd (either_taken (rw t at e))
+  | inr f ↦ elim (either_way (next == target)) [
+    | inl g ↦ (equal next target g, λ h. true≢false (sym (is_equal target (following address) h) ∙ f))
+    | inr g ↦ elim (either_way (next == following address)) [
+      | inl h ↦ absurd (not_taken_taken (rw (f, g, h) at e))
+      | inr h ↦ absurd (no_branch_taken (rw (f, g, h) at e))
+    ]
+  ]
+]
+  where
+    either_taken : Either ≡ Taken → ⊥
+    either_taken x = cc
+
+    not_taken_taken : NotTaken ≡ Taken → ⊥
+    not_taken_taken x = cc
+
+    no_branch_taken : NoBranch ≡ Taken → ⊥
+    no_branch_taken x = cc
+
+not_taken : (address target next : ℕ) → way address target next ≡ NotTaken → (next ≡ following address) × (next ≢ target)
+not_taken address target next e = elim (either_way (target == following address)) [
+  | inl t ↦ absurd (either_not (rw t at e))
+  | inr f ↦ elim (either_way (next == target)) [
+    | inl g ↦ absurd (taken_not (rw (f, g) at e))
+    | inr g ↦ elim (either_way (next == following address)) [
+      | inl h ↦ (equal next (following address) h, λ i. true≢false (sym (is_equal next target i) ∙ g))
+      | inr h ↦ absurd (no_branch_not (rw (f, g, h) at e))
+    ]
+  ]
+]
+  where
+    either_not : Either ≡ NotTaken → ⊥
+    either_not x = cc
+
+    taken_not : Taken ≡ NotTaken → ⊥
+    taken_not x = cc
+
+    no_branch_not : NoBranch ≡ NotTaken → ⊥
+    no_branch_not x = cc
+
+equates_is : (op : BranchOp) (turn : Turn) → equates op turn ≡ true → ((op ≡ Beq) × (turn ≡ Taken)) ⊎ ((op ≡ Bne) × (turn ≡ NotTaken))
+equates_is Beq Taken t = inl (refl, refl)
+equates_is Bne NotTaken t = inr (refl, refl)
+equates_is _ _ t = absurd (true≢false (sym t))
+
+equal_by : (a b : ℕ) → ((a == b) ≡ false → ⊥) → a ≡ b
+equal_by a b h = elim (either_way (a == b)) [ inl t ↦ equal a b t | inr f ↦ absurd (h f) ]
+
+-- a branch that went the way of equal operands had equal ones
+went_equal : (op : BranchOp) (address target next a b : ℕ) → next ≡ (if branch_holds op a b then target else following address) → equates op (way address target next) ≡ true → a ≡ b
+went_equal op address target next a b effect t = elim (equates_is op (way address target next) t) [
+  | inl (is, went) ↦
+      let w = taken address target next went in
+      let e : next ≡ (if a == b then target else following address) = subst (λ (o : BranchOp). next ≡ (if branch_holds o a b then target else following address)) is effect in
+      equal_by a b (λ f. w.1 (sym w.0 ∙ (rw f at e)))
+  | inr (is, went) ↦
+      let w = not_taken address target next went in
+      let e : next ≡ (if not (a == b) then target else following address) = subst (λ (o : BranchOp). next ≡ (if branch_holds o a b then target else following address)) is effect in
+      equal_by a b (λ f. w.1 (rw f at e))
+]
+
+copied_sound : (instr : Instr) (image_end address next rd source : ℕ) (s t : State) → IsState s → HasEffect instr image_end address next s t → written_by instr ≡ Some rd → copied instr ≡ Some source → t.register rd ≡ s.register source
+copied_sound (Imm op n rs1 imm) image_end address next rd source s t is h named from = elim (either_way (is_neutral op imm)) [
+  | inl u ↦
+      let d = destination n rd named in
+      let same = same_some (rw u at from) in
+      ap t.register (sym d.0) ∙ h.result.written d.1 ∙ neutral_is op imm (s.register rs1) (is.words rs1) u ∙ ap s.register same
+  | inr f ↦ absurd (no_some (rw f at from))
+]
+copied_sound (Op op n rs1 rs2) image_end address next rd source s t is h named from =
+    let d = destination n rd named in
+    ap t.register (sym d.0) ∙ h.result.written d.1 ∙ copied_is op rs1 rs2 source s is from
+copied_sound _ image_end address next rd source s t is h named from = absurd (no_some from)
+
+-- the effect of the row's instruction
+effect : (instr : Instr) (image_end : ℕ) (row : StepRow) (s t : State) → row.instr ≡ instr → IsStep image_end row s t → HasEffect instr image_end row.at row.next s t
+effect instr image_end row s t is h = subst (λ (i : Instr). HasEffect i image_end row.at row.next s t) is h
+
+same_operands : (op : BranchOp) (rs1 rs2 : ℕ) (imm : ℤ) (image_end : ℕ) (row : StepRow) (s t : State) → row.instr ≡ Branch op rs1 rs2 imm → equates op (turn_of row) ≡ true → IsStep image_end row s t → s.register rs1 ≡ s.register rs2
+same_operands op rs1 rs2 imm image_end row s t is way step =
+    let h = effect (Branch op rs1 rs2 imm) image_end row s t is step in
+    went_equal op row.at (plus row.at imm) row.next (s.register rs1) (s.register rs2) h.onward (sym (ap (λ (i : Instr). equates op (turn_by i row.at row.next)) is) ∙ way)
+
+pub sound_by : (image_end : ℕ) (row : StepRow) (view : Seen) (before after : State) (d : Drawn) → IsSeenStep image_end row view before after → Concludes row view d → Holds before after d
+sound_by image_end row view before after d step (rules.result rd v named value says) =
+    says_holds before after d 7 After rd v says (admits_known _ (after.register rd) v value (forward_sound row.instr image_end row.at row.next rd before after _ _ step.state_before step.step (seen_holds view before after (first_read row.instr) step.meets) (seen_holds view before after (second_read row.instr) step.meets) named))
+sound_by image_end row view before after d step (rules.load op rd rs1 imm b memory is base bytes says) =
+    let h = effect (Load op rd rs1 imm) image_end row before after is step.step in
+    let e = step.meets.register Before rs1 b base in
+    let here = h.result.written (over_none rd says.named) in
+    says_holds before after d 8 After rd _ says (here ∙ ap (λ (x : ℕ). loaded op before.memory (plus x imm)) e ∙ loaded_same op before.memory memory (plus b imm) (λ k below. step.meets.byte Before _ _ (bytes k below)))
+sound_by image_end row view before after d step (rules.store op rs1 rs2 imm b v k is base value below e) =
+    let h = effect (Store op rs1 rs2 imm) image_end row before after is step.step in
+    byte_holds before after d 9 After (plus b imm) v k e (subst (λ (x : ℕ). after.memory (beside (plus x imm) k) ≡ byte_of v k) (step.meets.register Before rs1 b base) (h.written k below ∙ ap (λ (x : ℕ). byte_of x k) (step.meets.register Before rs2 v value)))
+sound_by image_end row view before after d step (rules.solved rule rd r v w side by named read value solved says) =
+    says_holds before after d rule Before r w says (solve_sound row.instr side image_end row.at row.next rd r v w _ before after step.state_before step.step named (step.meets.register After rd v value) read (seen_holds view before after (operand_of row.instr (opposite side)) step.meets) solved)
+sound_by image_end row view before after d step (rules.equal_second op rs1 rs2 imm v is way value says) =
+    says_holds before after d 14 Before rs2 v says (sym (same_operands op rs1 rs2 imm image_end row before after is way step.step) ∙ step.meets.register Before rs1 v value)
+sound_by image_end row view before after d step (rules.equal_first op rs1 rs2 imm v is way value says) =
+    says_holds before after d 14 Before rs1 v says (same_operands op rs1 rs2 imm image_end row before after is way step.step ∙ step.meets.register Before rs2 v value)
+sound_by image_end row view before after d step (rules.load_back op rd rs1 imm b v k is named base value below e) =
+    let h = effect (Load op rd rs1 imm) image_end row before after is step.step in
+    let dest = destination rd rd (sym (ap written_by is) ∙ named) in
+    let v_is : loaded op before.memory (plus (before.register rs1) imm) ≡ v = sym (h.result.written dest.1) ∙ step.meets.register After rd v value in
+    byte_holds before after d 15 Before (plus b imm) v k e (subst (λ (x : ℕ). before.memory (beside (plus x imm) k) ≡ byte_of v k) (step.meets.register Before rs1 b base) (byte_back op before.memory (plus (before.register rs1) imm) k step.state_before.bytes below ∙ ap (λ (x : ℕ). byte_of x k) v_is))
+sound_by image_end row view before after d step (rules.store_back rs1 rs2 imm b memory is base bytes says) =
+    let h = effect (Store Sw rs1 rs2 imm) image_end row before after is step.step in
+    let e = step.meets.register Before rs1 b base in
+    says_holds before after d 16 Before rs2 _ says (word_at_is after.memory memory (plus b imm) (before.register rs2) (step.state_before.words rs2) (λ k below. step.meets.byte After _ _ (bytes k below)) (λ k below. subst (λ (x : ℕ). after.memory (beside (plus x imm) k) ≡ byte_of (before.register rs2) k) e (h.written k below)))
+sound_by image_end row view before after d step (rules.copy rd source v named from value says) =
+    says_holds before after d 18 After rd v says (copied_sound row.instr image_end row.at row.next rd source before after step.state_before step.step named from ∙ step.meets.register Before source v value)
+sound_by image_end row view before after d step (rules.copy_back rd source v named from value says) =
+    says_holds before after d 18 Before source v says (sym (copied_sound row.instr image_end row.at row.next rd source before after step.state_before step.step named from) ∙ step.meets.register After rd v value)

@@ -1,0 +1,128 @@
+-- What a row may write is what its steps write.
+use Rattle.std.proofs.Common.{◌≡◌, ℕ, ◌<◌, ◌≤◌, ◌^◌, ◌⊎◌, true, false, inl, inr, refl, sym, ap, subst, ◌∙◌, Bool, ◌&&◌, arith, Option, Some, None, ◌==◌}
+use Rattle.std.specs.Prelude.{is_some}
+use Rattle.rept_isa.specs.declared.instr.Instr.{Instr}
+use Rattle.rept_isa.specs.declared.instr.Instr.TheVariants.{Store, Ecall}
+use Rattle.rept_isa.specs.declared.instr.StoreOp.{StoreOp}
+use Rattle.rept_isa.specs.declared.instr.StoreOp.TheVariants.{Sb, Sh, Sw}
+use Rattle.rept_isa.specs.Numbers.{plus}
+use Rattle.rept_partial.specs.declared.range.Range.{Range}
+use Rattle.rept_partial.specs.declared.flat.Flat.{Flat}
+use Rattle.rept_partial.specs.declared.flat.Flat.TheVariants.{Unknown, Known}
+use Rattle.rept_partial.specs.Ranges.{from_to}
+use Rattle.rept_machine.specs.Arithmetic.{beside, store_width}
+use Rattle.rept_machine.specs.State.{State, IsState}
+use Rattle.rept_machine.specs.Calls.{may_change}
+use Rattle.rept_alias.specs.Accesses.{hits, call_hits, access_of}
+use Rattle.rept_alias.proofs.AccessLemmas as access
+use Rattle.rept_havoc.specs.Havoc.{changed, Lies, NumberWithin}
+use Rattle.rept_havoc.proofs.HavocLemmas.{changed_covers, changed_within}
+use Rattle.rept_view.specs.declared.drawn.When.{When}
+use Rattle.rept_view.specs.declared.drawn.When.TheVariants.{Before, After}
+use Rattle.rept_view.specs.Seen.{Seen, IsLawful, KnowsMore, Meets, state_at}
+use Rattle.rept_view.specs.Written.{WritesBy}
+use Rattle.rept_rules.specs.MayWrite.{is_register, range_of, only_value, may_write, is_sure}
+use Rattle.rept_rules.specs.Laws.ValueLemmas.{either_way, true≢false, equal}
+
+some_store : (op : StoreOp) → 0 < store_width op
+some_store Sb = omega arith
+some_store Sh = omega arith
+some_store Sw = omega arith
+
+few_store : (op : StoreOp) → store_width op ≤ 4
+few_store Sb = omega arith
+few_store Sh = omega arith
+few_store Sw = omega arith
+
+in_file : (r : ℕ) → is_register r ≡ true → r < 32
+in_file r t = grind (arith, t)
+
+-- a register lies in its range
+lies : (view : Seen) (before after : State) (when : When) (r : ℕ) → Meets view before after → IsState before → IsState after → Lies ((state_at before after when).register r) (range_of view when r)
+lies view before after when r meets is also = elim (either_way (is_register r)) [
+  | inl t ↦ let m = meets.range when r (in_file r t) in rw t m
+  | inr f ↦ rw f (low when, high when)
+]
+  where
+    low : (when : When) → (from_to 0 4294967295).lo ≤ (state_at before after when).register r
+    low Before = omega arith
+    low After = omega arith
+
+    high : (when : When) → (state_at before after when).register r ≤ (from_to 0 4294967295).hi
+    high Before = let w = is.words r in omega (arith, w)
+    high After = let w = also.words r in omega (arith, w)
+
+-- the number of a call, where its range has one value
+one_number : (range : Range) (v : ℕ) → Lies v range → (only_value range ≡ Unknown) ⊎ (only_value range ≡ Known v)
+one_number range v h = elim (either_way (range.lo == range.hi)) [
+  | inl t ↦ let e = equal range.lo range.hi t in inr (rw t (ap Known (omega (arith, e, h))))
+  | inr f ↦ inl (rw f refl)
+]
+
+call_covers : (view : Seen) (before after : State) (image_end a : ℕ) (number : Flat) → (number ≡ Unknown) ⊎ (number ≡ Known (before.register 17)) → Meets view before after → may_change image_end before.register (after.register 10) a ≡ true → call_hits (changed number (view.range Before) (view.range After 10) image_end) a ≡ true
+call_covers view before after image_end a number (inl e) meets t = subst (λ (n : Flat). call_hits (changed n (view.range Before) (view.range After 10) image_end) a ≡ true) (sym e) refl
+call_covers view before after image_end a number (inr e) meets t =
+    subst (λ (n : Flat). call_hits (changed n (view.range Before) (view.range After 10) image_end) a ≡ true) (sym e)
+    (changed_covers (before.register 17) (view.range Before) (view.range After 10) image_end before.register (after.register 10) a refl (λ r low high. meets.range Before r (omega (arith, high))) (meets.range After 10 (omega arith)) t)
+
+pub covers_by : (instr : Instr) (image_end : ℕ) (view : Seen) (before after : State) (a : ℕ) → Meets view before after → IsState before → IsState after → WritesBy instr image_end before after a → may_write instr view image_end a ≡ true
+covers_by (Store op rs1 rs2 imm) image_end view before after a meets is also w =
+    let l = lies view before after Before rs1 meets is also in
+    subst (λ (x : ℕ). hits (access_of (range_of view Before rs1) imm (store_width op)) x ≡ true) (sym w.2) (access.covers (range_of view Before rs1) imm (store_width op) (before.register rs1) w.0 (few_store op) l.0 l.1 w.1)
+covers_by Ecall image_end view before after a meets is also w = call_covers view before after image_end a (only_value (view.range Before 17)) (one_number (view.range Before 17) (before.register 17) (meets.range Before 17 (omega arith))) meets w
+covers_by _ image_end view before after a meets is also w = absurd w
+
+both : (p q : Bool) → (p && q) ≡ true → (p ≡ true) × (q ≡ true)
+both true q t = (refl, t)
+both false q t = absurd (true≢false (sym t))
+
+is_there : (x : Option ℕ) → is_some x ≡ true → (v : ℕ) × (x ≡ Some v)
+is_there None t = absurd (true≢false (sym t))
+is_there (Some v) t = (v, refl)
+
+-- a base that is known
+known_base : (view : Seen) (r b : ℕ) → IsLawful view → is_register r ≡ true → view.register Before r ≡ Some b → ((range_of view Before r).lo ≡ b) × ((range_of view Before r).hi ≡ b)
+known_base view r b lawful t e = rw t (lawful.known Before r b e)
+
+pub certain_by : (instr : Instr) (image_end : ℕ) (view : Seen) (before after : State) (a : ℕ) → IsLawful view → Meets view before after → a < 2 ^ 32 → is_sure instr view ≡ true → may_write instr view image_end a ≡ true → WritesBy instr image_end before after a
+certain_by (Store op rs1 rs2 imm) image_end view before after a lawful meets fits sure may =
+    let t = both (is_register rs1) (is_some (view.register Before rs1)) sure in
+    let v = is_there (view.register Before rs1) t.1 in
+    let ends = known_base view rs1 v.0 lawful t.0 v.1 in
+    let x = access.exact (range_of view Before rs1) imm (store_width op) a (some_store op) (few_store op) (ends.0 ∙ sym ends.1) fits may in
+    let base = ends.0 ∙ sym (meets.register Before rs1 v.0 v.1) in
+    (x.0, x.1, x.2 ∙ ap (λ (b : ℕ). beside (plus b imm) x.0) base)
+certain_by _ image_end view before after a lawful meets fits sure may = absurd (true≢false (sym sure))
+
+range_within : (s t : Seen) (when : When) (r : ℕ) → KnowsMore s t → ((range_of s when r).lo ≤ (range_of t when r).lo) × ((range_of t when r).hi ≤ (range_of s when r).hi)
+range_within s t when r more = elim (either_way (is_register r)) [
+  | inl u ↦ rw u (more.range when r)
+  | inr f ↦ rw f (omega arith, omega arith)
+]
+
+number_within : (narrow wide : Range) → wide.lo ≤ narrow.lo → narrow.hi ≤ wide.hi → NumberWithin (only_value narrow) (only_value wide)
+number_within narrow wide low high = elim (either_way (wide.lo == wide.hi)) [
+  | inl t ↦
+      let o = narrow.ordered in
+      let e = equal wide.lo wide.hi t in
+      let same : narrow.lo ≡ narrow.hi = omega (arith, e) in
+      let u : (narrow.lo == narrow.hi) ≡ true = grind (arith, same) in
+      rw (t, u) (omega (arith, e))
+  | inr f ↦ rw f tt
+]
+
+pub touched_less_by : (instr : Instr) (image_end : ℕ) (s t : Seen) (a : ℕ) → KnowsMore s t → may_write instr t image_end a ≡ true → may_write instr s image_end a ≡ true
+touched_less_by (Store op rs1 rs2 imm) image_end s t a more may = access.narrower (range_of t Before rs1) (range_of s Before rs1) imm (store_width op) a (some_store op) (few_store op) (range_within s t Before rs1 more) may
+touched_less_by Ecall image_end s t a more may =
+    let n = more.range Before 17 in
+    changed_within (only_value (t.range Before 17)) (only_value (s.range Before 17)) (t.range Before) (s.range Before) (t.range After 10) (s.range After 10) image_end a (number_within (t.range Before 17) (s.range Before 17) n.0 n.1) (λ r low high. more.range Before r) (more.range After 10) may
+touched_less_by _ image_end s t a more may = absurd (true≢false (sym may))
+
+still_sure : (b : Bool) (x y : Option ℕ) → ((v : ℕ) → x ≡ Some v → y ≡ Some v) → (b && is_some x) ≡ true → (b && is_some y) ≡ true
+still_sure true None y h t = absurd (true≢false (sym t))
+still_sure true (Some v) y h t = ap is_some (h v refl)
+still_sure false x y h t = t
+
+pub sure_more_by : (instr : Instr) (s t : Seen) → KnowsMore s t → is_sure instr s ≡ true → is_sure instr t ≡ true
+sure_more_by (Store op rs1 rs2 imm) s t more sure = still_sure (is_register rs1) (s.register Before rs1) (t.register Before rs1) (more.register Before rs1) sure
+sure_more_by _ s t more sure = absurd (true≢false (sym sure))

@@ -1,0 +1,10 @@
+pub mod Inverse
+pub mod Results
+pub mod Operands
+pub mod Conclusions
+pub mod Listing
+pub mod MayWrite
+pub mod Needs
+pub mod Base
+pub mod Laws
+pub mod Sample

@@ -1,0 +1,56 @@
+-- Which bytes a row may write, by the ranges of registers around it; whether it writes all of these; and how many byte facts it gives.
+-- This project's own.
+use Rattle.std.specs.Prelude.{ℕ, nat_lt, ◌==◌, ◌&&◌, Bool, false, if◌then◌else◌, is_some}
+use Rattle.rept_isa.specs.declared.instr.Instr.{Instr}
+use Rattle.rept_isa.specs.declared.instr.Instr.TheVariants.{Lui, Auipc, Jal, Jalr, Branch, Load, Store, Imm, Op, Fence, Ecall, Ebreak, Counter}
+use Rattle.rept_partial.specs.declared.range.Range.{Range}
+use Rattle.rept_partial.specs.declared.flat.Flat.{Flat}
+use Rattle.rept_partial.specs.declared.flat.Flat.TheVariants.{Unknown, Known}
+use Rattle.rept_partial.specs.Ranges.{from_to}
+use Rattle.rept_machine.specs.Arithmetic.{store_width}
+use Rattle.rept_alias.specs.Accesses.{hits, call_hits, access_of}
+use Rattle.rept_havoc.specs.Havoc.{changed}
+use Rattle.rept_view.specs.declared.drawn.When.{When}
+use Rattle.rept_view.specs.declared.drawn.When.TheVariants.{Before, After}
+use Rattle.rept_view.specs.Seen.{Seen}
+use Rattle.rept_rules.specs.Conclusions.{load_width}
+
+-- x0 to x31
+abbrev pub is_register : ℕ → Bool
+is_register r = nat_lt r 32
+
+-- the range of a register; what is no register may have any value
+abbrev pub range_of : Seen → When → ℕ → Range
+range_of s when r = if is_register r then s.range when r else from_to 0 4294967295
+
+-- the only value of a range; several values count as none that is known
+abbrev pub only_value : Range → Flat
+only_value range = if range.lo == range.hi then Known range.lo else Unknown
+
+-- a store may write the bytes of its access, over the range of its base before the row; a call those of the table of calls, over the
+-- ranges of its number (x17) and its arguments (x10 to x15) before the row, and of its answer (x10) after it; no other row writes memory
+abbrev pub may_write : Instr → Seen → ℕ → ℕ → Bool
+may_write (Store op rs1 rs2 imm) s image_end a = hits (access_of (range_of s Before rs1) imm (store_width op)) a
+may_write Ecall s image_end a = call_hits (changed (only_value (s.range Before 17)) (s.range Before) (s.range After 10) image_end) a
+may_write (Lui rd imm) s image_end a = false
+may_write (Auipc rd imm) s image_end a = false
+may_write (Jal rd imm) s image_end a = false
+may_write (Jalr rd rs1 imm) s image_end a = false
+may_write (Branch op rs1 rs2 imm) s image_end a = false
+may_write (Load op rd rs1 imm) s image_end a = false
+may_write (Imm op rd rs1 imm) s image_end a = false
+may_write (Op op rd rs1 rs2) s image_end a = false
+may_write Fence s image_end a = false
+may_write Ebreak s image_end a = false
+may_write (Counter rd csr) s image_end a = false
+
+-- a store of known base writes all of its bytes
+abbrev pub is_sure : Instr → Seen → Bool
+is_sure (Store op rs1 rs2 imm) s = is_register rs1 && is_some (s.register Before rs1)
+is_sure _ s = false
+
+-- as many byte facts as the row has bytes
+abbrev pub places_of : Instr → ℕ
+places_of (Load op rd rs1 imm) = load_width op
+places_of (Store op rs1 rs2 imm) = store_width op
+places_of _ = 0

@@ -1,0 +1,82 @@
+// The rules of RV32IM.
+ghost use Rattle.std.specs.Prelude.{◌≡◌, ◌+◌, min, Contains};
+ghost use Rattle.rept_view.specs.declared.drawn.Drawn.{Drawn};
+ghost use Rattle.rept_rules.specs.Conclusions.{Concludes};
+ghost use Rattle.rept_rules.specs.Listing.{conclusions};
+
+use crate::draw::{draw_others, draw_result, load_width, store_width};
+use crate::rest::add_needs;
+use crate::touch::{is_sure, touched};
+use rept_alias::CallAccess;
+use rept_isa::{Instr, StepRow};
+use rept_view::{Drawn, Need, RowRules, RowView};
+use smallvec::SmallVec;
+use std::alloc::Global;
+
+/// The rules of RV32IM: the results of operations, loads and stores, the operands and bytes that follow from them, the equal operands of
+/// branches, and copies.
+#[derive(Drop)]
+pub struct Base {
+    draws: u64,
+}
+
+impl Base {
+    /// The rules, which nothing was drawn by yet.
+    pub fn new() -> Self
+        ensures { result.draws ≡ 0 }
+    {
+        Base { draws: 0 }
+    }
+}
+
+impl RowRules for Base {
+    ghost use Rattle.rept_rules.specs.Base.{base_rules};
+    ghost use Rattle.rept_rules.specs.Laws.BaseLaws.{base_lawful};
+
+    ghost rules = { base_rules };
+
+    ghost draws = { λ b. b.draws };
+
+    ghost lawful = { base_lawful };
+
+    fn draw<V: RowView>(&mut self, alloc: Global, row: &StepRow, view: &V) -> SmallVec<Drawn, 16>
+        ensures list { result.items ≡ conclusions row.now (V.seen view.now) }
+        ensures inline { result.capacity ≡ 16 }
+        ensures raised { self.new.draws ≡ min (self.old.draws + 1) 18446744073709551615 }
+        ensures listed { (d : Drawn) → Contains result.items d → Concludes row.now (V.seen view.now) d }
+        ensures all { (d : Drawn) → Concludes row.now (V.seen view.now) d → Contains result.items d }
+    {
+        self.draws = self.draws.saturating_add(1);
+        let mut drawn = SmallVec::new(alloc);
+        draw_result(&mut drawn, row, view);
+        draw_others(&mut drawn, row, view);
+        drawn
+    }
+
+    fn needs<V: RowView>(
+        alloc: Global,
+        row: &StepRow,
+        view: &V,
+        drawn: &Drawn,
+    ) -> SmallVec<Need, 10> {
+        let mut needs = SmallVec::new(alloc);
+        add_needs(&mut needs, &row.instr, view, drawn);
+        needs
+    }
+
+    fn touched<V: RowView>(row: &StepRow, view: &V, image_end: u64) -> CallAccess {
+        touched(&row.instr, view, image_end)
+    }
+
+    fn sure<V: RowView>(row: &StepRow, view: &V) -> bool {
+        is_sure(&row.instr, view)
+    }
+
+    fn places(row: &StepRow) -> u32 {
+        match row.instr {
+            Instr::Load { op, .. } => load_width(op),
+            Instr::Store { op, .. } => store_width(op),
+            _ => 0,
+        }
+    }
+}

@@ -1,0 +1,26 @@
+// Laws of the rules of RV32IM, for callers whose contracts speak of rules by their definition. The calls do nothing.
+ghost use Rattle.std.specs.Prelude.{◌≡◌, ◌<◌, ◌^◌, ℕ, Contains, true, Some};
+ghost use Rattle.rept_isa.specs.declared.row.StepRow.{StepRow};
+ghost use Rattle.rept_view.specs.declared.drawn.Drawn.{Drawn};
+ghost use Rattle.rept_view.specs.Seen.{Seen, IsLawful, KnowsMore};
+ghost use Rattle.rept_view.specs.Rules.{AreLawful};
+ghost use Rattle.rept_reason.specs.declared.fact.Cell.TheVariants.{Byte};
+ghost use Rattle.rept_rules.specs.Conclusions.{Concludes};
+ghost use Rattle.rept_rules.specs.Base.{base_rules};
+
+/// What the rules list for a row is exactly what it lets one conclude.
+pub fn conclusions_are_listed()
+    ensures listed { (row : StepRow) (s : Seen) (d : Drawn) → Contains (base_rules.draw row s) d → Concludes row s d }
+    ensures all { (row : StepRow) (s : Seen) (d : Drawn) → Concludes row s d → Contains (base_rules.draw row s) d }
+{}
+
+/// Where more is known, all that was concluded is concluded again.
+pub fn more_is_concluded()
+    ensures { (row : StepRow) (s t : Seen) (d : Drawn) → IsLawful s → IsLawful t → KnowsMore s t → Contains (base_rules.draw row s) d → Contains (base_rules.draw row t) d }
+{}
+
+/// The rules keep the laws of rules, and what they conclude of bytes are bytes.
+pub fn rules_are_lawful()
+    ensures laws { AreLawful base_rules }
+    ensures bytes { (row : StepRow) (s : Seen) (d : Drawn) (a : ℕ) → Contains (base_rules.draw row s) d → d.cell ≡ Byte a → d.value < 2 ^ 8 }
+{}

@@ -1,0 +1,21 @@
+// What a row of a path lets one conclude of the values before and after it.
+#![tactic(auto)]
+
+pub mod base;
+mod draw;
+pub mod laws;
+mod look;
+mod number;
+pub mod operand;
+pub mod outcome;
+mod rest;
+mod touch;
+
+pub use base::Base;
+pub use operand::{Side, solve};
+pub use outcome::forward;
+pub use rept_machine::arithmetic::branch_holds;
+pub use rept_view::{Drawn, Need, RowRules, RowView, When};
+
+#[cfg(test)]
+mod tests;

@@ -1,0 +1,126 @@
+// Which bytes a row may write, by the ranges of registers around it.
+ghost use Rattle.std.specs.Prelude.{◌≡◌, ◌<◌, ◌≤◌, ◌^◌, ◌&&◌, ℕ, is_some};
+ghost use Rattle.rept_alias.specs.Accesses.{hits, call_hits, access_of};
+ghost use Rattle.rept_havoc.specs.Havoc.{changed};
+ghost use Rattle.rept_machine.specs.Arithmetic.{store_width};
+ghost use Rattle.rept_partial.specs.declared.flat.Flat.{Flat};
+ghost use Rattle.rept_view.specs.declared.drawn.When.TheVariants.{Before, After};
+ghost use Rattle.rept_rules.specs.MayWrite.{is_register, range_of, only_value, may_write, is_sure};
+
+use rept_alias::{Access, CallAccess, access};
+use rept_havoc::havoc;
+use rept_isa::{Instr, Reg, StoreOp};
+use rept_partial::{Flat, Partial, Range};
+use rept_view::{RowView, When};
+
+/// The bytes that the row of this instruction may write, where the program's own memory ends at `image_end`.
+pub fn touched<V: RowView>(instr: &Instr, view: &V, image_end: u64) -> CallAccess
+    ensures { (a : ℕ) → call_hits result a ≡ may_write instr.now (V.seen view.now) image_end a }
+{
+    match *instr {
+        Instr::Store { op, rs1, imm, .. } => stored(op, range_before(view, rs1), imm),
+        Instr::Ecall => called(view, image_end),
+        Instr::Lui { .. }
+        | Instr::Auipc { .. }
+        | Instr::Jal { .. }
+        | Instr::Jalr { .. }
+        | Instr::Branch { .. }
+        | Instr::Load { .. }
+        | Instr::Imm { .. }
+        | Instr::Op { .. }
+        | Instr::Fence
+        | Instr::Ebreak
+        | Instr::Counter { .. } => CallAccess {
+            first: None,
+            second: None,
+        },
+    }
+}
+
+/// The range of a register before the row.
+fn range_before<V: RowView>(view: &V, r: Reg) -> Range
+    ensures { result ≡ range_of (V.seen view.now) When.Before r }
+{
+    let _number = r.number();
+    view.range(When::Before, r)
+}
+
+/// The bytes of a store, over the range of its base.
+fn stored(op: StoreOp, base: Range, imm: i32) -> CallAccess
+    ensures { (a : ℕ) → call_hits result a ≡ hits (access_of base imm (store_width op)) a }
+{
+    CallAccess {
+        first: Some(access(base, imm, width(op))),
+        second: None,
+    }
+}
+
+fn width(op: StoreOp) -> u8
+    ensures { result ≡ store_width op }
+{
+    match op {
+        StoreOp::Sb => 1,
+        StoreOp::Sh => 2,
+        StoreOp::Sw => 4,
+    }
+}
+
+/// The register of this number.
+fn register(number: u8) -> Reg
+    requires { number < 32 }
+    ensures { result ≡ number }
+{
+    Reg::new(number).unwrap()
+}
+
+/// The bytes of a call, over the ranges of its number, its arguments and its answer.
+fn called<V: RowView>(view: &V, image_end: u64) -> CallAccess
+    ensures { result ≡ changed (only_value ((V.seen view.now).range When.Before 17)) ((V.seen view.now).range When.Before) ((V.seen view.now).range When.After 10) image_end }
+{
+    let number = only_value(view.range(When::Before, register(17)));
+    let args = [
+        view.range(When::Before, register(10)),
+        view.range(When::Before, register(11)),
+        view.range(When::Before, register(12)),
+        view.range(When::Before, register(13)),
+        view.range(When::Before, register(14)),
+        view.range(When::Before, register(15)),
+    ];
+    havoc(
+        number,
+        &args,
+        view.range(When::After, register(10)),
+        image_end,
+    )
+}
+
+/// The only value of a range. Unknown where there are several.
+fn only_value(range: Range) -> Flat
+    ensures { result ≡ only_value range }
+{
+    if range.lo() == range.hi() {
+        Flat::Known(range.lo())
+    } else {
+        Flat::Unknown
+    }
+}
+
+/// Whether the row of this instruction writes all bytes that it may write: a store of known base does.
+pub fn is_sure<V: RowView>(instr: &Instr, view: &V) -> bool
+    ensures { result ≡ is_sure instr.now (V.seen view.now) }
+{
+    match *instr {
+        Instr::Store { rs1, .. } => is_known(view, rs1),
+        _ => false,
+    }
+}
+
+fn is_known<V: RowView>(view: &V, r: Reg) -> bool
+    ensures { result ≡ is_register r && is_some ((V.seen view.now).register When.Before r) }
+{
+    let _number = r.number();
+    match view.reg(When::Before, r) {
+        Flat::Unknown => false,
+        Flat::Known(_) => true,
+    }
+}

@@ -1,0 +1,10 @@
+pub mod BlockRow
+pub mod Least
+pub mod Lines
+pub mod Fill
+pub mod Carry
+pub mod Spreading
+pub mod Steps
+pub mod Points
+pub mod Rows
+pub mod Nexts

@@ -1,0 +1,501 @@
+// Stretches of a line of numbers that have a value each: what is read, put in one place, and carried on.
+ghost use Rattle.std.specs.Prelude.{◌≡◌, ◌≢◌, ℕ, suc, ◌+◌, ◌-◌, ◌<◌, ◌≤◌, length, Some, None, Option, [], insert, IfOk, IfErr, IsSome, MatchBool, MatchResult};
+ghost use Rattle.rept_versions.specs.Moves.{Moves};
+ghost use Rattle.rept_versions.specs.Puts.{Puts, Ups, Downs, UpStep, DownStep};
+ghost use Rattle.rept_versions.specs.Line.{IsRising, IsJoined, IsJoinedBut, JoinedAt, Parts, Lies, Misses, Follows, Precedes, ReadsSame, Added, NextsOn, nth, value_at, raised, lowered, joined, filled, filled_down};
+
+use crate::blocks::Blocks;
+use crate::span::Span;
+use std::alloc::{AllocError as OutOfMemory, Global};
+use std::marker::Model;
+
+/// What `put` did.
+#[derive(Clone, Copy, PartialEq, Eq, Debug)]
+pub enum Put {
+    /// The value was there.
+    Old,
+    /// Nothing was there, and now the value is.
+    New,
+    /// Another value is there.
+    Clash(u8),
+    /// Nothing is there, and there is no room.
+    Full,
+}
+
+/// What `carry` did.
+#[derive(Clone, Copy, PartialEq, Eq, Debug)]
+pub enum Spread {
+    /// The value was at each of the numbers.
+    Same,
+    /// It is now, and at one of them nothing was.
+    More,
+    /// The first number that has another value, the value that was carried as far as the one before it, and the other value.
+    Stop(u64, u8, u8),
+}
+
+/// What one step of `up` or `down` did.
+#[derive(Clone, Copy, PartialEq, Eq, Debug)]
+pub enum Step {
+    /// The span goes as far as it should.
+    Done,
+    /// It goes up to a number that has another value.
+    Stop(u64),
+    /// It took in the next span, which has the same value.
+    Joined,
+}
+
+/// Spans in order, with room for more. No two of them have a number in common.
+#[derive(Drop)]
+pub struct SpanLine {
+    spans: Blocks,
+}
+
+impl Model for SpanLine {
+    ghost use Rattle.rept_versions.specs.Line.{Line, IsRising};
+
+    ghost Value = { Line };
+
+    ghost view = { λ s. s.spans };
+
+    ghost invariant = { λ s. IsRising s.spans.spans };
+}
+
+impl SpanLine {
+    /// No span, with room for so many.
+    pub fn new(alloc: Global, room: usize) -> Result<Self, OutOfMemory>
+        ensures { IfOk result (λ s. s ≡ record { spans = []; room = room }) }
+    {
+        Ok(SpanLine {
+            spans: Blocks::new(alloc, room)?,
+        })
+    }
+
+    /// How many spans begin at or below k.
+    fn find(&self, k: u64) -> usize
+        ensures parts { Parts self.now.spans k result }
+        ensures rising { IsRising self.now.spans }
+    {
+        let mut low = 0;
+        let mut high = self.spans.len();
+        while low < high {
+            let middle = low + (high - low) / 2;
+            let s = self.at(middle);
+            if s.low <= k {
+                low = middle + 1;
+            } else {
+                high = middle;
+            }
+        }
+        low
+    }
+
+    /// The span at a place.
+    fn at(&self, i: usize) -> Span
+        requires { i < length self.now.spans }
+        ensures span { result ≡ nth self.now.spans i }
+        ensures rising { IsRising self.now.spans }
+    {
+        self.spans.at(i)
+    }
+
+    /// The span after the one at a place.
+    fn next(&self, i: usize) -> Span
+        requires { suc i < length self.now.spans }
+        ensures { result ≡ nth self.now.spans (suc i) }
+    {
+        self.spans.after(i)
+    }
+
+    /// How many spans there are.
+    fn count(&self) -> usize
+        ensures { result ≡ length self.now.spans }
+    {
+        self.spans.len()
+    }
+
+    /// Whether there is no room for another span.
+    fn is_full(&self) -> bool
+        ensures { MatchBool result (self.now.room ≤ length self.now.spans) (length self.now.spans < self.now.room) }
+    {
+        self.spans.room() <= self.spans.len()
+    }
+
+    /// The span that has k, or the place where one would go.
+    fn place(&self, k: u64) -> Result<usize, usize>
+        ensures place { MatchResult result (Lies self.now.spans k) (Misses self.now.spans k) }
+        ensures rising { IsRising self.now.spans }
+    {
+        let i = self.find(k);
+        if i == 0 {
+            return Err(0);
+        }
+        let s = self.at(i - 1);
+        if k <= s.high { Ok(i - 1) } else { Err(i) }
+    }
+
+    /// The value at k.
+    pub fn value_at(&self, k: u64) -> Option<u8>
+        ensures { result ≡ value_at self.now.spans k }
+    {
+        match self.place(k) {
+            Ok(i) => Some(self.at(i).value),
+            Err(_) => None,
+        }
+    }
+
+    /// Lets span i end later.
+    fn raise(&mut self, i: usize, high: u64)
+        requires at { i < length self.old.spans }
+        requires later { (nth self.old.spans i).high ≤ high }
+        requires free { suc i < length self.old.spans → high < (nth self.old.spans (suc i)).low }
+        ensures spans { self.new.spans ≡ raised self.old.spans i high }
+        ensures len { length self.new.spans ≡ length self.old.spans }
+        ensures room { self.new.room ≡ self.old.room }
+        ensures rising { IsRising self.new.spans }
+    {
+        let s = self.spans.at(i);
+        self.spans.put(
+            i,
+            Span {
+                low: s.low,
+                high,
+                value: s.value,
+            },
+        );
+    }
+
+    /// Lets span i begin earlier.
+    fn lower(&mut self, i: usize, low: u64)
+        requires at { i < length self.old.spans }
+        requires earlier { low ≤ (nth self.old.spans i).low }
+        requires free { (j : ℕ) → j < i → (nth self.old.spans j).high < low }
+        ensures spans { self.new.spans ≡ lowered self.old.spans i low }
+        ensures len { length self.new.spans ≡ length self.old.spans }
+        ensures room { self.new.room ≡ self.old.room }
+        ensures rising { IsRising self.new.spans }
+    {
+        let s = self.spans.at(i);
+        self.spans.put(
+            i,
+            Span {
+                low,
+                high: s.high,
+                value: s.value,
+            },
+        );
+    }
+
+    /// Makes span i and the next one a single span.
+    fn join(&mut self, i: usize)
+        requires at { suc i < length self.old.spans }
+        ensures spans { self.new.spans ≡ joined self.old.spans i }
+        ensures len { length self.new.spans + 1 ≡ length self.old.spans }
+        ensures room { self.new.room ≡ self.old.room }
+        ensures rising { IsRising self.new.spans }
+    {
+        let t = self.spans.after(i);
+        let s = self.spans.at(i);
+        self.spans.put(
+            i,
+            Span {
+                low: s.low,
+                high: t.high,
+                value: s.value,
+            },
+        );
+        self.spans.remove_after(i);
+    }
+
+    /// Puts a span of one number at place i, into room that is there.
+    fn add(&mut self, i: usize, k: u64, value: u8)
+        requires room { length self.old.spans < self.old.room }
+        requires at { Misses self.old.spans k i }
+        ensures spans { self.new.spans ≡ insert self.old.spans i (record { low = k; high = k; value = value }) }
+        ensures room { self.new.room ≡ self.old.room }
+        ensures rising { IsRising self.new.spans }
+    {
+        let s = Span {
+            low: k,
+            high: k,
+            value,
+        };
+        self.spans.insert(i, s);
+    }
+
+    /// Makes span i and the next one a single span if they meet and have one value.
+    fn meet(&mut self, i: usize)
+        requires at { i < length self.old.spans }
+        requires rest { IsJoinedBut self.old.spans i }
+        ensures reads { ReadsSame self.old.spans self.new.spans }
+        ensures len { length self.new.spans ≤ length self.old.spans }
+        ensures room { self.new.room ≡ self.old.room }
+        ensures rising { IsRising self.new.spans }
+        ensures joined { IsJoined self.new.spans }
+    {
+        if !self.meets(i) {
+            return;
+        }
+        self.join(i);
+    }
+
+    /// Whether span i and the next one meet and have one value.
+    fn meets(&self, i: usize) -> bool
+        requires { i < length self.now.spans }
+        ensures meets { MatchBool result ((suc i < length self.now.spans) × ((nth self.now.spans i).high + 1 ≡ (nth self.now.spans (suc i)).low) × ((nth self.now.spans i).value ≡ (nth self.now.spans (suc i)).value)) (JoinedAt self.now.spans i) }
+        ensures rising { IsRising self.now.spans }
+    {
+        let s = self.at(i);
+        if i == self.count() - 1 {
+            return false;
+        }
+        let t = self.at(i + 1);
+        t.low - 1 == s.high && s.value == t.value
+    }
+
+    /// Whether the span before place i ends just below k and has the value.
+    fn follows(&self, i: usize, k: u64, value: u8) -> bool
+        requires at { Misses self.now.spans k i }
+        ensures { MatchBool result (Follows self.now.spans i k value) (Follows self.now.spans i k value → ⊥) }
+    {
+        if i == 0 {
+            return false;
+        }
+        let s = self.at(i - 1);
+        k - 1 == s.high && s.value == value
+    }
+
+    /// Whether the span at place i begins just above k and has the value.
+    fn precedes(&self, i: usize, k: u64, value: u8) -> bool
+        requires at { Misses self.now.spans k i }
+        ensures { MatchBool result (Precedes self.now.spans i k value) (Precedes self.now.spans i k value → ⊥) }
+    {
+        if i == self.count() {
+            return false;
+        }
+        let t = self.at(i);
+        t.low - 1 == k && t.value == value
+    }
+
+    /// Puts a value at k, where none is. False if there is no room.
+    fn put_at(&mut self, i: usize, k: u64, value: u8) -> bool
+        requires at { Misses self.old.spans k i }
+        requires rising { IsRising self.old.spans }
+        requires joined { IsJoined self.old.spans }
+        ensures added { MatchBool result (Added self.old self.new k value) ((self.new ≡ self.old) × (self.old.room ≤ length self.old.spans)) }
+        ensures joined { IsJoined self.new.spans }
+    {
+        if self.follows(i, k, value) {
+            self.raise(i - 1, k);
+            self.meet(i - 1);
+            return true;
+        }
+        if self.precedes(i, k, value) {
+            self.lower(i, k);
+            return true;
+        }
+        if self.is_full() {
+            return false;
+        }
+        self.add(i, k, value);
+        true
+    }
+
+    /// Puts a value at k, if there is none.
+    pub fn put(&mut self, k: u64, value: u8) -> Put
+        requires joined { IsJoined self.old.spans }
+        ensures put { Puts self.old self.new k value result }
+        ensures joined { IsJoined self.new.spans }
+    {
+        match self.place(k) {
+            Ok(i) => {
+                let s = self.at(i);
+                if s.value == value {
+                    return Put::Old;
+                }
+                Put::Clash(s.value)
+            }
+            Err(i) => {
+                if self.put_at(i, k, value) {
+                    return Put::New;
+                }
+                Put::Full
+            }
+        }
+    }
+
+    /// Lets span i end at `to` or later, or up to the next span, and joins it with that one if it has the same value.
+    fn up_step(&mut self, i: usize, to: u64) -> Step
+        requires at { i < length self.old.spans }
+        requires joined { IsJoined self.old.spans }
+        ensures step { UpStep self.old self.new i to result }
+        ensures joined { IsJoined self.new.spans }
+    {
+        let s = self.at(i);
+        if to <= s.high {
+            return Step::Done;
+        }
+        if i == self.count() - 1 {
+            self.raise(i, to);
+            return Step::Done;
+        }
+        let t = self.next(i);
+        if to < t.low {
+            self.raise(i, to);
+            self.meet(i);
+            return Step::Done;
+        }
+        self.raise(i, t.low - 1);
+        if t.value != s.value {
+            return Step::Stop(t.low);
+        }
+        self.join(i);
+        Step::Joined
+    }
+
+    /// Lets span i end at `to` or later, over spans of the same value. It stops at another value, and answers where that is.
+    fn up(&mut self, i: usize, to: u64) -> Option<u64>
+        requires at { i < length self.old.spans }
+        requires joined { IsJoined self.old.spans }
+        ensures up { Ups self.old self.new i to result }
+        ensures joined { IsJoined self.new.spans }
+    {
+        loop {
+            match self.up_step(i, to) {
+                Step::Done => return None,
+                Step::Stop(stop) => return Some(stop),
+                Step::Joined => {}
+            }
+        }
+    }
+
+    /// Lets span i begin at `to` or earlier, or down to the span before, and joins it with that one if it has the same value.
+    fn down_step(&mut self, i: usize, to: u64) -> Step
+        requires at { i < length self.old.spans }
+        requires joined { IsJoined self.old.spans }
+        ensures step { DownStep self.old self.new i to result }
+        ensures joined { IsJoined self.new.spans }
+    {
+        let s = self.at(i);
+        if s.low <= to {
+            return Step::Done;
+        }
+        if i == 0 {
+            self.lower(i, to);
+            return Step::Done;
+        }
+        let t = self.at(i - 1);
+        if t.high < to {
+            self.lower(i, to);
+            self.meet(i - 1);
+            return Step::Done;
+        }
+        self.lower(i, t.high + 1);
+        if t.value != s.value {
+            return Step::Stop(t.high);
+        }
+        self.join(i - 1);
+        Step::Joined
+    }
+
+    /// Lets span i begin at `to` or earlier, likewise.
+    fn down(&mut self, i: usize, to: u64) -> Option<u64>
+        requires at { i < length self.old.spans }
+        requires joined { IsJoined self.old.spans }
+        ensures down { Downs self.old self.new i to result }
+        ensures joined { IsJoined self.new.spans }
+    {
+        let mut at = i;
+        loop {
+            match self.down_step(at, to) {
+                Step::Done => return None,
+                Step::Stop(stop) => return Some(stop),
+                Step::Joined => at -= 1,
+            }
+        }
+    }
+
+    /// Carries the value of span i, which has `from`, up to `to`.
+    fn upward(&mut self, i: usize, from: u64, to: u64) -> Spread
+        requires at { Lies self.old.spans from i }
+        requires order { from ≤ to }
+        requires rising { IsRising self.old.spans }
+        requires joined { IsJoined self.old.spans }
+        ensures moves { Moves self.old self.new from to (nth self.old.spans i).value result }
+        ensures joined { IsJoined self.new.spans }
+    {
+        let s = self.at(i);
+        if to <= s.high {
+            return Spread::Same;
+        }
+        match self.up(i, to) {
+            None => Spread::More,
+            Some(stop) => match self.value_at(stop) {
+                None => Spread::More,
+                Some(found) => Spread::Stop(stop, s.value, found),
+            },
+        }
+    }
+
+    /// Carries the value of span i, which has `from`, down to `to`.
+    fn downward(&mut self, i: usize, from: u64, to: u64) -> Spread
+        requires at { Lies self.old.spans from i }
+        requires order { to ≤ from }
+        requires rising { IsRising self.old.spans }
+        requires joined { IsJoined self.old.spans }
+        ensures moves { Moves self.old self.new from to (nth self.old.spans i).value result }
+        ensures joined { IsJoined self.new.spans }
+    {
+        let s = self.at(i);
+        if s.low <= to {
+            return Spread::Same;
+        }
+        match self.down(i, to) {
+            None => Spread::More,
+            Some(stop) => match self.value_at(stop) {
+                None => Spread::More,
+                Some(found) => Spread::Stop(stop, s.value, found),
+            },
+        }
+    }
+
+    /// Puts the value at `from` at each number up or down to `to`. It stops at the first other value.
+    pub fn carry(&mut self, from: u64, to: u64) -> Spread
+        requires some { IsSome (value_at self.old.spans from) }
+        requires joined { IsJoined self.old.spans }
+        ensures moves { (v : ℕ) → value_at self.old.spans from ≡ Some v → Moves self.old self.new from to v result }
+        ensures joined { IsJoined self.new.spans }
+    {
+        match self.place(from) {
+            Ok(i) => {
+                if from <= to {
+                    return self.upward(i, from, to);
+                }
+                self.downward(i, from, to)
+            }
+            Err(_) => Spread::Same,
+        }
+    }
+
+    /// So many spans can be added.
+    pub fn spare(&self) -> usize
+        ensures value { result ≡ self.now.room - length self.now.spans }
+    {
+        self.spans.room() - self.spans.len()
+    }
+
+    /// The first span that ends at k or later.
+    pub fn next_from(&self, k: u64) -> Option<Span>
+        requires joined { IsJoined self.now.spans }
+        ensures { NextsOn self.now.spans k result }
+    {
+        match self.place(k) {
+            Ok(i) => Some(self.at(i)),
+            Err(i) => {
+                if i == self.count() {
+                    return None;
+                }
+                Some(self.at(i))
+            }
+        }
+    }
+}
