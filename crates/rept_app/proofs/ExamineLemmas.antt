@@ -1,5 +1,5 @@
 -- How the bytes of the files end the call.
-use Rattle.std.proofs.Common.{◌≡◌, ◌≢◌, ◌⊎◌, ℕ, ◌≤◌, List, length, Option, None, Some, Result, Ok, Err, MatchOption, inl, inr, refl, sym, ap, subst, ◌∙◌, arith}
+use Rattle.std.proofs.Common.{◌≡◌, ◌≢◌, ◌⊎◌, ℕ, List, length, Option, None, Some, Result, Ok, Err, MatchOption, inl, inr, refl, sym, ap, subst, ◌∙◌}
 use Rattle.rept_elf.specs.Segments.{ElfSegment, segments}
 use Rattle.rept_elf.specs.declared.fault.ElfFault.{ElfFault}
 use Rattle.rept_dump.specs.Registers.{Says as NotesSay}
@@ -7,14 +7,16 @@ use Rattle.rept_dump.specs.declared.fault.CoreFault.{CoreFault}
 use Rattle.rept_isa.specs.declared.row.StepRow.{StepRow}
 use Rattle.rept_path.specs.declared.fault.PathFault.{PathFault}
 use Rattle.rept_path.specs.declared.fault.PathFault.TheVariants as fault
-use Rattle.rept_ports.specs.Causes.{Rose}
+use Rattle.rept_ports.specs.Port.{Port, Move}
 use Rattle.rept_engine.specs.Soundness.{HasNoExecution}
 use Rattle.rept_app.specs.Delivered.{Says, Tells}
-use Rattle.rept_app.specs.Examine.{Walks, Examines, Yields, PathYields, RowsYield, WalkYields, NoteYields, FilesEnd, IsPathStatus, IsWalkStatus, IsWalked, IsExamined, PathExcludes, FilesExclude}
+use Rattle.rept_app.specs.Ends.{Stopped, Yields, EndsSession, PortsEnd}
+use Rattle.rept_app.specs.Examine.{Walks, Examines, PathYields, RowsYield, WalkYields, NoteYields, FilesEnd, FilesHold, IsPathStatus, IsWalkStatus, IsWalked, IsExamined, PathExcludes, FilesExclude, WalkHolds}
 use Rattle.rept_app.specs.Forms.{executable_fault, core_image_fault, end_pc, last_values}
 use Rattle.rept_app.specs.Lines.{status_of}
 use Rattle.rept_app.specs.Path.{IsTracePath, HasNoPath, unread}
-use Rattle.rept_app.specs.Study.{Studies, Stopped, IsStudied}
+use Rattle.rept_app.specs.Session.{Reading}
+use Rattle.rept_app.specs.Study.{Studies, IsStudied, StudyHolds}
 use Rattle.rept_app.specs.Told.{Examined, NotesTold, Analysed}
 use Rattle.rept_app.specs.declared.refusal.Unbuilt.TheVariants as unbuilt
 use Rattle.rept_app.specs.declared.refusal.Refusal.TheVariants as refusal
@@ -29,12 +31,6 @@ all_walks : (status : Status) → WalkTold status → IsWalkStatus status
 all_walks status (inl h) = inl h
 all_walks status (inr (inl h)) = inr (inr (inr (inl h)))
 all_walks status (inr (inr h)) = inr (inr (inr (inr (inr (inr h)))))
-
-no_input_fault : (status : Status) → WalkTold status → status ≡ ends.InputFault → ⊥
-no_input_fault status (inl h) e = cc
-no_input_fault status (inr (inl h)) e = cc
-no_input_fault status (inr (inr (inl h))) e = cc
-no_input_fault status (inr (inr (inr h))) e = cc
 
 -- a path that is told has another status than a trace that has none
 no_trace : (status : Status) → IsPathStatus status → status ≡ ends.Trace → ⊥
@@ -80,6 +76,21 @@ not_output (fault.Packet p) e = cc
 not_output (fault.Trapped k a) e = cc
 not_output fault.OutOfMemory e = cc
 
+pub not_input : (f : PathFault) → status_of (refusal.Path f) ≡ ends.InputFault → ⊥
+not_input (fault.NoStart k) e = cc
+not_input (fault.NotCode a) e = cc
+not_input (fault.NotRv32im a w) e = cc
+not_input (fault.Unaligned a) e = cc
+not_input (fault.NoBranchBit k a) e = cc
+not_input (fault.BranchesLeft k n) e = cc
+not_input (fault.JumpInMap k a) e = cc
+not_input (fault.Gap k a b) e = cc
+not_input (fault.End a b) e = cc
+not_input (fault.TooLong k) e = cc
+not_input (fault.Packet p) e = cc
+not_input (fault.Trapped k a) e = cc
+not_input fault.OutOfMemory e = cc
+
 pub as_code : (status : Status) → Yields ends.NotBuilt status → WalkTold status
 as_code status (inl h) = inr (inl h)
 as_code status (inr h) = inr (inr h)
@@ -94,12 +105,9 @@ none_left None h = refl
 none_left (Some x) h = absurd (h x refl)
 
 module _ (exe : List ElfSegment) (note trace : List ℕ) (from : ℕ) (status : Status) where
-  pub told_walked : (reads writes writes' : ℕ) → writes ≤ writes' → (status ≡ ends.OutputFault → Rose writes writes') → WalkTold status → WalkYields exe note trace from status → IsWalked exe note trace from reads reads writes writes' status
-  told_walked reads writes writes' later rose so yields = record {
-    reads_later = omega arith;
-    writes_later = later;
-    input = λ e. absurd (no_input_fault status so e);
-    output = rose;
+  pub told_walked : (source sink : Move Port) → PortsEnd source sink status → WalkTold status → WalkYields exe note trace from status → IsWalked exe note trace from source sink status
+  told_walked source sink ports so yields = record {
+    ports = ports;
     yields = yields;
     ends_so = all_walks status so;
   }
@@ -108,7 +116,7 @@ module _ (exe : List ElfSegment) (note trace : List ℕ) (from : ℕ) (status : 
   stopped_rows : Stopped status → (rows : List StepRow) → RowsYield note rows status
   stopped_rows s rows = either (unread rows) (PathYields note rows status) (λ _. Yields ends.NotBuilt status) (record { conflict = λ _ _. inr s; report = λ _. stopped_report s }) (λ _. inr s)
     where
-      stopped_report : Stopped status → (status ≡ ends.Ok) ⊎ (status ≡ ends.NotBuilt) ⊎ (status ≡ ends.InputFault) ⊎ (status ≡ ends.TooMuchInput) ⊎ Stopped status
+      stopped_report : Stopped status → EndsSession status
       stopped_report h = inr (inr (inr (inr h)))
 
   pub memory_yields : Stopped status → WalkYields exe note trace from status
@@ -165,37 +173,34 @@ module _ (exe : List ElfSegment) (note trace : List ℕ) (from : ℕ) (status : 
         told (inl h) e = cc
         told (inr h) e = no_trace status (stopped_path status h) e
 
-    pub studied_walked : None ≡ unread rows → (reads reads' writes writes' : ℕ) → IsStudied rows (last_values note) reads reads' writes writes' status → IsWalked exe note trace from reads reads' writes writes' status
-    studied_walked is reads reads' writes writes' s = record {
-      reads_later = s.reads_later;
-      writes_later = s.writes_later;
-      input = s.input;
-      output = s.output;
+    pub studied_walked : None ≡ unread rows → (source sink : Move Port) → IsStudied rows (last_values note) source sink status → IsWalked exe note trace from source sink status
+    studied_walked is source sink s = record {
+      ports = s.ports;
       yields = rows_yield (subst At is (record { conflict = s.conflict; report = s.report })) (no_trace status s.ends_so);
       ends_so = inr s.ends_so;
     }
 
-module _ (exe : List ElfSegment) (note trace : List ℕ) (from : ℕ) (input text : List ℕ) (status : Status) where
+module _ (exe : List ElfSegment) (note trace : List ℕ) (from : ℕ) (reading : Reading) (text : List ℕ) (status : Status) where
   as_memory : (f : PathFault) → f ≡ fault.OutOfMemory → Says (refusal.Path f) text status → Says refusal.OutOfMemory text status
   as_memory f e h = plain (subst (λ (g : PathFault). Says (refusal.Path g) text status) e h)
     where
       plain : Says (refusal.Path fault.OutOfMemory) text status → Says refusal.OutOfMemory text status
       plain s = record { line = s.line; ending = s.ending }
 
-  pub refused_walks : (f : PathFault) → (f ≡ fault.OutOfMemory) ⊎ HasNoPath exe note trace from f → Tells (refusal.Path f) text status → Walks exe note trace from input text status
+  pub refused_walks : (f : PathFault) → (f ≡ fault.OutOfMemory) ⊎ HasNoPath exe note trace from f → Tells (refusal.Path f) text status → Walks exe note trace from reading text status
   refused_walks f (inl e) (inl h) = inr (inl (as_memory f e h))
   refused_walks f (inr has) (inl h) = inl (inl (f, has, h))
   refused_walks f why (inr h) = inr (inl h)
 
   module _ (rows : List StepRow) (path : IsTracePath exe note trace from rows) where
     abbrev Then : Option ℕ → Type 0
-    Then o = MatchOption o (Analysed note rows input text status) (λ address. Says (refusal.NotBuilt (unbuilt.Code address)) text status)
+    Then o = MatchOption o (Analysed note rows reading.input text status) (λ address. Says (refusal.NotBuilt (unbuilt.Code address)) text status)
 
-    pub unread_walks : (address : ℕ) → Some address ≡ unread rows → Tells (refusal.NotBuilt (unbuilt.Code address)) text status → Walks exe note trace from input text status
+    pub unread_walks : (address : ℕ) → Some address ≡ unread rows → Tells (refusal.NotBuilt (unbuilt.Code address)) text status → Walks exe note trace from reading text status
     unread_walks address is (inl h) = inl (inr (rows, path, subst Then is h))
     unread_walks address is (inr h) = inr (inl h)
 
-    pub studies_walk : None ≡ unread rows → Studies rows (last_values note) (end_pc note) input text status → Walks exe note trace from input text status
+    pub studies_walk : None ≡ unread rows → Studies rows (last_values note) (end_pc note) reading text status → Walks exe note trace from reading text status
     studies_walk is (inl h) = inl (inr (rows, path, subst Then is (inl h)))
     studies_walk is (inr (inl (known, report, inl h))) = inl (inr (rows, path, subst Then is (inr (known, report, h))))
     studies_walk is (inr (inl (known, report, inr h))) = inr (inr (rows, known, record { path = path; read = sym is }, report, h))
@@ -206,13 +211,26 @@ module _ (exe : List ElfSegment) (note trace : List ℕ) (from : ℕ) (rows : Li
   path_excludes none others follows = subst (λ rs. HasNoExecution rs (last_values note)) (only others follows.path) none
 
 -- what is said of the same path, values and address
-pub studies_at : (rows rows' : List StepRow) (registers registers' : List ℕ) (pc pc' : ℕ) (left text : List ℕ) (status : Status) → rows' ≡ rows → registers' ≡ registers → pc' ≡ pc → Studies rows' registers' pc' left text status → Studies rows registers pc left text status
+pub studies_at : (rows rows' : List StepRow) (registers registers' : List ℕ) (pc pc' : ℕ) (left : Reading) (text : List ℕ) (status : Status) → rows' ≡ rows → registers' ≡ registers → pc' ≡ pc → Studies rows' registers' pc' left text status → Studies rows registers pc left text status
 studies_at rows rows' registers registers' pc pc' left text status er el ep h =
     subst (λ r. Studies r registers pc left text status) er (subst (λ l. Studies rows' l pc left text status) el (subst (λ n. Studies rows' registers' n left text status) ep h))
 
-pub studied_at : (rows rows' : List StepRow) (registers registers' : List ℕ) (reads reads' writes writes' : ℕ) (status : Status) → rows' ≡ rows → registers' ≡ registers → IsStudied rows' registers' reads reads' writes writes' status → IsStudied rows registers reads reads' writes writes' status
-studied_at rows rows' registers registers' reads reads' writes writes' status er el h =
-    subst (λ r. IsStudied r registers reads reads' writes writes' status) er (subst (λ l. IsStudied rows' l reads reads' writes writes' status) el h)
+pub studied_at : (rows rows' : List StepRow) (registers registers' : List ℕ) (source sink : Move Port) (status : Status) → rows' ≡ rows → registers' ≡ registers → IsStudied rows' registers' source sink status → IsStudied rows registers source sink status
+studied_at rows rows' registers registers' source sink status er el h = subst (λ r. IsStudied r registers source sink status) er (subst (λ l. IsStudied rows' l source sink status) el h)
+
+pub holds_at : {P : Type 0} (rows rows' : List StepRow) (registers registers' : List ℕ) (status : Status) → rows' ≡ rows → registers' ≡ registers → P ⊎ StudyHolds rows' registers' status → P ⊎ StudyHolds rows registers status
+holds_at {P} rows rows' registers registers' status er el h = subst (λ r. P ⊎ StudyHolds r registers status) er (subst (λ l. P ⊎ StudyHolds rows' l status) el h)
+
+-- where a session may have been held over a path, so it may over its trace and its files
+pub study_holds : {P : Type 0} (exe : List ElfSegment) (note trace : List ℕ) (from : ℕ) (rows : List StepRow) (status : Status) → IsTracePath exe note trace from rows → None ≡ unread rows → P ⊎ StudyHolds rows (last_values note) status → P ⊎ WalkHolds exe note trace from status
+study_holds exe note trace from rows status path read (inl p) = inl p
+study_holds exe note trace from rows status path read (inr (consistent, so)) = inr ((rows, record { path = path; read = sym read }, consistent), so)
+
+pub walk_holds : {P : Type 0} (exe core trace : List ℕ) (from : ℕ) (note : List ℕ) (status : Status) → None ≡ executable_fault exe → None ≡ core_image_fault core → NotesSay (length core) (segments core) (Ok note)
+    → P ⊎ WalkHolds (segments exe) note trace from status → P ⊎ FilesHold exe core trace from status
+walk_holds exe core trace from note status e k says (inl p) = inl p
+walk_holds exe core trace from note status e k says (inr ((rows, follows, consistent), so)) =
+    inr ((note, rows, record { read = record { exe_accepted = sym e; core_accepted = sym k; noted = says }; follows = follows }, consistent), so)
 
 pub none_at : (rows rows' : List StepRow) (registers registers' : List ℕ) → rows' ≡ rows → registers' ≡ registers → HasNoExecution rows' registers' → HasNoExecution rows registers
 none_at rows rows' registers registers' er el h = subst (λ r. HasNoExecution r registers) er (subst (λ l. HasNoExecution rows' l) el h)
@@ -253,59 +271,38 @@ module _ (exe core trace : List ℕ) (from : ℕ) (status : Status) where
   all_statuses (inr (inl h)) = inr (inl h)
   all_statuses (inr (inr h)) = inr (inr (inr (stopped_path status h)))
 
-  not_input : (status ≡ ends.Executable) ⊎ (status ≡ ends.Core) ⊎ Stopped status → status ≡ ends.InputFault → ⊥
-  not_input (inl h) e = cc
-  not_input (inr (inl h)) e = cc
-  not_input (inr (inr (inl h))) e = cc
-  not_input (inr (inr (inr h))) e = cc
+  pub told_examined : (source sink : Move Port) → PortsEnd source sink status → (status ≡ ends.Executable) ⊎ (status ≡ ends.Core) ⊎ Stopped status → FilesEnd exe core trace from status → IsExamined exe core trace from source sink status
+  told_examined source sink ports so yields = record { ports = ports; yields = yields; ends_so = all_statuses so }
 
-  pub told_examined : (reads writes writes' : ℕ) → writes ≤ writes' → (status ≡ ends.OutputFault → Rose writes writes') → (status ≡ ends.Executable) ⊎ (status ≡ ends.Core) ⊎ Stopped status
-      → FilesEnd exe core trace from status → IsExamined exe core trace from reads reads writes writes' status
-  told_examined reads writes writes' later rose so yields = record {
-    reads_later = omega arith;
-    writes_later = later;
-    input = λ e. absurd (not_input so e);
-    output = rose;
-    yields = yields;
-    ends_so = all_statuses so;
-  }
-
-  pub walked_examined : (note : List ℕ) → FilesEnd exe core trace from status → (reads reads' writes writes' : ℕ) → IsWalked (segments exe) note trace from reads reads' writes writes' status → IsExamined exe core trace from reads reads' writes writes' status
-  walked_examined note yields reads reads' writes writes' w = record {
-    reads_later = w.reads_later;
-    writes_later = w.writes_later;
-    input = w.input;
-    output = w.output;
-    yields = yields;
-    ends_so = inr (inr w.ends_so);
-  }
+  pub walked_examined : (note : List ℕ) → FilesEnd exe core trace from status → (source sink : Move Port) → IsWalked (segments exe) note trace from source sink status → IsExamined exe core trace from source sink status
+  walked_examined note yields source sink w = record { ports = w.ports; yields = yields; ends_so = inr (inr w.ends_so) }
 
 -- what is written of them
-module _ (exe core trace : List ℕ) (from : ℕ) (input text : List ℕ) (status : Status) where
+module _ (exe core trace : List ℕ) (from : ℕ) (reading : Reading) (text : List ℕ) (status : Status) where
   abbrev TextExe : Option ElfFault → Type 0
-  TextExe o = MatchOption o (MatchOption (core_image_fault core) (NotesTold exe core trace from input text status) (λ fault. Says (refusal.CoreImage fault) text status)) (λ fault. Says (refusal.Executable fault) text status)
+  TextExe o = MatchOption o (MatchOption (core_image_fault core) (NotesTold exe core trace from reading.input text status) (λ fault. Says (refusal.CoreImage fault) text status)) (λ fault. Says (refusal.Executable fault) text status)
 
   abbrev TextCore : Option ElfFault → Type 0
-  TextCore o = MatchOption o (NotesTold exe core trace from input text status) (λ fault. Says (refusal.CoreImage fault) text status)
+  TextCore o = MatchOption o (NotesTold exe core trace from reading.input text status) (λ fault. Says (refusal.CoreImage fault) text status)
 
-  pub exe_examines : (fault : ElfFault) → Some fault ≡ executable_fault exe → Tells (refusal.Executable fault) text status → Examines exe core trace from input text status
+  pub exe_examines : (fault : ElfFault) → Some fault ≡ executable_fault exe → Tells (refusal.Executable fault) text status → Examines exe core trace from reading text status
   exe_examines fault e (inl h) = inl (subst TextExe e h)
   exe_examines fault e (inr h) = inr (inl h)
 
-  pub core_examines : (fault : ElfFault) → None ≡ executable_fault exe → Some fault ≡ core_image_fault core → Tells (refusal.CoreImage fault) text status → Examines exe core trace from input text status
+  pub core_examines : (fault : ElfFault) → None ≡ executable_fault exe → Some fault ≡ core_image_fault core → Tells (refusal.CoreImage fault) text status → Examines exe core trace from reading text status
   core_examines fault e k (inl h) = inl (subst TextExe e (subst TextCore k h))
   core_examines fault e k (inr h) = inr (inl h)
 
   module _ (e : None ≡ executable_fault exe) (k : None ≡ core_image_fault core) where
-    notes_examine : NotesTold exe core trace from input text status → Examined exe core trace from input text status
+    notes_examine : NotesTold exe core trace from reading.input text status → Examined exe core trace from reading.input text status
     notes_examine h = subst TextExe e (subst TextCore k h)
 
-    pub notes_refused : (fault : CoreFault) → NotesSay (length core) (segments core) (Err fault) → Tells (refusal.Core fault) text status → Examines exe core trace from input text status
+    pub notes_refused : (fault : CoreFault) → NotesSay (length core) (segments core) (Err fault) → Tells (refusal.Core fault) text status → Examines exe core trace from reading text status
     notes_refused fault says (inl h) = inl (notes_examine (Err fault, says, h))
     notes_refused fault says (inr h) = inr (inl h)
 
     module _ (note : List ℕ) (says : NotesSay (length core) (segments core) (Ok note)) where
-      pub walks_examine : Walks (segments exe) note trace from input text status → Examines exe core trace from input text status
+      pub walks_examine : Walks (segments exe) note trace from reading text status → Examines exe core trace from reading text status
       walks_examine (inl h) = inl (notes_examine (Ok note, says, h))
       walks_examine (inr (inl h)) = inr (inl h)
       walks_examine (inr (inr cut)) = inr (inr (note, record { exe_accepted = sym e; core_accepted = sym k; noted = says }, cut))
@@ -343,5 +340,5 @@ pub as_core : (status : Status) → (status ≡ ends.Core) ⊎ Stopped status �
 as_core status (inl h) = inr (inl h)
 as_core status (inr h) = inr (inr h)
 
-pub walked_at : (here there : List ElfSegment) (note trace : List ℕ) (from reads reads' writes writes' : ℕ) (status : Status) → here ≡ there → IsWalked here note trace from reads reads' writes writes' status → IsWalked there note trace from reads reads' writes writes' status
-walked_at here there note trace from reads reads' writes writes' status e h = subst (λ s. IsWalked s note trace from reads reads' writes writes' status) e h
+pub walked_at : (here there : List ElfSegment) (note trace : List ℕ) (from : ℕ) (source sink : Move Port) (status : Status) → here ≡ there → IsWalked here note trace from source sink status → IsWalked there note trace from source sink status
+walked_at here there note trace from source sink status e h = subst (λ s. IsWalked s note trace from source sink status) e h

@@ -1,5 +1,6 @@
 pub mod AnswerLemmas
 pub mod LineLemmas
+pub mod LoadLemmas
 pub mod PathLemmas
 pub mod DeliveredLemmas
 pub mod ExamineLemmas

@@ -4,9 +4,10 @@ use Rattle.std.proofs.lemmas.Bool.Decides.{nat_tests}
 use Rattle.std.proofs.lemmas.List.{append-nil, length-append}
 use Rattle.std.proofs.Math.Seq.{take-append_seam, take-append-add}
 use Rattle.std.specs.Io.KnownBytes.{Appends, Consumes, IsAtEnd}
-use Rattle.rept_ports.specs.Causes.{Rose, AppendsPrefix}
+use Rattle.rept_ports.specs.Causes.{OneFault, AppendsPrefix}
 use Rattle.rept_ports.specs.Lines.{lines_of, whole_lines, given, Gives, Ends, LineStep, Said, EndsInput, FindsLine, FailsRead, PassesLimit}
 use Rattle.rept_ports.specs.Bounded.{LinesOn, IsSame, fault_in, said_by}
+use Rattle.rept_ports.specs.Port.{Port, move}
 use Rattle.rept_ports.specs.Taken.{Taken}
 use Rattle.rept_ports.specs.declared.lines.bounded.BoundedLines.{BoundedLines}
 use Rattle.rept_ports.specs.declared.lines.limits.Line.{Line}
@@ -18,7 +19,7 @@ use Rattle.rept_app.specs.Answers.{Shown, answers, all_built, answer_to, line_an
 use Rattle.rept_app.specs.Commands.{IsWithin, is_built, meaning_of_line, said_of_line}
 use Rattle.rept_app.specs.Delivered.{Delivers, Tells}
 use Rattle.rept_app.specs.Lines.{line_of}
-use Rattle.rept_app.specs.Session.{Answers, Serves, Replied, lines_read, most_input}
+use Rattle.rept_app.specs.Session.{Answers, Reading, Serves, Replied, FailsReply, WroteNothing, lines_read, most_input}
 use Rattle.rept_app.specs.declared.command.Command.{Command}
 use Rattle.rept_app.specs.declared.command.Command.TheVariants.{Goto, Regs}
 use Rattle.rept_app.specs.declared.command.LineMeaning.{LineMeaning}
@@ -151,20 +152,20 @@ begins_with input taken rest F W front parts short lines whole false e =
     let cut : take most_input input ≡ taken ++ take n rest = ap (λ m. take m input) (sym all) ∙ ap (take (length taken + n)) parts ∙ take-append-add taken rest n in
     (W (take n rest), ap (λ (b : Bool). cond b (lines_of input) (whole_lines (take most_input input))) e ∙ ap whole_lines cut ∙ whole (take n rest))
 
-module _ (input : List ℕ) (left : Option (List ℕ)) (intake : Taken) (done : List (List ℕ)) (r : ReadTo input left intake done) where
+module _ (input : List ℕ) (source : Port) (intake : Taken) (done : List (List ℕ)) (r : ReadTo input source.bytes intake done) where
   -- the lines that are read begin with those that were given
   given_first : (b : Bool) → intake.ended ≡ b → (later : List (List ℕ)) × (lines_read input ≡ done ++ later)
   given_first true e = let a = r.all e in ([], all_read input a.1 ∙ a.0 ∙ sym (append-nil done))
   given_first false e =
-      let t = told_rest input r.taken left r.from in
+      let t = told_rest input r.taken source.bytes r.from in
       begins_with input r.taken t.0 (λ more. lines_of (intake.pending ++ more)) (λ more. whole_lines (intake.pending ++ more)) done t.2 r.within (r.lines e) (r.whole e) (nat_le (length input) most_input) refl
 
   pub read_first : (later : List (List ℕ)) × (lines_read input ≡ done ++ later)
   read_first = given_first intake.ended refl
 
-  module _ (left' : Option (List ℕ)) (intake' : Taken) (faults faults' : ℕ) (going : intake.ended ≡ false) where
-    on : (got : List ℕ) → Consumes left left' got → Consumes (Some input) left' (r.taken ++ got)
-    on got h = Consumes-trans (Some input) left left' r.taken got r.from h
+  module _ (source' : Port) (intake' : Taken) (going : intake.ended ≡ false) where
+    on : (got : List ℕ) → Consumes source.bytes source'.bytes got → Consumes (Some input) source'.bytes (r.taken ++ got)
+    on got h = Consumes-trans (Some input) source.bytes source'.bytes r.taken got r.from h
 
     lines_with : (got more : List ℕ) → lines_of ((r.taken ++ got) ++ more) ≡ done ++ lines_of ((intake.pending ++ got) ++ more)
     lines_with got more = ap lines_of (append_assoc r.taken got more) ∙ r.lines going (got ++ more) ∙ ap (λ w. done ++ lines_of w) (sym (append_assoc intake.pending got more))
@@ -182,7 +183,7 @@ module _ (input : List ℕ) (left : Option (List ℕ)) (intake : Taken) (done : 
     counted got n = omega (arith, n, r.count, length-append r.taken got)
 
     -- one more line was given
-    one_line : (said : Option (List ℕ)) (t : FindsLine intake intake' left left' faults faults' said) → Gives (intake.pending ++ t.got) intake' t.line ⊎ Ends (intake.pending ++ t.got) intake' left' t.line → ReadTo input left' intake' (done ++ t.line ∷ [])
+    one_line : (said : Option (List ℕ)) (t : FindsLine intake intake' source source' said) → Gives (intake.pending ++ t.got) intake' t.line ⊎ Ends (intake.pending ++ t.got) intake' source'.bytes t.line → ReadTo input source'.bytes intake' (done ++ t.line ∷ [])
     one_line said t (inl g) = record {
       taken = r.taken ++ t.got;
       from = on t.got t.took.consumed;
@@ -193,7 +194,7 @@ module _ (input : List ℕ) (left : Option (List ℕ)) (intake : Taken) (done : 
       all = λ k. absurd (clash (sym g.going ∙ k));
     }
     one_line said t (inr g) =
-        let everything : input ≡ r.taken ++ t.got = told_all input (r.taken ++ t.got) left' (on t.got t.took.consumed) g.at_end in
+        let everything : input ≡ r.taken ++ t.got = told_all input (r.taken ++ t.got) source'.bytes (on t.got t.took.consumed) g.at_end in
         record {
           taken = r.taken ++ t.got;
           from = on t.got t.took.consumed;
@@ -204,27 +205,27 @@ module _ (input : List ℕ) (left : Option (List ℕ)) (intake : Taken) (done : 
           all = λ k. (ap lines_of everything ∙ lines_all t.got ∙ ap (λ w. done ++ w) g.last, omega (arith, counted t.got t.took.count, t.took.within, ap length everything));
         }
 
-    pub read_line_on : (said : Option (List ℕ)) → FindsLine intake intake' left left' faults faults' said → (l : List ℕ) × (given l ≡ said) × ReadTo input left' intake' (done ++ l ∷ [])
+    pub read_line_on : (said : Option (List ℕ)) → FindsLine intake intake' source source' said → (l : List ℕ) × (given l ≡ said) × ReadTo input source'.bytes intake' (done ++ l ∷ [])
     read_line_on said t = (t.line, t.told, one_line said t t.next)
 
     -- the input ended
-    pub read_end : EndsInput intake intake' left left' faults faults' → (length input ≤ most_input) × (lines_read input ≡ done)
+    pub read_end : EndsInput intake intake' source source' → (length input ≤ most_input) × (lines_read input ≡ done)
     read_end t =
-        let everything : input ≡ r.taken ++ t.got = told_all input (r.taken ++ t.got) left' (on t.got t.took.consumed) t.at_end in
+        let everything : input ≡ r.taken ++ t.got = told_all input (r.taken ++ t.got) source'.bytes (on t.got t.took.consumed) t.at_end in
         let short : length input ≤ most_input = omega (arith, counted t.got t.took.count, t.took.within, ap length everything) in
         (short, all_read input short ∙ ap lines_of everything ∙ lines_all t.got ∙ ap (λ w. done ++ lines_of w) t.nothing ∙ append-nil done)
 
     -- the source failed
-    pub read_fails : FailsRead intake intake' left left' faults faults' → (taken : List ℕ) × (rest : List ℕ) × (input ≡ taken ++ rest) × (length taken ≤ most_input) × (whole_lines taken ≡ done)
+    pub read_fails : FailsRead intake intake' source source' → (taken : List ℕ) × (rest : List ℕ) × (source'.bytes ≡ Some rest) × (input ≡ taken ++ rest) × (length taken ≤ most_input) × (whole_lines taken ≡ done)
     read_fails t =
-        let more = told_rest input (r.taken ++ t.got) left' (on t.got t.took.consumed) in
-        (r.taken ++ t.got, more.0, more.2, omega (arith, counted t.got t.took.count, t.took.within), whole_all t.got ∙ ap (λ w. done ++ w) t.none_whole ∙ append-nil done)
+        let more = told_rest input (r.taken ++ t.got) source'.bytes (on t.got t.took.consumed) in
+        (r.taken ++ t.got, more.0, more.1, more.2, omega (arith, counted t.got t.took.count, t.took.within), whole_all t.got ∙ ap (λ w. done ++ w) t.none_whole ∙ append-nil done)
 
     -- there is more input than may be taken
-    pub read_too_much : PassesLimit intake intake' left left' faults faults' → (most_input < length input) × (lines_read input ≡ done)
+    pub read_too_much : PassesLimit intake intake' source source' → (most_input < length input) × (lines_read input ≡ done)
     read_too_much t =
         let taken : List ℕ = r.taken ++ t.got in
-        let more = told_rest input (r.taken ++ (t.got ++ t.extra ∷ [])) left' (on (t.got ++ t.extra ∷ []) t.consumed) in
+        let more = told_rest input (r.taken ++ (t.got ++ t.extra ∷ [])) source'.bytes (on (t.got ++ t.extra ∷ []) t.consumed) in
         let rest : List ℕ = t.extra ∷ more.0 in
         let parts : input ≡ taken ++ rest = more.2 ∙ simp append_assoc in
         let full : length taken ≡ most_input = omega (arith, counted t.got t.count, t.full) in
@@ -256,9 +257,13 @@ starts s last o intake cursor old h at = where_told o (λ input. SoFar s last in
 still : (old new newer : Option (List ℕ)) (text : List ℕ) → Appends old new text → Appends new newer [] → Appends old newer text
 still old new newer text h k = rw append-nil at (Appends-trans old new newer text [] h k)
 
-module _ (s : Shown) (last : ℕ) (input : List ℕ) where
-  -- memory ran out behind the answers to these lines
-  ran_out : (done later : List (List ℕ)) → all_built last done ≡ true → lines_read input ≡ done ++ later → (text : List ℕ) (status : Status) → text ≡ line_of refusal.OutOfMemory → status ≡ ends.OutOfMemory → Serves s last input (answers s last last done ++ text) status
+abbrev pub reading_of : List ℕ → Option (List ℕ) → Reading
+reading_of input left = record { input = input; left = left }
+
+module _ (s : Shown) (last : ℕ) (input : List ℕ) (left : Option (List ℕ)) where
+  -- memory ran out after the answers to these lines
+  ran_out : (done later : List (List ℕ)) → all_built last done ≡ true → lines_read input ≡ done ++ later → (text : List ℕ) (status : Status) → text ≡ line_of refusal.OutOfMemory → status ≡ ends.OutOfMemory
+      → Serves s last (reading_of input left) (answers s last last done ++ text) status
   ran_out done later built read text status is ending =
       let these : take (length done) (lines_read input) ≡ done = ap (take (length done)) read ∙ take-append_seam done later in
       inr (inr (record {
@@ -270,7 +275,7 @@ module _ (s : Shown) (last : ℕ) (input : List ℕ) where
 
   -- the first line that isn't built is told
   not_built_serves : (done : List (List ℕ)) (l : List ℕ) (later : List (List ℕ)) → all_built last done ≡ true → is_built (meaning_of_line last (given l)) ≡ false → lines_read input ≡ done ++ l ∷ later
-      → (text : List ℕ) (status : Status) → Tells (refusal.NotBuilt unbuilt.Input) text status → Serves s last input (answers s last last done ++ text) status
+      → (text : List ℕ) (status : Status) → Tells (refusal.NotBuilt unbuilt.Input) text status → Serves s last (reading_of input left) (answers s last last done ++ text) status
   not_built_serves done l later built not read text status (inl h) =
       let all : answers s last last (lines_read input) ≡ answers s last last done =
       ap (answers s last last) read ∙ answers_append s last last done (l ∷ later) built ∙ ap (λ (w : List ℕ). answers s last last done ++ w) (answers_stop s last (cursor_behind last last done) l later not) ∙ append-nil (answers s last last done) in
@@ -280,115 +285,116 @@ module _ (s : Shown) (last : ℕ) (input : List ℕ) where
 
   -- there is too much input
   too_much_serves : (done : List (List ℕ)) → all_built last done ≡ true → most_input < length input → lines_read input ≡ done
-      → (text : List ℕ) (status : Status) → Tells refusal.TooMuchInput text status → Serves s last input (answers s last last done ++ text) status
+      → (text : List ℕ) (status : Status) → Tells refusal.TooMuchInput text status → Serves s last (reading_of input left) (answers s last last done ++ text) status
   too_much_serves done built long read text status (inl h) =
       let told : answers s last last done ++ text ≡ answers s last last (lines_read input) ++ line_of refusal.TooMuchInput = ap (λ (w : List ℕ). answers s last last done ++ w) h.line ∙ ap (λ (ls : List (List ℕ)). answers s last last ls ++ line_of refusal.TooMuchInput) (sym read) in
       inl (subst (Answers s last input (answers s last last done ++ text)) (sym h.ending) (long, ap (all_built last) read ∙ built, told))
   too_much_serves done built long read text status (inr h) = ran_out done [] built (read ∙ sym (append-nil done)) text status h.line h.ending
 
   -- the input failed
-  failed_serves : (done later : List (List ℕ)) (taken rest : List ℕ) → all_built last done ≡ true → lines_read input ≡ done ++ later → input ≡ taken ++ rest → length taken ≤ most_input → whole_lines taken ≡ done
-      → (text : List ℕ) (status : Status) → Tells refusal.InputFault text status → Serves s last input (answers s last last done ++ text) status
-  failed_serves done later taken rest built read parts short whole text status (inl h) = inr (inl (record {
+  failed_serves : (done later : List (List ℕ)) (taken rest : List ℕ) → all_built last done ≡ true → lines_read input ≡ done ++ later → left ≡ Some rest → input ≡ taken ++ rest → length taken ≤ most_input → whole_lines taken ≡ done
+      → (text : List ℕ) (status : Status) → Tells refusal.InputFault text status → Serves s last (reading_of input left) (answers s last last done ++ text) status
+  failed_serves done later taken rest built read told parts short whole text status (inl h) = inr (inl (record {
     taken = taken;
     rest = rest;
     parts = parts;
+    rest_left = told;
     within = short;
     built = ap (all_built last) whole ∙ built;
     answered = ap (λ (w : List ℕ). answers s last last done ++ w) h.line ∙ ap (λ (ls : List (List ℕ)). answers s last last ls ++ line_of refusal.InputFault) (sym whole);
     ending = h.ending;
   }))
-  failed_serves done later taken rest built read parts short whole text status (inr h) = ran_out done later built read text status h.line h.ending
+  failed_serves done later taken rest built read told parts short whole text status (inr h) = ran_out done later built read text status h.line h.ending
 
-  module _ (left left' : Option (List ℕ)) (intake intake' : Taken) (reads reads' cursor : ℕ) (old mid : Option (List ℕ)) (faults between : ℕ) (earlier : faults ≤ between) (so_far : SoFar s last input left intake cursor old mid) where
-    abbrev front : List ℕ
-    front = answers s last last so_far.done
+module _ (s : Shown) (last : ℕ) (input : List ℕ) (source source' : Port) (intake intake' : Taken) (cursor : ℕ) (old mid : Port) (calm : mid.faults ≡ old.faults) (so_far : SoFar s last input source.bytes intake cursor old.bytes mid.bytes) where
+  abbrev front : List ℕ
+  front = answers s last last so_far.done
 
-    -- the end of the input
-    ends_so : (length input ≤ most_input) × (lines_read input ≡ so_far.done) → Delivers (Serves s last input) old mid faults between ends.Ok
-    ends_so e = (earlier, inl (front, inl (e.0, ap (all_built last) e.1 ∙ so_far.built, ap (answers s last last) (sym e.1)), so_far.text))
+  abbrev All : List ℕ → Status → Type 0
+  All = Serves s last (reading_of input source'.bytes)
 
-    pub at_end : MatchBool intake.ended (Unit {0}) (EndsInput intake intake' left left' reads reads') → Delivers (Serves s last input) old mid faults between ends.Ok
-    at_end h = by_end intake.ended refl h
-      where
-        by_end : (b : Bool) → intake.ended ≡ b → MatchBool b (Unit {0}) (EndsInput intake intake' left left' reads reads') → Delivers (Serves s last input) old mid faults between ends.Ok
-        by_end true e h = ends_so (ended_before input left intake so_far.done so_far.read e)
-        by_end false e h = ends_so (read_end input left intake so_far.done so_far.read left' intake' reads reads' e h)
+  -- the end of the input
+  ends_so : (length input ≤ most_input) × (lines_read input ≡ so_far.done) → Delivers All (move old mid) ends.Ok
+  ends_so e = inl (front, inl (e.0, ap (all_built last) e.1 ∙ so_far.built, ap (answers s last last) (sym e.1)), so_far.text, calm)
 
-    module _ (going : intake.ended ≡ false) where
-      -- the source failed
-      pub at_fault : FailsRead intake intake' left left' reads reads' → (new : Option (List ℕ)) (faults' : ℕ) (result : Status) → Delivers (Tells refusal.InputFault) mid new between faults' result → Delivers (Serves s last input) old new faults faults' result
-      at_fault t new faults' result d =
-          let f = read_fails input left intake so_far.done so_far.read left' intake' reads reads' going t in
-          let l = read_first input left intake so_far.done so_far.read in
-          delivers_behind (Tells refusal.InputFault) (Serves s last input) old mid new faults between faults' front result earlier so_far.text (failed_serves so_far.done l.0 f.0 f.1 so_far.built l.1 f.2 f.3 f.4) d
+  pub at_end : MatchBool intake.ended (Unit {0}) (EndsInput intake intake' source source') → Delivers All (move old mid) ends.Ok
+  at_end h = by_end intake.ended refl h
+    where
+      by_end : (b : Bool) → intake.ended ≡ b → MatchBool b (Unit {0}) (EndsInput intake intake' source source') → Delivers All (move old mid) ends.Ok
+      by_end true e h = ends_so (ended_before input source.bytes intake so_far.done so_far.read e)
+      by_end false e h = ends_so (read_end input source intake so_far.done so_far.read source' intake' e h)
 
-      -- there is too much input
-      pub at_too_much : PassesLimit intake intake' left left' reads reads' → (new : Option (List ℕ)) (faults' : ℕ) (result : Status) → Delivers (Tells refusal.TooMuchInput) mid new between faults' result → Delivers (Serves s last input) old new faults faults' result
-      at_too_much t new faults' result d =
-          let f = read_too_much input left intake so_far.done so_far.read left' intake' reads reads' going t in
-          delivers_behind (Tells refusal.TooMuchInput) (Serves s last input) old mid new faults between faults' front result earlier so_far.text (too_much_serves so_far.done so_far.built f.0 f.1) d
+  module _ (going : intake.ended ≡ false) where
+    -- the source failed
+    pub at_fault : FailsRead intake intake' source source' → (new : Port) (result : Status) → Delivers (Tells refusal.InputFault) (move mid new) result → Delivers All (move old new) result
+    at_fault t new result d =
+        let f = read_fails input source intake so_far.done so_far.read source' intake' going t in
+        let l = read_first input source intake so_far.done so_far.read in
+        delivers_behind (Tells refusal.InputFault) All old mid new front result calm so_far.text (failed_serves s last input source'.bytes so_far.done l.0 f.0 f.1 so_far.built l.1 f.2 f.3 f.4 f.5) d
 
-      module _ (said : Option (List ℕ)) (t : FindsLine intake intake' left left' reads reads' said) where
-        abbrev This : Type 0
-        This = (l : List ℕ) × (given l ≡ said) × ReadTo input left' intake' (so_far.done ++ l ∷ [])
+    -- there is too much input
+    pub at_too_much : PassesLimit intake intake' source source' → (new : Port) (result : Status) → Delivers (Tells refusal.TooMuchInput) (move mid new) result → Delivers All (move old new) result
+    at_too_much t new result d =
+        let f = read_too_much input source intake so_far.done so_far.read source' intake' going t in
+        delivers_behind (Tells refusal.TooMuchInput) All old mid new front result calm so_far.text (too_much_serves s last input source'.bytes so_far.done so_far.built f.0 f.1) d
 
-        abbrev this : This
-        this = read_line_on input left intake so_far.done so_far.read left' intake' reads reads' going said t
+    module _ (said : Option (List ℕ)) (t : FindsLine intake intake' source source' said) where
+      abbrev This : Type 0
+      This = (l : List ℕ) × (given l ≡ said) × ReadTo input source'.bytes intake' (so_far.done ++ l ∷ [])
 
-        built_here : is_built (meaning_of_line last said) ≡ true → is_built (meaning_of_line last (given this.0)) ≡ true
-        built_here e = ap (λ (g : Option (List ℕ)). is_built (meaning_of_line last g)) this.1 ∙ e
+      abbrev this : This
+      this = read_line_on input source intake so_far.done so_far.read source' intake' going said t
 
-        here : cursor_behind last last so_far.done ≡ cursor
-        here = sym so_far.at
+      built_here : is_built (meaning_of_line last said) ≡ true → is_built (meaning_of_line last (given this.0)) ≡ true
+      built_here e = ap (λ (g : Option (List ℕ)). is_built (meaning_of_line last g)) this.1 ∙ e
 
-        answer_here : is_built (meaning_of_line last said) ≡ true → answers s last last (so_far.done ++ this.0 ∷ []) ≡ front ++ line_answer s cursor (meaning_of_line last said)
-        answer_here e =
-            answers_append s last last so_far.done (this.0 ∷ []) so_far.built
-            ∙ ap (λ (w : List ℕ). front ++ w) (answers_one s last (cursor_behind last last so_far.done) this.0 (built_here e) ∙ ap (λ (g : Option (List ℕ)). line_answer s (cursor_behind last last so_far.done) (meaning_of_line last g)) this.1
-            ∙ ap (λ n. line_answer s n (meaning_of_line last said)) here)
+      here : cursor_behind last last so_far.done ≡ cursor
+      here = sym so_far.at
 
-        -- the answer to the line was written, and the session goes on
-        pub line_on : (new : Option (List ℕ)) (now : ℕ) → Replied s last cursor said mid new now → SoFar s last input left' intake' now old new
-        line_on new now h = record {
-          done = so_far.done ++ this.0 ∷ [];
-          read = this.2;
-          built = one_more_built last so_far.done this.0 so_far.built (built_here h.built);
-          at = h.moved ∙ ap (λ n. line_cursor n (meaning_of_line last said)) so_far.at ∙ ap (λ (g : Option (List ℕ)). line_cursor (cursor_behind last last so_far.done) (meaning_of_line last g)) (sym this.1) ∙ sym (one_more_cursor last last so_far.done this.0);
-          text = subst (Appends old new) (sym (answer_here h.built)) (Appends-trans old mid new front (line_answer s cursor (meaning_of_line last said)) so_far.text h.wrote);
-        }
+      answer_here : is_built (meaning_of_line last said) ≡ true → answers s last last (so_far.done ++ this.0 ∷ []) ≡ front ++ line_answer s cursor (meaning_of_line last said)
+      answer_here e =
+          answers_append s last last so_far.done (this.0 ∷ []) so_far.built
+          ∙ ap (λ (w : List ℕ). front ++ w) (answers_one s last (cursor_behind last last so_far.done) this.0 (built_here e) ∙ ap (λ (g : Option (List ℕ)). line_answer s (cursor_behind last last so_far.done) (meaning_of_line last g)) this.1
+          ∙ ap (λ n. line_answer s n (meaning_of_line last said)) here)
 
-        -- the line isn't built
-        pub at_not_built : (new newer : Option (List ℕ)) (between' faults' : ℕ) (result : Status) → is_built (meaning_of_line last said) ≡ false → Appends mid new [] → between ≤ between'
-            → Delivers (Tells (refusal.NotBuilt unbuilt.Input)) new newer between' faults' result → Delivers (Serves s last input) old newer faults faults' result
-        at_not_built new newer between' faults' result e nothing later d =
-            let l = read_first input left' intake' (so_far.done ++ this.0 ∷ []) this.2 in
-            delivers_behind (Tells (refusal.NotBuilt unbuilt.Input)) (Serves s last input) old new newer faults between' faults' front result (omega (arith, earlier, later)) (still old mid new front so_far.text nothing)
-            (not_built_serves so_far.done this.0 l.0 so_far.built (ap (λ (g : Option (List ℕ)). is_built (meaning_of_line last g)) this.1 ∙ e) (l.1 ∙ append_assoc so_far.done (this.0 ∷ []) l.0)) d
+      -- the answer to the line was written, and the session goes on
+      pub line_on : (new : Port) (now : ℕ) → Replied s last cursor said (move mid new) now → SoFar s last input source'.bytes intake' now old.bytes new.bytes
+      line_on new now h = record {
+        done = so_far.done ++ this.0 ∷ [];
+        read = this.2;
+        built = one_more_built last so_far.done this.0 so_far.built (built_here h.built);
+        at = h.moved ∙ ap (λ n. line_cursor n (meaning_of_line last said)) so_far.at ∙ ap (λ (g : Option (List ℕ)). line_cursor (cursor_behind last last so_far.done) (meaning_of_line last g)) (sym this.1) ∙ sym (one_more_cursor last last so_far.done this.0);
+        text = subst (Appends old.bytes new.bytes) (sym (answer_here h.built)) (Appends-trans old.bytes mid.bytes new.bytes front (line_answer s cursor (meaning_of_line last said)) so_far.text h.wrote);
+      }
 
-        -- there is no memory for the answer
-        pub at_no_memory : (new newer : Option (List ℕ)) (between' faults' : ℕ) (result : Status) → Appends mid new [] → between ≤ between'
-            → Delivers (λ whole end. (whole ≡ line_of refusal.OutOfMemory) × (end ≡ ends.OutOfMemory)) new newer between' faults' result → Delivers (Serves s last input) old newer faults faults' result
-        at_no_memory new newer between' faults' result nothing later d =
-            let l = read_first input left intake so_far.done so_far.read in
-            delivers_behind (λ whole end. (whole ≡ line_of refusal.OutOfMemory) × (end ≡ ends.OutOfMemory)) (Serves s last input) old new newer faults between' faults' front result (omega (arith, earlier, later)) (still old mid new front so_far.text nothing)
-            (λ text status goes. ran_out so_far.done l.0 so_far.built l.1 text status goes.0 goes.1) d
+      -- the line isn't built
+      pub at_not_built : (new newer : Port) (result : Status) → is_built (meaning_of_line last said) ≡ false → WroteNothing (move mid new) → Delivers (Tells (refusal.NotBuilt unbuilt.Input)) (move new newer) result → Delivers All (move old newer) result
+      at_not_built new newer result e nothing d =
+          let l = read_first input source' intake' (so_far.done ++ this.0 ∷ []) this.2 in
+          delivers_behind (Tells (refusal.NotBuilt unbuilt.Input)) All old new newer front result (nothing.calm ∙ calm) (still old.bytes mid.bytes new.bytes front so_far.text nothing.wrote)
+          (not_built_serves s last input source'.bytes so_far.done this.0 l.0 so_far.built (ap (λ (g : Option (List ℕ)). is_built (meaning_of_line last g)) this.1 ∙ e) (l.1 ∙ append_assoc so_far.done (this.0 ∷ []) l.0)) d
 
-        -- the output failed in the answer
-        pub at_output_fault : (new : Option (List ℕ)) (faults' : ℕ) → is_built (meaning_of_line last said) ≡ true → AppendsPrefix mid new (line_answer s cursor (meaning_of_line last said)) → Rose between faults' → between ≤ faults'
-            → Delivers (Serves s last input) old new faults faults' ends.OutputFault
-        at_output_fault new faults' e p rose later =
-            let l = read_first input left' intake' (so_far.done ++ this.0 ∷ []) this.2 in
-            let a : List ℕ = line_answer s cursor (meaning_of_line last said) in
-            let end : List ℕ = line_of refusal.OutOfMemory in
-            fails_behind (Serves s last input) old mid new faults between faults' front a end (answers s last last (so_far.done ++ this.0 ∷ []) ++ end) ends.OutOfMemory earlier later rose so_far.text p
-            (ap (λ (w : List ℕ). w ++ end) (answer_here e) ∙ append_assoc front a end)
-            (ran_out (so_far.done ++ this.0 ∷ []) l.0 (one_more_built last so_far.done this.0 so_far.built (built_here e)) l.1 end ends.OutOfMemory refl refl)
+      -- there is no memory for the answer
+      pub at_no_memory : (new newer : Port) (result : Status) → WroteNothing (move mid new) → Delivers (λ whole end. (whole ≡ line_of refusal.OutOfMemory) × (end ≡ ends.OutOfMemory)) (move new newer) result → Delivers All (move old newer) result
+      at_no_memory new newer result nothing d =
+          let l = read_first input source intake so_far.done so_far.read in
+          delivers_behind (λ whole end. (whole ≡ line_of refusal.OutOfMemory) × (end ≡ ends.OutOfMemory)) All old new newer front result (nothing.calm ∙ calm) (still old.bytes mid.bytes new.bytes front so_far.text nothing.wrote)
+          (λ text status goes. ran_out s last input source'.bytes so_far.done l.0 so_far.built l.1 text status goes.0 goes.1) d
+
+      -- the output failed in the answer
+      pub at_output_fault : (new : Port) → FailsReply s last cursor said (move mid new) → Delivers All (move old new) ends.OutputFault
+      at_output_fault new f =
+          let l = read_first input source' intake' (so_far.done ++ this.0 ∷ []) this.2 in
+          let a : List ℕ = line_answer s cursor (meaning_of_line last said) in
+          let end : List ℕ = line_of refusal.OutOfMemory in
+          fails_behind All old mid new front a end (answers s last last (so_far.done ++ this.0 ∷ []) ++ end) ends.OutOfMemory calm f.fault so_far.text f.wrote
+          (ap (λ (w : List ℕ). w ++ end) (answer_here f.built) ∙ append_assoc front a end)
+          (ran_out s last input source'.bytes (so_far.done ++ this.0 ∷ []) l.0 (one_more_built last so_far.done this.0 so_far.built (built_here f.built)) l.1 end ends.OutOfMemory refl refl)
 
 -- what a call of `next_line` did, before any fault
-module _ {S : Type 0} (left : S → Option (List ℕ)) (faults : S → ℕ) (lines lines' : BoundedLines S) (none : lines.fault ≡ None) where
+module _ {S : Type 0} (port : S → Port) (lines lines' : BoundedLines S) (none : lines.fault ≡ None) where
   abbrev Steps : Said → Type 0
-  Steps said = LineStep lines.intake lines'.intake (left lines.source.now) (left lines'.source.now) (faults lines.source.now) (faults lines'.source.now) said × (lines'.fault ≡ fault_in said)
+  Steps said = LineStep lines.intake lines'.intake (port lines.source.now) (port lines'.source.now) said × (lines'.fault ≡ fault_in said)
 
   abbrev By : Said → Type 0
   By said = MatchBool lines.intake.ended ((said ≡ Ok None) × IsSame lines lines') (Steps said)
@@ -401,7 +407,7 @@ module _ {S : Type 0} (left : S → Option (List ℕ)) (faults : S → ℕ) (lin
   not_ended said true ne h = absurd (ne h.0)
   not_ended said false ne h = (refl, h)
 
-  stepped : (said : Said) → (said ≡ Ok None → ⊥) → LinesOn left faults lines lines' said → (lines.intake.ended ≡ false) × Steps said
+  stepped : (said : Said) → (said ≡ Ok None → ⊥) → LinesOn port lines lines' said → (lines.intake.ended ≡ false) × Steps said
   stepped said ne h = not_ended said lines.intake.ended ne (on_by said lines.fault none h)
 
   some_is_no_end : (x : Option (List ℕ)) (said : Said) → said ≡ Ok (Some x) → said ≡ Ok None → ⊥
@@ -412,23 +418,23 @@ module _ {S : Type 0} (left : S → Option (List ℕ)) (faults : S → ℕ) (lin
 
   -- the end had not been seen, and this was said
   abbrev pub Came : Said → Type 0
-  Came said = (lines.intake.ended ≡ false) × LineStep lines.intake lines'.intake (left lines.source.now) (left lines'.source.now) (faults lines.source.now) (faults lines'.source.now) said × (lines'.fault ≡ fault_in said)
+  Came said = (lines.intake.ended ≡ false) × LineStep lines.intake lines'.intake (port lines.source.now) (port lines'.source.now) said × (lines'.fault ≡ fault_in said)
 
-  pub line_came : (said : Said) (x : Option (List ℕ)) → said ≡ Ok (Some x) → LinesOn left faults lines lines' said → Came (Ok (Some x))
+  pub line_came : (said : Said) (x : Option (List ℕ)) → said ≡ Ok (Some x) → LinesOn port lines lines' said → Came (Ok (Some x))
   line_came said x e h = let t = stepped said (some_is_no_end x said e) h in subst Came e (t.0, t.1.0, t.1.1)
 
-  pub fault_came : (said : Said) (f : LineFault) → said ≡ Err f → LinesOn left faults lines lines' said → Came (Err f)
+  pub fault_came : (said : Said) (f : LineFault) → said ≡ Err f → LinesOn port lines lines' said → Came (Err f)
   fault_came said f e h = let t = stepped said (fault_is_no_end f said e) h in subst Came e (t.0, t.1.0, t.1.1)
 
-  pub end_came : (said : Said) → said ≡ Ok None → LinesOn left faults lines lines' said
-      → MatchBool lines.intake.ended (Unit {0}) (EndsInput lines.intake lines'.intake (left lines.source.now) (left lines'.source.now) (faults lines.source.now) (faults lines'.source.now))
+  pub end_came : (said : Said) → said ≡ Ok None → LinesOn port lines lines' said
+      → MatchBool lines.intake.ended (Unit {0}) (EndsInput lines.intake lines'.intake (port lines.source.now) (port lines'.source.now))
   end_came said e h = by_end lines.intake.ended ((said : Said) × (said ≡ Ok None) × IsSame lines lines') (wider lines.intake.ended (on_by said lines.fault none h))
     where
       wider : (b : Bool) → MatchBool b ((said ≡ Ok None) × IsSame lines lines') (Steps said) → MatchBool b ((said : Said) × (said ≡ Ok None) × IsSame lines lines') (Steps (Ok None))
       wider true k = (said, k.0, k.1)
       wider false k = subst Steps e (k.0, k.1)
 
-      by_end : (b : Bool) (P : Type 0) → MatchBool b P (Steps (Ok None)) → MatchBool b (Unit {0}) (EndsInput lines.intake lines'.intake (left lines.source.now) (left lines'.source.now) (faults lines.source.now) (faults lines'.source.now))
+      by_end : (b : Bool) (P : Type 0) → MatchBool b P (Steps (Ok None)) → MatchBool b (Unit {0}) (EndsInput lines.intake lines'.intake (port lines.source.now) (port lines'.source.now))
       by_end true P k = tt
       by_end false P k = k.0
 
@@ -446,6 +452,10 @@ pub fault_said : (r : Result (Option Line) LineFault) (f g : LineFault) → r �
 fault_said r f g e h = ap said_by (e ∙ ap Err h)
 
 -- what a session delivers, where the input tells its bytes
-pub served : (s : Shown) (last : ℕ) (o o' left : Option (List ℕ)) (intake : Taken) (cursor : ℕ) (old mid new : Option (List ℕ)) (faults faults' : ℕ) (result : Status) → o ≡ o' → IfSome o (λ input. SoFar s last input left intake cursor old mid)
-    → ((input : List ℕ) → SoFar s last input left intake cursor old mid → Delivers (Serves s last input) old new faults faults' result) → IfSome o' (λ input. Delivers (Serves s last input) old new faults faults' result)
-served s last o o' left intake cursor old mid new faults faults' result e h k = over o o' (λ input. SoFar s last input left intake cursor old mid) (λ input. Delivers (Serves s last input) old new faults faults' result) e h k
+pub served : {S : Type 0} (port : S → Port) (s : Shown) (last : ℕ) (o o' left : Option (List ℕ)) (now final : S) (intake : Taken) (cursor : ℕ) (old mid new : Port) (result : Status) → o ≡ o' → final ≡ now
+    → IfSome o (λ input. SoFar s last input left intake cursor old.bytes mid.bytes)
+    → ((input : List ℕ) → SoFar s last input left intake cursor old.bytes mid.bytes → Delivers (Serves s last (reading_of input (port now).bytes)) (move old new) result)
+    → IfSome o' (λ input. Delivers (Serves s last (reading_of input (port final).bytes)) (move old new) result)
+served {S} port s last o o' left now final intake cursor old mid new result e at h k =
+    over o o' (λ input. SoFar s last input left intake cursor old.bytes mid.bytes) (λ input. Delivers (Serves s last (reading_of input (port final).bytes)) (move old new) result) e h
+    (λ input so_far. let P : S → Type 0 = λ x. Delivers (Serves s last (reading_of input (port x).bytes)) (move old new) result in subst P (sym at) (k input so_far))

@@ -1,20 +1,21 @@
 -- From the report of the analysis to what is written of it.
-use Rattle.std.proofs.Common.{◌≡◌, ◌⊎◌, ℕ, ◌≤◌, List, length, inl, inr, subst, arith}
+use Rattle.std.proofs.Common.{◌≡◌, ◌⊎◌, ℕ, List, length, inl, inr, subst}
 use Rattle.rept_isa.specs.declared.row.StepRow.{StepRow}
-use Rattle.rept_ports.specs.Causes.{Rose}
+use Rattle.rept_ports.specs.Port.{Port, Move}
 use Rattle.rept_engine.specs.Closure.{ClosureHas, IsConsistent}
 use Rattle.rept_engine.specs.Report.{IsReport}
 use Rattle.rept_engine.specs.View.{View, known_in}
 use Rattle.rept_engine.specs.declared.conflict.ConflictKind.{ConflictKind}
 use Rattle.rept_app.specs.Delivered.{Tells}
-use Rattle.rept_app.specs.Session.{Serves, IsCaused}
+use Rattle.rept_app.specs.Ends.{Stopped, Yields, EndsSession, PortsEnd}
+use Rattle.rept_app.specs.Session.{Reading, Serves, IsCaused}
 use Rattle.rept_app.specs.Showing.{shown_by}
-use Rattle.rept_app.specs.Study.{Studies, Stopped, IsStudied, shown_at}
+use Rattle.rept_app.specs.Study.{Studies, IsStudied, shown_at}
 use Rattle.rept_app.specs.declared.refusal.Refusal.TheVariants as refusal
 use Rattle.rept_app.specs.declared.status.Status.{Status}
 use Rattle.rept_app.specs.declared.status.Status.TheVariants as ends
 
-module _ (rows : List StepRow) (registers : List ℕ) (end_pc : ℕ) (left : List ℕ) where
+module _ (rows : List StepRow) (registers : List ℕ) (end_pc : ℕ) (left : Reading) where
   pub no_memory_studies : (text : List ℕ) (status : Status) → Tells refusal.OutOfMemory text status → Studies rows registers end_pc left text status
   no_memory_studies text status (inl h) = inr (inr h)
   no_memory_studies text status (inr h) = inr (inr h)
@@ -27,43 +28,41 @@ module _ (a : View) (rows : List StepRow) (registers : List ℕ) (at_rows : a.ro
   pub report_here : IsReport rows registers (known_in a)
   report_here = subst (λ r. IsReport r registers (known_in a)) at_rows (subst (λ l. IsReport a.rows l (known_in a)) at_last report)
 
-  pub serves_studies : (end_pc : ℕ) (left text : List ℕ) (status : Status) → Serves (shown_by a end_pc) (length a.rows) left text status → Studies rows registers end_pc left text status
+  pub serves_studies : (end_pc : ℕ) (left : Reading) (text : List ℕ) (status : Status) → Serves (shown_by a end_pc) (length a.rows) left text status → Studies rows registers end_pc left text status
   serves_studies end_pc left text status h =
       inr (inl (known_in a, report_here, subst (λ r. Serves (shown_at r end_pc (known_in a)) (length r) left text status) at_rows h))
 
 -- where the closure is consistent, a session is held
-pub served_causes : (rows : List StepRow) (registers : List ℕ) (reads reads' writes writes' : ℕ) (status : Status) → IsConsistent rows registers → IsCaused reads reads' writes writes' status → IsStudied rows registers reads reads' writes writes' status
-served_causes rows registers reads reads' writes writes' status consistent c = record {
-  reads_later = c.reads_later;
-  writes_later = c.writes_later;
-  input = c.input;
-  output = c.output;
+pub served_causes : (rows : List StepRow) (registers : List ℕ) (source sink : Move Port) (status : Status) → IsConsistent rows registers → IsCaused source sink status → IsStudied rows registers source sink status
+served_causes rows registers source sink status consistent c = record {
+  ports = c.ports;
   conflict = λ kind has. absurd (consistent kind has);
-  report = λ _. held c.answered;
-  ends_so = inr (held c.answered);
+  report = λ _. c.answered;
+  ends_so = inr c.answered;
 }
-  where
-    held : (status ≡ ends.Ok) ⊎ (status ≡ ends.NotBuilt) ⊎ (status ≡ ends.InputFault) ⊎ (status ≡ ends.TooMuchInput) ⊎ (status ≡ ends.OutputFault) ⊎ (status ≡ ends.OutOfMemory) → (status ≡ ends.Ok) ⊎ (status ≡ ends.NotBuilt) ⊎ (status ≡ ends.InputFault) ⊎ (status ≡ ends.TooMuchInput) ⊎ Stopped status
-    held h = h
 
 -- where it has a conflict, one is told
-pub told_causes : (rows : List StepRow) (registers : List ℕ) (reads writes writes' : ℕ) (status : Status) (kind : ConflictKind) → ClosureHas rows registers kind → writes ≤ writes' → (status ≡ ends.OutputFault → Rose writes writes')
-    → (status ≡ ends.Inconsistent) ⊎ Stopped status → IsStudied rows registers reads reads writes writes' status
-told_causes rows registers reads writes writes' status kind has later rose so = record {
-  reads_later = omega arith;
-  writes_later = later;
-  input = λ e. absurd (never e so);
-  output = rose;
+pub told_causes : (rows : List StepRow) (registers : List ℕ) (source sink : Move Port) (status : Status) (kind : ConflictKind) → ClosureHas rows registers kind → PortsEnd source sink status → Yields ends.Inconsistent status → IsStudied rows registers source sink status
+told_causes rows registers source sink status kind has ports so = record {
+  ports = ports;
   conflict = λ _ _. so;
   report = λ consistent. absurd (consistent kind has);
   ends_so = to_all so;
 }
   where
-    never : status ≡ ends.InputFault → (status ≡ ends.Inconsistent) ⊎ Stopped status → ⊥
-    never e (inl h) = cc
-    never e (inr (inl h)) = cc
-    never e (inr (inr h)) = cc
-
-    to_all : (status ≡ ends.Inconsistent) ⊎ Stopped status → (status ≡ ends.Inconsistent) ⊎ (status ≡ ends.Ok) ⊎ (status ≡ ends.NotBuilt) ⊎ (status ≡ ends.InputFault) ⊎ (status ≡ ends.TooMuchInput) ⊎ Stopped status
+    to_all : Yields ends.Inconsistent status → (status ≡ ends.Inconsistent) ⊎ EndsSession status
     to_all (inl h) = inl h
     to_all (inr h) = inr (inr (inr (inr (inr h))))
+
+-- where there was no memory for the analysis
+pub memory_causes : (rows : List StepRow) (registers : List ℕ) (source sink : Move Port) (status : Status) → PortsEnd source sink status → Yields ends.OutOfMemory status → IsStudied rows registers source sink status
+memory_causes rows registers source sink status ports so = record {
+  ports = ports;
+  conflict = λ _ _. inr (stops so);
+  report = λ _. inr (inr (inr (inr (stops so))));
+  ends_so = inr (inr (inr (inr (inr (stops so)))));
+}
+  where
+    stops : Yields ends.OutOfMemory status → Stopped status
+    stops (inl h) = inr h
+    stops (inr h) = h

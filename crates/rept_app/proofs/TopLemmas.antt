@@ -1,81 +1,171 @@
 -- How the top call ends, from how its parts end.
-use Rattle.std.proofs.Common.{◌≡◌, ◌⊎◌, ℕ, ◌≤◌, List, Option, None, Some, MatchOption, IfSome, inl, inr, refl, sym, ap, subst, ◌∙◌}
-use Rattle.rept_ports.specs.Causes.{Rose}
-use Rattle.rept_ports.specs.Shelves.{Files}
+use Rattle.std.proofs.Common.{◌≡◌, ◌⊎◌, ℕ, ◌+◌, ◌<◌, ◌≤◌, List, length, Bool, true, false, Option, None, Some, MatchOption, IfSome, inl, inr, refl, sym, ap, subst, ◌∙◌, arith, cond, nat_lt, nat_eq}
+use Rattle.std.proofs.lemmas.Bool.Decides.{nat_tests}
+use Rattle.std.specs.Prelude.{Err, Ok}
+use Rattle.rept_ports.specs.Causes.{Rose, OneFault}
+use Rattle.rept_ports.specs.Port.{Port, Move, move}
+use Rattle.rept_ports.specs.Shelves.{Files, Shelved, IsOver}
 use Rattle.rept_isa.specs.declared.row.StepRow.{StepRow}
 use Rattle.rept_engine.specs.Report.{IsReport}
 use Rattle.rept_engine.specs.Soundness.{IsSound}
 use Rattle.rept_app.specs.Delivered.{Delivers, Says, Tells}
+use Rattle.rept_app.specs.Ends.{Stopped, Yields, EndsSession, FaultEnds, PortsEnd}
 use Rattle.rept_app.specs.Forms.{last_values, dump_of, image_end}
-use Rattle.rept_app.specs.Examine.{Examines, FilesEnd, IsExamined, IsWalkStatus, FilesExclude}
+use Rattle.rept_app.specs.Examine.{Examines, FilesEnd, IsExamined, IsWalkStatus, FilesExclude, FilesHold}
 use Rattle.rept_app.specs.Lines.{status_of}
-use Rattle.rept_app.specs.Loading.{Loading, loading, MatchLoading, AllRefuse}
+use Rattle.rept_app.specs.Loading.{Loading, loading, loading_by, fetched, fetched_all, limit_of, MatchLoading, Fits, FitBefore, name_of, loads_to, ComesTo, LoadRefuses, StopsAt, LoadingStops, AllLoaded, LoadsAll, first_packet}
 use Rattle.rept_app.specs.Loading.Loading.{Refused, Loaded}
-use Rattle.rept_app.specs.Study.{Stopped}
-use Rattle.rept_app.specs.Told.{Examined, Writes, ReportHolds, NoExecution}
-use Rattle.rept_app.specs.Top.{TopCauses, EndsBy, EndsByFiles, Completes}
+use Rattle.rept_app.specs.Told.{Given, given, Examined, Writes, Holds, ReportHolds, NoExecution}
+use Rattle.rept_app.specs.Top.{TopCauses, LacksFile, LoadEnds, LastLoad, LoadsOf, EndsBy, EndsByFiles, Completes}
+use Rattle.rept_app.specs.Words.{Names, Meaning, meaning_of}
+use Rattle.rept_app.specs.Words.Meaning.{Open, Made}
+use Rattle.rept_app.specs.declared.refusal.FileKind.{FileKind}
+use Rattle.rept_app.specs.declared.refusal.FileKind.TheVariants as file
 use Rattle.rept_app.specs.declared.refusal.Refusal.{Refusal}
 use Rattle.rept_app.specs.declared.refusal.Refusal.TheVariants as refusal
+use Rattle.rept_app.specs.declared.refusal.Unbuilt.TheVariants as unbuilt
 use Rattle.rept_app.specs.declared.status.Status.{Status}
 use Rattle.rept_app.specs.declared.status.Status.TheVariants as ends
 use Rattle.rept_app.proofs.ExamineLemmas.{stopped_end}
 
+-- why one file isn't loaded, one case after the other
+abbrev pub Why : Shelved → Shelved → List ℕ → FileKind → Refusal → Type 0
+Why old new name kind r =
+    ((r ≡ refusal.LoadFault kind) × Rose old.faults new.faults)
+    ⊎ ((r ≡ refusal.NoFile kind) × MatchOption old.files (Rose old.faults new.faults) (λ files. (files name ≡ None) × (new.faults ≡ old.faults)))
+    ⊎ ((r ≡ refusal.TooLarge kind) × MatchOption old.files (Rose old.faults new.faults) (λ files. IsOver files name (limit_of kind) × (new.faults ≡ old.faults)))
+    ⊎ (r ≡ refusal.OutOfMemory)
+
+why : (old new : Shelved) (name : List ℕ) (kind : FileKind) (r : Refusal) → LoadRefuses old new name kind r → Why old new name kind r
+why old new name kind (refusal.LoadFault k) h = inl (ap refusal.LoadFault h.0, h.1)
+why old new name kind (refusal.NoFile k) h = inr (inl (ap refusal.NoFile h.0, h.1))
+why old new name kind (refusal.TooLarge k) h = inr (inr (inl (ap refusal.TooLarge h.0, h.1)))
+why old new name kind refusal.OutOfMemory h = inr (inr (inr refl))
+why old new name kind refusal.Usage h = absurd h
+why old new name kind (refusal.NotBuilt what) h = absurd h
+why old new name kind refusal.TooMuchInput h = absurd h
+why old new name kind (refusal.Executable f) h = absurd h
+why old new name kind (refusal.CoreImage f) h = absurd h
+why old new name kind (refusal.Core f) h = absurd h
+why old new name kind (refusal.Path f) h = absurd h
+why old new name kind (refusal.Inconsistent k) h = absurd h
+why old new name kind refusal.InputFault h = absurd h
+
+-- what holds where files are told
+pub at_told : (o : Option Files) (P : Type 0) (Q : Files → Type 0) (files : Files) → o ≡ Some files → MatchOption o P Q → Q files
+at_told o P Q files e h = subst (λ (x : Option Files). MatchOption x P Q) e h
+
+at_files : (o : Option Files) (Q : Files → Type 0) (files : Files) → o ≡ Some files → IfSome o Q → Q files
+at_files o Q files e h = subst (λ (x : Option Files). IfSome x Q) e h
+
+-- the files come to the first one that is refused
+not_over : (limit n : ℕ) → n ≤ limit → nat_lt limit n ≡ false
+not_over limit n h = grind (arith, nat_tests)
+
+is_over : (limit n : ℕ) → limit < n → nat_lt limit n ≡ true
+is_over limit n h = grind (arith, nat_tests)
+
+module _ (files : Files) (names : Names) (from : ℕ) where
+  passes : (kind : FileKind) (name : List ℕ) (next : List ℕ → Loading) (fits : Fits files kind name) → fetched kind (files name) next ≡ next fits.0
+  passes kind name next fits =
+      ap (λ (o : Option (List ℕ)). fetched kind o next) fits.1 ∙ ap (λ (b : Bool). cond b (Refused (refusal.TooLarge kind)) (next fits.0)) (not_over (limit_of kind) (length fits.0) fits.2)
+
+  after_core : List ℕ → List ℕ → Loading
+  after_core exe core = fetched file.Trace (files names.trace) (λ trace. Loaded exe core trace from)
+
+  after_exe : List ℕ → Loading
+  after_exe exe = fetched file.Core (files names.core) (λ core. after_core exe core)
+
+  comes_to : (kind : FileKind) (r : Refusal) → FitBefore files names kind → ((next : List ℕ → Loading) → fetched kind (files (name_of names kind)) next ≡ Refused r) → fetched_all files names from ≡ Refused r
+  unfolding after_exe after_core
+  comes_to file.Exe r before h = h after_exe
+  comes_to file.Core r before h = passes file.Exe names.exe after_exe before ∙ h (after_core before.0)
+  comes_to file.Trace r before h = passes file.Exe names.exe after_exe before.0 ∙ passes file.Core names.core (after_core before.0.0) before.1 ∙ h (λ trace. Loaded before.0.0 before.1.0 trace from)
+
+  lacks : (kind : FileKind) → FitBefore files names kind → files (name_of names kind) ≡ None → fetched_all files names from ≡ Refused (refusal.NoFile kind)
+  lacks kind before none = comes_to kind (refusal.NoFile kind) before (λ next. ap (λ (o : Option (List ℕ)). fetched kind o next) none)
+
+  over : (kind : FileKind) → FitBefore files names kind → IsOver files (name_of names kind) (limit_of kind) → fetched_all files names from ≡ Refused (refusal.TooLarge kind)
+  over kind before large = comes_to kind (refusal.TooLarge kind) before
+      (λ next. ap (λ (o : Option (List ℕ)). fetched kind o next) large.1 ∙ ap (λ (b : Bool). cond b (Refused (refusal.TooLarge kind)) (next large.0)) (is_over (limit_of kind) (length large.0) large.2))
+
 module _ (words : List (List ℕ)) (files : Files) where
+  -- why no files are loaded: a load failed, memory ran out, or the files say so
+  abbrev pub Stops : Shelved → Shelved → Refusal → Type 0
+  Stops old new r =
+      ((kind : FileKind) × (r ≡ refusal.LoadFault kind) × ComesTo words files kind × (new.loads ≡ loads_to kind old.loads))
+      ⊎ (r ≡ refusal.OutOfMemory)
+      ⊎ (loading words files ≡ Refused r)
+
+  names_stop : (old new : Shelved) (names : Names) (from : Option ℕ) (kind : FileKind) (r : Refusal) → old.files ≡ Some files → meaning_of words ≡ Some (Open names from) → FitBefore files names kind → new.loads ≡ loads_to kind old.loads
+      → Why old new (name_of names kind) kind r → Stops old new r
+  names_stop old new names from kind r told named before loads (inl h) = inl (kind, h.0, (names, from, named, before), loads)
+  names_stop old new names from kind r told named before loads (inr (inl h)) =
+      inr (inr (ap (loading_by files) named ∙ lacks files names (first_packet from) kind before (at_told old.files _ (λ fs. (fs (name_of names kind) ≡ None) × (new.faults ≡ old.faults)) files told h.1).0 ∙ ap Refused (sym h.0)))
+  names_stop old new names from kind r told named before loads (inr (inr (inl h))) =
+      inr (inr (ap (loading_by files) named ∙ over files names (first_packet from) kind before (at_told old.files _ (λ fs. IsOver fs (name_of names kind) (limit_of kind) × (new.faults ≡ old.faults)) files told h.1).0 ∙ ap Refused (sym h.0)))
+  names_stop old new names from kind r told named before loads (inr (inr (inr h))) = inr (inl h)
+
+  words_stop : (old new : Shelved) (r : Refusal) → old.files ≡ Some files → (m : Option Meaning) → meaning_of words ≡ m → LoadingStops m old new r → Stops old new r
+  words_stop old new r told None e h = inr (inr (ap (loading_by files) e ∙ ap Refused (sym h.0)))
+  words_stop old new r told (Some (Made seed steps)) e h = inr (inr (ap (loading_by files) e ∙ ap Refused (sym h.0)))
+  words_stop old new r told (Some (Open names from)) e (kind, s) =
+      names_stop old new names from kind r told e (at_files old.files (λ fs. FitBefore fs names kind) files told s.before) s.loads (why old new (name_of names kind) kind r s.why)
+
+  pub stops : (old new : Shelved) (r : Refusal) → old.files ≡ Some files → LoadingStops (meaning_of words) old new r → Stops old new r
+  stops old new r told h = words_stop old new r told (meaning_of words) refl h
+
   abbrev Ends : Status → Loading → Type 0
   Ends status l = MatchLoading l (λ r. EndsBy (status_of r) status) (λ exe core trace from. FilesEnd exe core trace from status ⊎ (status ≡ ends.LoadFault))
 
   -- a call that stopped, or that couldn't load a file
-  interrupted : (status : Status) → (status ≡ ends.LoadFault) ⊎ Stopped status → (l : Loading) → Ends status l
+  interrupted : (status : Status) → Yields ends.LoadFault status → (l : Loading) → Ends status l
   interrupted status h (Refused r) = inr h
   interrupted status (inl h) (Loaded exe core trace from) = inr h
   interrupted status (inr h) (Loaded exe core trace from) = inl (stopped_end exe core trace from status h)
 
-  -- where no files were loaded
-  pub refused_ends : (r : Refusal) (status : Status) → AllRefuse words files r → (status ≡ status_of r) ⊎ Stopped status → EndsByFiles words files status
-  refused_ends r status h (inr s) = interrupted status (inr s) (loading words files)
-  refused_ends (refusal.LoadFault kind) status h (inl e) = interrupted status (inl e) (loading words files)
-  refused_ends refusal.OutOfMemory status h (inl e) = interrupted status (inr (inr e)) (loading words files)
-  refused_ends refusal.Usage status h (inl e) = subst (Ends status) (sym h) (inl e)
-  refused_ends (refusal.NoFile kind) status h (inl e) = subst (Ends status) (sym h) (inl e)
-  refused_ends (refusal.TooLarge kind) status h (inl e) = subst (Ends status) (sym h) (inl e)
-  refused_ends (refusal.NotBuilt what) status h (inl e) = subst (Ends status) (sym h) (inl e)
-  refused_ends refusal.TooMuchInput status h (inl e) = subst (Ends status) (sym h) (inl e)
-  refused_ends (refusal.Executable f) status h (inl e) = subst (Ends status) (sym h) (inl e)
-  refused_ends (refusal.CoreImage f) status h (inl e) = subst (Ends status) (sym h) (inl e)
-  refused_ends (refusal.Core f) status h (inl e) = subst (Ends status) (sym h) (inl e)
-  refused_ends (refusal.Path f) status h (inl e) = subst (Ends status) (sym h) (inl e)
-  refused_ends (refusal.Inconsistent kind) status h (inl e) = subst (Ends status) (sym h) (inl e)
-  refused_ends refusal.InputFault status h (inl e) = subst (Ends status) (sym h) (inl e)
+  by_refusal : (r s : Refusal) (status : Status) → r ≡ s → Yields (status_of r) status → Yields (status_of s) status
+  by_refusal r s status e h = subst (λ (x : Refusal). Yields (status_of x) status) e h
 
-  module _ (input text : List ℕ) (status : Status) where
+  memory_stops : (status : Status) → Yields ends.OutOfMemory status → Stopped status
+  memory_stops status (inl h) = inr h
+  memory_stops status (inr h) = h
+
+  -- where no files were loaded
+  pub refused_ends : (old new : Shelved) (r : Refusal) (status : Status) → Stops old new r → Yields (status_of r) status → EndsByFiles words files status
+  refused_ends old new r status (inl (kind, e, comes, loads)) so = interrupted status (by_refusal r (refusal.LoadFault kind) status e so) (loading words files)
+  refused_ends old new r status (inr (inl e)) so = interrupted status (inr (memory_stops status (by_refusal r refusal.OutOfMemory status e so))) (loading words files)
+  refused_ends old new r status (inr (inr h)) (inl e) = subst (Ends status) (sym h) (inl e)
+  refused_ends old new r status (inr (inr h)) (inr s) = interrupted status (inr s) (loading words files)
+
+  module _ (shelf : Move Shelved) (source : Move Port) (input text : List ℕ) (status : Status) where
+    abbrev Here : Given
+    Here = given words files shelf input source
+
     abbrev Whole : Loading → Type 0
     Whole l = MatchLoading l (λ r. Says r text status) (λ exe core trace from. Examined exe core trace from input text status)
 
-    pub refused_writes : (r : Refusal) → AllRefuse words files r → Tells r text status → Writes words files input text status
-    refused_writes r h (inr s) = inr (inr (inl s))
-    refused_writes (refusal.LoadFault kind) h (inl s) = inr (inl (kind, h, s))
-    refused_writes refusal.OutOfMemory h (inl s) = inr (inr (inl s))
-    refused_writes refusal.Usage h (inl s) = inl (subst Whole (sym h) s)
-    refused_writes (refusal.NoFile kind) h (inl s) = inl (subst Whole (sym h) s)
-    refused_writes (refusal.TooLarge kind) h (inl s) = inl (subst Whole (sym h) s)
-    refused_writes (refusal.NotBuilt what) h (inl s) = inl (subst Whole (sym h) s)
-    refused_writes refusal.TooMuchInput h (inl s) = inl (subst Whole (sym h) s)
-    refused_writes (refusal.Executable f) h (inl s) = inl (subst Whole (sym h) s)
-    refused_writes (refusal.CoreImage f) h (inl s) = inl (subst Whole (sym h) s)
-    refused_writes (refusal.Core f) h (inl s) = inl (subst Whole (sym h) s)
-    refused_writes (refusal.Path f) h (inl s) = inl (subst Whole (sym h) s)
-    refused_writes (refusal.Inconsistent kind) h (inl s) = inl (subst Whole (sym h) s)
-    refused_writes refusal.InputFault h (inl s) = inl (subst Whole (sym h) s)
+    says_so : (r s : Refusal) → r ≡ s → Says r text status → Says s text status
+    says_so r s e h = subst (λ (x : Refusal). Says x text status) e h
 
-    pub examined_writes : (exe core trace : List ℕ) (from : ℕ) → loading words files ≡ Loaded exe core trace from → Examines exe core trace from input text status → Writes words files input text status
+    pub refused_writes : (r : Refusal) → Stops shelf.before shelf.after r → Tells r text status → Writes Here text status
+    refused_writes r h (inr s) = inr (inr (inl s))
+    refused_writes r (inl (kind, e, comes, loads)) (inl s) = inr (inl (kind, comes, loads, says_so r (refusal.LoadFault kind) e s))
+    refused_writes r (inr (inl e)) (inl s) = inr (inr (inl (says_so r refusal.OutOfMemory e s)))
+    refused_writes r (inr (inr h)) (inl s) = inl (subst Whole (sym h) s)
+
+    pub examined_writes : (exe core trace : List ℕ) (from : ℕ) → loading words files ≡ Loaded exe core trace from → Examines exe core trace from (record { input = input; left = source.after.bytes }) text status → Writes Here text status
     examined_writes exe core trace from at (inl h) = inl (subst Whole (sym at) h)
     examined_writes exe core trace from at (inr (inl h)) = inr (inr (inl h))
     examined_writes exe core trace from at (inr (inr (note, read, (rows, known, follows, report, cut)))) =
         inr (inr (inr (exe, core, trace, from, note, rows, known, record { loaded = at; leads = record { read = read; follows = follows } }, report, cut)))
 
   module _ (exe core trace : List ℕ) (from : ℕ) (at : loading words files ≡ Loaded exe core trace from) where
-    pub examined_ends : (reads reads' writes writes' : ℕ) (status : Status) → IsExamined exe core trace from reads reads' writes writes' status → EndsByFiles words files status
-    examined_ends reads reads' writes writes' status c = subst (Ends status) (sym at) (inl c.yields)
+    pub files_hold : (status : Status) → FilesHold exe core trace from status → Holds words files
+    files_hold status ((note, rows, leads, consistent), so) = (exe, core, trace, from, note, rows, record { loaded = at; leads = leads }, consistent)
+
+    pub examined_ends : (source sink : Move Port) (status : Status) → IsExamined exe core trace from source sink status → EndsByFiles words files status
+    examined_ends source sink status c = subst (Ends status) (sym at) (inl c.yields)
 
     same_files : (e c t : List ℕ) (k : ℕ) → loading words files ≡ Loaded e c t k → (exe ≡ e) × (core ≡ c) × (trace ≡ t) × (from ≡ k)
     same_files e c t k h = by_loaded (sym at ∙ h)
@@ -96,27 +186,179 @@ pub reports_hold : (words : List (List ℕ)) (files : Files) → ((rows : List S
 reports_hold words files sound exe core trace from note rows known opens report run x p r v early in_file e = sound rows (last_values note) known report p r v early in_file e (image_end exe) (dump_of exe core) run x
 
 -- what is written where no count rose
-pub completed : (words : List (List ℕ)) (files : Files) (told : Option Files) (input : List ℕ) (loads loads' reads reads' writes writes' : ℕ) (old new : Option (List ℕ)) (status : Status)
-    → TopCauses told loads loads' reads reads' writes writes' status → Delivers (Writes words files input) old new writes writes' status → Completes words files input loads loads' reads reads' writes writes' old new status
-completed words files told input loads loads' reads reads' writes writes' old new status c (later, inr h) no_load no_read no_write = absurd (no_write h.1)
-completed words files told input loads loads' reads reads' writes writes' old new status c (later, inl (text, inl h, appended)) no_load no_read no_write = inr (text, h, appended)
-completed words files told input loads loads' reads reads' writes writes' old new status c (later, inl (text, inr (inl (kind, comes, says)), appended)) no_load no_read no_write = absurd (no_load (c.load says.ending))
-completed words files told input loads loads' reads reads' writes writes' old new status c (later, inl (text, inr (inr (inl says)), appended)) no_load no_read no_write = inl says.ending
-completed words files told input loads loads' reads reads' writes writes' old new status c (later, inl (text, inr (inr (inr (exe, core, trace, from, note, rows, known, opens, report, inl failed))), appended)) no_load no_read no_write =
-    absurd (no_read (c.input failed.ending))
-completed words files told input loads loads' reads reads' writes writes' old new status c (later, inl (text, inr (inr (inr (exe, core, trace, from, note, rows, known, opens, report, inr ran))), appended)) no_load no_read no_write =
-    inl ran.ending
+pub completed : (g : Given) (shelf : Move Shelved) (source sink : Move Port) (status : Status) → TopCauses shelf source sink status → Delivers (Writes g) sink status → Completes g shelf source sink status
+completed g shelf source sink status c (inr h) no_load no_read no_write = absurd (no_write h.1.rose)
+completed g shelf source sink status c (inl (text, inl h, appended, calm)) no_load no_read no_write = inr (text, h, appended)
+completed g shelf source sink status c (inl (text, inr (inl (kind, comes, loads, says)), appended, calm)) no_load no_read no_write = absurd (no_load (c.load says.ending).rose)
+completed g shelf source sink status c (inl (text, inr (inr (inl says)), appended, calm)) no_load no_read no_write = inl says.ending
+completed g shelf source sink status c (inl (text, inr (inr (inr (exe, core, trace, from, note, rows, known, opens, report, inl failed))), appended, calm)) no_load no_read no_write = absurd (no_read (c.ports.input failed.ending).rose)
+completed g shelf source sink status c (inl (text, inr (inr (inr (exe, core, trace, from, note, rows, known, opens, report, inr ran))), appended, calm)) no_load no_read no_write = inl ran.ending
+
+-- a count that rose by at most one stands as it was, or one fault was counted
+counted : (before now : ℕ) → before ≤ now → now ≤ before + 1 → (now ≡ before) ⊎ OneFault before now
+counted before now later once = by_test (nat_eq now before) refl
+  where
+    same : nat_eq now before ≡ true → now ≡ before
+    same e = grind (arith, nat_tests)
+
+    risen : nat_eq now before ≡ false → Rose before now
+    risen e = grind (arith, nat_tests)
+
+    by_test : (b : Bool) → nat_eq now before ≡ b → (now ≡ before) ⊎ OneFault before now
+    by_test true e = inl (same e)
+    by_test false e = inr (record { rose = risen e; later = later; once = once })
+
+-- how a call ends whose files aren't loaded
+module _ (old new : Shelved) (source : Port) (sink : Move Port) (status : Status) (files : new.files ≡ old.files) (later : old.faults ≤ new.faults) (once : new.faults ≤ old.faults + 1) (ports : PortsEnd (move source source) sink status) where
+  one : Rose old.faults new.faults → OneFault old.faults new.faults
+  one rose = record { rose = rose; later = later; once = once }
+
+  not_stopped : (other : Status) → (other ≡ ends.OutputFault → ⊥) → (other ≡ ends.OutOfMemory → ⊥) → Stopped status → status ≡ other → ⊥
+  not_stopped other a b (inl h) e = a (sym e ∙ h)
+  not_stopped other a b (inr h) e = b (sym e ∙ h)
+
+  no_load_fault : Stopped status → status ≡ ends.LoadFault → ⊥
+  no_load_fault s e = not_stopped ends.LoadFault (λ (same : ends.LoadFault ≡ ends.OutputFault). cc) (λ (same : ends.LoadFault ≡ ends.OutOfMemory). cc) s e
+
+  no_lack : Stopped status → LacksFile status → ⊥
+  no_lack s (inl e) = not_stopped ends.NoFile (λ (same : ends.NoFile ≡ ends.OutputFault). cc) (λ (same : ends.NoFile ≡ ends.OutOfMemory). cc) s e
+  no_lack s (inr e) = not_stopped ends.TooLarge (λ (same : ends.TooLarge ≡ ends.OutputFault). cc) (λ (same : ends.TooLarge ≡ ends.OutOfMemory). cc) s e
+
+  abbrev Untold : Option Files → Type 0
+  Untold o = MatchOption o (LacksFile status → OneFault old.faults new.faults) (λ _. Unit {0})
+
+  untold_by : (o : Option Files) → (LacksFile status → OneFault old.faults new.faults) → Untold o
+  untold_by None h = h
+  untold_by (Some fs) h = tt
+
+  stopped_causes : Stopped status → FaultEnds old.faults new.faults (LoadEnds old.files status) → TopCauses (move old new) (move source source) sink status
+  stopped_causes s count = record { ports = ports; load = λ e. absurd (no_load_fault s e); untold = untold_by old.files (λ l. absurd (no_lack s l)); load_ends = count; files = files }
+
+  either_way : LoadEnds old.files status → FaultEnds old.faults new.faults (LoadEnds old.files status)
+  either_way so = elim (counted old.faults new.faults later once) [ inl h ↦ inl h | inr h ↦ inr (h, so) ]
+
+  -- words that name no files
+  pub idle_causes : (expected : Status) → (expected ≡ ends.LoadFault → ⊥) → (expected ≡ ends.NoFile → ⊥) → (expected ≡ ends.TooLarge → ⊥) → new.faults ≡ old.faults → Yields expected status → TopCauses (move old new) (move source source) sink status
+  idle_causes expected a b c calm (inr s) = stopped_causes s (inl calm)
+  idle_causes expected a b c calm (inl e) = record {
+    ports = ports;
+    load = λ k. absurd (a (sym e ∙ k));
+    untold = untold_by old.files lack;
+    load_ends = inl calm;
+    files = files;
+  }
+    where
+      lack : LacksFile status → OneFault old.faults new.faults
+      lack (inl k) = absurd (b (sym e ∙ k))
+      lack (inr k) = absurd (c (sym e ∙ k))
+
+  failed_causes : Rose old.faults new.faults → Yields ends.LoadFault status → TopCauses (move old new) (move source source) sink status
+  failed_causes rose (inr s) = stopped_causes s (inr (one rose, inr (inr s)))
+  failed_causes rose (inl e) = record { ports = ports; load = λ _. one rose; untold = untold_by old.files (λ _. one rose); load_ends = inr (one rose, inl e); files = files }
+
+  -- a file that is missing or too large
+  lacking : (o : Option Files) → (P : Files → Type 0) → LacksFile status → MatchOption o (Rose old.faults new.faults) (λ fs. P fs × (new.faults ≡ old.faults)) → Untold o × FaultEnds old.faults new.faults (LoadEnds o status)
+  lacking None P so rose = (λ _. one rose, inr (one rose, inr (inl so)))
+  lacking (Some fs) P so h = (tt, inl h.1)
+
+  lacks_causes : (P : Files → Type 0) → (LacksFile status ⊎ Stopped status) → MatchOption old.files (Rose old.faults new.faults) (λ fs. P fs × (new.faults ≡ old.faults)) → TopCauses (move old new) (move source source) sink status
+  lacks_causes P (inr s) h = stopped_causes s (either_way (inr (inr s)))
+  lacks_causes P (inl so) h =
+      let both = lacking old.files P so h in
+      record { ports = ports; load = λ e. absurd (no_fault so e); untold = both.0; load_ends = both.1; files = files }
+    where
+      no_fault : LacksFile status → status ≡ ends.LoadFault → ⊥
+      no_fault (inl a) e = let bad : ends.NoFile ≡ ends.LoadFault = sym a ∙ e in let no : ⊥ = cc in no
+      no_fault (inr a) e = let bad : ends.TooLarge ≡ ends.LoadFault = sym a ∙ e in let no : ⊥ = cc in no
+
+  memory : Yields ends.OutOfMemory status → Stopped status
+  memory (inl h) = inr h
+  memory (inr h) = h
+
+  as_missing : Yields ends.NoFile status → LacksFile status ⊎ Stopped status
+  as_missing (inl h) = inl (inl h)
+  as_missing (inr h) = inr h
+
+  as_large : Yields ends.TooLarge status → LacksFile status ⊎ Stopped status
+  as_large (inl h) = inl (inr h)
+  as_large (inr h) = inr h
+
+  by : (r s : Refusal) → r ≡ s → Yields (status_of r) status → Yields (status_of s) status
+  by r s e h = subst (λ (x : Refusal). Yields (status_of x) status) e h
+
+  file_causes : (name : List ℕ) (kind : FileKind) (r : Refusal) → Why old new name kind r → Yields (status_of r) status → TopCauses (move old new) (move source source) sink status
+  file_causes name kind r (inl h) so = failed_causes h.1 (by r (refusal.LoadFault kind) h.0 so)
+  file_causes name kind r (inr (inl h)) so = lacks_causes (λ fs. fs name ≡ None) (as_missing (by r (refusal.NoFile kind) h.0 so)) h.1
+  file_causes name kind r (inr (inr (inl h))) so = lacks_causes (λ fs. IsOver fs name (limit_of kind)) (as_large (by r (refusal.TooLarge kind) h.0 so)) h.1
+  file_causes name kind r (inr (inr (inr h))) so = let s = memory (by r refusal.OutOfMemory h so) in stopped_causes s (either_way (inr (inr s)))
+
+  pub refused_causes : (m : Option Meaning) (r : Refusal) → LoadingStops m old new r → Yields (status_of r) status → TopCauses (move old new) (move source source) sink status
+  refused_causes None r h so =
+      idle_causes ends.Usage (λ (e : ends.Usage ≡ ends.LoadFault). cc) (λ (e : ends.Usage ≡ ends.NoFile). cc) (λ (e : ends.Usage ≡ ends.TooLarge). cc) (ap (λ (s : Shelved). s.faults) h.1) (by r refusal.Usage h.0 so)
+  refused_causes (Some (Made seed steps)) r h so =
+      idle_causes ends.NotBuilt (λ (e : ends.NotBuilt ≡ ends.LoadFault). cc) (λ (e : ends.NotBuilt ≡ ends.NoFile). cc) (λ (e : ends.NotBuilt ≡ ends.TooLarge). cc) (ap (λ (s : Shelved). s.faults) h.1) (by r (refusal.NotBuilt unbuilt.Words) h.0 so)
+  refused_causes (Some (Open names from)) r (kind, s) so = file_causes (name_of names kind) kind r (why old new (name_of names kind) kind r s.why) so
+
+  -- the loads that were made
+  ends_loading : (name : List ℕ) (kind : FileKind) (r : Refusal) → Why old new name kind r → Yields (status_of r) status → (status ≡ ends.LoadFault) ⊎ LacksFile status ⊎ Stopped status
+  ends_loading name kind r (inl h) so = elim (by r (refusal.LoadFault kind) h.0 so) [ inl e ↦ inl e | inr s ↦ inr (inr s) ]
+  ends_loading name kind r (inr (inl h)) so = inr (as_missing (by r (refusal.NoFile kind) h.0 so))
+  ends_loading name kind r (inr (inr (inl h))) so = inr (as_large (by r (refusal.TooLarge kind) h.0 so))
+  ends_loading name kind r (inr (inr (inr h))) so = inr (inr (memory (by r refusal.OutOfMemory h so)))
+
+  pub refused_loads : (m : Option Meaning) (r : Refusal) → LoadingStops m old new r → Yields (status_of r) status → LoadsOf m (move old new) status
+  refused_loads None r h so = tt
+  refused_loads (Some (Made seed steps)) r h so = tt
+  refused_loads (Some (Open names from)) r (kind, s) so = record {
+    last = kind;
+    before = s.before;
+    loads = s.loads;
+    all = inr (ends_loading (name_of names kind) kind r (why old new (name_of names kind) kind r s.why) so);
+  }
+
+-- a status with which no call ends that loads no files
+pub record IsOther (other : Status) : Type 0 where
+  pub usage : ends.Usage ≡ other → ⊥
+  pub words : ends.NotBuilt ≡ other → ⊥
+  pub failed : ends.LoadFault ≡ other → ⊥
+  pub missing : ends.NoFile ≡ other → ⊥
+  pub large : ends.TooLarge ≡ other → ⊥
+  pub memory : ends.OutOfMemory ≡ other → ⊥
+
+pub input_only : IsOther ends.InputFault
+input_only = record { usage = λ e. cc; words = λ e. cc; failed = λ e. cc; missing = λ e. cc; large = λ e. cc; memory = λ e. cc }
+
+pub output_only : IsOther ends.OutputFault
+output_only = record { usage = λ e. cc; words = λ e. cc; failed = λ e. cc; missing = λ e. cc; large = λ e. cc; memory = λ e. cc }
+
+pub conflict_only : IsOther ends.Inconsistent
+conflict_only = record { usage = λ e. cc; words = λ e. cc; failed = λ e. cc; missing = λ e. cc; large = λ e. cc; memory = λ e. cc }
+
+file_status : (old new : Shelved) (name : List ℕ) (kind : FileKind) (r : Refusal) (other : Status) → IsOther other → Why old new name kind r → status_of r ≡ other → ⊥
+file_status old new name kind r other is (inl h) e = is.failed (ap status_of (sym h.0) ∙ e)
+file_status old new name kind r other is (inr (inl h)) e = is.missing (ap status_of (sym h.0) ∙ e)
+file_status old new name kind r other is (inr (inr (inl h))) e = is.large (ap status_of (sym h.0) ∙ e)
+file_status old new name kind r other is (inr (inr (inr h))) e = is.memory (ap status_of (sym h) ∙ e)
+
+pub no_status : (old new : Shelved) (m : Option Meaning) (r : Refusal) (other : Status) → IsOther other → LoadingStops m old new r → status_of r ≡ other → ⊥
+no_status old new None r other is h e = is.usage (ap status_of (sym h.0) ∙ e)
+no_status old new (Some (Made seed steps)) r other is h e = is.words (ap status_of (sym h.0) ∙ e)
+no_status old new (Some (Open names from)) r other is (kind, s) e = file_status old new (name_of names kind) kind r other is (why old new (name_of names kind) kind r s.why) e
+
+-- all files were loaded
+pub all_loads : (old new : Shelved) (m : Option Meaning) (status : Status) → LoadsAll m old new → LoadsOf m (move old new) status
+all_loads old new None status h = tt
+all_loads old new (Some (Made seed steps)) status h = tt
+all_loads old new (Some (Open names from)) status h = record { last = file.Trace; before = h.before; loads = h.loads; all = inl refl }
 
 -- the causes of a call whose files were loaded
-pub examined_causes : (told : Option Files) (exe core trace : List ℕ) (from loads loads' reads reads' writes writes' : ℕ) (status : Status) → loads ≤ loads' → IsExamined exe core trace from reads reads' writes writes' status → TopCauses told loads loads' reads reads' writes writes' status
-examined_causes told exe core trace from loads loads' reads reads' writes writes' status later c = record {
-  loads_later = later;
-  reads_later = c.reads_later;
-  writes_later = c.writes_later;
+pub examined_causes : (old new : Shelved) (exe core trace : List ℕ) (from : ℕ) (source sink : Move Port) (status : Status) → new.files ≡ old.files → new.faults ≡ old.faults → IsExamined exe core trace from source sink status → TopCauses (move old new) source sink status
+examined_causes old new exe core trace from source sink status files calm c = record {
+  ports = c.ports;
   load = λ e. absurd (not_loading (inl e) c.ends_so);
-  input = c.input;
-  output = c.output;
-  untold = any told;
+  untold = any old.files;
+  load_ends = inl calm;
+  files = files;
 }
   where
     not_walked : (status ≡ ends.LoadFault) ⊎ (status ≡ ends.NoFile) ⊎ (status ≡ ends.TooLarge) → IsWalkStatus status → ⊥
@@ -154,7 +396,7 @@ examined_causes told exe core trace from loads loads' reads reads' writes writes
     not_loading (inr (inr e)) (inr (inl h)) = cc
     not_loading e (inr (inr h)) = not_walked e h
 
-    any : (o : Option Files) → MatchOption o ((status ≡ ends.NoFile) ⊎ (status ≡ ends.TooLarge) → Rose loads loads') (λ _. Unit {0})
+    any : (o : Option Files) → MatchOption o (LacksFile status → OneFault old.faults new.faults) (λ _. Unit {0})
     any None = λ h. absurd (not_loading (inr h) c.ends_so)
     any (Some fs) = tt
 
@@ -169,9 +411,14 @@ of_both o p Q files input e e' h =
     let h₁ : IfSome p (Q files) = subst (λ (x : Option Files). IfSome x (λ fs. IfSome p (Q fs))) e h in
     subst (λ (x : Option (List ℕ)). IfSome x (Q files)) e' h₁
 
--- what holds where files are told
-pub at_told : (o : Option Files) (P : Type 0) (Q : Files → Type 0) (files : Files) → o ≡ Some files → MatchOption o P Q → Q files
-at_told o P Q files e h = subst (λ (x : Option Files). MatchOption x P Q) e h
-
 pub loaded_at : (l : Loading) (exe exe' core core' trace trace' : List ℕ) (from : ℕ) → l ≡ Loaded exe core trace from → exe' ≡ exe → core' ≡ core → trace' ≡ trace → l ≡ Loaded exe' core' trace' from
 loaded_at l exe exe' core core' trace trace' from h e c t = h ∙ ap (λ x. Loaded x core trace from) (sym e) ∙ ap (λ x. Loaded exe' x trace from) (sym c) ∙ ap (λ x. Loaded exe' core' x from) (sym t)
+
+-- a session may have been held where the files are told
+pub holds_where : {P : Type 0} (o : Option Files) (H : Files → Type 0) (exe core trace : List ℕ) (from : ℕ) (status : Status) → ((files : Files) → o ≡ Some files → FilesHold exe core trace from status → H files) → P ⊎ FilesHold exe core trace from status → P ⊎ (EndsSession status × IfSome o H)
+holds_where o H exe core trace from status h (inl p) = inl p
+holds_where o H exe core trace from status h (inr f) = inr (f.1, where_some o H (λ files at. h files at f))
+  where
+    where_some : (o : Option Files) (H : Files → Type 0) → ((files : Files) → o ≡ Some files → H files) → IfSome o H
+    where_some None H k = tt
+    where_some (Some files) H k = k files refl

@@ -2,6 +2,7 @@ pub mod Answers
 pub mod Asked
 pub mod Commands
 pub mod Delivered
+pub mod Ends
 pub mod Examine
 pub mod Forms
 pub mod Lines

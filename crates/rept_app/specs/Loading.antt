@@ -1,7 +1,7 @@
 -- What the words and the files come to, before the files are read.
-use Rattle.std.specs.Prelude.{◌≡◌, ℕ, ◌≤◌, List, length, Option, None, Some, MatchOption, nat_lt, if◌then◌else◌}
-use Rattle.rept_ports.specs.Causes.{Rose}
-use Rattle.rept_ports.specs.Shelves.{Files, IsOver}
+use Rattle.std.specs.Prelude.{◌≡◌, ℕ, ◌+◌, ◌≤◌, List, length, Option, None, Some, MatchOption, IfSome, Result, OnOk, nat_lt, if◌then◌else◌}
+use Rattle.rept_ports.specs.Causes.{Rose, next_count}
+use Rattle.rept_ports.specs.Shelves.{Files, Shelved, IsOver}
 use Rattle.rept_app.specs.Words.{Names, Meaning, meaning_of}
 use Rattle.rept_app.specs.Words.Meaning.{Open, Made}
 use Rattle.rept_app.specs.declared.refusal.FileKind.{FileKind}
@@ -59,40 +59,62 @@ FitBefore files names file.Exe = Unit {0}
 FitBefore files names file.Core = Fits files file.Exe names.exe
 FitBefore files names file.Trace = Fits files file.Exe names.exe × Fits files file.Core names.core
 
+-- the name of a file
+abbrev pub name_of : Names → FileKind → List ℕ
+name_of names file.Exe = names.exe
+name_of names file.Core = names.core
+name_of names file.Trace = names.trace
+
+-- how many loads a shelf was asked for when it was asked for this file, of the three in their order
+abbrev pub loads_to : FileKind → ℕ → ℕ
+loads_to file.Exe loads = next_count loads
+loads_to file.Core loads = next_count (next_count loads)
+loads_to file.Trace loads = next_count (next_count (next_count loads))
+
 -- the words name three files, of which those before this one are there and within their limits
 abbrev pub ComesTo : List (List ℕ) → Files → FileKind → Type 0
 ComesTo words files kind = (names : Names) × (from : Option ℕ) × (meaning_of words ≡ Some (Open names from)) × FitBefore files names kind
 
--- Why a file isn't loaded: by the files where they are told, and otherwise by the count of the shelf's faults.
-abbrev pub LoadRefuses : Option Files → List ℕ → FileKind → ℕ → ℕ → Refusal → Type 0
-LoadRefuses files name kind before now (refusal.LoadFault k) = (k ≡ kind) × Rose before now
-LoadRefuses files name kind before now (refusal.NoFile k) = (k ≡ kind) × MatchOption files (Rose before now) (λ fs. fs name ≡ None)
-LoadRefuses files name kind before now (refusal.TooLarge k) = (k ≡ kind) × MatchOption files (Rose before now) (λ fs. IsOver fs name (limit_of kind))
-LoadRefuses files name kind before now refusal.OutOfMemory = Unit {0}
-LoadRefuses files name kind before now other = ⊥
+-- Why this file isn't loaded: by the files where they are told, and otherwise by the count of the shelf's faults.
+abbrev pub LoadRefuses : Shelved → Shelved → List ℕ → FileKind → Refusal → Type 0
+LoadRefuses old new name kind (refusal.LoadFault k) = (k ≡ kind) × Rose old.faults new.faults
+LoadRefuses old new name kind (refusal.NoFile k) = (k ≡ kind) × MatchOption old.files (Rose old.faults new.faults) (λ files. (files name ≡ None) × (new.faults ≡ old.faults))
+LoadRefuses old new name kind (refusal.TooLarge k) = (k ≡ kind) × MatchOption old.files (Rose old.faults new.faults) (λ files. IsOver files name (limit_of kind) × (new.faults ≡ old.faults))
+LoadRefuses old new name kind refusal.OutOfMemory = Unit {0}
+LoadRefuses old new name kind other = ⊥
 
--- why the files of these names aren't loaded, where they are told
-abbrev pub NamesRefuse : Files → Names → ℕ → Refusal → Type 0
-NamesRefuse files names from (refusal.LoadFault kind) = FitBefore files names kind
-NamesRefuse files names from refusal.OutOfMemory = Unit {0}
-NamesRefuse files names from other = fetched_all files names from ≡ Refused other
+-- The last load was that of this file: those before it were loaded, and it is refused.
+pub record StopsAt (old new : Shelved) (names : Names) (kind : FileKind) (r : Refusal) : Type 0 where
+  pub before : IfSome old.files (λ files. FitBefore files names kind)
+  pub loads : new.loads ≡ loads_to kind old.loads
+  pub why : LoadRefuses old new (name_of names kind) kind r
 
--- the same by the count of the shelf's faults, where they aren't told
-abbrev pub CountsRefuse : ℕ → ℕ → Refusal → Type 0
-CountsRefuse before now (refusal.LoadFault kind) = Rose before now
-CountsRefuse before now (refusal.NoFile kind) = Rose before now
-CountsRefuse before now (refusal.TooLarge kind) = Rose before now
-CountsRefuse before now refusal.OutOfMemory = Unit {0}
-CountsRefuse before now other = ⊥
+-- why no files are loaded: by the words, or by the file whose load was the last
+abbrev pub LoadingStops : Option Meaning → Shelved → Shelved → Refusal → Type 0
+LoadingStops None old new r = (r ≡ refusal.Usage) × (new ≡ old)
+LoadingStops (Some (Made seed steps)) old new r = (r ≡ refusal.NotBuilt unbuilt.Words) × (new ≡ old)
+LoadingStops (Some (Open names from)) old new r = (kind : FileKind) × StopsAt old new names kind r
 
--- why no files are loaded, where they are told
-abbrev pub AllRefuse : List (List ℕ) → Files → Refusal → Type 0
-AllRefuse words files (refusal.LoadFault kind) = ComesTo words files kind
-AllRefuse words files refusal.OutOfMemory = Unit {0}
-AllRefuse words files other = loading words files ≡ Refused other
+-- words that name no files, for which no load is made
+abbrev pub NamesNone : Option Meaning → Type 0
+NamesNone None = Unit {0}
+NamesNone (Some (Made seed steps)) = Unit {0}
+NamesNone (Some (Open names from)) = ⊥
 
--- why no files are loaded, by the words and the count of the shelf's faults, where the files aren't told
-abbrev pub CountRefuses : List (List ℕ) → ℕ → ℕ → Refusal → Type 0
-CountRefuses words before now refusal.Usage = meaning_of words ≡ None
-CountRefuses words before now (refusal.NotBuilt u) = u ≡ unbuilt.Words
-CountRefuses words before now other = CountsRefuse before now other
+-- what all loads do to a shelf: its files stay, at most one fault is counted, and none where all files are loaded
+pub record ShelfMoves {T E : Type 0} (old new : Shelved) (result : Result T E) : Type 0 where
+  pub files : new.files ≡ old.files
+  pub later : old.faults ≤ new.faults
+  pub once : new.faults ≤ old.faults + 1
+  pub calm : OnOk result (new.faults ≡ old.faults)
+
+-- all three files were loaded
+pub record AllLoaded (names : Names) (old new : Shelved) : Type 0 where
+  pub before : IfSome old.files (λ files. FitBefore files names file.Trace)
+  pub loads : new.loads ≡ loads_to file.Trace old.loads
+
+-- the words name files, and all of them were loaded
+abbrev pub LoadsAll : Option Meaning → Shelved → Shelved → Type 0
+LoadsAll None old new = ⊥
+LoadsAll (Some (Made seed steps)) old new = ⊥
+LoadsAll (Some (Open names from)) old new = AllLoaded names old new

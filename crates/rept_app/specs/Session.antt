@@ -1,10 +1,12 @@
 -- What a session writes. It answers each line of the input before it reads the next one, with the cursor at the last point first.
-use Rattle.std.specs.Prelude.{◌≡◌, ◌⊎◌, ℕ, ◌≤◌, ◌<◌, List, [], ◌++◌, length, take, true, false, nat_le, Option, if◌then◌else◌}
+use Rattle.std.specs.Prelude.{◌≡◌, ◌⊎◌, ℕ, ◌≤◌, ◌<◌, List, [], ◌++◌, length, take, true, false, nat_le, Option, Some, if◌then◌else◌}
 use Rattle.std.specs.Io.KnownBytes.{Appends}
-use Rattle.rept_ports.specs.Causes.{Rose, AppendsPrefix}
+use Rattle.rept_ports.specs.Causes.{OneFault, AppendsPrefix}
 use Rattle.rept_ports.specs.Lines.{lines_of, whole_lines}
+use Rattle.rept_ports.specs.Port.{Port, Move}
 use Rattle.rept_app.specs.Answers.{Shown, answers, all_built, line_answer, line_cursor}
 use Rattle.rept_app.specs.Commands.{is_built, meaning_of_line}
+use Rattle.rept_app.specs.Ends.{EndsSession, PortsEnd}
 use Rattle.rept_app.specs.Lines.{line_of}
 use Rattle.rept_app.specs.declared.refusal.Refusal.TheVariants as refusal
 use Rattle.rept_app.specs.declared.refusal.Unbuilt.TheVariants as unbuilt
@@ -22,24 +24,30 @@ abbrev pub lines_read : List ℕ → List (List ℕ)
 lines_read input = if nat_le (length input) most_input then lines_of input else whole_lines (take most_input input)
 
 -- The answers to the lines that are read: to all of them, where all are built; else to those before the first that isn't, and then
--- the line that says so. Where the input has too many bytes, a line tells that behind the answers.
+-- the line that says so. Where the input has too many bytes, a line tells that after the answers.
 abbrev pub Answers : Shown → ℕ → List ℕ → List ℕ → Status → Type 0
 Answers s last input text ends.Ok = (length input ≤ most_input) × (all_built last (lines_read input) ≡ true) × (text ≡ answers s last last (lines_read input))
 Answers s last input text ends.TooMuchInput = (most_input < length input) × (all_built last (lines_read input) ≡ true) × (text ≡ answers s last last (lines_read input) ++ line_of refusal.TooMuchInput)
 Answers s last input text ends.NotBuilt = (all_built last (lines_read input) ≡ false) × (text ≡ answers s last last (lines_read input) ++ line_of (refusal.NotBuilt unbuilt.Input))
 Answers s last input text other = ⊥
 
--- the input failed behind some bytes: the answers to their whole lines, and the line of the fault
-pub record Failed (s : Shown) (last : ℕ) (input text : List ℕ) (status : Status) : Type 0 where
+-- the bytes of an input, and those that it has left when the call has ended, where its source tells them
+pub record Reading : Type 0 where
+  pub input : List ℕ
+  pub left : Option (List ℕ)
+
+-- The input failed after the bytes that are no longer left of it: the answers to their whole lines, and the line of the fault.
+pub record Failed (s : Shown) (last : ℕ) (reading : Reading) (text : List ℕ) (status : Status) : Type 0 where
   pub taken : List ℕ
   pub rest : List ℕ
-  pub parts : input ≡ taken ++ rest
+  pub parts : reading.input ≡ taken ++ rest
+  pub rest_left : reading.left ≡ Some rest
   pub within : length taken ≤ most_input
   pub built : all_built last (whole_lines taken) ≡ true
   pub answered : text ≡ answers s last last (whole_lines taken) ++ line_of refusal.InputFault
   pub ending : status ≡ ends.InputFault
 
--- memory ran out behind the answers to the first lines
+-- memory ran out after the answers to the first lines
 pub record RanOut (s : Shown) (last : ℕ) (input text : List ℕ) (status : Status) : Type 0 where
   pub count : ℕ
   pub built : all_built last (take count (lines_read input)) ≡ true
@@ -47,32 +55,40 @@ pub record RanOut (s : Shown) (last : ℕ) (input text : List ℕ) (status : Sta
   pub ending : status ≡ ends.OutOfMemory
 
 -- a session that was cut short
-abbrev pub CutShort : Shown → ℕ → List ℕ → List ℕ → Status → Type 0
-CutShort s last input text status = Failed s last input text status ⊎ RanOut s last input text status
+abbrev pub CutShort : Shown → ℕ → Reading → List ℕ → Status → Type 0
+CutShort s last reading text status = Failed s last reading text status ⊎ RanOut s last reading.input text status
 
 -- what a session writes whose output doesn't fail
-abbrev pub Serves : Shown → ℕ → List ℕ → List ℕ → Status → Type 0
-Serves s last input text status = Answers s last input text status ⊎ CutShort s last input text status
+abbrev pub Serves : Shown → ℕ → Reading → List ℕ → Status → Type 0
+Serves s last reading text status = Answers s last reading.input text status ⊎ CutShort s last reading text status
 
--- No count falls; a fault of the input or the output comes only where its count rose; and no other status comes than these.
-pub record IsCaused (reads reads' writes writes' : ℕ) (status : Status) : Type 0 where
-  pub reads_later : reads ≤ reads'
-  pub writes_later : writes ≤ writes'
-  pub input : status ≡ ends.InputFault → Rose reads reads'
-  pub output : status ≡ ends.OutputFault → Rose writes writes'
-  pub answered : (status ≡ ends.Ok) ⊎ (status ≡ ends.NotBuilt) ⊎ (status ≡ ends.InputFault) ⊎ (status ≡ ends.TooMuchInput) ⊎ (status ≡ ends.OutputFault) ⊎ (status ≡ ends.OutOfMemory)
+-- each fault has its cause and ends the session, and no other status comes than these
+pub record IsCaused (source sink : Move Port) (status : Status) : Type 0 where
+  pub ports : PortsEnd source sink status
+  pub answered : EndsSession status
 
--- the answer to a line was written, and the cursor is behind it
-pub record Replied (s : Shown) (last cursor : ℕ) (said : Option (List ℕ)) (old new : Option (List ℕ)) (now : ℕ) : Type 0 where
+-- the answer to a line was written, and this is the cursor then
+pub record Replied (s : Shown) (last cursor : ℕ) (said : Option (List ℕ)) (out : Move Port) (now : ℕ) : Type 0 where
   pub built : is_built (meaning_of_line last said) ≡ true
   pub moved : now ≡ line_cursor cursor (meaning_of_line last said)
   pub within : now ≤ last
-  pub wrote : Appends old new (line_answer s cursor (meaning_of_line last said))
+  pub wrote : Appends out.before.bytes out.after.bytes (line_answer s cursor (meaning_of_line last said))
+  pub calm : out.after.faults ≡ out.before.faults
+
+-- nothing was written
+pub record WroteNothing (out : Move Port) : Type 0 where
+  pub wrote : Appends out.before.bytes out.after.bytes []
+  pub calm : out.after.faults ≡ out.before.faults
+
+-- the output failed in the answer to a line
+pub record FailsReply (s : Shown) (last cursor : ℕ) (said : Option (List ℕ)) (out : Move Port) : Type 0 where
+  pub built : is_built (meaning_of_line last said) ≡ true
+  pub wrote : AppendsPrefix out.before.bytes out.after.bytes (line_answer s cursor (meaning_of_line last said))
+  pub fault : OneFault out.before.faults out.after.faults
 
 -- what came of a line, at a cursor
-abbrev pub Replies : Shown → ℕ → ℕ → Option (List ℕ) → Option (List ℕ) → Option (List ℕ) → ℕ → ℕ → Next → Type 0
-Replies s last cursor said old new faults faults' (next.Line now) = Replied s last cursor said old new now × (faults ≤ faults')
-Replies s last cursor said old new faults faults' next.NotBuilt = (is_built (meaning_of_line last said) ≡ false) × Appends old new [] × (faults ≤ faults')
-Replies s last cursor said old new faults faults' next.OutputFault =
-    (is_built (meaning_of_line last said) ≡ true) × AppendsPrefix old new (line_answer s cursor (meaning_of_line last said)) × Rose faults faults' × (faults ≤ faults')
-Replies s last cursor said old new faults faults' next.OutOfMemory = Appends old new [] × (faults ≤ faults')
+abbrev pub Replies : Shown → ℕ → ℕ → Option (List ℕ) → Move Port → Next → Type 0
+Replies s last cursor said out (next.Line now) = Replied s last cursor said out now
+Replies s last cursor said out next.NotBuilt = (is_built (meaning_of_line last said) ≡ false) × WroteNothing out
+Replies s last cursor said out next.OutputFault = FailsReply s last cursor said out
+Replies s last cursor said out next.OutOfMemory = WroteNothing out

@@ -6,18 +6,19 @@ use Rattle.rept_dump.specs.declared.fault.CoreFault.{CoreFault}
 use Rattle.rept_isa.specs.declared.row.StepRow.{StepRow}
 use Rattle.rept_machine.specs.State.{State}
 use Rattle.rept_machine.specs.Execution.{Execution}
-use Rattle.rept_engine.specs.Closure.{ClosureHas}
+use Rattle.rept_engine.specs.Closure.{ClosureHas, IsConsistent}
 use Rattle.rept_engine.specs.Report.{IsReport}
 use Rattle.rept_engine.specs.declared.conflict.ConflictKind.{ConflictKind}
 use Rattle.rept_path.specs.declared.fault.PathFault.{PathFault}
-use Rattle.rept_ports.specs.Shelves.{Files}
+use Rattle.rept_ports.specs.Port.{Port, Move, move}
+use Rattle.rept_ports.specs.Shelves.{Files, Shelved}
 use Rattle.rept_app.specs.Answers.{Shown}
 use Rattle.rept_app.specs.Delivered.{Says}
 use Rattle.rept_app.specs.Forms.{executable_fault, core_image_fault, end_pc, last_values, dump_of, image_end}
-use Rattle.rept_app.specs.Loading.{loading, MatchLoading, ComesTo}
+use Rattle.rept_app.specs.Loading.{loading, MatchLoading, ComesTo, loads_to}
 use Rattle.rept_app.specs.Loading.Loading.{Loaded}
 use Rattle.rept_app.specs.Path.{IsTracePath, HasNoPath, unread}
-use Rattle.rept_app.specs.Session.{Answers, CutShort}
+use Rattle.rept_app.specs.Session.{Answers, Reading, CutShort}
 use Rattle.rept_app.specs.declared.refusal.FileKind.{FileKind}
 use Rattle.rept_app.specs.declared.refusal.Unbuilt.TheVariants as unbuilt
 use Rattle.rept_app.specs.declared.refusal.Refusal.TheVariants as refusal
@@ -82,18 +83,38 @@ pub record Opens (words : List (List ℕ)) (files : Files) (exe core trace : Lis
   pub loaded : loading words files ≡ Loaded exe core trace from
   pub leads : Leads exe core trace from note rows
 
--- A call that was cut short: a file couldn't be loaded, of which those before it are there and within their limits; memory ran
--- out; or, where all came to a report, the session was cut short.
-abbrev pub Interrupted : List (List ℕ) → Files → List ℕ → List ℕ → Status → Type 0
-Interrupted words files input text status =
-    ((kind : FileKind) × ComesTo words files kind × Says (refusal.LoadFault kind) text status)
+-- What a call was given, where its ports tell it: its words, the files, how many loads the shelf was asked for before the call and
+-- after it, and the bytes of the input with those that are left of it.
+pub record Given : Type 0 where
+  pub words : List (List ℕ)
+  pub files : Files
+  pub loads : Move ℕ
+  pub reading : Reading
+
+abbrev pub given : List (List ℕ) → Files → Move Shelved → List ℕ → Move Port → Given
+given words files shelf input source = record {
+  words = words;
+  files = files;
+  loads = move shelf.before.loads shelf.after.loads;
+  reading = record { input = input; left = source.after.bytes };
+}
+
+-- A call that was cut short: a load failed, which is that of the file that the line names, and those before it are there and within
+-- their limits; memory ran out; or, where all came to a report, the session was cut short.
+abbrev pub Interrupted : Given → List ℕ → Status → Type 0
+Interrupted g text status =
+    ((kind : FileKind) × ComesTo g.words g.files kind × (g.loads.after ≡ loads_to kind g.loads.before) × Says (refusal.LoadFault kind) text status)
     ⊎ Says refusal.OutOfMemory text status
-    ⊎ ((exe : List ℕ) × (core : List ℕ) × (trace : List ℕ) × (from : ℕ) × (note : List ℕ) × (rows : List StepRow) × (known : ℕ → ℕ → Option ℕ) × Opens words files exe core trace from note rows
-    × IsReport rows (last_values note) known × CutShort (shown note rows known) (length rows) input text status)
+    ⊎ ((exe : List ℕ) × (core : List ℕ) × (trace : List ℕ) × (from : ℕ) × (note : List ℕ) × (rows : List StepRow) × (known : ℕ → ℕ → Option ℕ) × Opens g.words g.files exe core trace from note rows
+    × IsReport rows (last_values note) known × CutShort (shown note rows known) (length rows) g.reading text status)
 
 -- what is written where the output doesn't fail
-abbrev pub Writes : List (List ℕ) → Files → List ℕ → List ℕ → Status → Type 0
-Writes words files input text status = Told words files input text status ⊎ Interrupted words files input text status
+abbrev pub Writes : Given → List ℕ → Status → Type 0
+Writes g text status = Told g.words g.files g.reading.input text status ⊎ Interrupted g text status
+
+-- the words and the files come to a path whose closure has no conflict
+abbrev pub Holds : List (List ℕ) → Files → Type 0
+Holds words files = (exe : List ℕ) × (core : List ℕ) × (trace : List ℕ) × (from : ℕ) × (note : List ℕ) × (rows : List StepRow) × Opens words files exe core trace from note rows × IsConsistent rows (last_values note)
 
 -- an execution of the path that ends in the dump: in the registers of the note, and with the bytes of memory that the files have
 abbrev pub EndsInDump : List ℕ → List ℕ → List ℕ → List StepRow → (ℕ → State) → Type 0

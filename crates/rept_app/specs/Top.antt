@@ -1,26 +1,52 @@
--- The causes of each status.
-use Rattle.std.specs.Prelude.{◌≡◌, ◌⊎◌, ℕ, ◌≤◌, List, Option, MatchOption}
+-- The causes of each status, and what a call leaves of its ports.
+use Rattle.std.specs.Prelude.{◌≡◌, ◌⊎◌, ℕ, List, Option, Some, None, IfSome, MatchOption}
 use Rattle.std.specs.Io.KnownBytes.{Appends}
-use Rattle.rept_ports.specs.Causes.{Rose}
-use Rattle.rept_ports.specs.Shelves.{Files}
+use Rattle.rept_ports.specs.Causes.{Rose, OneFault}
+use Rattle.rept_ports.specs.Port.{Port, Move}
+use Rattle.rept_ports.specs.Shelves.{Files, Shelved}
+use Rattle.rept_app.specs.Ends.{Stopped, FaultEnds, PortsEnd}
 use Rattle.rept_app.specs.Examine.{FilesEnd}
 use Rattle.rept_app.specs.Lines.{status_of}
-use Rattle.rept_app.specs.Loading.{loading, MatchLoading}
-use Rattle.rept_app.specs.Study.{Stopped}
-use Rattle.rept_app.specs.Told.{Told}
+use Rattle.rept_app.specs.Loading.{loading, MatchLoading, FitBefore, loads_to}
+use Rattle.rept_app.specs.Told.{Given, Told}
+use Rattle.rept_app.specs.Words.{Names, Meaning}
+use Rattle.rept_app.specs.Words.Meaning.{Open, Made}
+use Rattle.rept_app.specs.declared.refusal.FileKind.{FileKind}
+use Rattle.rept_app.specs.declared.refusal.FileKind.TheVariants as file
 use Rattle.rept_app.specs.declared.status.Status.{Status}
 use Rattle.rept_app.specs.declared.status.Status.TheVariants as ends
 
--- No count falls. A fault of a port comes only where its count rose. Where the files aren't told, a file is missing or too large
--- only where the shelf's count rose.
-pub record TopCauses (files : Option Files) (loads loads' reads reads' writes writes' : ℕ) (status : Status) : Type 0 where
-  pub loads_later : loads ≤ loads'
-  pub reads_later : reads ≤ reads'
-  pub writes_later : writes ≤ writes'
-  pub load : status ≡ ends.LoadFault → Rose loads loads'
-  pub input : status ≡ ends.InputFault → Rose reads reads'
-  pub output : status ≡ ends.OutputFault → Rose writes writes'
-  pub untold : MatchOption files ((status ≡ ends.NoFile) ⊎ (status ≡ ends.TooLarge) → Rose loads loads') (λ _. Unit {0})
+-- the statuses of a file that is missing or too large
+abbrev pub LacksFile : Status → Type 0
+LacksFile status = (status ≡ ends.NoFile) ⊎ (status ≡ ends.TooLarge)
+
+-- how a fault of the shelf ends a call: a load failed; or, where the files aren't told, a file is missing or too large
+abbrev pub LoadEnds : Option Files → Status → Type 0
+LoadEnds files status = (status ≡ ends.LoadFault) ⊎ MatchOption files (LacksFile status) (λ _. ⊥) ⊎ Stopped status
+
+-- A status that tells a fault of a port comes only where that port counted one; where the files aren't told, so do those of a
+-- file that is missing or too large. A fault of a port ends the call: no other is counted, and the status tells it, unless its
+-- line can't be written. The files stay as they are.
+pub record TopCauses (shelf : Move Shelved) (source sink : Move Port) (status : Status) : Type 0 where
+  pub ports : PortsEnd source sink status
+  pub load : status ≡ ends.LoadFault → OneFault shelf.before.faults shelf.after.faults
+  pub untold : MatchOption shelf.before.files (LacksFile status → OneFault shelf.before.faults shelf.after.faults) (λ _. Unit {0})
+  pub load_ends : FaultEnds shelf.before.faults shelf.after.faults (LoadEnds shelf.before.files status)
+  pub files : shelf.after.files ≡ shelf.before.files
+
+-- Which load of the three was the last: the files before it are there and within their limits. It is that of the trace, unless
+-- the call ends with a load.
+pub record LastLoad (names : Names) (shelf : Move Shelved) (status : Status) : Type 0 where
+  pub last : FileKind
+  pub before : IfSome shelf.before.files (λ files. FitBefore files names last)
+  pub loads : shelf.after.loads ≡ loads_to last shelf.before.loads
+  pub all : (last ≡ file.Trace) ⊎ (status ≡ ends.LoadFault) ⊎ LacksFile status ⊎ Stopped status
+
+-- the loads of words that name files
+abbrev pub LoadsOf : Option Meaning → Move Shelved → Status → Type 0
+LoadsOf None shelf status = Unit {0}
+LoadsOf (Some (Made seed steps)) shelf status = Unit {0}
+LoadsOf (Some (Open names from)) shelf status = LastLoad names shelf status
 
 -- a call that ends so, unless a file can't be loaded, the output fails, or memory runs out
 abbrev pub EndsBy : Status → Status → Type 0
@@ -31,8 +57,8 @@ EndsBy expected status = (status ≡ expected) ⊎ (status ≡ ends.LoadFault) �
 abbrev pub EndsByFiles : List (List ℕ) → Files → Status → Type 0
 EndsByFiles words files status = MatchLoading (loading words files) (λ r. EndsBy (status_of r) status) (λ exe core trace from. FilesEnd exe core trace from status ⊎ (status ≡ ends.LoadFault))
 
--- where no count rose: all of the text is written, or memory ran out
-abbrev pub Completes : List (List ℕ) → Files → List ℕ → ℕ → ℕ → ℕ → ℕ → ℕ → ℕ → Option (List ℕ) → Option (List ℕ) → Status → Type 0
-Completes words files input loads loads' reads reads' writes writes' old new status =
-    (Rose loads loads' → ⊥) → (Rose reads reads' → ⊥) → (Rose writes writes' → ⊥)
-    → (status ≡ ends.OutOfMemory) ⊎ ((text : List ℕ) × Told words files input text status × Appends old new text)
+-- where no port counted a fault: all of the text is written, or memory ran out
+abbrev pub Completes : Given → Move Shelved → Move Port → Move Port → Status → Type 0
+Completes g shelf source sink status =
+    (Rose shelf.before.faults shelf.after.faults → ⊥) → (Rose source.before.faults source.after.faults → ⊥) → (Rose sink.before.faults sink.after.faults → ⊥)
+    → (status ≡ ends.OutOfMemory) ⊎ ((text : List ℕ) × Told g.words g.files g.reading.input text status × Appends sink.before.bytes sink.after.bytes text)

@@ -1,7 +1,8 @@
-ghost use Rattle.std.specs.Prelude.{◌≡◌, ◌<◌, ◌^◌, length, IfSome};
+ghost use Rattle.std.specs.Prelude.{◌≡◌, ◌⊎◌, ◌<◌, ◌^◌, length, IfSome};
 ghost use Rattle.rept_dump.specs.Dump.{exe_of, registers_of};
+ghost use Rattle.rept_ports.specs.Port.{move};
 ghost use Rattle.rept_app.specs.Delivered.{Delivers};
-ghost use Rattle.rept_app.specs.Examine.{Examines, IsExamined, FilesExclude, Walks, IsWalked, PathExcludes};
+ghost use Rattle.rept_app.specs.Examine.{Examines, IsExamined, FilesExclude, FilesHold, Walks, IsWalked, PathExcludes, WalkHolds};
 
 use crate::path::{first_unread, trace_path};
 use crate::refusal::{Refusal, Unbuilt};
@@ -24,8 +25,9 @@ pub fn examine<S: Source, K: Sink>(
     out: &mut K,
 ) -> Status
     requires { length trace.now < 2 ^ 32 }
-    ensures text { IfSome (S.left input.old) (λ left. Delivers (Examines exe.now core.now trace.now from left) (K.written out.old) (K.written out.new) (K.faults out.old) (K.faults out.new) result) }
-    ensures causes { IsExamined exe.now core.now trace.now from (S.faults input.old) (S.faults input.new) (K.faults out.old) (K.faults out.new) result }
+    ensures text { IfSome (S.port input.old).bytes (λ bytes. Delivers (Examines exe.now core.now trace.now from (record { input = bytes; left = (S.port input.new).bytes })) (move (K.port out.old) (K.port out.new)) result) }
+    ensures causes { IsExamined exe.now core.now trace.now from (move (S.port input.old) (S.port input.new)) (move (K.port out.old) (K.port out.new)) result }
+    ensures stays { (input.new ≡ input.old) ⊎ FilesHold exe.now core.now trace.now from result }
     ensures impossible { result ≡ Status.Inconsistent → FilesExclude exe.now core.now trace.now from }
 {
     let exe_image = match Image::read(exe, Want::Exec) {
@@ -53,8 +55,9 @@ fn walk<S: Source, K: Sink>(
     out: &mut K,
 ) -> Status
     requires { length trace.now < 2 ^ 32 }
-    ensures text { IfSome (S.left input.old) (λ left. Delivers (Walks (exe_of dump.now) (registers_of dump.now) trace.now from left) (K.written out.old) (K.written out.new) (K.faults out.old) (K.faults out.new) result) }
-    ensures causes { IsWalked (exe_of dump.now) (registers_of dump.now) trace.now from (S.faults input.old) (S.faults input.new) (K.faults out.old) (K.faults out.new) result }
+    ensures text { IfSome (S.port input.old).bytes (λ bytes. Delivers (Walks (exe_of dump.now) (registers_of dump.now) trace.now from (record { input = bytes; left = (S.port input.new).bytes })) (move (K.port out.old) (K.port out.new)) result) }
+    ensures causes { IsWalked (exe_of dump.now) (registers_of dump.now) trace.now from (move (S.port input.old) (S.port input.new)) (move (K.port out.old) (K.port out.new)) result }
+    ensures stays { (input.new ≡ input.old) ⊎ WalkHolds (exe_of dump.now) (registers_of dump.now) trace.now from result }
     ensures impossible { result ≡ Status.Inconsistent → PathExcludes (exe_of dump.now) (registers_of dump.now) trace.now from }
 {
     let path = match trace_path(alloc, trace, dump, from) {

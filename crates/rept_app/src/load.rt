@@ -1,9 +1,9 @@
-ghost use Rattle.std.specs.Prelude.{◌≡◌, ◌≢◌, ◌≤◌, ◌↔◌, List, ℕ, map, length, string_bytes, IsOk, IfOk, IfErr, IfSome, MatchOption, Some, None, Err};
-ghost use Rattle.rept_ports.specs.Causes.{Rose};
+ghost use Rattle.std.specs.Prelude.{◌≡◌, ◌≤◌, ◌↔◌, map, length, string_bytes, IsOk, IfOk, IfErr, IfSome, Some, None, Err};
+ghost use Rattle.rept_ports.specs.Shelves.{Loads};
 ghost use Rattle.rept_app.specs.Words.{meaning_of};
 ghost use Rattle.rept_app.specs.Asked.{named_by};
 ghost use Rattle.rept_app.specs.declared.refusal.FileKind.{FileKind};
-ghost use Rattle.rept_app.specs.Loading.{limit_of, fetched_all, first_packet, loading, LoadRefuses, NamesRefuse, CountsRefuse, AllRefuse, CountRefuses};
+ghost use Rattle.rept_app.specs.Loading.{limit_of, fetched_all, first_packet, loading, loads_to, FitBefore, LoadRefuses, LoadingStops, LoadsAll, NamesNone, ShelfMoves, StopsAt};
 ghost use Rattle.rept_app.specs.Loading.Loading.{Loaded};
 
 use crate::refusal::{FileKind, Refusal, Unbuilt};
@@ -38,11 +38,10 @@ fn load_file<H: Shelf>(
     name: &str,
     kind: FileKind,
 ) -> Result<Vec<u8>, Refusal>
-    ensures bytes { IfOk result (λ v. IfSome (H.files shelf.old) (λ fs. fs name.now ≡ Some v.items)) }
+    ensures bytes { IfOk result (λ v. IfSome (H.port shelf.old).files (λ files. files name.now ≡ Some v.items)) }
     ensures within { IfOk result (λ v. length v.items ≤ limit_of kind) }
-    ensures later { H.faults shelf.old ≤ H.faults shelf.new }
-    ensures err { IfErr result (LoadRefuses (H.files shelf.old) name.now kind (H.faults shelf.old) (H.faults shelf.new)) }
-    ensures files_stay { H.files shelf.new ≡ H.files shelf.old }
+    ensures loads { Loads (H.port shelf.old) (H.port shelf.new) result }
+    ensures err { IfErr result (LoadRefuses (H.port shelf.old) (H.port shelf.new) name.now kind) }
 {
     match shelf.load(alloc, name, limit(kind)) {
         Ok(bytes) => Ok(bytes),
@@ -70,11 +69,12 @@ fn load_names<H: Shelf>(
     names: FileNames<'_>,
     from: u32,
 ) -> Result<CrashFiles, Refusal>
-    ensures loaded { IfOk result (λ l. IfSome (H.files shelf.old) (λ fs. fetched_all fs (named_by names.entry) from ≡ Loaded l.exe.items l.core.items l.trace.items l.from)) }
+    ensures loaded { IfOk result (λ l. IfSome (H.port shelf.old).files (λ files. fetched_all files (named_by names.entry) from ≡ Loaded l.exe.items l.core.items l.trace.items l.from)) }
     ensures within { IfOk result (λ l. length l.trace.items ≤ limit_of FileKind.Trace) }
-    ensures later { H.faults shelf.old ≤ H.faults shelf.new }
-    ensures refused { IfErr result (λ r. MatchOption (H.files shelf.old) (CountsRefuse (H.faults shelf.old) (H.faults shelf.new) r) (λ fs. NamesRefuse fs (named_by names.entry) from r)) }
-    ensures fault { (kind : FileKind) → result ≡ Err (Refusal.LoadFault kind) → Rose (H.faults shelf.old) (H.faults shelf.new) }
+    ensures before { IsOk result → IfSome (H.port shelf.old).files (λ files. FitBefore files (named_by names.entry) FileKind.Trace) }
+    ensures loads { IsOk result → (H.port shelf.new).loads ≡ loads_to FileKind.Trace (H.port shelf.old).loads }
+    ensures faults { ShelfMoves (H.port shelf.old) (H.port shelf.new) result }
+    ensures refused { IfErr result (λ r. (kind : FileKind) × StopsAt (H.port shelf.old) (H.port shelf.new) (named_by names.entry) kind r) }
 {
     let exe = match load_file(alloc, shelf, names.exe, FileKind::Exe) {
         Ok(exe) => exe,
@@ -101,12 +101,12 @@ pub fn load_files<H: Shelf>(
     words: &[String],
     shelf: &mut H,
 ) -> Result<CrashFiles, Refusal>
-    ensures loaded { IfOk result (λ l. IfSome (H.files shelf.old) (λ fs. loading (map string_bytes words.now) fs ≡ Loaded l.exe.items l.core.items l.trace.items l.from)) }
+    ensures loaded { IfOk result (λ l. IfSome (H.port shelf.old).files (λ files. loading (map string_bytes words.now) files ≡ Loaded l.exe.items l.core.items l.trace.items l.from)) }
     ensures within { IfOk result (λ l. length l.trace.items ≤ limit_of FileKind.Trace) }
-    ensures meaning { IsOk result → meaning_of (map string_bytes words.now) ≢ None }
-    ensures later { H.faults shelf.old ≤ H.faults shelf.new }
-    ensures refused { IfErr result (λ r. MatchOption (H.files shelf.old) (CountRefuses (map string_bytes words.now) (H.faults shelf.old) (H.faults shelf.new) r) (λ fs. AllRefuse (map string_bytes words.now) fs r)) }
-    ensures fault { (kind : FileKind) → result ≡ Err (Refusal.LoadFault kind) → Rose (H.faults shelf.old) (H.faults shelf.new) }
+    ensures all { IsOk result → LoadsAll (meaning_of (map string_bytes words.now)) (H.port shelf.old) (H.port shelf.new) }
+    ensures faults { ShelfMoves (H.port shelf.old) (H.port shelf.new) result }
+    ensures refused { IfErr result (LoadingStops (meaning_of (map string_bytes words.now)) (H.port shelf.old) (H.port shelf.new)) }
+    ensures idle { NamesNone (meaning_of (map string_bytes words.now)) → shelf.new ≡ shelf.old }
     ensures usage { (result ≡ Err Refusal.Usage) ↔ (meaning_of (map string_bytes words.now) ≡ None) }
 {
     match meaning(words) {

@@ -1,4 +1,5 @@
 ghost use Rattle.std.specs.Prelude.{◌≡◌, ◌≤◌, length, IfSome};
+ghost use Rattle.rept_ports.specs.Port.{move};
 ghost use Rattle.rept_app.specs.Commands.{said_of_line};
 ghost use Rattle.rept_app.specs.Delivered.{Delivers};
 ghost use Rattle.rept_app.specs.Session.{Replies, Serves, IsCaused};
@@ -13,7 +14,7 @@ use rept_engine::Analysis;
 use rept_ports::{BoundedLines, Line, LineFault, Sink, Source, write_all};
 use std::alloc::Global;
 
-/// What comes behind a line.
+/// What comes after a line.
 #[derive(Clone, Copy, Debug, PartialEq, Eq)]
 pub enum Next {
     /// The next line, with the cursor at this point.
@@ -37,7 +38,7 @@ fn reply<K: Sink>(
 ) -> Next
     requires few { length analysis.now.rows ≤ 65536 }
     requires cursor { cursor ≤ length analysis.now.rows }
-    ensures { Replies (shown_by analysis.now end_pc) (length analysis.now.rows) cursor (said_of_line line.entry) (K.written out.old) (K.written out.new) (K.faults out.old) (K.faults out.new) result }
+    ensures { Replies (shown_by analysis.now end_pc) (length analysis.now.rows) cursor (said_of_line line.entry) (move (K.port out.old) (K.port out.new)) result }
 {
     let last = analysis.rows().len() as u32;
     let command = match read_line(line, last) {
@@ -54,7 +55,7 @@ fn reply<K: Sink>(
     }
 }
 
-/// Answers the lines of the input, each before the next one is read. `analysis` has its report; `end_pc` is the address behind
+/// Answers the lines of the input, each before the next one is read. `analysis` has its report; `end_pc` is the address after
 /// the last step.
 pub fn serve<S: Source, K: Sink>(
     alloc: Global,
@@ -64,8 +65,8 @@ pub fn serve<S: Source, K: Sink>(
     out: &mut K,
 ) -> Status
     requires few { length analysis.now.rows ≤ 65536 }
-    ensures text { IfSome (S.left input.old) (λ left. Delivers (Serves (shown_by analysis.now end_pc) (length analysis.now.rows) left) (K.written out.old) (K.written out.new) (K.faults out.old) (K.faults out.new) result) }
-    ensures causes { IsCaused (S.faults input.old) (S.faults input.new) (K.faults out.old) (K.faults out.new) result }
+    ensures text { IfSome (S.port input.old).bytes (λ bytes. Delivers (Serves (shown_by analysis.now end_pc) (length analysis.now.rows) (record { input = bytes; left = (S.port input.new).bytes })) (move (K.port out.old) (K.port out.new)) result) }
+    ensures causes { IsCaused (move (S.port input.old) (S.port input.new)) (move (K.port out.old) (K.port out.new)) result }
 {
     let mut cursor = analysis.rows().len() as u32;
     let mut lines = BoundedLines::new(input);

@@ -1,7 +1,8 @@
-ghost use Rattle.std.specs.Prelude.{◌≡◌, ◌≤◌, length, IfSome};
+ghost use Rattle.std.specs.Prelude.{◌≡◌, ◌⊎◌, ◌≤◌, length, IfSome};
 ghost use Rattle.rept_engine.specs.Soundness.{HasNoExecution};
+ghost use Rattle.rept_ports.specs.Port.{move};
 ghost use Rattle.rept_app.specs.Delivered.{Delivers};
-ghost use Rattle.rept_app.specs.Study.{Studies, IsStudied};
+ghost use Rattle.rept_app.specs.Study.{Studies, IsStudied, StudyHolds};
 
 use crate::refusal::Refusal;
 use crate::session::serve;
@@ -23,8 +24,9 @@ pub fn study<S: Source, K: Sink>(
 ) -> Status
     requires few { length rows.now ≤ 65536 }
     requires registers { length registers.now ≡ 32 }
-    ensures text { IfSome (S.left input.old) (λ left. Delivers (Studies rows.now registers.now end_pc left) (K.written out.old) (K.written out.new) (K.faults out.old) (K.faults out.new) result) }
-    ensures causes { IsStudied rows.now registers.now (S.faults input.old) (S.faults input.new) (K.faults out.old) (K.faults out.new) result }
+    ensures text { IfSome (S.port input.old).bytes (λ bytes. Delivers (Studies rows.now registers.now end_pc (record { input = bytes; left = (S.port input.new).bytes })) (move (K.port out.old) (K.port out.new)) result) }
+    ensures causes { IsStudied rows.now registers.now (move (S.port input.old) (S.port input.new)) (move (K.port out.old) (K.port out.new)) result }
+    ensures stays { (input.new ≡ input.old) ⊎ StudyHolds rows.now registers.now result }
     ensures impossible { result ≡ Status.Inconsistent → HasNoExecution rows.now registers.now }
 {
     let Ok(mut analysis) = Analysis::prepare(alloc, rows, registers) else {

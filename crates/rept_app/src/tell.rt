@@ -1,4 +1,5 @@
 ghost use Rattle.std.specs.Prelude.{◌≡◌};
+ghost use Rattle.rept_ports.specs.Port.{move};
 ghost use Rattle.rept_app.specs.Delivered.{Delivers, Says, Tells};
 
 use crate::refusal::Refusal;
@@ -9,7 +10,7 @@ use std::alloc::Global;
 /// Writes the line of a refusal and answers its status; where memory runs out, the line and status of that; where the output
 /// fails, its status.
 pub fn tell<K: Sink>(alloc: Global, out: &mut K, refusal: &Refusal) -> Status
-    ensures { Delivers (Tells refusal.now) (K.written out.old) (K.written out.new) (K.faults out.old) (K.faults out.new) result }
+    ensures { Delivers (Tells refusal.now) (move (K.port out.old) (K.port out.new)) result }
 {
     match refusal.line(alloc) {
         Ok(line) => deliver(out, line.bytes(), refusal.status()),
@@ -20,14 +21,14 @@ pub fn tell<K: Sink>(alloc: Global, out: &mut K, refusal: &Refusal) -> Status
 /// Writes the line of want of memory, which takes none, and answers its status, or that the output failed: for callers that have
 /// no memory to read the words.
 pub fn tell_no_memory<K: Sink>(out: &mut K) -> Status
-    ensures { Delivers (Says Refusal.OutOfMemory) (K.written out.old) (K.written out.new) (K.faults out.old) (K.faults out.new) result }
+    ensures { Delivers (Says Refusal.OutOfMemory) (move (K.port out.old) (K.port out.new)) result }
 {
     deliver(out, b"out-of-memory\n", Status::OutOfMemory)
 }
 
 /// Writes a text, and answers the status, or that the output failed.
 pub fn deliver<K: Sink>(out: &mut K, text: &[u8], status: Status) -> Status
-    ensures { Delivers (λ whole end. (whole ≡ text.now) × (end ≡ status)) (K.written out.old) (K.written out.new) (K.faults out.old) (K.faults out.new) result }
+    ensures { Delivers (λ whole end. (whole ≡ text.now) × (end ≡ status)) (move (K.port out.old) (K.port out.new)) result }
 {
     match write_all(out, text) {
         Ok(()) => status,

@@ -1,7 +1,10 @@
 ghost use Rattle.std.specs.Prelude.{◌≡◌, ◌⊎◌, map, string_bytes, IfSome, None};
+ghost use Rattle.rept_ports.specs.Port.{move};
 ghost use Rattle.rept_app.specs.Delivered.{Delivers};
-ghost use Rattle.rept_app.specs.Told.{Writes, ReportHolds, NoExecution};
-ghost use Rattle.rept_app.specs.Top.{TopCauses, EndsByFiles, Completes};
+ghost use Rattle.rept_app.specs.Ends.{EndsSession};
+ghost use Rattle.rept_app.specs.Loading.{NamesNone};
+ghost use Rattle.rept_app.specs.Told.{Writes, Holds, ReportHolds, NoExecution, given};
+ghost use Rattle.rept_app.specs.Top.{TopCauses, LoadsOf, EndsByFiles, Completes};
 ghost use Rattle.rept_app.specs.Words.{meaning_of};
 
 use crate::examine::examine;
@@ -25,28 +28,35 @@ pub fn rept<H: Shelf, S: Source, K: Sink>(
     input: &mut S,
     out: &mut K,
 ) -> Status
-    // Each fault has its cause, for ports that tell their bytes and for ports that don't.
-    ensures causes { TopCauses (H.files shelf.old) (H.faults shelf.old) (H.faults shelf.new) (S.faults input.old) (S.faults input.new) (K.faults out.old) (K.faults out.new) result }
+    // Each fault has its cause and ends the call, for ports that tell their bytes and for ports that don't. The files stay.
+    ensures causes { TopCauses (move (H.port shelf.old) (H.port shelf.new)) (move (S.port input.old) (S.port input.new)) (move (K.port out.old) (K.port out.new)) result }
 
     // The words alone decide on the usage line.
     ensures usage { result ≡ Status.Usage → meaning_of (map string_bytes words.now) ≡ None }
     ensures no_meaning { meaning_of (map string_bytes words.now) ≡ None → (result ≡ Status.Usage) ⊎ (result ≡ Status.OutputFault) ⊎ (result ≡ Status.OutOfMemory) }
 
+    // Words that name no files leave the shelf as it was. Else the files before the last load are there, and within their limits.
+    ensures idle { NamesNone (meaning_of (map string_bytes words.now)) → shelf.new ≡ shelf.old }
+    ensures loads { LoadsOf (meaning_of (map string_bytes words.now)) (move (H.port shelf.old) (H.port shelf.new)) result }
+
+    // The input is as it was, unless a session was held; and that is only where the files come to a report.
+    ensures stays { (input.new ≡ input.old) ⊎ (EndsSession result × IfSome (H.port shelf.old).files (Holds (map string_bytes words.now))) }
+
     // Where the files are told, they decide on each other status, unless a port fails or memory runs out.
-    ensures files { IfSome (H.files shelf.old) (λ files. EndsByFiles (map string_bytes words.now) files result) }
+    ensures files { IfSome (H.port shelf.old).files (λ files. EndsByFiles (map string_bytes words.now) files result) }
 
     // What is written, where files and input tell their bytes.
-    ensures text { IfSome (H.files shelf.old) (λ files. IfSome (S.left input.old) (λ left.
-        Delivers (Writes (map string_bytes words.now) files left) (K.written out.old) (K.written out.new) (K.faults out.old) (K.faults out.new) result)) }
+    ensures text { IfSome (H.port shelf.old).files (λ files. IfSome (S.port input.old).bytes (λ left.
+        Delivers (Writes (given (map string_bytes words.now) files (move (H.port shelf.old) (H.port shelf.new)) left (move (S.port input.old) (S.port input.new)))) (move (K.port out.old) (K.port out.new)) result)) }
 
     // Where no count rose, all of it is written, or memory ran out.
-    ensures complete { IfSome (H.files shelf.old) (λ files. IfSome (S.left input.old) (λ left.
-        Completes (map string_bytes words.now) files left (H.faults shelf.old) (H.faults shelf.new) (S.faults input.old) (S.faults input.new) (K.faults out.old) (K.faults out.new) (K.written out.old) (K.written out.new) result)) }
+    ensures complete { IfSome (H.port shelf.old).files (λ files. IfSome (S.port input.old).bytes (λ left.
+        Completes (given (map string_bytes words.now) files (move (H.port shelf.old) (H.port shelf.new)) left (move (S.port input.old) (S.port input.new))) (move (H.port shelf.old) (H.port shelf.new)) (move (S.port input.old) (S.port input.new)) (move (K.port out.old) (K.port out.new)) result)) }
 
     // What is told of the registers holds in every execution of the path that ends in the dump; a conflict is told only where
     // there is none.
-    ensures sound { IfSome (H.files shelf.old) (λ files. ReportHolds (map string_bytes words.now) files) }
-    ensures impossible { IfSome (H.files shelf.old) (λ files. result ≡ Status.Inconsistent → NoExecution (map string_bytes words.now) files) }
+    ensures sound { IfSome (H.port shelf.old).files (λ files. ReportHolds (map string_bytes words.now) files) }
+    ensures impossible { IfSome (H.port shelf.old).files (λ files. result ≡ Status.Inconsistent → NoExecution (map string_bytes words.now) files) }
 {
     reports_are_sound();
     match load_files(alloc, words, shelf) {

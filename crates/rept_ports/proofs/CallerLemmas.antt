@@ -1,10 +1,10 @@
 -- Laws of the words on causes and known bytes, for callers.
-use Rattle.std.proofs.Common.{◌≡◌, ℕ, ◌+◌, ◌-◌, ◌≤◌, List, [], ◌++◌, length, take, drop, append_assoc, arith, sym, ◌∙◌, ap}
+use Rattle.std.proofs.Common.{◌≡◌, ℕ, ◌+◌, ◌-◌, List, [], ◌++◌, length, take, drop, append_assoc, sym, ◌∙◌, ap, subst}
 use Rattle.std.proofs.Math.Seq.{take-add}
 use Rattle.std.proofs.lemmas.List.{take_rest, append-nil}
 use Rattle.std.specs.Prelude.{Option, None, Some}
 use Rattle.std.specs.Io.KnownBytes.{Appends, Keeps}
-use Rattle.rept_ports.specs.Causes.{Rose}
+use Rattle.rept_ports.specs.Causes.{OneFault}
 
 pub Appends-nothing : (a : Option (List ℕ)) → Appends a a []
 Appends-nothing None = tt
@@ -26,11 +26,9 @@ Appends-Keeps (Some x) (Some y) (Some z) xs h k = k ∙ h
 pub Appends-take : (a b c : Option (List ℕ)) (n m : ℕ) (text : List ℕ) → Appends a b (take n text) → Appends b c (take m (drop n text)) → Appends a c (take (n + m) text)
 Appends-take a b c n m text h k = rw (take-add n m text) (Appends-trans a b c (take n text) (take m (drop n text)) h k)
 
-pub Rose-then : (a b c : ℕ) → Rose a b → b ≤ c → Rose a c
-Rose-then a b c h k = omega arith
-
-pub then-Rose : (a b c : ℕ) → a ≤ b → Rose b c → Rose a c
-then-Rose a b c h k = omega arith
+-- a fault after calls without one
+pub fault_after : (a b c : ℕ) → b ≡ a → OneFault b c → OneFault a c
+fault_after a b c same fault = subst (λ before. OneFault before c) same fault
 
 -- what the code's `&text[n..]` is
 pub from_here : (n : ℕ) (text : List ℕ) → take (length text - n) (drop n text) ≡ drop n text

@@ -4,6 +4,8 @@ use Rattle.std.proofs.lemmas.List.{append-nil}
 use Rattle.std.specs.Prelude.{Option, None, Some, Ok, Err, nat_eq}
 use Rattle.std.specs.Str.Lines.{strip_carriage_return}
 use Rattle.std.specs.Io.KnownBytes.{Consumes, Keeps}
+use Rattle.rept_ports.specs.Causes.{OneFault}
+use Rattle.rept_ports.specs.Port.{Port}
 use Rattle.rept_ports.specs.Taken.{Taken, TakesByte}
 use Rattle.rept_ports.specs.Lines.{lines_from, whole_from, lines_of, whole_lines, Holds, IsFound, IsLast, Gives, LineStep, Took, said_of, to_come}
 use Rattle.rept_ports.specs.declared.lines.limits.LineFault.{LineFault}
@@ -28,11 +30,11 @@ Consumes-Keeps (Some x) (Some y) None xs h k = absurd k
 Consumes-Keeps (Some x) (Some y) (Some z) xs h k = h ∙ ap (λ w. xs ++ w) (sym k)
 
 -- What was taken so far, and the front of the line.
-pub record SoFar (old new : Taken) (left left' : Option (List ℕ)) (faults faults' : ℕ) (items : List ℕ) (is_long : Bool) : Type 0 where
+pub record SoFar (old new : Taken) (source source' : Port) (items : List ℕ) (is_long : Bool) : Type 0 where
   pub got : List ℕ
-  pub consumed : Consumes left left' got
+  pub consumed : Consumes source.bytes source'.bytes got
   pub count : new.count ≡ old.count + length got
-  pub later : faults ≤ faults'
+  pub calm : source'.faults ≡ source.faults
   pub front : List ℕ
   pub holds : Holds items is_long front
   pub going : new.ended ≡ false
@@ -40,13 +42,13 @@ pub record SoFar (old new : Taken) (left left' : Option (List ℕ)) (faults faul
   pub lines : (more : List ℕ) → lines_of ((old.pending ++ got) ++ more) ≡ lines_from front (new.pending ++ more)
   pub whole : (more : List ℕ) → whole_lines ((old.pending ++ got) ++ more) ≡ whole_from front (new.pending ++ more)
 
-pub at_start : (old : Taken) (left : Option (List ℕ)) (faults : ℕ) (items : List ℕ) → items ≡ [] → old.ended ≡ false → SoFar old old left left faults faults items false
-at_start old left faults items e going = record {
+pub at_start : (old : Taken) (source : Port) (items : List ℕ) → items ≡ [] → old.ended ≡ false → SoFar old old source source items false
+at_start old source items e going = record {
   going = going;
   got = [];
-  consumed = Consumes-nothing left;
+  consumed = Consumes-nothing source.bytes;
   count = omega arith;
-  later = omega arith;
+  calm = refl;
   front = [];
   holds = e;
   fewer = omega arith;
@@ -95,11 +97,11 @@ falls_by : (mid new : Taken) (b : ℕ) (got : List ℕ) → mid.pending ++ got �
 falls_by mid new b [] e n h = omega (arith, ap length e, length-append mid.pending [])
 falls_by mid new b (x ∷ xs) e n h = omega (arith, ap length e, length-append mid.pending (x ∷ xs))
 
-pub falls : (mid new : Taken) (left left' : Option (List ℕ)) (faults faults' b : ℕ) → TakesByte mid new left left' faults faults' (Ok (Some b)) → (1048576 - new.count) + length new.pending < (1048576 - mid.count) + length mid.pending
-falls mid new left left' faults faults' b t = falls_by mid new b t.0 t.2 t.3 t.4
+pub falls : (mid new : Taken) (source source' : Port) (b : ℕ) → TakesByte mid new source source' (Ok (Some b)) → (1048576 - new.count) + length new.pending < (1048576 - mid.count) + length mid.pending
+falls mid new source source' b t = falls_by mid new b t.0 t.2 t.3 t.4
 
 -- what the code knows when one more byte came
-module _ (old mid new : Taken) (left left' left'' : Option (List ℕ)) (faults faults' faults'' : ℕ) (items : List ℕ) (is_long : Bool) (so_far : SoFar old mid left left' faults faults' items is_long) where
+module _ (old mid new : Taken) (source source' source'' : Port) (items : List ℕ) (is_long : Bool) (so_far : SoFar old mid source source' items is_long) where
   pub lines_on : (got : List ℕ) (b : ℕ) → mid.pending ++ got ≡ b ∷ new.pending → (more : List ℕ) → lines_of ((old.pending ++ (so_far.got ++ got)) ++ more) ≡ lines_from so_far.front (b ∷ (new.pending ++ more))
   lines_on got b e more = ap lines_of (regroup old.pending so_far.got got more) ∙ so_far.lines (got ++ more) ∙ ap (lines_from so_far.front) (sym (append_assoc mid.pending got more) ∙ ap (λ w. w ++ more) e)
 
@@ -107,50 +109,51 @@ module _ (old mid new : Taken) (left left' left'' : Option (List ℕ)) (faults f
   whole_on got b e more = ap whole_lines (regroup old.pending so_far.got got more) ∙ so_far.whole (got ++ more) ∙ ap (whole_from so_far.front) (sym (append_assoc mid.pending got more) ∙ ap (λ w. w ++ more) e)
 
   -- the line goes on
-  pub one_more : (b : ℕ) (items' : List ℕ) (is_long' : Bool) → TakesByte mid new left' left'' faults' faults'' (Ok (Some b)) → b ≢ 10 → Holds items' is_long' (so_far.front ++ b ∷ []) → SoFar old new left left'' faults faults'' items' is_long'
+  pub one_more : (b : ℕ) (items' : List ℕ) (is_long' : Bool) → TakesByte mid new source' source'' (Ok (Some b)) → b ≢ 10 → Holds items' is_long' (so_far.front ++ b ∷ []) → SoFar old new source source'' items' is_long'
   one_more b items' is_long' t ne h = record {
     got = so_far.got ++ t.0;
-    consumed = Consumes-trans left left' left'' so_far.got t.0 so_far.consumed t.1;
+    consumed = Consumes-trans source.bytes source'.bytes source''.bytes so_far.got t.0 so_far.consumed t.1;
     count = omega (arith, so_far.count, t.3, length-append so_far.got t.0);
-    later = omega (arith, so_far.later, t.5);
+    calm = t.5 ∙ so_far.calm;
     front = so_far.front ++ b ∷ [];
     holds = h;
     going = t.6;
-    fewer = omega (arith, so_far.fewer, falls mid new left' left'' faults' faults'' b t, length-append so_far.front (b ∷ []));
+    fewer = omega (arith, so_far.fewer, falls mid new source' source'' b t, length-append so_far.front (b ∷ []));
     lines = λ more. lines_on t.0 b t.2 more ∙ ap (λ q. cond q (strip_carriage_return so_far.front ∷ lines_from [] (new.pending ++ more)) (lines_from (so_far.front ++ b ∷ []) (new.pending ++ more))) (not_newline b ne);
     whole = λ more. whole_on t.0 b t.2 more ∙ ap (λ q. cond q (strip_carriage_return so_far.front ∷ whole_from [] (new.pending ++ more)) (whole_from (so_far.front ++ b ∷ []) (new.pending ++ more))) (not_newline b ne);
   }
 
-  took_more : (got : List ℕ) → Consumes left' left'' got → new.count ≡ mid.count + length got → new.count ≤ 1048576 → faults' ≤ faults'' → Took old new left left'' faults faults'' (so_far.got ++ got)
-  took_more got more counted within later = record {
-    consumed = Consumes-trans left left' left'' so_far.got got so_far.consumed more;
+  took_more : (got : List ℕ) → Consumes source'.bytes source''.bytes got → new.count ≡ mid.count + length got → new.count ≤ 1048576 → Took old new source source'' (so_far.got ++ got)
+  took_more got more counted within = record {
+    consumed = Consumes-trans source.bytes source'.bytes source''.bytes so_far.got got so_far.consumed more;
     count = omega (arith, so_far.count, length-append so_far.got got);
     within = within;
-    later = omega (arith, so_far.later);
   }
 
-  gives : (t : TakesByte mid new left' left'' faults' faults'' (Ok (Some 10))) → Gives (old.pending ++ (so_far.got ++ t.0)) new (strip_carriage_return so_far.front)
+  gives : (t : TakesByte mid new source' source'' (Ok (Some 10))) → Gives (old.pending ++ (so_far.got ++ t.0)) new (strip_carriage_return so_far.front)
   gives t = record { next = λ more. lines_on t.0 10 t.2 more; whole = λ more. whole_on t.0 10 t.2 more; going = t.6 }
 
   -- the line ends
-  pub at_newline : (b : ℕ) (r : Found) (items' : List ℕ) → TakesByte mid new left' left'' faults' faults'' (Ok (Some b)) → b ≡ 10 → IsFound r items' (strip_carriage_return so_far.front) → LineStep old new left left'' faults faults'' (said_of (Ok r) items')
+  pub at_newline : (b : ℕ) (r : Found) (items' : List ℕ) → TakesByte mid new source' source'' (Ok (Some b)) → b ≡ 10 → IsFound r items' (strip_carriage_return so_far.front) → LineStep old new source source'' (said_of (Ok r) items')
   at_newline b found.End items' t e h = absurd h
   at_newline b found.Text items' t e h =
-      let u : TakesByte mid new left' left'' faults' faults'' (Ok (Some 10)) = subst (λ x. TakesByte mid new left' left'' faults' faults'' (Ok (Some x))) e t in
+      let u : TakesByte mid new source' source'' (Ok (Some 10)) = subst (λ x. TakesByte mid new source' source'' (Ok (Some x))) e t in
       record {
         got = so_far.got ++ u.0;
-        took = took_more u.0 u.1 u.3 u.4 u.5;
-        fewer = omega (arith, so_far.fewer, falls mid new left' left'' faults' faults'' 10 u);
+        took = took_more u.0 u.1 u.3 u.4;
+        calm = u.5 ∙ so_far.calm;
+        fewer = omega (arith, so_far.fewer, falls mid new source' source'' 10 u);
         line = strip_carriage_return so_far.front;
         told = h;
         next = inl (gives u);
       }
   at_newline b found.Long items' t e h =
-      let u : TakesByte mid new left' left'' faults' faults'' (Ok (Some 10)) = subst (λ x. TakesByte mid new left' left'' faults' faults'' (Ok (Some x))) e t in
+      let u : TakesByte mid new source' source'' (Ok (Some 10)) = subst (λ x. TakesByte mid new source' source'' (Ok (Some x))) e t in
       record {
         got = so_far.got ++ u.0;
-        took = took_more u.0 u.1 u.3 u.4 u.5;
-        fewer = omega (arith, so_far.fewer, falls mid new left' left'' faults' faults'' 10 u);
+        took = took_more u.0 u.1 u.3 u.4;
+        calm = u.5 ∙ so_far.calm;
+        fewer = omega (arith, so_far.fewer, falls mid new source' source'' 10 u);
         line = strip_carriage_return so_far.front;
         told = h;
         next = inl (gives u);
@@ -162,30 +165,30 @@ module _ (old mid new : Taken) (left left' left'' : Option (List ℕ)) (faults f
   lines_none : mid.pending ≡ [] → lines_of (old.pending ++ so_far.got) ≡ lines_from so_far.front []
   lines_none e = ap lines_of (sym (append-nil (old.pending ++ so_far.got))) ∙ so_far.lines [] ∙ ap (λ w. lines_from so_far.front (w ++ [])) e
 
-  strictly : TakesByte mid new left' left'' faults' faults'' (Ok None) → 0 < length so_far.front → to_come new < to_come old
+  strictly : TakesByte mid new source' source'' (Ok None) → 0 < length so_far.front → to_come new < to_come old
   strictly t h = omega (arith, so_far.fewer, t.4, ap length t.3, ap length t.0)
 
-  took_none : TakesByte mid new left' left'' faults' faults'' (Ok None) → Took old new left left'' faults faults'' so_far.got
+  took_none : TakesByte mid new source' source'' (Ok None) → Took old new source source'' so_far.got
   took_none t = record {
-    consumed = rw append-nil at (Consumes-trans left left' left'' so_far.got [] so_far.consumed t.2);
+    consumed = rw append-nil at (Consumes-trans source.bytes source'.bytes source''.bytes so_far.got [] so_far.consumed t.2);
     count = omega (arith, so_far.count, t.4);
     within = t.7;
-    later = omega (arith, so_far.later, t.5);
   }
 
   -- the input ends
-  pub at_its_end : (r : Found) (items' : List ℕ) → TakesByte mid new left' left'' faults' faults'' (Ok None) → IsLast r items' so_far.front → LineStep old new left left'' faults faults'' (said_of (Ok r) items')
+  pub at_its_end : (r : Found) (items' : List ℕ) → TakesByte mid new source' source'' (Ok None) → IsLast r items' so_far.front → LineStep old new source source'' (said_of (Ok r) items')
   at_its_end found.End items' t h =
-      record { got = so_far.got; took = took_none t; nothing = nothing_left t h; none_pending = t.3; at_end = t.1; ended = t.6 }
+      record { got = so_far.got; took = took_none t; calm = t.5 ∙ so_far.calm; nothing = nothing_left t h; none_pending = t.3; at_end = t.1; ended = t.6 }
     where
       empty_line : (xs ys : List ℕ) → lines_of xs ≡ lines_from ys [] → ys ≡ [] → lines_of xs ≡ []
       empty_line xs ys e h = e ∙ ap (λ w. lines_from w []) h
 
-      nothing_left : TakesByte mid new left' left'' faults' faults'' (Ok None) → so_far.front ≡ [] → old.pending ++ so_far.got ≡ []
+      nothing_left : TakesByte mid new source' source'' (Ok None) → so_far.front ≡ [] → old.pending ++ so_far.got ≡ []
       nothing_left t h = no_lines (old.pending ++ so_far.got) (empty_line (old.pending ++ so_far.got) so_far.front (lines_none t.0) h)
   at_its_end found.Text items' t h = record {
     got = so_far.got;
     took = took_none t;
+    calm = t.5 ∙ so_far.calm;
     fewer = strictly t h.1;
     line = so_far.front;
     told = h.0;
@@ -194,26 +197,27 @@ module _ (old mid new : Taken) (left left' left'' : Option (List ℕ)) (faults f
   at_its_end found.Long items' t h = record {
     got = so_far.got;
     took = took_none t;
+    calm = t.5 ∙ so_far.calm;
     fewer = strictly t h.1;
     line = so_far.front;
     told = h.0;
     next = inr (record { last = lines_none t.0 ∙ one_line so_far.front h.1; none_whole = whole_none t.0; all = t.3; at_end = t.1; ended = t.6 });
   }
 
-  pub at_fault : (e : LineFault) → TakesByte mid new left' left'' faults' faults'' (Err e) → LineStep old new left left'' faults faults'' (Err e)
+  pub at_fault : (e : LineFault) → TakesByte mid new source' source'' (Err e) → LineStep old new source source'' (Err e)
   at_fault ReadFault t = record {
     got = so_far.got;
-    took = record { consumed = Consumes-Keeps left left' left'' so_far.got so_far.consumed t.2; count = ap (λ w. w.count) t.3 ∙ so_far.count; within = t.5; later = omega (arith, so_far.later, t.4) };
-    rose = omega (arith, so_far.later, t.1);
+    took = record { consumed = Consumes-Keeps source.bytes source'.bytes source''.bytes so_far.got so_far.consumed t.2; count = ap (λ w. w.count) t.3 ∙ so_far.count; within = t.4 };
+    fault = subst (λ before. OneFault before source''.faults) so_far.calm t.1;
     none_whole = whole_none t.0;
   }
   at_fault TooMuchInput t = record {
     got = so_far.got;
     extra = t.1.0;
-    consumed = Consumes-trans left left' left'' so_far.got (t.1.0 ∷ []) so_far.consumed t.1.1;
+    consumed = Consumes-trans source.bytes source'.bytes source''.bytes so_far.got (t.1.0 ∷ []) so_far.consumed t.1.1;
     count = ap (λ w. w.count) t.3 ∙ so_far.count;
     full = ap (λ w. w.count) t.3 ∙ t.2;
-    later = omega (arith, so_far.later, t.4);
+    calm = t.4 ∙ so_far.calm;
     none_whole = whole_none t.0;
   }
 

@@ -1,6 +1,7 @@
 -- What a call of `next_line` does.
 use Rattle.std.specs.Prelude.{◌≡◌, ℕ, List, Option, None, Some, Result, Ok, Err, MatchOption, MatchBool}
 use Rattle.rept_ports.specs.Lines.{LineStep, Said}
+use Rattle.rept_ports.specs.Port.{Port}
 use Rattle.rept_ports.specs.declared.lines.limits.LineFault.{LineFault}
 use Rattle.rept_ports.specs.declared.lines.limits.Line.{Line}
 use Rattle.rept_ports.specs.declared.lines.limits.Line.TheVariants as line
@@ -17,11 +18,11 @@ pub record IsSame {S : Type 0} (old new : BoundedLines S) : Type 0 where
   pub fault : new.fault ≡ old.fault
 
 -- After a fault each call answers the same, and so it does after the end; else a line was found, or the fault is kept.
-module _ {S : Type 0} (left : S → Option (List ℕ)) (faults : S → ℕ) where
+module _ {S : Type 0} (port : S → Port) where
   abbrev pub LinesOn : BoundedLines S → BoundedLines S → Said → Type 0
   LinesOn old new said = MatchOption old.fault
       (MatchBool old.intake.ended ((said ≡ Ok None) × IsSame old new)
-      (LineStep old.intake new.intake (left old.source.now) (left new.source.now) (faults old.source.now) (faults new.source.now) said × (new.fault ≡ fault_in said)))
+      (LineStep old.intake new.intake (port old.source.now) (port new.source.now) said × (new.fault ≡ fault_in said)))
       (λ e. (said ≡ Err e) × IsSame old new)
 
 abbrev pub said_by : Result (Option Line) LineFault → Said

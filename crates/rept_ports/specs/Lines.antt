@@ -1,10 +1,11 @@
 -- The lines of an input, as POSIX defines a line: each ends with a newline (POSIX.1-2017, 3.206). A carriage return before
--- the newline, as other systems write it, is no part of the line, and what stands behind the last newline counts as a
+-- the newline, as other systems write it, is no part of the line, and what stands after the last newline counts as a
 -- line where it is not empty.
 use Rattle.std.specs.Prelude.{◌≡◌, ℕ, ◌+◌, ◌-◌, ◌<◌, ◌≤◌, ◌⊎◌, List, [], ◌∷◌, ◌++◌, length, Bool, true, false, Option, None, Some, Result, Ok, Err, ◌==◌, nat_lt, if◌then◌else◌}
 use Rattle.std.specs.Str.Lines.{strip_carriage_return}
 use Rattle.std.specs.Io.KnownBytes.{Consumes, IsAtEnd}
-use Rattle.rept_ports.specs.Causes.{Rose}
+use Rattle.rept_ports.specs.Causes.{OneFault}
+use Rattle.rept_ports.specs.Port.{Port}
 use Rattle.rept_ports.specs.Taken.{Taken}
 use Rattle.rept_ports.specs.declared.lines.limits.LineFault.{LineFault}
 use Rattle.rept_ports.specs.declared.lines.limits.LineFault.TheVariants.{ReadFault, TooMuchInput}
@@ -42,7 +43,7 @@ IsFound found.Text items line = given line ≡ Some items
 IsFound found.Long items line = given line ≡ None
 IsFound found.End items line = ⊥
 
--- what was found behind the last newline
+-- what was found after the last newline
 abbrev pub IsLast : Found → List ℕ → List ℕ → Type 0
 IsLast found.Text items front = (given front ≡ Some items) × (0 < length front)
 IsLast found.Long items front = (given front ≡ None) × (0 < length front)
@@ -77,50 +78,51 @@ said_of (Ok found.End) items = Ok None
 said_of (Err e) items = Err e
 
 -- bytes were taken from what was left, and counted
-pub record Took (old new : Taken) (left left' : Option (List ℕ)) (faults faults' : ℕ) (got : List ℕ) : Type 0 where
-  pub consumed : Consumes left left' got
+pub record Took (old new : Taken) (source source' : Port) (got : List ℕ) : Type 0 where
+  pub consumed : Consumes source.bytes source'.bytes got
   pub count : new.count ≡ old.count + length got
   pub within : new.count ≤ 1048576
-  pub later : faults ≤ faults'
 
 -- nothing was left of the input
-pub record EndsInput (old new : Taken) (left left' : Option (List ℕ)) (faults faults' : ℕ) : Type 0 where
+pub record EndsInput (old new : Taken) (source source' : Port) : Type 0 where
   pub got : List ℕ
-  pub took : Took old new left left' faults faults' got
+  pub took : Took old new source source' got
+  pub calm : source'.faults ≡ source.faults
   pub nothing : old.pending ++ got ≡ []
   pub none_pending : new.pending ≡ []
-  pub at_end : IsAtEnd left'
+  pub at_end : IsAtEnd source'.bytes
   pub ended : new.ended ≡ true
 
 -- a line was found: it ends here, or the input does
-pub record FindsLine (old new : Taken) (left left' : Option (List ℕ)) (faults faults' : ℕ) (said : Option (List ℕ)) : Type 0 where
+pub record FindsLine (old new : Taken) (source source' : Port) (said : Option (List ℕ)) : Type 0 where
   pub got : List ℕ
-  pub took : Took old new left left' faults faults' got
+  pub took : Took old new source source' got
+  pub calm : source'.faults ≡ source.faults
   pub fewer : to_come new < to_come old
   pub line : List ℕ
   pub told : given line ≡ said
-  pub next : Gives (old.pending ++ got) new line ⊎ Ends (old.pending ++ got) new left' line
+  pub next : Gives (old.pending ++ got) new line ⊎ Ends (old.pending ++ got) new source'.bytes line
 
 -- a read failed, and no whole line is left of the bytes that were taken
-pub record FailsRead (old new : Taken) (left left' : Option (List ℕ)) (faults faults' : ℕ) : Type 0 where
+pub record FailsRead (old new : Taken) (source source' : Port) : Type 0 where
   pub got : List ℕ
-  pub took : Took old new left left' faults faults' got
-  pub rose : Rose faults faults'
+  pub took : Took old new source source' got
+  pub fault : OneFault source.faults source'.faults
   pub none_whole : whole_lines (old.pending ++ got) ≡ []
 
 -- as many bytes as may be taken were taken, no whole line is left of them, and one more byte came
-pub record PassesLimit (old new : Taken) (left left' : Option (List ℕ)) (faults faults' : ℕ) : Type 0 where
+pub record PassesLimit (old new : Taken) (source source' : Port) : Type 0 where
   pub got : List ℕ
   pub extra : ℕ
-  pub consumed : Consumes left left' (got ++ extra ∷ [])
+  pub consumed : Consumes source.bytes source'.bytes (got ++ extra ∷ [])
   pub count : new.count ≡ old.count + length got
   pub full : new.count ≡ 1048576
-  pub later : faults ≤ faults'
+  pub calm : source'.faults ≡ source.faults
   pub none_whole : whole_lines (old.pending ++ got) ≡ []
 
 -- the next line, with the bytes that were taken for it
-abbrev pub LineStep : Taken → Taken → Option (List ℕ) → Option (List ℕ) → ℕ → ℕ → Said → Type 0
-LineStep old new left left' faults faults' (Ok None) = EndsInput old new left left' faults faults'
-LineStep old new left left' faults faults' (Ok (Some said)) = FindsLine old new left left' faults faults' said
-LineStep old new left left' faults faults' (Err ReadFault) = FailsRead old new left left' faults faults'
-LineStep old new left left' faults faults' (Err TooMuchInput) = PassesLimit old new left left' faults faults'
+abbrev pub LineStep : Taken → Taken → Port → Port → Said → Type 0
+LineStep old new source source' (Ok None) = EndsInput old new source source'
+LineStep old new source source' (Ok (Some said)) = FindsLine old new source source' said
+LineStep old new source source' (Err ReadFault) = FailsRead old new source source'
+LineStep old new source source' (Err TooMuchInput) = PassesLimit old new source source'

@@ -7,47 +7,51 @@ use std::marker::Model;
 use std::rt::Files;
 use std::{fs, io};
 
-/// Files of the system, which are not told. Contracts see how many loads failed.
+/// Files of the system, which are not told. Contracts see how many loads were asked for, and how many failed.
 #[derive(Drop)]
 pub struct DiskShelf<R> {
     rt: R,
+    loads: u64,
     faults: u64,
 }
 
 impl<R> Model for DiskShelf<R> {
-    ghost use Rattle.std.specs.Prelude.{ℕ};
+    ghost use Rattle.rept_ports.specs.Host.{DiskState};
 
-    ghost Value = { ℕ };
+    ghost Value = { DiskState };
 
-    ghost view = { λ s. s.faults };
+    ghost view = { λ s. record { loads = s.loads; faults = s.faults } };
 }
 
 impl<R: Files> DiskShelf<R> {
-    /// The files that the runtime reaches. No load has failed.
+    /// The files that the runtime reaches. No load was asked for.
     pub fn new(rt: R) -> DiskShelf<R>
-        ensures { result ≡ 0 }
+        ensures { result ≡ record { loads = 0; faults = 0 } }
     {
-        DiskShelf { rt, faults: 0 }
+        DiskShelf {
+            rt,
+            loads: 0,
+            faults: 0,
+        }
     }
 }
 
 impl<R: Files> Shelf for DiskShelf<R> {
     ghost use Rattle.std.specs.Prelude.{None, ◌≡◌, ◌≤◌, length, IfOk, IfErr, is_ok, if◌then◌else◌};
-    ghost use Rattle.rept_ports.specs.Shelves.{LoadFails};
+    ghost use Rattle.rept_ports.specs.Shelves.{Shelved, Loads, LoadFails};
     ghost use Rattle.rept_ports.specs.Causes.{next_count};
 
-    ghost files = { λ _. None };
-
-    ghost faults = { λ s. s };
+    ghost port = { λ s. record { files = None; loads = s.loads; faults = s.faults } };
 
     /// The bytes of the file at this path. Of a larger file `limit + 1` bytes are read, and it is `TooLarge`. A path that
     /// names nothing is `Missing`, and one that names a folder or cannot be read `Failed`. Each fault is counted.
     fn load(&mut self, alloc: Global, name: &str, limit: usize) -> Result<Vec<u8>, LoadFault>
         ensures within { IfOk result (λ v. length v.items ≤ limit) }
-        ensures faults_stay { self.old ≤ self.new }
-        ensures err { IfErr result (LoadFails None name.now limit self.old self.new) }
-        ensures counts { self.new ≡ (if is_ok result then self.old else next_count self.old) }
+        ensures loads { Loads (record { files = None; loads = self.old.loads; faults = self.old.faults }) (record { files = None; loads = self.new.loads; faults = self.new.faults }) result }
+        ensures err { IfErr result (LoadFails (record { files = None; loads = self.old.loads; faults = self.old.faults }) (record { files = None; loads = self.new.loads; faults = self.new.faults }) name.now limit) }
+        ensures counts { self.new.faults ≡ (if is_ok result then self.old.faults else next_count self.old.faults) }
     {
+        self.loads = self.loads.saturating_add(1);
         let loaded = read_at_most(&self.rt, alloc, name, limit);
         if loaded.is_err() {
             self.faults = self.faults.saturating_add(1);
@@ -116,9 +120,7 @@ impl<R: Read> Source for StdSource<R> {
     ghost use Rattle.std.specs.Io.KnownBytes.{ReadConsumes};
     ghost use Rattle.rept_ports.specs.Causes.{HasCause, next_count};
 
-    ghost left = { λ _. None };
-
-    ghost faults = { λ s. s.faults };
+    ghost port = { λ s. record { bytes = None; faults = s.faults } };
 
     /// Reads once from the reader. `Failed` comes where the reader failed, and is counted.
     fn read(&mut self, into: &mut [u8]) -> Result<usize, Failed>
@@ -167,9 +169,7 @@ impl<W: Write> Sink for StdSink<W> {
     ghost use Rattle.std.specs.Io.KnownBytes.{WriteAppends};
     ghost use Rattle.rept_ports.specs.Causes.{HasCause, next_count};
 
-    ghost written = { λ _. None };
-
-    ghost faults = { λ s. s.faults };
+    ghost port = { λ s. record { bytes = None; faults = s.faults } };
 
     /// Writes once to the writer. `Failed` comes where the writer failed or took nothing of a piece that is not empty, and
     /// is counted.

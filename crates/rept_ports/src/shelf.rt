@@ -8,36 +8,41 @@ use std::alloc::Global;
 use std::collections::BTreeMap;
 use std::marker::Model;
 
-/// Files in memory, whose loads never fail but for memory. Contracts see the list of names and bytes.
+/// Files in memory, whose loads never fail but for memory. Contracts see the list of names and bytes, and the number of loads.
 #[derive(Drop)]
 pub struct CalmShelf {
     alloc: Global,
     files: BTreeMap<String, Vec<u8>>,
+    calls: u64,
 }
 
 impl Model for CalmShelf {
-    ghost use Rattle.std.specs.Prelude.{List, ℕ};
     ghost use Rattle.rept_ports.specs.FileList.{file_list};
+    ghost use Rattle.rept_ports.specs.Memory.{CalmState};
 
-    ghost Value = { List (List ℕ × List ℕ) };
+    ghost Value = { CalmState };
 
-    ghost view = { λ s. file_list s.files.entries };
+    ghost view = { λ s. record { files = file_list s.files.entries; calls = s.calls } };
 }
 
 impl CalmShelf {
+    ghost use Rattle.rept_ports.specs.Memory.{CalmState};
+
     /// No files.
     pub fn new(alloc: Global) -> CalmShelf
-        ensures { result ≡ [] }
+        ensures { result ≡ record { files = []; calls = 0 } }
     {
         CalmShelf {
             alloc,
             files: BTreeMap::new(alloc),
+            calls: 0,
         }
     }
 
     /// Makes the bytes the file of this name. Its only refusal is of memory, and changes nothing.
     pub fn put(&mut self, name: &str, bytes: &[u8]) -> Result<(), OutOfMemory>
-        ensures ok { OnOk result ((q : List ℕ) → file_in self.new q ≡ (if bytes_eq name.now q then Some bytes.now else file_in self.old q)) }
+        ensures ok { OnOk result ((q : List ℕ) → file_in self.new.files q ≡ (if bytes_eq name.now q then Some bytes.now else file_in self.old.files q)) }
+        ensures stays { let old : CalmState = self.old in self.new ≡ record old { files = self.new.files } }
         ensures err { OnErr result (self.new ≡ self.old) }
     {
         let name = String::from_str(self.alloc, name)?;
@@ -48,7 +53,7 @@ impl CalmShelf {
 
     /// The bytes of the file of this name.
     fn find(&self, name: &str) -> Option<&[u8]>
-        ensures { option_map (λ b. b.now) result ≡ file_in self.now name.now }
+        ensures { option_map (λ b. b.now) result ≡ file_in self.now.files name.now }
     {
         file_of(&self.files, name)
     }
@@ -56,20 +61,22 @@ impl CalmShelf {
 
 impl Shelf for CalmShelf {
     ghost use Rattle.std.specs.Prelude.{Some, length, ◌≤◌, ◌≡◌, IfOk, IfErr};
-    ghost use Rattle.rept_ports.specs.Shelves.{LoadFails};
+    ghost use Rattle.rept_ports.specs.Causes.{next_count};
+    ghost use Rattle.rept_ports.specs.Memory.{CalmState, calm_shelved};
+    ghost use Rattle.rept_ports.specs.Shelves.{Loads, LoadFails};
 
-    ghost files = { λ s. Some (file_in s) };
-
-    ghost faults = { λ _. 0 };
+    ghost port = { λ s. calm_shelved s };
 
     /// A copy of the bytes of the file of this name. It is never `Failed`.
     fn load(&mut self, alloc: Global, name: &str, limit: usize) -> Result<Vec<u8>, LoadFault>
         ensures within { IfOk result (λ v. length v.items ≤ limit) }
-        ensures bytes { IfOk result (λ v. file_in self.old name.now ≡ Some v.items) }
-        ensures err { IfErr result (LoadFails (Some (file_in self.old)) name.now limit 0 0) }
-        ensures files_stay { Some (file_in self.new) ≡ Some (file_in self.old) }
-        ensures stays { self.new ≡ self.old }
+        ensures bytes { IfOk result (λ v. file_in self.old.files name.now ≡ Some v.items) }
+        ensures loads { Loads (calm_shelved self.old) (calm_shelved self.new) result }
+        ensures err { IfErr result (LoadFails (calm_shelved self.old) (calm_shelved self.new) name.now limit) }
+        ensures never { IsErrOf result LoadFault.Failed → ⊥ }
+        ensures stays { let old : CalmState = self.old in self.new ≡ record old { calls = next_count self.old.calls } }
     {
+        self.calls = self.calls.saturating_add(1);
         copy_of(alloc, self.find(name), limit)
     }
 }
@@ -115,7 +122,7 @@ impl Model for MemShelf {
 
     ghost Value = { ShelfState };
 
-    ghost view = { λ s. record { files = s.shelf; fails = s.fails.items; calls = s.calls; faults = s.faults } };
+    ghost view = { λ s. record { files = s.shelf.files; fails = s.fails.items; calls = s.calls; faults = s.faults } };
 }
 
 impl MemShelf {
@@ -146,20 +153,17 @@ impl MemShelf {
 
 impl Shelf for MemShelf {
     ghost use Rattle.std.specs.Prelude.{Some, length, ◌≤◌, ◌≡◌, IfOk, IfErr, IfSome, Ok, Err};
-    ghost use Rattle.rept_ports.specs.Shelves.{LoadFails};
-    ghost use Rattle.rept_ports.specs.Memory.{ShelfStep};
+    ghost use Rattle.rept_ports.specs.Memory.{ShelfStep, shelved};
+    ghost use Rattle.rept_ports.specs.Shelves.{Loads, LoadFails};
 
-    ghost files = { λ s. Some (file_in s.files) };
-
-    ghost faults = { λ s. s.faults };
+    ghost port = { λ s. shelved s };
 
     /// A copy of the bytes of the file of this name. `Failed` comes exactly where the number of this load is listed.
     fn load(&mut self, alloc: Global, name: &str, limit: usize) -> Result<Vec<u8>, LoadFault>
         ensures within { IfOk result (λ v. length v.items ≤ limit) }
         ensures bytes { IfOk result (λ v. file_in self.old.files name.now ≡ Some v.items) }
-        ensures faults_stay { self.old.faults ≤ self.new.faults }
-        ensures err { IfErr result (LoadFails (Some (file_in self.old.files)) name.now limit self.old.faults self.new.faults) }
-        ensures files_stay { Some (file_in self.new.files) ≡ Some (file_in self.old.files) }
+        ensures loads { Loads (shelved self.old) (shelved self.new) result }
+        ensures err { IfErr result (LoadFails (shelved self.old) (shelved self.new) name.now limit) }
         ensures step { ShelfStep self.old self.new result }
     {
         self.calls = self.calls.saturating_add(1);

@@ -8,11 +8,12 @@ use std::marker::Model;
 
 /// Writes the whole text.
 ///
-/// `Failed` comes only where the sink's count of faults rose. A part of the text that begins it was written then.
+/// `Failed` comes only where the sink counted a fault, and only one is counted. A part of the text that begins it was written
+/// then.
 pub fn write_all<K: Sink>(sink: &mut K, text: &[u8]) -> Result<(), Failed>
-    ensures ok { OnOk result (Appends (K.written sink.old) (K.written sink.new) text.now) }
-    ensures err { OnErr result (AppendsPrefix (K.written sink.old) (K.written sink.new) text.now) }
-    ensures cause { HasCause (K.faults sink.old) (K.faults sink.new) result }
+    ensures ok { OnOk result (Appends (K.port sink.old).bytes (K.port sink.new).bytes text.now) }
+    ensures err { OnErr result (AppendsPrefix (K.port sink.old).bytes (K.port sink.new).bytes text.now) }
+    ensures cause { HasCause (K.port sink.old).faults (K.port sink.new).faults result }
 {
     let mut done = 0;
     while done < text.len() {
@@ -77,9 +78,7 @@ impl Sink for MemSink {
     ghost use Rattle.rept_ports.specs.Causes.{HasCause};
     ghost use Rattle.rept_ports.specs.Memory.{SinkStep};
 
-    ghost written = { λ s. Some s.written };
-
-    ghost faults = { λ s. s.faults };
+    ghost port = { λ s. record { bytes = Some s.written; faults = s.faults } };
 
     /// Writes as much of the piece as fits in the room that is left. `Failed` comes exactly where the number of this write
     /// is listed, or no room is left for a piece that is not empty.

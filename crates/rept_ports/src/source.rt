@@ -34,9 +34,7 @@ impl<'a> Source for CalmSource<'a> {
     ghost use Rattle.rept_ports.specs.Causes.{HasCause};
     ghost use Rattle.rept_ports.specs.Memory.{CalmRead};
 
-    ghost left = { λ s. Some s };
-
-    ghost faults = { λ _. 0 };
+    ghost port = { λ s. record { bytes = Some s; faults = 0 } };
 
     /// Moves as many bytes as are left and fit. It never fails.
     fn read(&mut self, into: &mut [u8]) -> Result<usize, Failed>
@@ -94,9 +92,7 @@ impl<'a> Source for MemSource<'a> {
     ghost use Rattle.rept_ports.specs.Causes.{HasCause};
     ghost use Rattle.rept_ports.specs.Memory.{SourceStep};
 
-    ghost left = { λ s. Some s.left };
-
-    ghost faults = { λ s. s.faults };
+    ghost port = { λ s. record { bytes = Some s.left; faults = s.faults } };
 
     /// Moves as many bytes as are left and fit. `Failed` comes exactly where the number of this read is listed.
     fn read(&mut self, into: &mut [u8]) -> Result<usize, Failed>

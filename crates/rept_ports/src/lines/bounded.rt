@@ -8,7 +8,7 @@ use crate::traits::Source;
 
 /// The lines of a source, of which at most 1,048,576 bytes are taken, and no more at a time than 512.
 ///
-/// A line ends with a newline, and one carriage return before it is no part of the line. What stands behind the last
+/// A line ends with a newline, and one carriage return before it is no part of the line. What stands after the last
 /// newline is a line too, where it is not empty. The end of the input is remembered: nothing is read after it.
 #[derive(Drop)]
 pub struct BoundedLines<'s, S: Source> {
@@ -40,7 +40,7 @@ impl<'s, S: Source> BoundedLines<'s, S> {
     /// Goes on to the next line, whose bytes are then in `line`.
     pub(crate) fn advance(&mut self) -> Result<Found, LineFault>
         ensures same { self.new.source.ghost_name ≡ self.old.source.ghost_name }
-        ensures step { LinesOn S.left S.faults self.old self.new (said_of result self.new.line.items) }
+        ensures step { LinesOn S.port self.old self.new (said_of result self.new.line.items) }
     {
         if let Some(fault) = self.fault {
             return Err(fault);

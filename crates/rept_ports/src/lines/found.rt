@@ -32,7 +32,7 @@ pub fn finish(line: &mut LineBytes, is_long: bool) -> Found
     Found::Text
 }
 
-/// What stands behind the last newline.
+/// What stands after the last newline.
 pub fn at_end(line: &LineBytes, is_long: bool) -> Found
     ensures { (front : List ℕ) → Holds line.now.items is_long front → IsLast result line.now.items front }
 {

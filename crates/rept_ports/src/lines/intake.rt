@@ -69,7 +69,7 @@ impl Intake {
     pub fn fill<S: Source>(&mut self, source: &mut S) -> Result<usize, LineFault>
         requires pending { self.old.pending ≡ [] }
         requires going { self.old.ended ≡ false }
-        ensures { Fills self.old self.new (S.left source.old) (S.left source.new) (S.faults source.old) (S.faults source.new) result }
+        ensures { Fills self.old self.new (S.port source.old) (S.port source.new) result }
     {
         let room = (MOST_INPUT - self.taken).min(512);
         if room == 0 {
@@ -96,7 +96,7 @@ impl Intake {
     /// The next byte of the input, or `None` at its end.
     pub fn take<S: Source>(&mut self, source: &mut S) -> Result<Option<u8>, LineFault>
         requires { self.old.ended ≡ false }
-        ensures { TakesByte self.old self.new (S.left source.old) (S.left source.new) (S.faults source.old) (S.faults source.new) result }
+        ensures { TakesByte self.old self.new (S.port source.old) (S.port source.new) result }
     {
         if let Some(byte) = self.next() {
             return Ok(Some(byte));
@@ -111,7 +111,7 @@ impl Intake {
 
 /// Whether the source has ended. If it has not, a byte of it is lost.
 fn is_more<S: Source>(source: &mut S) -> Result<usize, LineFault>
-    ensures { IsMore (S.left source.old) (S.left source.new) (S.faults source.old) (S.faults source.new) result }
+    ensures { IsMore (S.port source.old) (S.port source.new) result }
 {
     let mut probe = [0u8; 1];
     match source.read(&mut probe) {

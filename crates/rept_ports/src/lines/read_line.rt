@@ -13,7 +13,7 @@ pub fn read_line<S: Source>(
     line: &mut LineBytes,
 ) -> Result<Found, LineFault>
     requires { intake.old.ended ≡ false }
-    ensures { LineStep intake.old intake.new (S.left source.old) (S.left source.new) (S.faults source.old) (S.faults source.new) (said_of result line.new.items) }
+    ensures { LineStep intake.old intake.new (S.port source.old) (S.port source.new) (said_of result line.new.items) }
 {
     line.clear();
     let mut is_long = false;

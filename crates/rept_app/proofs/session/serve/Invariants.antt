@@ -6,16 +6,15 @@ use Rattle.rept_app.proofs.session.serve.Given as goal
 
 abbrev pub invariant-session : goal.invariant-session
 invariant-session g l =
-    let left = g.S.Source.left in
-    let faults = g.S.Source.faults in
-    let written = g.K.Sink.written in
+    let source = g.S.Source.port in
+    let sink = g.K.Sink.port in
     record {
       same : l.lines.source.ghost_name ≡ l.initial.lines.source.ghost_name;
       none : l.lines.fault ≡ None;
       within : l.cursor ≤ length l.analysis.rows;
-      read_later : faults l.initial.lines.source.now ≤ faults l.lines.source.now;
-      wrote_later : g.K.Sink.faults l.initial.out ≤ g.K.Sink.faults l.out;
-      so_far : IfSome (left l.initial.lines.source.now) (λ input. SoFar (shown_by l.analysis l.end_pc) (length l.analysis.rows) input (left l.lines.source.now) l.lines.intake l.cursor (written l.initial.out) (written l.out));
+      read_calm : (source l.lines.source.now).faults ≡ (source l.initial.lines.source.now).faults;
+      write_calm : (sink l.out).faults ≡ (sink l.initial.out).faults;
+      so_far : IfSome (source l.initial.lines.source.now).bytes (λ input. SoFar (shown_by l.analysis l.end_pc) (length l.analysis.rows) input (source l.lines.source.now).bytes l.lines.intake l.cursor (sink l.initial.out).bytes (sink l.out).bytes);
     }
 
 abbrev pub decreases-session : goal.decreases-session

@@ -4,4 +4,4 @@ use Rattle.rept_app.proofs.DeliveredLemmas.{delivers_as}
 use Rattle.rept_app.proofs.tell.tell_no_memory.Goals as goal
 
 pub returns : goal.returns
-returns g c = delivers_as _ (Says refusal.OutOfMemory) _ _ _ _ _ (λ text status h. record { line = h.0; ending = h.1 }) c.deliver.ensures
+returns g c = delivers_as _ (Says refusal.OutOfMemory) _ _ (λ text status h. record { line = h.0; ending = h.1 }) c.deliver.ensures

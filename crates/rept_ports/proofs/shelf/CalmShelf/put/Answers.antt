@@ -9,4 +9,4 @@ pub returns-clause-ok : goal.returns-clause-ok
 returns-clause-ok c = λ q.
     file_in-put c.in_ok-name.name c.args.name.now c.in_ok-bytes.bytes c.args.bytes.now c.self.inside.files c.insert.new.self c.in_ok-name.ensures.ok
     c.in_ok-bytes.ensures.items c.in_ok-insert.ensures.updates q
-    ∙ ap (λ s. cond (bytes_eq c.args.name.now q) (Some c.args.bytes.now) (file_in s q)) c.self.view_is
+    ∙ ap (λ s. cond (bytes_eq c.args.name.now q) (Some c.args.bytes.now) (file_in s.files q)) c.self.view_is
