@@ -12,11 +12,11 @@ ghost use Rattle.rept_engine.specs.declared.conflict.ConflictKind.{ConflictKind}
 
 use crate::clash::Clash;
 use crate::conflict::ConflictKind;
-use rept_reason::{Cell, Fact};
-use rept_partial::Flat;
 use crate::rules::forward;
 use crate::stop::Stop;
 use rept_isa::{Instr, Reg, StepRow, reads, writes};
+use rept_partial::Flat;
+use rept_reason::{Cell, Fact};
 use std::alloc::{AllocError as OutOfMemory, Global};
 use std::marker::Model;
 

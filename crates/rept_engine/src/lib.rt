@@ -10,9 +10,9 @@ pub mod stop;
 
 pub use analysis::Analysis;
 pub use conflict::ConflictKind;
+pub use laws::reports_are_sound;
 pub use rept_partial::Flat;
 pub use rept_reason::{Cell, Fact};
-pub use laws::reports_are_sound;
 pub use rules::forward;
 pub use std::alloc::AllocError as OutOfMemory;
 pub use stop::Stop;

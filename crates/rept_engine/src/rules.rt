@@ -1,9 +1,9 @@
 ghost use Rattle.std.specs.Prelude.{◌≡◌};
 ghost use Rattle.rept_engine.specs.Results.{immediate_result, register_result, forward_of};
 
-use rept_partial::Flat;
 use rept_isa::number::plus;
 use rept_isa::{ImmOp, Instr, RegOp};
+use rept_partial::Flat;
 
 /// The result of the instruction at address `at`, from what is known of the registers in the places of rs1 and rs2
 /// (RISC-V unprivileged manual, chapter 2.4). LUI, ADDI and ADD have one; of every other instruction it is unknown.

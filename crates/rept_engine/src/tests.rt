@@ -1,10 +1,10 @@
 use crate::analysis::Analysis;
 use crate::conflict::ConflictKind;
-use rept_reason::Cell;
-use rept_partial::Flat;
 use crate::rules::forward;
 use crate::stop::Stop;
 use rept_isa::{ImmOp, Instr, Reg, RegOp, StepRow};
+use rept_partial::Flat;
+use rept_reason::Cell;
 use std::process::Abort;
 use std::test::Fail;
 
