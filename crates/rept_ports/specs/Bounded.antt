@@ -1,5 +1,5 @@
 -- What a call of `next_line` does.
-use Rattle.std.specs.Prelude.{◌≡◌, ℕ, List, Option, None, Some, Result, Ok, Err, MatchOption, MatchBool}
+use Rattle.std.specs.Prelude.{◌≡◌, Option, None, Some, Result, Ok, Err, MatchOption, MatchBool}
 use Rattle.rept_ports.specs.Lines.{LineStep, Said}
 use Rattle.rept_ports.specs.Port.{Port}
 use Rattle.rept_ports.specs.declared.lines.limits.LineFault.{LineFault}
