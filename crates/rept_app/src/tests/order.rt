@@ -17,9 +17,7 @@ struct LineByLine<'a> {
 impl<'a> Source for LineByLine<'a> {
     ghost use Rattle.std.specs.Prelude.{None};
 
-    ghost left = { λ _. None };
-
-    ghost faults = { λ s. s.faults };
+    ghost port = { λ s. record { bytes = None; faults = s.faults } };
 
     fn read(&mut self, into: &mut [u8]) -> Result<usize, Failed> {
         self.notes
@@ -46,9 +44,7 @@ struct Noting<'a> {
 impl<'a> Sink for Noting<'a> {
     ghost use Rattle.std.specs.Prelude.{None};
 
-    ghost written = { λ _. None };
-
-    ghost faults = { λ _. 0 };
+    ghost port = { λ _. record { bytes = None; faults = 0 } };
 
     fn write(&mut self, piece: &[u8]) -> Result<usize, Failed> {
         self.notes
