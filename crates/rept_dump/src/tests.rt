@@ -68,6 +68,70 @@ fn faults(rt: HostRuntime) -> Result<(), Fail> {
     Ok(())
 }
 
+// A name is the bytes that its size counts, and must be `CORE` with nothing but zeros behind it. The size of the name, and the byte
+// that stands fifth: with a size of 4 it belongs to the descriptor.
+#[test]
+fn names_of_notes(rt: HostRuntime) -> Result<(), Fail> {
+    let exe = Image::read(SMALL.as_slice(), Want::Exec)?;
+    for (size, fifth, wanted) in [
+        (5, 0, None),
+        (5, b'X', Some(CoreFault::NoStatus)),
+        (4, b'X', None),
+        (3, 0, Some(CoreFault::NoStatus)),
+    ] {
+        let mut file = core_of(rt.alloc(), &[204], 224, 204)?;
+        for (place, byte) in [(84, size), (100, fifth)] {
+            if let Some(at) = file.get_mut(place) {
+                *at = byte;
+            }
+        }
+        match Dump::read(exe, Image::read(file.as_slice(), Want::Core)?) {
+            Ok(_) => assert_eq!(rt; None, wanted, "{size} {fifth}"),
+            Err(fault) => assert_eq!(rt; Some(fault), wanted, "{size} {fifth}"),
+        }
+    }
+    Ok(())
+}
+
+// The headers of a core file of a note segment, which stands at 116, and of four bytes at 0x10002, of which the file has two, at 340.
+const SAVED_HEAD: [u8; 116] = *b"\x7fELF\x01\x01\x01\0\0\0\0\0\0\0\0\0\
+    \x04\0\xf3\0\x01\0\0\0\0\0\0\0\x34\0\0\0\0\0\0\0\0\0\0\0\x34\0\x20\0\x02\0\0\0\0\0\0\0\
+    \x04\0\0\0\x74\0\0\0\0\0\0\0\0\0\0\0\xe0\0\0\0\0\0\0\0\0\0\0\0\0\0\0\0\
+    \x01\0\0\0\x54\x01\0\0\x02\0\x01\0\x02\0\x01\0\x02\0\0\0\x04\0\0\0\x06\0\0\0\x01\0\0\0";
+
+/// The core file of these headers, with the bytes aa and bb at 0x10002.
+fn saved_core(alloc: Global) -> Result<Vec<u8>, AllocError> {
+    let mut file = Vec::from_slice(alloc, SAVED_HEAD.as_slice())?;
+    file.extend_from_slice(&NOTE)?;
+    file.extend_from_slice(&[0; 204])?;
+    file.extend_from_slice(b"\xaa\xbb")?;
+    Ok(file)
+}
+
+// The executable's segment with each choice of PF_X (1) and PF_W (2), its bytes being 93 02 70 00 13: those of a segment that may be
+// written aren't of memory, those of one that may be executed are code. The core file's two bytes come first.
+#[test]
+fn segments_and_their_flags(rt: HostRuntime) -> Result<(), Fail> {
+    let core = saved_core(rt.alloc())?;
+    for (flags, first, last, word) in [
+        (4, Some(0x93), Some(0x13), None),
+        (5, Some(0x93), Some(0x13), Some(0x0070_0293)),
+        (6, None, None, None),
+        (7, None, None, Some(0x0070_0293)),
+    ] {
+        let mut exe = SMALL;
+        exe[76] = flags;
+        let exe = Image::read(&exe, Want::Exec)?;
+        let dump = Dump::read(exe, Image::read(core.as_slice(), Want::Core)?)?;
+        assert_eq!(rt; dump.byte(0x10000), first, "{flags}");
+        assert_eq!(rt; dump.byte(0x10002), Some(0xaa), "{flags}");
+        assert_eq!(rt; dump.byte(0x10003), Some(0xbb), "{flags}");
+        assert_eq!(rt; dump.byte(0x10004), last, "{flags}");
+        assert_eq!(rt; dump.word_of_code(0x10000), word, "{flags}");
+    }
+    Ok(())
+}
+
 /// Zero bytes up to the next page.
 fn fill_page(file: &mut Vec<u8>) -> Result<(), AllocError> {
     for _ in 0..4095 - file.len().wrapping_sub(1) % 4096 {

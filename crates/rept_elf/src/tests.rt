@@ -124,3 +124,17 @@ fn segments(rt: HostRuntime) -> Result<(), Fail> {
     assert_eq!(rt; segment.body, &EXECUTABLE[84..90]);
     Ok(())
 }
+
+// An executable of two segments: 12 bytes at 0x10000, which has 0x2000 in memory, and 4 at 0x8000, of which the file has none.
+const TWO_SEGMENTS: [u8; 116] = *b"\x7fELF\x01\x01\x01\0\0\0\0\0\0\0\0\0\
+    \x02\0\xf3\0\x01\0\0\0\0\0\x01\0\x34\0\0\0\0\0\0\0\0\0\0\0\x34\0\x20\0\x02\0\0\0\0\0\0\0\
+    \x01\0\0\0\0\0\0\0\0\0\x01\0\0\0\x01\0\x0c\0\0\0\0\x20\0\0\x06\0\0\0\x04\0\0\0\
+    \x01\0\0\0\0\0\0\0\0\x80\0\0\0\x80\0\0\0\0\0\0\x04\0\0\0\x04\0\0\0\x04\0\0\0";
+
+// The greatest end is that of the first segment in memory: 0x10000 + 0x2000.
+#[test]
+fn image_ends_by_another_segment_than_the_last(rt: HostRuntime) -> Result<(), Fail> {
+    let image = Image::read(&TWO_SEGMENTS, Want::Exec)?;
+    assert_eq!(rt; (image.count(), image.image_end()), (2, 0x12000));
+    Ok(())
+}

@@ -174,6 +174,10 @@ pub record IsFence (word : ℕ) : Type 0 where
   pub form : opcode word ≡ 15
   pub operation : funct3 word < 2
 
+-- 0x0ff0000f, the word of `fence iorw, iorw` (chapter 2.7)
+abbrev pub full_fence : ℕ
+full_fence = 267386895
+
 -- CYCLE, TIME, INSTRET, CYCLEH, TIMEH and INSTRETH (0xc00 to 0xc02, 0xc80 to 0xc82)
 abbrev pub IsCounter : ℕ → Type 0
 IsCounter csr = (csr ≡ 3072) ⊎ (csr ≡ 3073) ⊎ (csr ≡ 3074) ⊎ (csr ≡ 3200) ⊎ (csr ≡ 3201) ⊎ (csr ≡ 3202)

@@ -1,19 +1,20 @@
 ghost use Rattle.std.specs.Prelude.{◌≡◌, ◌<◌, ◌^◌};
 ghost use Rattle.rept_isa.specs.declared.instr.Instr.{Instr};
 ghost use Rattle.rept_isa.specs.declared.instr.ImmOp.{ImmOp};
-ghost use Rattle.rept_isa.specs.Words.{IsWord, IsUpper, IsJal, IsIForm, IsBranch, IsStore, IsRegister, IsImmediate, IsShift, IsCounterRead, IsCounter, opcode, rd_field, funct3, rs1_field, rs2_field, funct7, field, branch_funct3, load_funct3, store_funct3, op_funct3, op_funct7};
+ghost use Rattle.rept_isa.specs.Words.{IsWord, IsUpper, IsJal, IsIForm, IsBranch, IsStore, IsRegister, IsImmediate, IsShift, IsCounterRead, IsCounter, full_fence, opcode, rd_field, funct3, rs1_field, rs2_field, funct7, field, branch_funct3, load_funct3, store_funct3, op_funct3, op_funct7};
 ghost use Rattle.rept_isa.specs.Range.{InRange, InBits, IsEven, IsUpperPart, HoldsImmediate, IsAmount};
 
 use crate::instr::{BranchOp, ImmOp, Instr, LoadOp, RegOp, StoreOp};
 use crate::number::word;
 use crate::reg::Reg;
 
-/// The word that spells the instruction, and no other one. A fence is written as the full one, `fence iorw, iorw`.
+/// The word that spells the instruction, and no other one. A fence is written as the full one, `fence iorw, iorw`: 0x0ff0000f.
 /// Each immediate must be one that the instruction's format holds.
 pub fn encode(instr: &Instr) -> u32
     requires { InRange instr.now }
     ensures spelled { IsWord result instr.now }
     ensures only { (i : Instr) → IsWord result i → i ≡ instr.now }
+    ensures fence { instr.now ≡ Instr.Fence → result ≡ full_fence }
 {
     match *instr {
         Instr::Lui { rd, imm } => upper(0x37, rd, imm),

@@ -1,15 +1,22 @@
 //! Laws of the definitions.
 
-ghost use Rattle.std.specs.Prelude.{List, ℕ, reverse};
+ghost use Rattle.std.specs.Prelude.{◌≡◌, ◌↔◌, List, ℕ, Some, reverse};
 ghost use Rattle.rept_elf.specs.Segments.{ElfSegment};
+ghost use Rattle.rept_dump.specs.declared.dump.Dump.{Dump};
+ghost use Rattle.rept_isa.specs.declared.instr.Instr.{Instr};
 ghost use Rattle.rept_isa.specs.declared.row.StepRow.{StepRow};
+ghost use Rattle.rept_isa.specs.Words.{IsWord};
 ghost use Rattle.rept_trace.specs.declared.packet.Packet.{Packet};
+ghost use Rattle.rept_trace.specs.declared.packets.Packets.{Packets};
 ghost use Rattle.rept_path.specs.declared.aim.Aim.{Aim};
+ghost use Rattle.rept_path.specs.declared.fault.PathFault.{PathFault};
+ghost use Rattle.rept_path.specs.Code.{instruction};
 ghost use Rattle.rept_path.specs.Moves.{Lead, Place};
 ghost use Rattle.rept_path.specs.Legs.{Reaches};
 ghost use Rattle.rept_path.specs.Index.{LeastStop};
 ghost use Rattle.rept_path.specs.Stops.{StopIndices};
 ghost use Rattle.rept_path.specs.Trace.{IsPath};
+ghost use Rattle.rept_path.specs.Traced.{IsPathOf, IsRefusedBy};
 
 /// A leg ends at the least later index at which the walk stops, and only such a leg is one.
 pub fn least_stop()
@@ -21,4 +28,16 @@ pub fn least_stop()
 pub fn stop_indices()
     ensures path { (code : List ElfSegment) (packets : List Packet) (from : ℕ) (pc : ℕ) (skipped : ℕ) (path : List StepRow) → IsPath code packets from pc skipped path → (stops : List ℕ) × StopIndices code packets from pc skipped path stops }
     ensures only { (code : List ElfSegment) (packets : List Packet) (from : ℕ) (pc : ℕ) (skipped : ℕ) (path : List StepRow) (stops : List ℕ) → StopIndices code packets from pc skipped path stops → IsPath code packets from pc skipped path }
+{}
+
+/// A trace has at most one path over a program, or one refusal, and never both.
+pub fn one_answer()
+    ensures path { (packets : Packets) (dump : Dump) (from : ℕ) (i j : ℕ) (a b : List StepRow) → IsPathOf packets dump from i a → IsPathOf packets dump from j b → (i ≡ j) × (a ≡ b) }
+    ensures refusal { (packets : Packets) (dump : Dump) (from : ℕ) (d e : PathFault) → IsRefusedBy packets dump from d → IsRefusedBy packets dump from e → d ≡ e }
+    ensures either { (packets : Packets) (dump : Dump) (from : ℕ) (i : ℕ) (a : List StepRow) (e : PathFault) → IsPathOf packets dump from i a → IsRefusedBy packets dump from e → ⊥ }
+{}
+
+/// The instruction at a step of a path is the one that the word there spells.
+pub fn spelled_instruction()
+    ensures { (spelled : ℕ) (i : Instr) → (instruction spelled ≡ Some i) ↔ IsWord spelled i }
 {}

@@ -16,10 +16,10 @@ use std::alloc::{AllocError, Global};
 use std::process::Abort;
 use std::test::Fail;
 use stops::{MAPS, PHASES, STOPS};
-use stretches::{JOINS, STARTS, WAITING};
+use stretches::{ENDS, JOINS, STARTS, WAITING};
 
-/// An executable of one code segment at 0x10000, by the ELF specification.
-fn executable(alloc: Global, code: &[u32]) -> Result<Vec<u8>, AllocError> {
+/// An executable of one code segment at an address, by the ELF specification.
+fn executable(alloc: Global, base: u32, code: &[u32]) -> Result<Vec<u8>, AllocError> {
     let Ok(count) = u32::try_from(code.len()) else {
         return Err(AllocError);
     };
@@ -28,7 +28,9 @@ fn executable(alloc: Global, code: &[u32]) -> Result<Vec<u8>, AllocError> {
         alloc,
         b"\x7fELF\x01\x01\x01\0\0\0\0\0\0\0\0\0\x02\0\xf3\0\x01\0\0\0\0\0\x01\0\x34\0\0\0\0\0\0\0\0\0\0\0\x34\0\x20\0\x01\0\0\0\0\0\0\0",
     )?;
-    file.extend_from_slice(b"\x01\0\0\0\x54\0\0\0\0\0\x01\0\0\0\x01\0")?;
+    file.extend_from_slice(b"\x01\0\0\0\x54\0\0\0")?;
+    file.extend_from_slice(&base.to_le_bytes())?;
+    file.extend_from_slice(&base.to_le_bytes())?;
     file.extend_from_slice(&size)?;
     file.extend_from_slice(&size)?;
     file.extend_from_slice(b"\x05\0\0\0\x04\0\0\0")?;
@@ -57,15 +59,14 @@ fn core_file(alloc: Global, pc: u32) -> Result<Vec<u8>, AllocError> {
 /// The skipped packets and the steps of a path, or why there is none.
 type Outcome = Result<(u32, Vec<StepRow>), PathFault>;
 
-/// What comes of a trace over a program whose dump has this program counter.
-fn outcome(alloc: Global, code: &[u32], trace: &[u8], pc: u32, from: u32) -> Result<Outcome, Fail> {
+/// What comes of a trace over an executable whose dump has this program counter.
+fn outcome(alloc: Global, exe: &[u8], trace: &[u8], pc: u32, from: u32) -> Result<Outcome, Fail> {
     if trace.len() >= 0x1_0000_0000 {
         return Ok(Err(PathFault::OutOfMemory));
     }
-    let exe = executable(alloc, code)?;
     let core = core_file(alloc, pc)?;
     let dump = Dump::read(
-        Image::read(exe.as_slice(), Want::Exec)?,
+        Image::read(exe, Want::Exec)?,
         Image::read(core.as_slice(), Want::Core)?,
     )?;
     match rebuild(alloc, Packets::open(trace)?, &dump, from) {
@@ -77,14 +78,19 @@ fn outcome(alloc: Global, code: &[u32], trace: &[u8], pc: u32, from: u32) -> Res
     }
 }
 
-/// The steps of a program at these addresses, the last of which is where they lead.
-fn steps_of(alloc: Global, code: &[u32], addresses: &[u32]) -> Result<Vec<StepRow>, Fail> {
+/// The steps at these addresses of a program from an address on. The last of them is where they lead.
+fn steps_of(
+    alloc: Global,
+    base: u32,
+    code: &[u32],
+    addresses: &[u32],
+) -> Result<Vec<StepRow>, Fail> {
     let mut rows = Vec::new(alloc);
     for pair in addresses.windows(2) {
         let [at, next] = *pair else {
             continue;
         };
-        let word = code.get((at.wrapping_sub(0x10000) / 4) as usize);
+        let word = code.get((at.wrapping_sub(base) / 4) as usize);
         let Some(instr) = word.and_then(|word| decode(*word)) else {
             continue;
         };
@@ -98,8 +104,14 @@ fn steps_of(alloc: Global, code: &[u32], addresses: &[u32]) -> Result<Vec<StepRo
     Ok(rows)
 }
 
-/// What is wanted of a path over a program to this program counter.
-fn wanted(alloc: Global, code: &[u32], pc: u32, wanted: Wanted) -> Result<Outcome, Fail> {
+/// What is wanted of a path to this program counter, over a program from an address on.
+fn wanted(
+    alloc: Global,
+    base: u32,
+    code: &[u32],
+    pc: u32,
+    wanted: Wanted,
+) -> Result<Outcome, Fail> {
     let mut addresses = Vec::new(alloc);
     let mut skipped = 0;
     match wanted {
@@ -118,7 +130,8 @@ fn wanted(alloc: Global, code: &[u32], pc: u32, wanted: Wanted) -> Result<Outcom
         }
     }
     addresses.push(pc)?;
-    Ok(Ok((skipped, steps_of(alloc, code, addresses.as_slice())?)))
+    let steps = steps_of(alloc, base, code, addresses.as_slice())?;
+    Ok(Ok((skipped, steps)))
 }
 
 /// A trace of these packets.
@@ -128,15 +141,21 @@ fn trace_of(alloc: Global, sent: &[Sent]) -> Result<Vec<u8>, AllocError> {
     Ok(trace)
 }
 
-/// Compares what comes of traces with what is wanted.
-fn check_cases(rt: &impl Abort, alloc: Global, cases: &[Case]) -> Result<(), Fail> {
+/// Compares what comes of traces with what is wanted, over programs from an address on.
+fn check_cases_at(rt: &impl Abort, alloc: Global, base: u32, cases: &[Case]) -> Result<(), Fail> {
     for case in cases {
+        let exe = executable(alloc, base, case.code)?;
         let trace = trace_of(alloc, case.sent)?;
-        let got = outcome(alloc, case.code, trace.as_slice(), case.pc, 0)?;
-        let wanted = wanted(alloc, case.code, case.pc, case.wanted)?;
+        let got = outcome(alloc, exe.as_slice(), trace.as_slice(), case.pc, 0)?;
+        let wanted = wanted(alloc, base, case.code, case.pc, case.wanted)?;
         assert_eq!(rt; got, wanted, "{}", case.name);
     }
     Ok(())
+}
+
+/// The same over programs from 0x10000 on.
+fn check_cases(rt: &impl Abort, alloc: Global, cases: &[Case]) -> Result<(), Fail> {
+    check_cases_at(rt, alloc, 0x10000, cases)
 }
 
 #[test]
@@ -152,12 +171,26 @@ fn traces_tell_paths(rt: HostRuntime) -> Result<(), Fail> {
     Ok(())
 }
 
+/// Programs that end at the highest address.
+#[test]
+fn addresses_wrap(rt: HostRuntime) -> Result<(), Fail> {
+    let alloc = rt.alloc();
+    check_cases_at(&rt, alloc, 0xffff_fff8, ENDS)
+}
+
 /// Compares what comes of traces with what is wanted, where the packets before a number are left out.
 fn check_windows(rt: &impl Abort, alloc: Global, windows: &[Window]) -> Result<(), Fail> {
+    let exe = executable(alloc, 0x10000, THREE)?;
     for window in windows {
         let trace = trace_of(alloc, window.sent)?;
-        let got = outcome(alloc, THREE, trace.as_slice(), 0x1000c, window.from)?;
-        let wanted = wanted(alloc, THREE, 0x1000c, window.wanted)?;
+        let got = outcome(
+            alloc,
+            exe.as_slice(),
+            trace.as_slice(),
+            0x1000c,
+            window.from,
+        )?;
+        let wanted = wanted(alloc, 0x10000, THREE, 0x1000c, window.wanted)?;
         assert_eq!(rt; got, wanted, "{}", window.name);
     }
     Ok(())
@@ -173,6 +206,7 @@ fn packets_are_skipped(rt: HostRuntime) -> Result<(), Fail> {
 #[test]
 fn branches_are_counted(rt: HostRuntime) -> Result<(), Fail> {
     let alloc = rt.alloc();
+    let exe = executable(alloc, 0x10000, LOOP)?;
     for (count, map) in [
         (1, 1),
         (2, 2),
@@ -188,9 +222,9 @@ fn branches_are_counted(rt: HostRuntime) -> Result<(), Fail> {
             alloc,
             &[Sent::Start(0x10000), Sent::Branches(count, map, 4)],
         )?;
-        let got = outcome(alloc, LOOP, trace.as_slice(), 0x10008, 0)?;
+        let got = outcome(alloc, exe.as_slice(), trace.as_slice(), 0x10008, 0)?;
         let rounds = Wanted::Rounds(&[], u32::from(count), &[0x10000, 0x10004], &[]);
-        let wanted = wanted(alloc, LOOP, 0x10008, rounds)?;
+        let wanted = wanted(alloc, 0x10000, LOOP, 0x10008, rounds)?;
         assert_eq!(rt; got, wanted, "{count} branches");
     }
     Ok(())
@@ -204,8 +238,9 @@ fn check_long_cases(rt: &impl Abort, alloc: Global, cases: &[LongCase]) -> Resul
             push_sent(&mut trace, alloc, &[Sent::Map(0)])?;
         }
         push_sent(&mut trace, alloc, case.sent)?;
-        let got = outcome(alloc, case.code, trace.as_slice(), case.pc, 0)?;
-        let wanted = wanted(alloc, case.code, case.pc, case.wanted)?;
+        let exe = executable(alloc, 0x10000, case.code)?;
+        let got = outcome(alloc, exe.as_slice(), trace.as_slice(), case.pc, 0)?;
+        let wanted = wanted(alloc, 0x10000, case.code, case.pc, case.wanted)?;
         assert!(rt; got == wanted, "{}", case.name);
     }
     Ok(())

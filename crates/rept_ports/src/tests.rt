@@ -3,6 +3,8 @@ use crate::{
     MemSink, MemSource, OutOfMemory, Shelf, Sink, Source, StdSink, StdSource, write_all,
 };
 use std::alloc::Global;
+use std::io::{Read, Write};
+use std::os::fd::AsRawFd;
 use std::process::Abort;
 use std::test::Fail;
 use std::{fs, io};
@@ -197,6 +199,28 @@ fn disk_shelf(rt: HostRuntime) -> Result<(), Fail> {
         ],
     );
     fs::remove_file(&rt, PATH)?;
+    Ok(())
+}
+
+// A pipe that holds 300 bytes, and that the system also names as a file. A load takes no more than one byte past its limit, and leaves
+// the others in the pipe.
+#[test]
+fn disk_shelf_takes_one_byte_past_the_limit(rt: HostRuntime) -> Result<(), Fail> {
+    let mut shelf = DiskShelf::new(&rt);
+    for (limit, left) in [(3, 296), (0, 299), (299, 0)] {
+        let (mut reader, mut writer) = io::pipe(&rt)?;
+        assert_eq!(rt; writer.write(&[b'x'; 300])?, 300);
+        drop(writer);
+        let path = format!(in rt.alloc(); "/proc/self/fd/{}", reader.as_raw_fd())?;
+        let loads: [(&str, usize, Result<&[u8], LoadFault>); 1] = [(
+            path.as_str(),
+            limit,
+            Err(LoadFault::TooLarge),
+        )];
+        check_loads(&rt, rt.alloc(), &mut shelf, &loads);
+        let mut rest = [0u8; 512];
+        assert_eq!(rt; reader.read(&mut rest)?, left, "{limit}");
+    }
     Ok(())
 }
 

@@ -1,5 +1,5 @@
 -- Going through the bytes packet by packet.
-use Rattle.std.proofs.Common.{◌≡◌, ℕ, ◌+◌, List, [], ◌∷◌, ◌++◌, length, Some, None, Ok, Err, Result, refl, sym, ◌∙◌, ap, subst, arith, append_assoc, length-append}
+use Rattle.std.proofs.Common.{◌≡◌, ℕ, ◌+◌, List, [], ◌∷◌, ◌++◌, length, Some, None, Ok, Err, Result, refl, sym, ◌∙◌, ap, subst, arith, append_assoc, length-append, ◌⊎◌, inl, inr}
 use Rattle.std.proofs.lemmas.List.{append-nil}
 use Rattle.rept_trace.specs.declared.packet.Packet.{Packet}
 use Rattle.rept_trace.specs.declared.fault.TraceFault.{TraceFault}
@@ -75,3 +75,8 @@ counts k bytes (Err fault) ok err packets h = absurd (not_both k bytes packets e
 pub faults : (k : ℕ) (bytes : List ℕ) (r : Result ℕ TraceFault) → Rattle.std.specs.Result.IfOk r (λ count. (packets : List Packet) × Hold bytes packets × (count ≡ length packets)) → Rattle.std.specs.Result.IfErr r (λ fault. (packets : List Packet) × FailsAfter k bytes packets fault) → (packets : List Packet) (fault : TraceFault) → FailsAfter k bytes packets fault → r ≡ Err fault
 faults k bytes (Ok count) ok err packets fault h = absurd (not_both k bytes ok.0 packets fault ok.1 h)
 faults k bytes (Err f) ok err packets fault h = ap (λ (z : TraceFault). Err z) (one_fault k bytes err.0 packets f fault err.1 h)
+
+-- any bytes hold packets, or fail after some
+pub decided : (k : ℕ) (bytes : List ℕ) (r : Result ℕ TraceFault) → Rattle.std.specs.Result.IfOk r (λ count. (packets : List Packet) × Hold bytes packets × (count ≡ length packets)) → Rattle.std.specs.Result.IfErr r (λ fault. (packets : List Packet) × FailsAfter k bytes packets fault) → ((packets : List Packet) × Hold bytes packets) ⊎ ((packets : List Packet) × (fault : TraceFault) × FailsAfter k bytes packets fault)
+decided k bytes (Ok count) ok err = inl (ok.0, ok.1)
+decided k bytes (Err fault) ok err = inr (err.0, fault, err.1)

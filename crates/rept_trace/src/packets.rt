@@ -1,4 +1,4 @@
-ghost use Rattle.std.specs.Prelude.{◌≡◌, ◌<◌, ◌+◌, ◌^◌, List, ◌∷◌, ℕ, length, nat_lt, if◌then◌else◌};
+ghost use Rattle.std.specs.Prelude.{◌≡◌, ◌⊎◌, ◌<◌, ◌+◌, ◌^◌, List, ◌∷◌, ℕ, length, nat_lt, if◌then◌else◌};
 ghost use Rattle.rept_trace.specs.Stream.{AreAfterZeros};
 
 use crate::fault::TraceFault;
@@ -86,6 +86,10 @@ impl<'a> Packets<'a> {
         // The bytes hold one list of packets.
         ensures one_list { (packets others : List Packet) →
             Hold (rest_of self.entry) packets → Hold (rest_of self.entry) others → packets ≡ others }
+
+        // Any bytes hold packets, or fail after some.
+        ensures decided { ((packets : List Packet) × Hold (rest_of self.entry) packets)
+            ⊎ ((packets : List Packet) × (fault : TraceFault) × FailsAfter (number_of self.entry) (rest_of self.entry) packets fault) }
     {
         self.go_through()
     }

@@ -43,7 +43,7 @@ pub struct LongCase {
     pub wanted: Wanted,
 }
 
-// Programs. All stand at 0x10000. Where a branch goes is told by its bit alone.
+// Programs. All but the last two stand at 0x10000. Where a branch goes is told by its bit alone.
 
 pub const THREE: &[u32] = &[
     0x00700293, // addi x5,x0,7
@@ -137,4 +137,34 @@ pub const JUMP_ALONE: &[u32] = &[
 pub const CALL: &[u32] = &[
     0x00000073, // ecall
     0x00000013, // addi x0,x0,0
+];
+
+pub const CALLS_BEHIND_A_BRANCH: &[u32] = &[
+    0x00000663, // beq x0,x0,1000c
+    0x00000073, // ecall
+    0x00128293, // addi x5,x5,1
+    0x00000073, // ecall
+    0x00128293, // addi x5,x5,1
+];
+
+pub const CALL_IN_THE_MIDDLE: &[u32] = &[
+    0x00000363, // beq x0,x0,10006
+    0x00730013, // addi x0,x6,7, whose upper half begins the bytes of an ecall
+    0x00000000, // no instruction
+];
+
+pub const JUMP_BELOW: &[u32] = &[
+    0x8000006f, // jal x0,fff10000
+];
+
+// The last two words of the address space.
+
+pub const LAST_STEPS: &[u32] = &[
+    0x00128293, // addi x5,x5,1
+    0x00128293, // addi x5,x5,1
+];
+
+pub const LAST_CALL: &[u32] = &[
+    0x00128293, // addi x5,x5,1
+    0x00000073, // ecall
 ];

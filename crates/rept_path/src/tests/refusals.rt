@@ -248,6 +248,24 @@ pub const LONG: &[LongCase] = &[
         pc: 0x1000c,
         wanted: Refusal(PathFault::TooLong(1060)),
     },
+    // The branch at 10008 isn't taken, and leads to 1000c, where no call stands. That the gap doesn't close is found before the want
+    // of room.
+    LongCase {
+        name: "an end that isn't reached behind the most steps",
+        code: LATE_LOOP,
+        maps: 1057,
+        sent: &[Branches(1, 1, 8), EndedRep],
+        pc: 0x10010,
+        wanted: Refusal(PathFault::End(0x10008, 0x10010)),
+    },
+    LongCase {
+        name: "a gap that isn't closed behind the most steps",
+        code: LATE_LOOP,
+        maps: 1057,
+        sent: &[Branches(1, 1, 8), EndedRep, Start(0x10004)],
+        pc: 0x1000c,
+        wanted: Refusal(PathFault::Gap(1060, 0x10008, 0x10004)),
+    },
     LongCase {
         name: "one map more",
         code: LOOP,

@@ -271,12 +271,77 @@ pub const PHASES: &[Case] = &[
         pc: 0x10020,
         wanted: Rows(&[0x10010, 0x10014, 0x10018, 0x1001c]),
     },
+    // 10014 is inferred when the first stretch ends, and its jump leads to 10018. The second stretch knows no mark: the address is
+    // one move away, where the mark would lead into the call.
+    Case {
+        name: "a start packet that begins a stretch takes the mark off",
+        code: WINDING,
+        sent: &[
+            Start(0x10010),
+            Address(4),
+            EndedRep,
+            Start(0x10018),
+            Address(4),
+        ],
+        pc: 0x10020,
+        wanted: Rows(&[0x10010, 0x10014, 0x10018, 0x1001c]),
+    },
     Case {
         name: "a map takes the mark off behind the jump",
         code: WINDING,
         sent: &[Start(0x10000), Branches(2, 2, 0x10), Map(0)],
         pc: 0,
         wanted: Refusal(PathFault::JumpInMap(2, 0x10014)),
+    },
+    // 10004 is inferred, and the context says nothing of the program: the way is 10004, 10008 and by the jump 10004 again, then
+    // once more for the second address, and 10004 leads to the program counter.
+    Case {
+        name: "a context leaves the mark on",
+        code: AGAIN,
+        sent: &[Start(0x10000), Address(4), Context(1), Address(0), EndedRep],
+        pc: 0x10008,
+        wanted: Rows(&[0x10000, 0x10004, 0x10008, 0x10004, 0x10008, 0x10004]),
+    },
+    // The same, and the trace ends behind the jump.
+    Case {
+        name: "no change leaves the mark on",
+        code: AGAIN,
+        sent: &[Start(0x10000), Address(4), NoChange, EndedNtr],
+        pc: 0x10008,
+        wanted: Rows(&[0x10000, 0x10004, 0x10008, 0x10004]),
+    },
+    // 10000 is inferred behind the first round. The map's lowest bit, 1, leads the first phase out of the loop to the jump, which
+    // goes to 10000; 29 rounds use the bits that are 0, and at 10004 the last one is left. The mark is off, so the end of the trace
+    // makes no move, and that bit leads on to the program counter.
+    Case {
+        name: "a map leaves no mark for the end of the trace",
+        code: LOOP_AND_JUMP,
+        sent: &[Start(0x10000), Branches(1, 0, 0), Map(0x40000001), EndedNtr],
+        pc: 0x10008,
+        wanted: Rounds(
+            &[0x10000, 0x10004, 0x10000, 0x10004, 0x10008],
+            30,
+            &[0x10000, 0x10004],
+            &[],
+        ),
+    },
+    // The same, and the address that follows makes one move, to the jump; from there the jump leads to the program counter.
+    Case {
+        name: "a map leaves no mark for an address",
+        code: LOOP_AND_JUMP,
+        sent: &[
+            Start(0x10000),
+            Branches(1, 0, 0),
+            Map(0x40000001),
+            Address(8),
+        ],
+        pc: 0x1000c,
+        wanted: Rounds(
+            &[0x10000, 0x10004, 0x10000, 0x10004, 0x10008],
+            30,
+            &[0x10000, 0x10004],
+            &[0x10008],
+        ),
     },
     Case {
         name: "a map's bits serve its first phase",

@@ -1,7 +1,10 @@
 // Start packets in a stretch, steps between stretches, and packets outside.
 
 use super::cases::Wanted::{Refusal, Rounds, Rows};
-use super::cases::{Case, LOOP, THREE, WINDING};
+use super::cases::{
+    CALL_IN_THE_MIDDLE, CALLS_BEHIND_A_BRANCH, Case, JUMP_BELOW, LAST_CALL, LAST_STEPS, LOOP,
+    THREE, WINDING,
+};
 use super::sent::Sent::*;
 use crate::PathFault;
 
@@ -91,6 +94,15 @@ pub const STARTS: &[Case] = &[
         pc: 0x1000c,
         wanted: Refusal(PathFault::NoBranchBit(1, 0x10004)),
     },
+    // The packet's bit is the only one, and the branch at 10004 takes it. So none is left at 1000c, where a branch stands: the walk
+    // doesn't stop there, and the next move has no bit.
+    Case {
+        name: "another branch takes its bit",
+        code: WINDING,
+        sent: &[Start(0x10000), StartTaken(0x1000c)],
+        pc: 0x10000,
+        wanted: Refusal(PathFault::NoBranchBit(1, 0x1000c)),
+    },
     Case {
         name: "its address is checked before any move",
         code: THREE,
@@ -144,6 +156,28 @@ pub const JOINS: &[Case] = &[
         pc: 0x10024,
         wanted: Rows(&[0x10018, 0x1001c, 0x10020]),
     },
+    // The branch is taken to the call at 1000c, and the next stretch begins behind that.
+    Case {
+        name: "a branch that is taken, and a call",
+        code: CALLS_BEHIND_A_BRANCH,
+        sent: &[StartTaken(0x10000), EndedRep, Start(0x10010)],
+        pc: 0x10014,
+        wanted: Rows(&[0x10000, 0x1000c, 0x10010]),
+    },
+    Case {
+        name: "a branch that isn't taken, and a call at the end",
+        code: CALLS_BEHIND_A_BRANCH,
+        sent: &[Start(0x10000)],
+        pc: 0x10008,
+        wanted: Rows(&[0x10000, 0x10004]),
+    },
+    Case {
+        name: "a call where the branch doesn't lead",
+        code: CALLS_BEHIND_A_BRANCH,
+        sent: &[StartTaken(0x10000)],
+        pc: 0x10008,
+        wanted: Refusal(PathFault::End(0x10000, 0x10008)),
+    },
     Case {
         name: "a direct jump and a call at the end",
         code: WINDING,
@@ -171,6 +205,14 @@ pub const JOINS: &[Case] = &[
         sent: &[Start(0x10014), EndedRep, Start(0x10000)],
         pc: 0x10004,
         wanted: Rows(&[0x10014, 0x10000]),
+    },
+    // A call stands at 1001c, but the jump itself may lead to 10020, and that is the first case that fits.
+    Case {
+        name: "an uninferable jump to the address behind a call",
+        code: WINDING,
+        sent: &[Start(0x10014), EndedRep, Start(0x10020)],
+        pc: 0x10024,
+        wanted: Rows(&[0x10014, 0x10020]),
     },
     Case {
         name: "an uninferable jump to an odd address",
@@ -213,6 +255,22 @@ pub const JOINS: &[Case] = &[
         sent: &[StartTaken(0x10030)],
         pc: 0x1003a,
         wanted: Refusal(PathFault::End(0x10030, 0x1003a)),
+    },
+    // The four bytes at 10006 are those of an ecall, which no hart takes from there.
+    Case {
+        name: "bytes of a call in the middle of a word",
+        code: CALL_IN_THE_MIDDLE,
+        sent: &[StartTaken(0x10000)],
+        pc: 0x1000a,
+        wanted: Refusal(PathFault::End(0x10000, 0x1000a)),
+    },
+    // 0x10000 - 0x100000 is 0xfff10000 modulo 2^32.
+    Case {
+        name: "a jump below address 0",
+        code: JUMP_BELOW,
+        sent: &[Start(0x10000)],
+        pc: 0xfff10000,
+        wanted: Rows(&[0x10000]),
     },
     Case {
         name: "a call leads behind it alone",
@@ -289,6 +347,38 @@ pub const JOINS: &[Case] = &[
         sent: &[Start(0x10000), Address(8), EndedRep],
         pc: 0x10010,
         wanted: Refusal(PathFault::End(0x10008, 0x10010)),
+    },
+];
+
+/// Programs whose two words are the last ones, at 0xfffffff8 and 0xfffffffc: 0xfffffffc + 4 is 0 modulo 2^32.
+pub const ENDS: &[Case] = &[
+    Case {
+        name: "a plain step to address 0",
+        code: LAST_STEPS,
+        sent: &[Start(0xfffffff8), Address(4), EndedRep],
+        pc: 0,
+        wanted: Rows(&[0xfffffff8, 0xfffffffc]),
+    },
+    Case {
+        name: "a way on from address 0",
+        code: LAST_STEPS,
+        sent: &[Start(0xfffffff8), Address(8)],
+        pc: 0,
+        wanted: Refusal(PathFault::NotCode(0)),
+    },
+    Case {
+        name: "a call behind which address 0 stands",
+        code: LAST_CALL,
+        sent: &[Start(0xfffffffc)],
+        pc: 0,
+        wanted: Rows(&[0xfffffffc]),
+    },
+    Case {
+        name: "a plain step and a call behind which address 0 stands",
+        code: LAST_CALL,
+        sent: &[Start(0xfffffff8)],
+        pc: 0,
+        wanted: Rows(&[0xfffffff8, 0xfffffffc]),
     },
 ];
 

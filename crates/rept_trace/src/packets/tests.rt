@@ -190,6 +190,7 @@ fn refuses_packets(rt: HostRuntime) -> Result<(), Fail> {
         (b"\x01\x2f", 0, TraceFault::BadSupport(0)),
         (b"\x02\x0f\x01", 0, TraceFault::BadSupport(0)),
         (b"\x01\x8f", 0, TraceFault::BadSupport(0)),
+        (b"\x02\x0f\x10", 0, TraceFault::BadSupport(0)),
         (
             b"\x00\x03\x13\x00\x20\x00\x00\x01\x0a\x00\x01\xf7",
             2,
@@ -207,6 +208,26 @@ fn refuses_packets(rt: HostRuntime) -> Result<(), Fail> {
         assert_eq!(rt; packets.next(), Err(fault));
         assert_eq!(rt; packets.next(), Err(fault));
     }
+    Ok(())
+}
+
+// The options are bits 8 to 12 of a support packet: bits 13 to 15, and whole bytes behind them, aren't looked at.
+#[test]
+fn reads_no_bit_behind_the_options(rt: HostRuntime) -> Result<(), Fail> {
+    let whole = trace(
+        rt.alloc(),
+        b"\x02\x0f\x20\x02\x4f\x40\x02\x1f\xe0\x03\xcf\x00\xff",
+    )?;
+    let mut packets = Packets::open(&whole)?;
+    for packet in [
+        support!(false, Qual::NoChange),
+        support!(false, Qual::EndedRep),
+        support!(true, Qual::NoChange),
+        support!(false, Qual::EndedNtr),
+    ] {
+        assert_eq!(rt; packets.next(), Ok(Some(packet)));
+    }
+    assert_eq!(rt; packets.next(), Ok(None));
     Ok(())
 }
 
