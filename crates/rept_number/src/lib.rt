@@ -1,0 +1,8 @@
+// The numbers that words spell.
+#![tactic(auto)]
+
+pub mod digits;
+#[cfg(test)]
+mod tests;
+
+pub use digits::{decimal, number_in};

@@ -1,0 +1,13 @@
+-- The meaning that a request stands for.
+use Rattle.rept_words.specs.Words.{Names, Meaning}
+use Rattle.rept_words.specs.Words.Meaning.{Open, Made}
+use Rattle.rept_words.specs.declared.request.FileNames.{FileNames}
+use Rattle.rept_words.specs.declared.request.Request.{Request}
+use Rattle.rept_words.specs.declared.request.Request.TheVariants as request
+
+abbrev pub named_by : FileNames → Names
+named_by names = record { exe = names.exe.now; core = names.core.now; trace = names.trace.now }
+
+abbrev pub asked_by : Request → Meaning
+asked_by (request.Open names from) = Open (named_by names) from
+asked_by (request.Made seed steps) = Made seed steps

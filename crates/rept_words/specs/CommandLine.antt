@@ -1,0 +1,28 @@
+-- The command line as a command of `clap`: two subcommands, whose words go by their places. This project's own.
+use Rattle.std.specs.Prelude.{true, Some, codes}
+use Rattle.clap.specs.Words.{App, Rule, Text, new_app, new_rule, with_rule, with_subcommand}
+use Rattle.clap.specs.declared.builder.ArgAction.TheVariants.{Set}
+
+-- a word that has to be there, and one that may be left out
+abbrev pub needed : Text → Rule
+needed id = record (new_rule id) { required = true; action = Some Set }
+
+abbrev pub other : Text → Rule
+other id = record (new_rule id) { action = Some Set }
+
+-- a subcommand without help
+abbrev pub plain_app : Text → App
+plain_app name = record (new_app name) { top = record (new_app name).top { disable_help_flag = true } }
+
+abbrev pub open_app : App
+open_app = with_rule (with_rule (with_rule (with_rule (plain_app (codes "open")) (needed (codes "exe"))) (needed (codes "core"))) (needed (codes "trace"))) (other (codes "from"))
+
+abbrev pub self_app : App
+self_app = with_rule (with_rule (plain_app (codes "self")) (needed (codes "seed"))) (needed (codes "steps"))
+
+-- the program: no name of its own before the words, no help, and a subcommand that has to be there
+abbrev pub rept_app : App
+rept_app =
+    with_subcommand (with_subcommand
+    (record (new_app (codes "rept")) { top = record (new_app (codes "rept")).top { no_binary_name = true; disable_help_flag = true; disable_help_subcommand = true; subcommand_required = true } })
+    open_app.top) self_app.top

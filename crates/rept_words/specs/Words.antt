@@ -1,0 +1,42 @@
+-- What the words of the command line mean. This project's own.
+use Rattle.std.specs.Prelude.{ℕ, List, [], ◌∷◌, Bool, false, not, ◌&&◌, ◌==◌, nat_lt, nat_le, Option, None, Some, codes, if◌then◌else◌}
+use Rattle.std.specs.List.{list_all}
+use Rattle.std.specs.Str.{bytes_eq}
+use Rattle.std.specs.Option.{option_and_then}
+use Rattle.rept_number.specs.Numbers.{decimal_of}
+
+-- the names of the files of a crash
+pub record Names : Type 0 where
+  pub exe : List ℕ
+  pub core : List ℕ
+  pub trace : List ℕ
+
+-- `open` names three files and may name the packet to begin from; `self` gives a seed and a count of steps
+pub data Meaning : Type 0 where
+  Open : Names → Option ℕ → Meaning
+  Made : ℕ → ℕ → Meaning
+
+-- not empty, and no leading hyphen
+abbrev pub is_plain : List ℕ → Bool
+is_plain [] = false
+is_plain (b ∷ bs) = not (b == 45)
+
+-- 1 to 20000 steps
+abbrev pub steps_of : List ℕ → Option ℕ
+steps_of word = option_and_then (λ n. if nat_lt 0 n && nat_le n 20000 then Some n else None) (decimal_of word)
+
+abbrev pub made_of : List ℕ → List ℕ → Option Meaning
+made_of seed steps = option_and_then (λ s. option_and_then (λ n. Some (Made s n)) (steps_of steps)) (decimal_of seed)
+
+-- the meaning of plain words, by their count and the first of them
+abbrev pub plain_meaning : List (List ℕ) → Option Meaning
+plain_meaning (first ∷ exe ∷ core ∷ trace ∷ []) =
+    if bytes_eq first (codes "open") then Some (Open (record { exe = exe; core = core; trace = trace }) None) else None
+plain_meaning (first ∷ exe ∷ core ∷ trace ∷ from ∷ []) =
+    if bytes_eq first (codes "open") then option_and_then (λ k. Some (Open (record { exe = exe; core = core; trace = trace }) (Some k))) (decimal_of from) else None
+plain_meaning (first ∷ seed ∷ steps ∷ []) = if bytes_eq first (codes "self") then made_of seed steps else None
+plain_meaning words = None
+
+-- the meaning of all words, None where they have none
+abbrev pub meaning_of : List (List ℕ) → Option Meaning
+meaning_of words = if list_all is_plain words then plain_meaning words else None

@@ -1,0 +1,11 @@
+// What the words of the command line ask for.
+#![tactic(auto)]
+
+mod command;
+pub mod reading;
+pub mod request;
+#[cfg(test)]
+mod tests;
+
+pub use reading::meaning;
+pub use request::{FileNames, Request};
