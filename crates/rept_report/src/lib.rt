@@ -3,10 +3,12 @@
 #![tactic(auto)]
 
 pub mod conflict;
+pub mod counts;
 pub mod laws;
 pub mod writer;
 
 pub use conflict::ConflictKind;
+pub use counts::Counts;
 pub use laws::{
     bytes_are_found, ended_is_report, entries_are_reasoned, facts_have_reasons,
     knowledge_is_monotone, reports_are_sound, reports_are_unique, traces_are_derived,

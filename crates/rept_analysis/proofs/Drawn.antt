@@ -1,0 +1,139 @@
+-- Drawings one after another.
+use Rattle.std.proofs.Common.{◌≡◌, ◌≢◌, ℕ, ◌+◌, ◌<◌, ◌≤◌, Bool, true, false, ◌||◌, List, length, Option, Some, None, inl, inr, refl, sym, ap, subst, ◌∙◌, arith, Contains}
+use Rattle.std.proofs.lemmas.Bool.{cases_lt, or_parts, false≢true, true≢false}
+use Rattle.std.proofs.Common.{slice_get}
+use Rattle.rept_isa.specs.declared.row.StepRow.{StepRow}
+use Rattle.rept_reason.specs.declared.fact.Cell.{Cell}
+use Rattle.rept_analysis.specs.State.{State, all_known}
+use Rattle.std.proofs.lemmas.Option.{slice_get-get_or, slice_get_within}
+use Rattle.rept_view.specs.declared.drawn.Drawn.{Drawn}
+use Rattle.rept_report.proofs.Told.{same_some}
+use Rattle.rept_analysis.specs.Drawing.{Knows, IsTracked, Grows, HasNews, Drew, IsFollowing, IsClash, fact_at, KnowsDrawn, DrawnBelow, IsConclusion, AreConclusions, IsUncut}
+use Rattle.rept_analysis.specs.Drawing.HasNews.{fact, address, anew}
+
+pub Grows_itself : {W : Type 0} (a : State W) → Grows a a
+Grows_itself a = record { setting = refl; rows = refl; spans = refl; filled = refl; shown = refl; complete = refl; conflict = refl; answers = refl; older = refl; more = λ p c v e. e; tracked = λ x h. h; counted = omega arith; writing = refl; fewer = omega arith; spent = omega arith; words = λ w. w }
+
+pub Grows_trans : {W : Type 0} (a b c : State W) → Grows a b → Grows b c → Grows a c
+Grows_trans a b c g h = record {
+  setting = h.setting ∙ g.setting;
+  rows = h.rows ∙ g.rows;
+  spans = h.spans ∙ g.spans;
+  filled = h.filled ∙ g.filled;
+  shown = h.shown ∙ g.shown;
+  complete = h.complete ∙ g.complete;
+  conflict = h.conflict ∙ g.conflict;
+  answers = h.answers ∙ g.answers;
+  older = h.older ∙ g.older;
+  more = λ p d v e. h.more p d v (g.more p d v e);
+  tracked = λ x t. h.tracked x (g.tracked x t);
+  counted = let i = g.counted in let j = h.counted in omega (arith, i, j);
+  writing = h.writing ∙ g.writing;
+  fewer = let i = g.fewer in let j = h.fewer in omega (arith, i, j);
+  spent = let i = g.spent in let j = h.spent in omega (arith, i, j);
+  words = λ w. h.words (g.words w);
+}
+
+-- news stay news
+pub news_then : {W : Type 0} (a b c : State W) → Grows b c → HasNews a b → HasNews a c
+news_then a b c g (fact p d v early cell none here) = fact p d v early cell none (g.more p d v here)
+news_then a b c g (address x small was_not here) = address x small was_not (g.tracked x here)
+news_then a b c g (anew less) = anew (let more = g.fewer in omega (arith, more, less))
+
+pub news_before : {W : Type 0} (a b c : State W) → Grows a b → HasNews b c → HasNews a c
+news_before a b c g (fact p d v early cell none here) = fact p d v (subst (λ n. p ≤ length n.rows) g.setting early) cell (was_none (all_known a p d) refl) here
+  where
+    was_none : (x : Option ℕ) → all_known a p d ≡ x → all_known a p d ≡ None
+    was_none None e = e
+    was_none (Some w) e = absurd (differs (sym none ∙ g.more p d w e))
+      where
+        differs : None ≡ Some w → ⊥
+        differs z = cc
+news_before a b c g (address x small was_not here) = address x small (λ t. was_not (g.tracked x t)) here
+news_before a b c g (anew less) = anew (let more = g.fewer in omega (arith, more, less))
+
+module _ {W : Type 0} (a b c : State W) (x y : Bool) (P Q R : State W → Type 0) where
+  -- two drawings, one after the other
+  pub Drew_both : Grows a b → Grows b c → Drew a b x P → Drew b c y Q → (P a → Q a → R a) → Drew a c (x || y) R
+  Drew_both g h p q r = record {
+    news = λ e. newer x y p q e;
+    unchanged = λ e. let parts = or_parts x y e in q.unchanged parts.1 ∙ p.unchanged parts.0;
+    closed = λ e. let parts = or_parts x y e in r (p.closed parts.0) (subst Q (p.unchanged parts.0) (q.closed parts.1));
+    uncut = λ h. q.uncut (p.uncut h);
+  }
+    where
+      newer : (x y : Bool) → Drew a b x P → Drew b c y Q → (x || y) ≡ true → HasNews a c
+      newer true y p q e = news_then a b c h (p.news refl)
+      newer false true p q e = news_before a b c g (q.news refl)
+      newer false false p q e = absurd (false≢true e)
+
+pub Drew_as : {W : Type 0} (a b : State W) (x : Bool) (P Q : State W → Type 0) → Drew a b x P → (P a → Q a) → Drew a b x Q
+Drew_as a b x P Q d f = record { news = d.news; unchanged = d.unchanged; closed = λ e. f (d.closed e); uncut = d.uncut }
+
+pub Drew_none : {W : Type 0} (a b : State W) (P : State W → Type 0) → b ≡ a → P a → Drew a b false P
+Drew_none a b P same h = record { news = λ e. absurd (false≢true e); unchanged = λ _. same; closed = λ _. h; uncut = λ u. subst (λ (x : State _). IsUncut x) (sym same) u }
+
+pub Drew_new : {W : Type 0} (a b : State W) (P : State W → Type 0) → HasNews a b → b.work ≡ a.work → Drew a b true P
+Drew_new a b P h still = record { news = λ _. h; unchanged = λ e. absurd (true≢false e); closed = λ e. absurd (true≢false e); uncut = λ u. rw still u }
+
+-- what held below r, and holds at r, holds below r + 1
+pub one_more : (C : ℕ → Type 0) (r : ℕ) → ((s : ℕ) → s < r → C s) → C r → (s : ℕ) → s < r + 1 → C s
+one_more C r below here s h =
+    elim (cases_lt s r) [ inl lt ↦ below s lt | inr le ↦ let e : r ≡ s = omega arith in subst C e here ]
+
+-- a value that clashes
+pub clash_found : {W : Type 0} (old new : State W) (p : ℕ) (c : Cell) (w v : ℕ) → new ≡ old → Knows p c w old → w ≢ v → IsFollowing old (fact_at p c v) → IsClash new p c w v
+clash_found old new p c w v same known differs follows = subst (λ (x : State _). IsClash x p c w v) (sym same) (record { is_known = known; differs = differs; follows = follows })
+
+pub row_after : {W : Type 0} (old new : State W) (i : ℕ) (row : StepRow) → Grows old new → slice_get old.setting.rows i ≡ Some row → slice_get new.setting.rows i ≡ Some row
+row_after old new i row grows found = rw grows.rows found
+
+-- one more conclusion of a list is known
+pub drawn_more : {W : Type 0} (s : State W) (i : ℕ) (list : List Drawn) (k : ℕ) (d : Drawn) → slice_get list k ≡ Some d → DrawnBelow k list i s → KnowsDrawn i d s → DrawnBelow (k + 1) list i s
+drawn_more s i list k d at below here j e lt is =
+    elim (cases_lt j k) [
+      | inl less ↦ below j e less is
+      | inr more ↦
+          let same : k ≡ j = omega (arith, lt, more) in
+          let found : d ≡ e = same_drawn (sym at ∙ rw same is) in
+          subst (λ (x : Drawn). KnowsDrawn i x s) found here
+    ]
+  where
+    same_drawn : {x y : Drawn} → Some x ≡ Some y → x ≡ y
+    same_drawn z = cc
+
+-- one more tracked address is done
+pub tracked_more : {W : Type 0} (s : State W) (P : ℕ → State W → Type 0) (k a : ℕ) → slice_get s.known.store.tracked k ≡ Some a → ((j b : ℕ) → j < k → slice_get s.known.store.tracked j ≡ Some b → P b s) → P a s → (j b : ℕ) → j < k + 1 → slice_get s.known.store.tracked j ≡ Some b → P b s
+tracked_more s P k a at below here j b lt is =
+    elim (cases_lt j k) [
+      | inl less ↦ below j b less is
+      | inr more ↦
+          let same : k ≡ j = omega (arith, lt, more) in
+          let found : a ≡ b = same_some (sym at ∙ rw same is) in
+          subst (λ (x : ℕ). P x s) found here
+    ]
+
+-- so all that are tracked are done
+pub tracked_all : {W : Type 0} (s : State W) (P : ℕ → State W → Type 0) (n : ℕ) → length s.known.store.tracked ≤ n → ((j b : ℕ) → j < n → slice_get s.known.store.tracked j ≡ Some b → P b s) → (a : ℕ) → IsTracked a s → P a s
+tracked_all s P n le h a at = let lt = at.1 in h at.0 a (omega (arith, lt, le)) (slice_get-get_or s.known.store.tracked at.0 a at.1 ∙ ap Some at.2)
+
+contains_at : (list : List Drawn) (k : ℕ) (d : Drawn) → slice_get list k ≡ Some d → Contains list d
+contains_at list k d at = let lt = slice_get_within list k d at in (k, lt, same_drawn (sym (slice_get-get_or list k d lt) ∙ at))
+  where
+    same_drawn : {x y : Drawn} → Some x ≡ Some y → x ≡ y
+    same_drawn z = cc
+
+-- all elements of a list are conclusions
+pub list_conclusions : {W : Type 0} (s : State W) (i : ℕ) (list : List Drawn) → ((d : Drawn) → Contains list d → IsConclusion i d s) → AreConclusions i list s
+list_conclusions s i list h k d at = h d (contains_at list k d at)
+
+pub list_known : {W : Type 0} (s : State W) (i : ℕ) (list : List Drawn) → DrawnBelow (length list) list i s → (d : Drawn) → Contains list d → KnowsDrawn i d s
+list_known s i list h d at = h at.0 d at.1 (slice_get-get_or list at.0 d at.1 ∙ ap Some at.2)
+
+-- a tracked address that was read
+pub read_tracked : {W : Type 0} (s : State W) (k a : ℕ) → slice_get s.known.store.tracked k ≡ Some a → IsTracked a s
+read_tracked s k a at = let lt = slice_get_within s.known.store.tracked k a at in (k, lt, same_some (sym (slice_get-get_or s.known.store.tracked k a lt) ∙ at))
+
+-- nothing is drawn, and P holds
+pub Drew_same : {W : Type 0} (a : State W) (P : State W → Type 0) → P a → Drew a a false P
+Drew_same a P h = record { news = λ e. absurd (false≢true e); unchanged = λ _. refl; closed = λ _. h; uncut = λ u. u }

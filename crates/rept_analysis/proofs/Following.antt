@@ -1,0 +1,249 @@
+-- What a row lets follow.
+use Rattle.std.proofs.Common.{◌≡◌, ◌≢◌, ℕ, ◌+◌, ◌<◌, ◌≤◌, ◌^◌, eqb, ltb, false, true, min, List, length, Option, Some, None, inl, inr, refl, sym, ap, subst, ◌∙◌, arith, Contains, slice_get, get_or}
+use Rattle.std.proofs.lemmas.Option.{slice_get-get_or, same_Some}
+use Rattle.std.proofs.lemmas.Bool.{cond-true, cond-false, ne_eqb, cases_lt, lt-ltb, le-ltb, false≢true}
+use mathlib.Core.Path.{fun_ext}
+use Rattle.rept_isa.specs.Numbers.{plus}
+use Rattle.rept_isa.specs.declared.row.StepRow.{StepRow}
+use Rattle.rept_isa.specs.Operands.{written_by, first_read}
+use Rattle.rept_machine.specs.Arithmetic.{beside}
+use Rattle.rept_alias.specs.declared.addresses.CallAccess.{CallAccess}
+use Rattle.rept_alias.specs.Accesses.{call_hits}
+use Rattle.rept_partial.specs.declared.flat.Flat.{Flat}
+use Rattle.rept_partial.specs.declared.flat.Flat.TheVariants.{Known}
+use Rattle.rept_partial.specs.declared.range.Range.{Range}
+use Rattle.rept_reason.specs.declared.fact.Fact.{Fact}
+use Rattle.rept_reason.specs.declared.fact.Cell.{Cell}
+use Rattle.rept_reason.specs.declared.fact.Cell.TheVariants.{Register, Byte}
+use Rattle.rept_reason.specs.Facts.{told, flat, register_known}
+use Rattle.rept_span.specs.Ranges.{range}
+use Rattle.rept_span.specs.Filled.{entry_at}
+use Rattle.rept_view.specs.declared.drawn.When.{When}
+use Rattle.rept_view.specs.declared.drawn.When.TheVariants.{Before, After}
+use Rattle.rept_view.specs.declared.drawn.Drawn.{Drawn}
+use Rattle.rept_view.specs.Seen.{Seen, seen_cell}
+use Rattle.rept_view.specs.Rules.{offset_of, IsRowCell, Rules}
+use Rattle.rept_log.specs.Around.{around, around_lawful}
+use Rattle.rept_report.specs.Setting.{Setting, HasLaws, way_of}
+use Rattle.rept_report.specs.Views.{point_of, all_words, bounds, register_range, known_or, seen_at, registers_at, Carries}
+use Rattle.rept_report.specs.Conclusions.{IsWordOf, HasWords, Concludes}
+use Rattle.rept_report.specs.Conclusions.IsCarried.{last_byte, onward, back}
+use Rattle.rept_report.specs.Conclusions.Follows.{last_value, kept_onward, kept_back, carried, drawn, only_value}
+use Rattle.rept_report.specs.Conflicts.{IsQuiet}
+use Rattle.rept_report.specs.Log.{oldest, OnceEach}
+use Rattle.rept_report.proofs.Told.{same_some, none_some}
+use Rattle.rept_report.proofs.Places.{oldest_less}
+use Rattle.rept_report.proofs.ViewLaws.{known_fact, seen_at_lawful}
+use Rattle.rept_report.proofs.Monotony.{quiet_less, spared_more, single_value_more, Concludes_more}
+use Rattle.rept_analysis.specs.Cells.{bytes_from, bytes_known, base_known}
+use Rattle.rept_log.specs.Known.{Known as LogKnown}
+use Rattle.rept_analysis.specs.State.{State, all_known}
+use Rattle.rept_analysis.specs.Moments.{filled_range, moment}
+use Rattle.rept_analysis.specs.Drawing.{Knows, IsTracked, Grows, IsFollowing, IsBrought, fact_at, IsLearntAt, IsKeptAt, LastKnown, IsFitted, IsAccess, IsCarriedAt, AreTrackedFrom, IsRowTracked, IsConclusion, IsBroughtTo, KeptBelow, DrawnKnown, IsRowDrawn, IsRowClosed, LastByteKnown, SingleKnown}
+
+pub flat_known : (x : Option ℕ) (v : ℕ) → flat x ≡ Known v → x ≡ Some v
+flat_known None v e = cc
+flat_known (Some w) v e = cc
+
+-- what is known of a register other than x0 is told
+pub known_told : {W : Type 0} (s : State W) (p r v : ℕ) (x : Flat) → x ≡ flat (register_known (told s.known.log) p r) → x ≡ Known v → 0 < r → Knows p (Register r) v s
+known_told s p r v x read is named =
+    elim (known_fact (told s.known.log) p r v (flat_known (register_known (told s.known.log) p r) v (sym read ∙ is))) [
+      | inl z ↦ let zero_is = z.0 in absurd (omega (arith, named, zero_is))
+      | inr h ↦ h.1
+    ]
+
+-- and the other way
+pub told_known : {W : Type 0} (s : State W) (p r v : ℕ) (x : Flat) → x ≡ flat (register_known (told s.known.log) p r) → Knows p (Register r) v s → 0 < r → x ≡ Known v
+told_known s p r v x read h named = read ∙ ap flat (other ∙ h)
+  where
+    other : register_known (told s.known.log) p r ≡ told s.known.log p (Register r)
+    other = cond-false (eqb r 0) (Some 0) (told s.known.log p (Register r)) (ne_eqb r 0 (λ e. omega (arith, named, e)))
+
+module _ {W : Type 0} (s : State W) (i : ℕ) (row : StepRow) (found : slice_get s.setting.rows i ≡ Some row) (inside : i < length s.setting.rows) (r v : ℕ) (named : 0 < r) (in_file : r < 32) (small : v < 2 ^ 32) (kept : written_by row.instr ≢ Some r) (x : Flat) where
+  pub onward_follows : x ≡ flat (register_known (told s.known.log) i r) → x ≡ Known v → IsFollowing s (fact_at (i + 1) (Register r) v)
+  onward_follows read is quiet = record { early = omega (arith, inside); cell = (named, in_file); word = small; by = kept_onward i r row found refl refl kept (known_told s i r v x read is named) }
+
+  pub back_follows : x ≡ flat (register_known (told s.known.log) (i + 1) r) → x ≡ Known v → IsFollowing s (fact_at i (Register r) v)
+  back_follows read is quiet = record { early = omega (arith, inside); cell = (named, in_file); word = small; by = kept_back i r row found refl refl kept (known_told s (i + 1) r v x read is named) }
+
+pub kept_at : {W : Type 0} (s : State W) (i r : ℕ) (x : Flat) → x ≡ flat (register_known (told s.known.log) i r) → 0 < r → IsLearntAt (i + 1) r x s → ((v : ℕ) → 0 < r → Knows (i + 1) (Register r) v s → Knows i (Register r) v s) → IsKeptAt i r s
+kept_at s i r x read named on off = record { onward = λ v h. on v (told_known s i r v x read h named) named; back = λ v h. off v named h }
+
+pub back_known : {W : Type 0} (s : State W) (i r : ℕ) (x : Flat) → x ≡ flat (register_known (told s.known.log) (i + 1) r) → IsLearntAt i r x s → (v : ℕ) → 0 < r → Knows (i + 1) (Register r) v s → Knows i (Register r) v s
+back_known s i r x read learnt v named h = learnt v (told_known s (i + 1) r v x read h named) named
+
+pub last_follows : {W : Type 0} (s : State W) (p r v w : ℕ) → p ≡ length s.setting.rows → slice_get s.setting.last r ≡ Some w → Known w ≡ Known v → 0 < r → r < 32 → v < 2 ^ 32 → IsFollowing s (fact_at p (Register r) v)
+last_follows s p r v w at found is named in_file small quiet = record { early = omega (arith, at); cell = (named, in_file); word = small; by = last_value r at refl (found ∙ ap Some (same_flat is)) }
+  where
+    same_flat : {x y : ℕ} → Known x ≡ Known y → x ≡ y
+    same_flat e = cc
+
+pub last_known : {W : Type 0} (s : State W) (p r w : ℕ) → p ≡ length s.setting.rows → slice_get s.setting.last r ≡ Some w → IsLearntAt p r (Known w) s → LastKnown r s
+last_known s p r w at found learnt v named is = rw (← at) (learnt v (ap Known (same_some (sym found ∙ is))) named)
+
+-- what followed still follows
+pub follows_more : {W : Type 0} (s t : State W) → HasLaws s.setting → Grows s t → HasWords (all_known t) → (f : Fact) → IsFollowing s f → IsFollowing t f
+follows_more s t laws g words f follows = subst (λ (S : Setting _). IsQuiet S (all_known t) → Concludes S (all_known t) f) (sym g.setting) (λ quiet.
+    let before = quiet_less s.setting laws (all_known s) (all_known t) (λ p r v e. g.more p (Register r) v e) quiet in
+    Concludes_more s.setting laws (all_known s) (all_known t) g.more words quiet f (follows before))
+
+pub learnt_at : {W : Type 0} (s : State W) (p r w : ℕ) (x : Flat) → x ≡ Known w → Knows p (Register r) w s → IsLearntAt p r x s
+learnt_at s p r w x is h v is' named = h ∙ ap Some (same (sym is ∙ is'))
+  where
+    same : {x y : ℕ} → Known x ≡ Known y → x ≡ y
+    same e = cc
+
+-- the bytes of a row are tracked, where those from its address on are
+pub row_tracked : {W : Type 0} (s : State W) (i : ℕ) (row : StepRow) (r base start count : ℕ) (x : Flat) → first_read row.instr ≡ Some r → x ≡ flat (register_known (told s.known.log) i r) → x ≡ Known base → start ≡ plus base (offset_of row.instr) → count ≡ min (s.setting.rules.places row) 4 → AreTrackedFrom start count s → IsRowTracked row i s
+row_tracked s i row r base start count x reads read is from few tracked a h =
+    let register : r ≡ h.base_register = same_some (sym reads ∙ h.read) in
+    let known : register_known (told s.known.log) i r ≡ Some base = flat_known (register_known (told s.known.log) i r) base (sym read ∙ is) in
+    let here : register_known (told s.known.log) i r ≡ Some h.base = rw register h.base_known in
+    let same : base ≡ h.base = same_some (sym known ∙ here) in
+    let below : h.k < count = let p = h.below_places in let q = h.below_four in rw few (omega (arith, p, q)) in
+    subst (λ (y : ℕ). IsTracked y s) (sym (h.address ∙ ap (λ (b : ℕ). beside (plus b (offset_of row.instr)) h.k) (sym same) ∙ ap (λ (z : ℕ). beside z h.k) (sym from))) (tracked h.k below)
+
+word_fits : (c : Cell) (v : ℕ) → v < 2 ^ 32 → IsWordOf c v
+word_fits (Register r) v h = h
+word_fits (Byte a) v h = tt
+
+-- what a row lets one draw follows
+module _ {W : Type 0} (s : State W) (laws : HasLaws s.setting) (words : HasWords (all_known s)) (i : ℕ) (row : StepRow) (found : slice_get s.setting.rows i ≡ Some row) (inside : i < length s.setting.rows) where
+  log_words : HasWords (told s.known.log)
+  log_words p r v e = words p r v e
+
+  same_cells : (w : When) (c : Cell) → seen_cell (seen_at s.setting (all_known s) i) w c ≡ seen_cell (around s.known i) w c
+  same_cells w (Register r) = refl
+  same_cells w (Byte a) = refl
+
+  pub drawn_seen : (d : Drawn) → Contains (s.setting.rules.draw row (around s.known i)) d → Contains (s.setting.rules.draw row (seen_at s.setting (all_known s) i)) d
+  drawn_seen d h = laws.rules.needs_enough row (around s.known i) (seen_at s.setting (all_known s) i) d (around_lawful s.known i log_words) (seen_at_lawful s.setting (all_known s) words i) h (λ n needed. same_cells n.when n.cell)
+
+  pub seen_drawn : (d : Drawn) → Contains (s.setting.rules.draw row (seen_at s.setting (all_known s) i)) d → Contains (s.setting.rules.draw row (around s.known i)) d
+  seen_drawn d h = laws.rules.needs_enough row (seen_at s.setting (all_known s) i) (around s.known i) d (seen_at_lawful s.setting (all_known s) words i) (around_lawful s.known i log_words) h (λ n needed. sym (same_cells n.when n.cell))
+
+  point_early : (w : When) → point_of i w ≤ length s.setting.rows
+  point_early Before = omega (arith, inside)
+  point_early After = omega (arith, inside)
+
+  pub drawn_conclusion : IsRowTracked row i s → (d : Drawn) → Contains (s.setting.rules.draw row (around s.known i)) d → IsConclusion i d s
+  drawn_conclusion tracked d h =
+      let own = laws.rules.own row (around s.known i) d (around_lawful s.known i log_words) h in
+      record {
+        cell = own.1;
+        fits = own.2;
+        follows = λ small quiet. record { early = point_early d.when; cell = own.1; word = word_fits d.cell d.value small; by = drawn i row d found (drawn_seen d h) refl refl refl };
+        tracked = λ a is. tracked a (subst (λ (c : Cell). IsRowCell s.setting.rules row (around s.known i) d.when c) is own.0);
+      }
+
+pub conclusion_more : {W : Type 0} (s t : State W) → HasLaws s.setting → Grows s t → HasWords (all_known t) → (i : ℕ) (d : Drawn) → IsConclusion i d s → IsConclusion i d t
+conclusion_more s t laws g words i d h = record { cell = h.cell; fits = h.fits; follows = λ small. follows_more s t laws g words _ (h.follows small); tracked = λ a is. g.tracked a (h.tracked a is) }
+
+-- the sets of a moment are the ranges
+module _ {W : Type 0} (s : State W) (i : ℕ) (inside : i < length s.setting.rows) (fitted : IsFitted s) where
+  abbrev older : List Fact
+  older = oldest s.filled s.known.log
+
+  early : (w : When) → point_of i w ≤ length s.setting.rows
+  early Before = omega (arith, inside)
+  early After = omega (arith, inside)
+
+  same_range : (p r : ℕ) → p ≤ length s.setting.rows → filled_range s.setting.sets s.spans p r ≡ register_range s.setting (told older) p r
+  same_range p r h =
+      elim (cases_lt r 32) [
+        | inl lt ↦ rw (cond-true (ltb r 32) (bounds s.setting.sets (entry_at s.spans p r)) all_words (lt-ltb r 32 lt), cond-true (ltb r 32) (bounds s.setting.sets (range (way_of s.setting) (told older) p r)) all_words (lt-ltb r 32 lt)) (ap (λ (x : Option W). bounds s.setting.sets x) (fitted p h r lt))
+        | inr le ↦ rw (cond-false (ltb r 32) (bounds s.setting.sets (entry_at s.spans p r)) all_words (le-ltb r 32 le), cond-false (ltb r 32) (bounds s.setting.sets (range (way_of s.setting) (told older) p r)) all_words (le-ltb r 32 le)) refl
+      ]
+
+  abbrev seen_with : (When → ℕ → Range) → Seen
+  seen_with ranges = record { register = λ w r. register_known (told older) (point_of i w) r; byte = λ w a. None; range = λ w r. known_or (register_known (told older) (point_of i w) r) (ranges w r) }
+
+  pub moment_is : moment s.setting.sets older s.spans i ≡ registers_at s.setting (told older) i
+  moment_is = ap seen_with (fun_ext (λ (w : When). fun_ext (λ (r : ℕ). same_range (point_of i w) r (early w))))
+
+  pub access_is : (row : StepRow) (access : CallAccess) → slice_get s.setting.rows i ≡ Some row → ((a : ℕ) → a < 2 ^ 32 → call_hits access a ≡ s.setting.rules.touched row (moment s.setting.sets older s.spans i) s.setting.image_end a) → IsAccess i access s
+  access_is row access found hits a small = hits a small ∙ rw found (ap (λ (v : Seen). s.setting.rules.touched row v s.setting.image_end a) moment_is)
+
+-- what a row may not write is carried over it
+module _ {W : Type 0} (s : State W) (laws : HasLaws s.setting) (words : HasWords (all_known s)) (once : OnceEach s.known.log) (i a v : ℕ) (inside : i < length s.setting.rows) (small : a < 2 ^ 32) (access : CallAccess) (is_access : IsAccess i access s) (spared : call_hits access a ≡ false) where
+  carries : IsQuiet s.setting (all_known s) → Carries s.setting (all_known s) a i (i + 1)
+  carries quiet = record { inside = inside; next = refl; spared = spared_more s.setting laws (told (oldest s.filled s.known.log)) (all_known s) (λ p r w e. oldest_less s.filled s.known.log once p (Register r) w e) words quiet i a small (sym (is_access a small) ∙ spared) }
+
+  pub onward_brought : Knows i (Byte a) v s → IsBrought s (fact_at (i + 1) (Byte a) v)
+  onward_brought h quiet = onward a i (i + 1) refl refl (carries quiet) h
+
+  pub back_brought : Knows (i + 1) (Byte a) v s → IsBrought s (fact_at i (Byte a) v)
+  back_brought h quiet = back a i (i + 1) refl refl (carries quiet) h
+
+pub brought_follows : {W : Type 0} (s : State W) (p a v : ℕ) → p ≤ length s.setting.rows → a < 2 ^ 32 → IsBrought s (fact_at p (Byte a) v) → IsFollowing s (fact_at p (Byte a) v)
+brought_follows s p a v h small brought quiet = record { early = h; cell = small; word = tt; by = carried (brought quiet) }
+
+pub access_after : {W : Type 0} (s t : State W) (i : ℕ) (access : CallAccess) → Grows s t → IsAccess i access s → IsAccess i access t
+access_after s t i access g h a small = rw (g.setting, g.older) (h a small)
+
+pub fitted_after : {W : Type 0} (s t : State W) → Grows s t → IsFitted s → IsFitted t
+fitted_after s t g h = rw (g.setting, g.spans, g.older) h
+
+-- a byte that may be written needs no carrying
+pub hit_carried : {W : Type 0} (s : State W) (i a : ℕ) (access : CallAccess) → a < 2 ^ 32 → IsAccess i access s → call_hits access a ≡ true → IsCarriedAt i a s
+hit_carried s i a access small h hit = record { onward = λ v spared e. absurd (false≢true (sym spared ∙ sym (h a small) ∙ hit)); back = λ v spared e. absurd (false≢true (sym spared ∙ sym (h a small) ∙ hit)) }
+
+-- an element that was read
+pub slice_read : (xs : List Drawn) (k : ℕ) (d : Drawn) → k < length xs → d ≡ get_or xs k d → slice_get xs k ≡ Some d
+slice_read xs k d lt read = slice_get-get_or xs k d lt ∙ ap Some (sym read)
+
+pub brought_to : {W : Type 0} (s : State W) (from to a w : ℕ) → Knows from (Byte a) w s → Knows to (Byte a) w s → IsBroughtTo from to a s
+brought_to s from to a w at h v e = h ∙ ap Some (same_some (sym at ∙ e))
+
+pub carried_both : {W : Type 0} (s : State W) (i a : ℕ) → IsBroughtTo i (i + 1) a s → IsBroughtTo (i + 1) i a s → IsCarriedAt i a s
+carried_both s i a p q = record { onward = λ v spared h. p v h; back = λ v spared h. q v h }
+
+pub row_closed : {W : Type 0} (s : State W) (i : ℕ) (row : StepRow) → slice_get s.setting.rows i ≡ Some row → KeptBelow 32 row i s → IsRowTracked row i s → DrawnKnown row i s → IsRowClosed i s
+row_closed s i row found registers tracked drawn_ row' found' =
+    let same : row ≡ row' = same_row (sym found ∙ found') in
+    subst (λ (x : StepRow). IsRowDrawn x i s) same (record { registers = registers; tracked = tracked; drawn = drawn_ })
+  where
+    same_row : {x y : StepRow} → Some x ≡ Some y → x ≡ y
+    same_row e = cc
+
+pub last_byte_brought : {W : Type 0} (s : State W) (p a v : ℕ) → p ≡ length s.setting.rows → s.setting.dump a ≡ Some v → IsBrought s (fact_at p (Byte a) v)
+last_byte_brought s p a v at found quiet = last_byte a at refl found
+
+pub last_byte_known : {W : Type 0} (s : State W) (p a w : ℕ) → p ≡ length s.setting.rows → s.setting.dump a ≡ Some w → Knows p (Byte a) w s → LastByteKnown a s
+last_byte_known s p a w at found h v is = subst (λ (q : ℕ). Knows q (Byte a) v s) at (h ∙ ap Some (same_some (sym found ∙ is)))
+
+pub no_last_byte : {W : Type 0} (s : State W) (a : ℕ) → s.setting.dump a ≡ None → LastByteKnown a s
+no_last_byte s a none v is = absurd (none_some (sym none ∙ is))
+
+-- a set of one value, as the sets were filled
+module _ {W : Type 0} (s : State W) (laws : HasLaws s.setting) (words : HasWords (all_known s)) (once : OnceEach s.known.log) (fitted : IsFitted s) where
+  pub single_follows : (p r v : ℕ) (set : W) → p ≤ length s.setting.rows → 0 < r → r < 32 → v < 2 ^ 32 → entry_at s.spans p r ≡ Some set → s.setting.sets.as_exact set ≡ Some v → IsFollowing s (fact_at p (Register r) v)
+  single_follows p r v set early_ named in_file small at only quiet =
+      let is : range (way_of s.setting) (told (oldest s.filled s.known.log)) p r ≡ Some set = sym (fitted p early_ r in_file) ∙ at in
+      let next = single_value_more s.setting laws (told (oldest s.filled s.known.log)) (all_known s) (λ q t w e. oldest_less s.filled s.known.log once q (Register t) w e) words quiet p r v set early_ in_file is only in
+      record { early = early_; cell = (named, in_file); word = small; by = only_value r next.0 refl next.1 next.2 }
+
+pub single_known : {W : Type 0} (s : State W) (p r w : ℕ) (set : W) → entry_at s.spans p r ≡ Some set → s.setting.sets.as_exact set ≡ Some w → IsLearntAt p r (Known w) s → SingleKnown p r s
+single_known s p r w set at only learnt set' v at' only' named =
+    let same : set ≡ set' = same_Some set set' (sym at ∙ at') in
+    let value : w ≡ v = same_some (sym only ∙ rw same only') in
+    learnt v (ap Known value) named
+
+pub no_single : {W : Type 0} (s : State W) (p r : ℕ) (set : W) → entry_at s.spans p r ≡ Some set → s.setting.sets.as_exact set ≡ None → SingleKnown p r s
+no_single s p r set at none set' v at' only' named =
+    let same : set ≡ set' = same_Some set set' (sym at ∙ at') in
+    absurd (none_some {x = v} (sym none ∙ rw same only'))
+
+pub same_flat : {x y : ℕ} → Known x ≡ Known y → x ≡ y
+same_flat e = cc
+
+pub words_below : {W : Type 0} (s : State W) (t : ℕ) → OnceEach s.known.log → HasWords (told s.known.log) → HasWords (told (oldest t s.known.log))
+words_below s t once words p r v e = words p r v (oldest_less t s.known.log once p (Register r) v e)
+
+-- the bytes of a row whose base is known
+pub row_bytes : (rules : Rules) (row : StepRow) (k : LogKnown) (i r base start count n : ℕ) (x : Flat) → first_read row.instr ≡ Some r → x ≡ flat (register_known (told k.log) i r) → x ≡ Known base → start ≡ plus base (offset_of row.instr) → count ≡ min (rules.places row) 4 → n ≡ bytes_from (around k i) start count → n ≡ bytes_known rules row (around k i) (base_known (first_read row.instr) (around k i))
+row_bytes rules row k i r base start count n x reads read is from few counted =
+    let known : register_known (told k.log) i r ≡ Some base = flat_known (register_known (told k.log) i r) base (sym read ∙ is) in
+    let there : base_known (first_read row.instr) (around k i) ≡ Some base = rw reads known in
+    rw there (rw (← from, ← few) counted)

@@ -1,0 +1,284 @@
+-- Fronts of the log of an analysis that has ended, and the reasons that are found in them.
+use Rattle.std.proofs.Common.{◌≡◌, ◌≢◌, ℕ, suc, ◌+◌, ◌-◌, ◌<◌, ◌≤◌, ◌^◌, Bool, true, false, eqb, cond, List, [], ◌∷◌, length, Option, Some, None, Result, Ok, Err, IsOk, IfErr, OnOk, IfSome, IfNone, IsTrue, inl, inr, refl, sym, ap, subst, ◌∙◌, arith}
+use Rattle.std.specs.Prelude.{⊤}
+use Rattle.std.proofs.lemmas.Bool.{cases_eq, cases_order, cases_Bool, cond-true, cond-false, eq-eqb, ne_eqb, eqb-true, false≢true}
+use Rattle.rept_reason.specs.declared.fact.Fact.{Fact}
+use Rattle.rept_reason.specs.declared.fact.Cell.{Cell}
+use Rattle.rept_reason.specs.declared.fact.Cell.TheVariants.{Register, Byte}
+use Rattle.rept_reason.specs.Facts.{Knowledge, IsCell, In, told, speaks}
+use Rattle.rept_span.specs.declared.spans.EmptyAt.{EmptyAt}
+use Rattle.rept_span.specs.Ranges.{IsEmptyFirst}
+use Rattle.rept_span.specs.Filled.{View}
+use Rattle.rept_report.specs.Setting.{Setting, HasLaws, way_of}
+use Rattle.rept_report.specs.Conclusions.{HasWords}
+use Rattle.rept_report.specs.Conflicts.{IsQuiet}
+use Rattle.rept_report.specs.Log.{oldest, entry, place_of, OnceEach, facts_of, logged_of}
+use Rattle.rept_report.specs.Reasons.{StandsIn, byte_at, standing}
+use Rattle.rept_report.specs.Why.{Because, fact_of, IsDrawnBecause, IsKnownBecause, IsCarriedBecause, IsLeastFront, IsReason}
+use Rattle.rept_report.specs.Why.IsReason.{of_register, of_drawn_byte, of_carried_byte}
+use Rattle.rept_report.proofs.Told.{none_some, same_some, speaks_is, told_new, told_old, in_told}
+use Rattle.rept_report.proofs.Places.{oldest_all, oldest_less, place_none}
+use Rattle.rept_report.proofs.Standing.{oldest_in, front_quiet}
+use Rattle.rept_report.proofs.Explained.{entry_in}
+use Rattle.rept_report.proofs.Implied.{known_stands}
+use Rattle.rept_isa.specs.declared.row.StepRow.{StepRow}
+use Rattle.rept_elf.specs.Segments.{ElfSegment}
+use Rattle.rept_log.specs.Fronts.{Basis, IsFront}
+use Rattle.rept_analysis.specs.State.{State, all_known, with_draws}
+use Rattle.rept_analysis.specs.Drawing.{IsRowDrawn, IsSettled}
+use Rattle.rept_analysis.specs.Kept.{is_among, answers, IsFinished, IsKept}
+use Rattle.rept_analysis.specs.Reasoned.{AreSetsOf, IsNotLast}
+use Rattle.rept_analysis.proofs.Passing.{passes_more}
+use Rattle.rept_analysis.proofs.Learning.{known_words}
+use Rattle.rept_analysis.proofs.Answering.{answers_early}
+use Rattle.rept_analysis.proofs.Explaining.{has_ended, ends_with, known_reason, front_found, front_stands}
+
+same_fact : {x y : Fact} → Some x ≡ Some y → x ≡ y
+same_fact e = cc
+
+fact_is : (f g : Fact) → f.point ≡ g.point → f.cell ≡ g.cell → f.value ≡ g.value → f ≡ g
+fact_is f g p c v =
+    ap (λ (x : ℕ). record { point = x; cell = f.cell; value = f.value }) p
+    ∙ ap (λ (x : Cell). record { point = g.point; cell = x; value = f.value }) c
+    ∙ ap (λ (x : ℕ). record { point = g.point; cell = g.cell; value = x }) v
+
+byte_differs : {a r : ℕ} → Byte a ≡ Register r → ⊥
+byte_differs e = cc
+
+register_differs : {a r : ℕ} → Register r ≡ Byte a → ⊥
+register_differs e = cc
+
+pub none_by : {A : Type 0} (P : Type 0) (found : Option A) → P → IfNone found P
+none_by P None h = h
+none_by P (Some x) h = tt
+
+-- a fact has one place
+pub entry_once : (fs : List Fact) → OnceEach fs → (f : Fact) (t u : ℕ) → entry fs t ≡ Some f → entry fs u ≡ Some f → t ≡ u
+entry_once [] once f t u e h = cc
+entry_once (g ∷ gs) once f t u e h =
+    elim (cases_eq t (length gs)) [
+      | inl t_last ↦
+          elim (cases_eq u (length gs)) [
+            | inl u_last ↦ omega arith
+            | inr u_before ↦ absurd (twice u (sym (cond-true (eqb t (length gs)) (Some g) (entry gs t) (eq-eqb t (length gs) t_last)) ∙ e) (sym (cond-false (eqb u (length gs)) (Some g) (entry gs u) (ne_eqb u (length gs) u_before)) ∙ h))
+          ]
+      | inr t_before ↦
+          let e' = sym (cond-false (eqb t (length gs)) (Some g) (entry gs t) (ne_eqb t (length gs) t_before)) ∙ e in
+          elim (cases_eq u (length gs)) [
+            | inl u_last ↦ absurd (twice t (sym (cond-true (eqb u (length gs)) (Some g) (entry gs u) (eq-eqb u (length gs) u_last)) ∙ h) e')
+            | inr u_before ↦ entry_once gs once.0 f t u e' (sym (cond-false (eqb u (length gs)) (Some g) (entry gs u) (ne_eqb u (length gs) u_before)) ∙ h)
+          ]
+    ]
+  where
+    twice : (k : ℕ) → Some g ≡ Some f → entry gs k ≡ Some f → ⊥
+    twice k is at =
+        let there = in_told gs once.0 f (oldest_in (k + 1) gs f (entry_in gs k f at)) in
+        let same = same_fact is in
+        let none : told gs f.point f.cell ≡ None = subst (λ (x : Fact). told gs x.point x.cell ≡ None) same once.1 in
+        none_some (sym none ∙ there)
+
+-- the fact at the place of a cell
+pub record IsPlaced (fs : List Fact) (p : ℕ) (c : Cell) (k : ℕ) : Type 0 where
+  pub fact : Fact
+  pub at : entry fs k ≡ Some fact
+  pub point : fact.point ≡ p
+  pub cell : fact.cell ≡ c
+  pub tells : told fs p c ≡ Some fact.value
+
+some_is : {x y : ℕ} → Some x ≡ Some y → x ≡ y
+some_is e = cc
+
+place_of_within : (fs : List Fact) (p : ℕ) (c : Cell) (k : ℕ) → place_of fs p c ≡ Some k → k < length fs
+place_of_within [] p c k e = absurd (none_some e)
+place_of_within (g ∷ gs) p c k e =
+    elim (cases_Bool (speaks g p c)) [
+      | inl here ↦ let is = some_is (sym (cond-true (speaks g p c) (Some (length gs)) (place_of gs p c) here) ∙ e) in omega arith
+      | inr elsewhere ↦ let below = place_of_within gs p c k (sym (cond-false (speaks g p c) (Some (length gs)) (place_of gs p c) elsewhere) ∙ e) in omega arith
+    ]
+
+pub placed : (fs : List Fact) (p : ℕ) (c : Cell) (k : ℕ) → place_of fs p c ≡ Some k → IsPlaced fs p c k
+placed [] p c k e = absurd (none_some e)
+placed (g ∷ gs) p c k e =
+    elim (cases_Bool (speaks g p c)) [
+      | inl here ↦
+          let is : length gs ≡ k = some_is (sym (cond-true (speaks g p c) (Some (length gs)) (place_of gs p c) here) ∙ e) in
+          let parts = speaks_is g p c here in
+          record {
+            fact = g;
+            at = cond-true (eqb k (length gs)) (Some g) (entry gs k) (eq-eqb k (length gs) (sym is));
+            point = parts.0;
+            cell = parts.1;
+            tells = cond-true (speaks g p c) (Some g.value) (told gs p c) here;
+          }
+      | inr elsewhere ↦
+          let e' = sym (cond-false (speaks g p c) (Some (length gs)) (place_of gs p c) elsewhere) ∙ e in
+          let below = place_of_within gs p c k e' in
+          let h = placed gs p c k e' in
+          record {
+            fact = h.fact;
+            at = cond-false (eqb k (length gs)) (Some g) (entry gs k) (ne_eqb k (length gs) (λ x. omega arith)) ∙ h.at;
+            point = h.point;
+            cell = h.cell;
+            tells = told_old g gs p c elsewhere ∙ h.tells;
+          }
+    ]
+
+pub least_same : {W : Type 0} (S : Setting W) (log : List Fact) (f : Fact) (t u : ℕ) → IsLeastFront S log f t → IsLeastFront S log f u → t ≡ u
+least_same S log f t u h k =
+    elim (cases_order t u) [
+      | inl same ↦ same
+      | inr (inl less) ↦ absurd (k.least t less h.stands)
+      | inr (inr more) ↦ absurd (h.least u more k.stands)
+    ]
+
+pub filled_ok : {W : Type 0} (S : Setting W) (K : Knowledge) → IsQuiet S K → (result : Result ⊤ EmptyAt) → IfErr result (λ e. IsEmptyFirst (way_of S) K e.point e.reg) → IsOk result
+filled_ok S K quiet (Ok x) h = refl
+filled_ok S K quiet (Err e) h = absurd (quiet.full e.point e.reg h.early h.in_file h.empty)
+
+-- the front of a log, with the sets that are filled from it
+pub front_is : {W : Type 0} (s : State W) → IsKept s → (t : ℕ) (spans : View W) → AreSetsOf s.setting (oldest t s.known.log) spans → IsFront (record { setting = s.setting; facts = oldest t s.known.log }) s.known.last spans
+front_is s kept t spans sets = record {
+  few = kept.few;
+  registers = kept.registers;
+  last_is = kept.last_is;
+  sized = sets.sized;
+  words = λ p r v e. known_words s kept p r v (oldest_less t s.known.log kept.once p (Register r) v e);
+  filled = sets.filled;
+}
+
+module _ {W : Type 0} (s : State W) (laws : HasLaws s.setting) (kept : IsKept s) (finished : IsFinished s) where
+  abbrev Log : List Fact
+  Log = s.known.log
+
+  abbrev IsAnswered : Fact → Type 0
+  IsAnswered f = answers s f.point f.cell ≡ Some f.value
+
+  pub quiet_below : (t : ℕ) → IsQuiet s.setting (told (oldest t s.known.log))
+  quiet_below t = let end = has_ended s laws kept finished in subst (λ (fs : List Fact). IsQuiet s.setting (told (oldest t fs))) kept.traced.logged (front_quiet s.setting laws kept.traced.entries end.trace end.quiet t)
+
+  -- what is answered stands in the whole log
+  pub stands_all : (f : Fact) → IsAnswered f → StandsIn s.setting (oldest (length s.known.log) s.known.log) f
+  stands_all f e =
+      let end = has_ended s laws kept finished in
+      let known = ap (λ (K : Knowledge). K f.point f.cell) (ends_with s laws kept finished) ∙ e in
+      let h = known_stands s.setting laws kept.traced.entries end.trace end.quiet (is_among s.known.store.tracked) end.closed f.point f.cell f.value known in
+      let h' : StandsIn s.setting s.known.log f = subst (λ (fs : List Fact). StandsIn s.setting fs f) kept.traced.logged h in
+      rw (oldest_all (length s.known.log) s.known.log (omega arith)) h'
+
+  -- what is found is what stands
+  pub stands_there : (t : ℕ) (f : Fact) (a : ℕ) → f.cell ≡ Byte a → f.point ≤ length s.setting.rows → a < 2 ^ 32 → standing s.setting (oldest t s.known.log) f.point (Byte a) ≡ Some f.value → StandsIn s.setting (oldest t s.known.log) f
+  stands_there t f a cell early small e = subst (StandsIn s.setting (oldest t s.known.log)) (fact_is (fact_of f.point (Byte a) f.value) f refl (sym cell) refl) (front_stands s laws kept finished t f.point a f.value early small e)
+
+  pub found_there : (t : ℕ) (f : Fact) (a : ℕ) → f.cell ≡ Byte a → f.point ≤ length s.setting.rows → StandsIn s.setting (oldest t s.known.log) f → standing s.setting (oldest t s.known.log) f.point (Byte a) ≡ Some f.value
+  found_there t f a cell early h = front_found s laws kept finished t f.point a f.value early (subst (StandsIn s.setting (oldest t s.known.log)) (fact_is f (fact_of f.point (Byte a) f.value) refl cell refl) h)
+
+  -- where no rule gives a register's fact at its place, it isn't answered
+  pub no_known : (f : Fact) (r t : ℕ) → f.cell ≡ Register r → entry s.known.log t ≡ Some f → ((why : Because) → IsKnownBecause s.setting (standing s.setting (oldest t s.known.log)) f why → ⊥) → IsAnswered f → ⊥
+  no_known f r t cell at none e = let h = known_reason s laws kept finished f e in go h.0 h.1
+    where
+      go : (why : Because) → IsReason s.setting s.known.log f why → ⊥
+      go why (of_register u q c at' by) =
+          let same : u ≡ t = entry_once s.known.log kept.once f u t at' at in
+          none why (subst (λ (k : ℕ). IsKnownBecause s.setting (standing s.setting (oldest k s.known.log)) f why) same by)
+      go why (of_drawn_byte u a c least at' by) = byte_differs (sym c ∙ cell)
+      go why (of_carried_byte u a c least other by) = byte_differs (sym c ∙ cell)
+
+  pub no_drawn : (f : Fact) (a t : ℕ) → f.cell ≡ Byte a → IsLeastFront s.setting s.known.log f (t + 1) → entry s.known.log t ≡ Some f → ((why : Because) → IsDrawnBecause s.setting (standing s.setting (oldest t s.known.log)) f why → ⊥) → IsAnswered f → ⊥
+  no_drawn f a t cell least at none e = let h = known_reason s laws kept finished f e in go h.0 h.1
+    where
+      go : (why : Because) → IsReason s.setting s.known.log f why → ⊥
+      go why (of_register u q c at' by) = register_differs (sym c ∙ cell)
+      go why (of_drawn_byte u b c least' at' by) =
+          let same : u ≡ t = entry_once s.known.log kept.once f u t at' at in
+          none why (subst (λ (k : ℕ). IsDrawnBecause s.setting (standing s.setting (oldest k s.known.log)) f why) same by)
+      go why (of_carried_byte u b c least' other by) = other t (least_same s.setting s.known.log f u (t + 1) least' least) at
+
+  pub no_carried : (f : Fact) (a t : ℕ) → f.cell ≡ Byte a → IsLeastFront s.setting s.known.log f t → IsNotLast s.known.log f t → ((why : Because) → IsCarriedBecause s.setting (oldest t s.known.log) f why → ⊥) → IsAnswered f → ⊥
+  no_carried f a t cell least other none e = let h = known_reason s laws kept finished f e in go h.0 h.1
+    where
+      go : (why : Because) → IsReason s.setting s.known.log f why → ⊥
+      go why (of_register u q c at' by) = register_differs (sym c ∙ cell)
+      go why (of_drawn_byte u b c least' at' by) = other u (sym (least_same s.setting s.known.log f (u + 1) t least' least)) at'
+      go why (of_carried_byte u b c least' other' by) =
+          let same : u ≡ t = least_same s.setting s.known.log f u t least' least in
+          none why (subst (λ (k : ℕ). IsCarriedBecause s.setting (oldest k s.known.log) f why) same by)
+
+  -- x0 has no facts
+  pub no_zero : (f : Fact) (r : ℕ) → f.cell ≡ Register r → r ≡ 0 → IsAnswered f → ⊥
+  no_zero f r cell zero e = let named : (0 < r) × (r < 32) = subst IsCell cell (answers_early s finished f.point f.cell f.value e).1 in let some = named.0 in omega arith
+
+  -- nor has a register without a place
+  pub no_place : (f : Fact) (r : ℕ) → f.cell ≡ Register r → place_of s.known.log f.point (Register r) ≡ None → IsAnswered f → ⊥
+  no_place f r cell none e =
+      let told_it : told s.known.log f.point (Register r) ≡ Some f.value = subst (λ (c : Cell). answers s f.point c ≡ Some f.value) cell e in
+      none_some (sym (place_none s.known.log f.point (Register r) none) ∙ told_it)
+
+  pub no_entry : (f : Fact) (r t : ℕ) → f.cell ≡ Register r → place_of s.known.log f.point (Register r) ≡ Some t → (entry s.known.log t ≡ Some f → ⊥) → IsAnswered f → ⊥
+  no_entry f r t cell at other e =
+      let told_it : told s.known.log f.point (Register r) ≡ Some f.value = subst (λ (c : Cell). answers s f.point c ≡ Some f.value) cell e in
+      let h = placed s.known.log f.point (Register r) t at in
+      let same : h.fact ≡ f = fact_is h.fact f h.point (h.cell ∙ sym cell) (same_some (sym h.tells ∙ told_it)) in
+      other (h.at ∙ ap (λ (x : Fact). Some x) same)
+
+  -- whether a byte's fact stands in a front, by the byte that is found there
+  pub found_stands : (t : ℕ) (f : Fact) (a : ℕ) → f.cell ≡ Byte a → f.point ≤ length s.setting.rows → a < 2 ^ 32 → (v : ℕ) → standing s.setting (oldest t s.known.log) f.point (Byte a) ≡ Some v → (IsTrue (eqb v f.value) → StandsIn s.setting (oldest t s.known.log) f) × (StandsIn s.setting (oldest t s.known.log) f → IsTrue (eqb v f.value))
+  found_stands t f a cell early small v e = (
+    λ same. stands_there t f a cell early small (e ∙ ap Some (eqb-true v f.value same)),
+    λ h. eq-eqb v f.value (same_some (sym e ∙ found_there t f a cell early h)),
+  )
+
+  pub none_stands : (t : ℕ) (f : Fact) (a : ℕ) → f.cell ≡ Byte a → f.point ≤ length s.setting.rows → standing s.setting (oldest t s.known.log) f.point (Byte a) ≡ None → (IsTrue false → StandsIn s.setting (oldest t s.known.log) f) × (StandsIn s.setting (oldest t s.known.log) f → IsTrue false)
+  none_stands t f a cell early e = (λ x. absurd (false≢true x), λ h. absurd (none_some (sym e ∙ found_there t f a cell early h)))
+
+pub place_some : (fs : List Fact) (p : ℕ) (c : Cell) (x : Option ℕ) → x ≡ place_of fs p c → IfSome x (λ t. t < length fs)
+place_some fs p c None e = tt
+place_some fs p c (Some t) e = place_of_within fs p c t (sym e)
+
+pub on_ok : (result : Result ⊤ EmptyAt) (P : Type 0) → IsOk result → OnOk result P → P
+on_ok (Ok x) P h p = p
+on_ok (Err e) P h p = cc
+
+pub some_after : {A : Type 0} (P Q : A → Type 0) (found : Option A) → ((x : A) → P x → Q x) → IfSome found P → IfSome found Q
+some_after P Q None f h = tt
+some_after P Q (Some x) f h = f x h
+
+pub basis_is : (b : Basis) (rows : List StepRow) (last : List ℕ) (exe core : List ElfSegment) (facts : List Fact) → b.rows ≡ rows → b.last ≡ last → (b.exe ≡ exe) × (b.core ≡ core) → b.facts ≡ facts → b ≡ record { rows = rows; last = last; exe = exe; core = core; facts = facts }
+basis_is b rows last exe core facts r l m f = rw (← r, ← l, ← m.0, ← m.1, ← f) refl
+
+-- an analysis stays what it is, however often rules were drawn
+module _ {W : Type 0} (s : State W) (kept : IsKept s) (n : ℕ) where
+  row_again : (i : ℕ) (row : StepRow) → IsRowDrawn row i s → IsRowDrawn row i (with_draws s n)
+  row_again i row d = record { registers = λ r named in_file kept'. let k = d.registers r named in_file kept' in record { onward = k.onward; back = k.back }; tracked = d.tracked; drawn = d.drawn }
+
+  settled_again : IsSettled s → IsSettled (with_draws s n)
+  settled_again h = record {
+    quiet = h.quiet;
+    fitted = h.fitted;
+    filled = h.filled;
+    drawn = record {
+      last = h.drawn.last;
+      rows = λ i inside row found. row_again i row (h.drawn.rows i inside row found);
+      bytes = h.drawn.bytes;
+      carried = λ a i at inside. let k = h.drawn.carried a i at inside in record { onward = k.onward; back = k.back };
+      singles = h.drawn.singles;
+    };
+  }
+
+  pub kept_redrawn : IsKept (with_draws s n)
+  kept_redrawn = record {
+    few = kept.few;
+    registers = kept.registers;
+    last_is = kept.last_is;
+    sized = kept.sized;
+    filled = kept.filled;
+    once = kept.once;
+    traced = record { entries = kept.traced.entries; trace = kept.traced.trace; logged = kept.traced.logged; agree = kept.traced.agree };
+    listed = kept.listed;
+    shown = kept.shown;
+    calm = kept.calm;
+    stopped = kept.stopped;
+    finished = λ e. let h = kept.finished e in record { settled = settled_again h.settled; report = h.report; all = h.all };
+    room = kept.room;
+    rows = kept.rows;
+    drawn = passes_more s (with_draws s n) refl (λ p c v e. e) refl kept.drawn;
+  }

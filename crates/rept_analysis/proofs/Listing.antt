@@ -1,0 +1,142 @@
+-- The list of the rows that may write.
+use Rattle.std.proofs.Common.{◌≡◌, ℕ, zero, suc, ◌+◌, ◌<◌, ◌≤◌, ◌^◌, false, List, [], ◌∷◌, ◌++◌, length, Some, inl, inr, refl, sym, ap, subst, ◌∙◌, arith, slice_get}
+use Rattle.std.proofs.lemmas.Bool.{cases_lt, cases_eq}
+use Rattle.std.proofs.lemmas.Option.{slice_get-get_or, slice_get_within}
+use Rattle.std.proofs.lemmas.List.{length_push, get_or_append_left, get_or_push}
+use Rattle.rept_alias.specs.Accesses.{call_hits}
+use Rattle.rept_alias.specs.declared.addresses.CallAccess.{CallAccess}
+use Rattle.rept_report.specs.Log.{oldest}
+use Rattle.rept_analysis.specs.declared.writing.Writing.{Writing}
+use Rattle.rept_analysis.specs.Work.{row_past}
+use Rattle.rept_analysis.specs.State.{State, with_writing}
+use Rattle.rept_analysis.specs.Drawing.{Grows, IsAccess, IsSparedAt, IsSparedBetween, IsSilent, past, IsWriting, AreWritingsBefore, AreWritings, SameFacts, IsFitted}
+
+-- the same rows may write where path, facts and sets are the same
+module _ {W : Type 0} (s t : State W) (setting : t.setting ≡ s.setting) (older : oldest t.filled t.known.log ≡ oldest s.filled s.known.log) where
+  silent_like : (from to : ℕ) → IsSilent from to s → IsSilent from to t
+  silent_like from to h i a le lt small = rw (setting, older) (h i a le lt small)
+
+  pub writings_like : (n : ℕ) (list : List Writing) → AreWritingsBefore n list s → AreWritingsBefore n list t
+  writings_like n list h = record {
+    each = λ k w at. let x = h.each k w at in record { low = x.low; inside = rw setting x.inside; access = λ a small. rw (setting, older) (x.access a small); silent = silent_like (past list k) w.row x.silent };
+    low = h.low;
+    silent = silent_like (past list (length list)) n h.silent;
+  }
+
+pub writings_after : {W : Type 0} (s t : State W) → Grows s t → AreWritings s → AreWritings t
+writings_after s t g h =
+    let listed = writings_like s t g.setting g.older (length s.setting.rows) s.work.writing h in
+    let same : length s.setting.rows ≡ length t.setting.rows = rw g.rows refl in
+    subst (λ (n : ℕ). AreWritingsBefore n t.work.writing t) same (subst (λ (xs : List Writing). AreWritingsBefore (length s.setting.rows) xs t) (sym g.writing) listed)
+
+-- a row that may write nothing
+pub listed_less : {W : Type 0} (s : State W) (i : ℕ) (list : List Writing) → ((a : ℕ) → a < 2 ^ 32 → IsSparedAt i a s) → AreWritingsBefore i list s → AreWritingsBefore (i + 1) list s
+listed_less s i list none h = record {
+  each = h.each;
+  low = let low = h.low in omega (arith, low);
+  silent = λ j a le lt small. elim (cases_eq j i) [ inl e ↦ rw e (none a small) | inr ne ↦ h.silent j a le (omega (arith, lt, ne)) small ];
+}
+
+pub none_spared : {W : Type 0} (s : State W) (i : ℕ) (access : CallAccess) → IsAccess i access s → ((a : ℕ) → call_hits access a ≡ false) → (a : ℕ) → a < 2 ^ 32 → IsSparedAt i a s
+none_spared s i access is none a small = sym (is a small) ∙ none a
+
+same_writing : {x y : Writing} → Some x ≡ Some y → x ≡ y
+same_writing e = cc
+
+before_push : (list : List Writing) (w : Writing) (k : ℕ) → k < length list → slice_get (list ++ w ∷ []) k ≡ slice_get list k
+before_push list w k lt =
+    let long = length_push list w in
+    slice_get-get_or (list ++ w ∷ []) k w (omega (arith, lt, long)) ∙ ap Some (get_or_append_left list (w ∷ []) w k lt) ∙ sym (slice_get-get_or list k w lt)
+
+at_push : (list : List Writing) (w : Writing) → slice_get (list ++ w ∷ []) (length list) ≡ Some w
+at_push list w =
+    let long = length_push list w in
+    slice_get-get_or (list ++ w ∷ []) (length list) w (omega (arith, long)) ∙ ap Some (get_or_push list w w (length list) refl)
+
+past_push : (list : List Writing) (w : Writing) (k : ℕ) → k ≤ length list → past (list ++ w ∷ []) k ≡ past list k
+past_push list w zero le = refl
+past_push list w (suc k) le = ap row_past (before_push list w k (omega (arith, le)))
+
+past_all : (list : List Writing) (w : Writing) (n : ℕ) → n ≡ length list + 1 → past (list ++ w ∷ []) n ≡ w.row + 1
+past_all list w zero e = absurd (omega (arith, e))
+past_all list w (suc n) e = let same : n ≡ length list = omega (arith, e) in rw same (ap row_past (at_push list w))
+
+-- one that may
+pub listed_more : {W : Type 0} (s : State W) (i : ℕ) (list : List Writing) (w : Writing) → w.row ≡ i → i < length s.setting.rows → IsAccess i w.access s → AreWritingsBefore i list s → AreWritingsBefore (i + 1) (list ++ w ∷ []) s
+listed_more s i list w row inside access h =
+    let long = length_push list w in
+    let end = past_all list w (length (list ++ w ∷ [])) (omega (arith, long)) in
+    record {
+      each = each;
+      low = omega (arith, end, row);
+      silent = λ j a le lt small. absurd (omega (arith, le, lt, end, row));
+    }
+  where
+    last : IsWriting (list ++ w ∷ []) (length list) w s
+    last =
+        let same = past_push list w (length list) (omega arith) in
+        record { low = rw (same, row) h.low; inside = rw row inside; access = rw row access; silent = rw (same, row) h.silent }
+
+    each : (k : ℕ) (x : Writing) → slice_get (list ++ w ∷ []) k ≡ Some x → IsWriting (list ++ w ∷ []) k x s
+    each k x at =
+        elim (cases_lt k (length list)) [
+          | inl lt ↦
+              let old = h.each k x (sym (before_push list w k lt) ∙ at) in
+              let same = past_push list w k (omega (arith, lt)) in
+              record { low = rw same old.low; inside = old.inside; access = old.access; silent = rw same old.silent }
+          | inr ge ↦
+              let within = slice_get_within (list ++ w ∷ []) k x at in
+              let long = length_push list w in
+              let e : k ≡ length list = omega (arith, ge, within, long) in
+              let found : w ≡ x = same_writing (sym (at_push list w) ∙ rw e at at) in
+              rw (e, ← found) last
+        ]
+
+pub nothing_listed : {W : Type 0} (s : State W) → AreWritingsBefore 0 [] s
+nothing_listed s = record { each = λ k w at. absurd (none_here k w at); low = omega arith; silent = λ i a le lt small. absurd (omega (arith, lt)) }
+  where
+    none_here : (k : ℕ) (w : Writing) → slice_get [] k ≡ Some w → ⊥
+    none_here k w e = let lt = slice_get_within [] k w e in omega (arith, lt)
+
+-- rows that may not write a byte, and then rows that may write nothing
+pub between_silent : {W : Type 0} (s : State W) (from middle to a : ℕ) → a < 2 ^ 32 → middle ≤ to → IsSparedBetween from middle a s → IsSilent middle to s → from ≤ middle → IsSparedBetween from to a s
+between_silent s from middle to a small le before after low i (inl x) =
+    let p = x.0 in
+    let q = x.1 in
+    elim (cases_lt i middle) [
+      | inl lt ↦ before i (inl (p, lt))
+      | inr ge ↦ after i a ge q small
+    ]
+between_silent s from middle to a small le before after low i (inr x) = let p = x.0 in let q = x.1 in absurd (omega (arith, p, q, le, low))
+
+-- the row at an index
+pub past_at : (list : List Writing) (k : ℕ) (w : Writing) → slice_get list k ≡ Some w → past list (k + 1) ≡ w.row + 1
+past_at list k w at = at_suc (k + 1) refl
+  where
+    at_suc : (n : ℕ) → n ≡ k + 1 → past list n ≡ w.row + 1
+    at_suc zero e = absurd (omega (arith, e))
+    at_suc (suc m) e = let same : m ≡ k = omega (arith, e) in rw same (ap row_past at)
+
+pub listed_row : {W : Type 0} (s t : State W) → Grows s t → AreWritings s → (k : ℕ) (w : Writing) → slice_get t.work.writing k ≡ Some w → IsWriting s.work.writing k w t
+listed_row s t g h k w at =
+    let after : AreWritingsBefore (length s.setting.rows) s.work.writing t = writings_like s t g.setting g.older (length s.setting.rows) s.work.writing h in
+    after.each k w (subst (λ (xs : List Writing). slice_get xs k ≡ Some w) g.writing at)
+
+pub listed_end : {W : Type 0} (s t : State W) → Grows s t → AreWritings s → AreWritingsBefore (length s.setting.rows) s.work.writing t
+listed_end s t g h = writings_like s t g.setting g.older (length s.setting.rows) s.work.writing h
+
+-- with another list everything else is the same
+pub listed_same : {W : Type 0} (s t : State W) (list : List Writing) → t ≡ with_writing s list → SameFacts s t
+listed_same s t list is = subst (λ (x : State _). SameFacts s x) (sym is) (record { setting = refl; known = refl; shown = refl; complete = refl; conflict = refl; draws = refl; drawn = refl })
+
+pub fitted_listed : {W : Type 0} (s t : State W) (list : List Writing) → t ≡ with_writing s list → IsFitted s → IsFitted t
+fitted_listed s t list is h = subst (λ (x : State _). IsFitted x) (sym is) h
+
+pub writings_listed : {W : Type 0} (s t : State W) (list : List Writing) → t ≡ with_writing s list → (n : ℕ) (rows : List Writing) → AreWritingsBefore n rows s → AreWritingsBefore n rows t
+writings_listed s t list is n rows h = writings_like s t (rw is refl) (rw is refl) n rows h
+
+pub writings_back : {W : Type 0} (s t : State W) (list : List Writing) → t ≡ with_writing s list → (n : ℕ) (rows : List Writing) → AreWritingsBefore n rows t → AreWritingsBefore n rows s
+writings_back s t list is n rows h = writings_like t s (rw is refl) (rw is refl) n rows h
+
+pub listed_then : {W : Type 0} (s t u : State W) (xs ys : List Writing) → t ≡ with_writing s xs → u ≡ with_writing t ys → u ≡ with_writing s ys
+listed_then s t u xs ys p q = q ∙ ap (λ (x : State _). with_writing x ys) p

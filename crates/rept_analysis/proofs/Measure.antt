@@ -1,0 +1,71 @@
+-- What is learnt makes the measure fall.
+use Rattle.std.proofs.Common.{◌≡◌, ℕ, ◌+◌, ◌<◌, ◌≤◌, ◌^◌, Bool, true, false, not, length, Option, Some, None, is_none, refl, arith}
+use Rattle.std.proofs.lemmas.Bool.{false≢true}
+use Rattle.rept_reason.specs.declared.fact.Cell.{Cell}
+use Rattle.rept_reason.specs.declared.fact.Cell.TheVariants.{Register, Byte}
+use Rattle.rept_reason.specs.Facts.{IsCell}
+use Rattle.rept_analysis.specs.State.{State, all_known}
+use Rattle.rept_analysis.specs.Drawing.{Knows, Grows, HasNews}
+use Rattle.rept_analysis.specs.Drawing.HasNews.{fact, address, anew}
+use Rattle.rept_analysis.specs.Kept.{is_among}
+use Rattle.rept_analysis.specs.Measure.{unknown_at, measure}
+use Rattle.rept_analysis.specs.Sums.{count_true}
+use Rattle.rept_analysis.proofs.Sums.{count_le, count_less, sum_le, sum_less}
+use Rattle.rept_analysis.proofs.Reported.{among_contains, contains_among}
+
+none_before : (x y : Option ℕ) → ((v : ℕ) → x ≡ Some v → y ≡ Some v) → is_none y ≡ true → is_none x ≡ true
+none_before None y h e = refl
+none_before (Some v) y h e = absurd (false≢true (rw (h v refl) at e))
+
+not_before : (x y : Bool) → (x ≡ true → y ≡ true) → not y ≡ true → not x ≡ true
+not_before true y h e = absurd (false≢true (rw (h refl) at e))
+not_before false y h e = refl
+
+module _ {W : Type 0} (a b : State W) (g : Grows a b) where
+  cells : (p : ℕ) (c : Cell) → is_none (all_known b p c) ≡ true → is_none (all_known a p c) ≡ true
+  cells p c e = none_before (all_known a p c) (all_known b p c) (λ v x. g.more p c v x) e
+
+  registers_le : (p : ℕ) → count_true (λ r. is_none (all_known b p (Register r))) 32 ≤ count_true (λ r. is_none (all_known a p (Register r))) 32
+  registers_le p = count_le (λ r. is_none (all_known a p (Register r))) (λ r. is_none (all_known b p (Register r))) 32 (λ r lt e. cells p (Register r) e)
+
+  bytes_le : (p n : ℕ) → count_true (λ x. is_none (all_known b p (Byte x))) n ≤ count_true (λ x. is_none (all_known a p (Byte x))) n
+  bytes_le p n = count_le (λ x. is_none (all_known a p (Byte x))) (λ x. is_none (all_known b p (Byte x))) n (λ x lt e. cells p (Byte x) e)
+
+  point_le : (p : ℕ) → unknown_at (all_known b) p ≤ unknown_at (all_known a) p
+  point_le p = let r = registers_le p in let y = bytes_le p (2 ^ 32) in omega (arith, r, y)
+
+  tracked_before : (x : ℕ) → not (is_among b.known.store.tracked x) ≡ true → not (is_among a.known.store.tracked x) ≡ true
+  tracked_before x e = not_before (is_among a.known.store.tracked x) (is_among b.known.store.tracked x) (λ t. contains_among b.known.store.tracked x (g.tracked x (among_contains a.known.store.tracked x t))) e
+
+  tracked_le : (n : ℕ) → count_true (λ x. not (is_among b.known.store.tracked x)) n ≤ count_true (λ x. not (is_among a.known.store.tracked x)) n
+  tracked_le n = count_le (λ x. not (is_among a.known.store.tracked x)) (λ x. not (is_among b.known.store.tracked x)) n (λ x lt e. tracked_before x e)
+
+  point_less : (p : ℕ) (c : Cell) (v : ℕ) → IsCell c → all_known a p c ≡ None → Knows p c v b → unknown_at (all_known b) p < unknown_at (all_known a) p
+  point_less p (Register r) v cell none here =
+      let less = count_less (λ s. is_none (all_known a p (Register s))) (λ s. is_none (all_known b p (Register s))) 32 r (λ s lt e. cells p (Register s) e) cell.1 (rw none refl) (rw here refl) in
+      let y = bytes_le p (2 ^ 32) in
+      omega (arith, less, y)
+  point_less p (Byte x) v cell none here =
+      let less = count_less (λ s. is_none (all_known a p (Byte s))) (λ s. is_none (all_known b p (Byte s))) (2 ^ 32) x (λ s lt e. cells p (Byte s) e) cell (rw none refl) (rw here refl) in
+      let r = registers_le p in
+      omega (arith, less, r)
+
+  pub news_less : HasNews a b → measure b < measure a
+  news_less (fact p c v early cell none here) =
+      let less = sum_less (unknown_at (all_known a)) (unknown_at (all_known b)) (length a.setting.rows + 1) p (λ q lt. point_le q) (omega (arith, early)) (point_less p c v cell none here) in
+      let t = tracked_le (2 ^ 32) in
+      let fewer = g.fewer in
+      rw g.rows (omega (arith, less, t, fewer))
+  news_less (address x small was_not here) =
+      let cells_le = sum_le (unknown_at (all_known a)) (unknown_at (all_known b)) (length a.setting.rows + 1) (λ q lt. point_le q) in
+      let less = count_less (λ y. not (is_among a.known.store.tracked y)) (λ y. not (is_among b.known.store.tracked y)) (2 ^ 32) x (λ y lt e. tracked_before y e) small (not_there (is_among a.known.store.tracked x) refl) (rw (contains_among b.known.store.tracked x here) refl) in
+      let fewer = g.fewer in
+      rw g.rows (omega (arith, less, cells_le, fewer))
+    where
+      not_there : (t : Bool) → is_among a.known.store.tracked x ≡ t → not t ≡ true
+      not_there true e = absurd (was_not (among_contains a.known.store.tracked x e))
+      not_there false e = refl
+  news_less (anew fewer) =
+      let cells_le = sum_le (unknown_at (all_known a)) (unknown_at (all_known b)) (length a.setting.rows + 1) (λ q lt. point_le q) in
+      let t = tracked_le (2 ^ 32) in
+      rw g.rows (omega (arith, fewer, t, cells_le))

@@ -1,0 +1,286 @@
+-- What is kept of how far the rules of rows were drawn stays so, and tells when there is nothing more to draw.
+use Rattle.std.proofs.Common.{◌≡◌, true, ℕ, ◌+◌, ◌*◌, get_or, ◌<◌, ◌≤◌, false, List, length, Some, inl, inr, refl, sym, ap, subst, ◌∙◌, arith, Contains, slice_get, set}
+use Rattle.std.proofs.lemmas.Bool.{cases_eq, false≢true, true≢false}
+use Rattle.std.proofs.lemmas.Option.{slice_get_within, slice_get-get_or, get_or_from_slice_get}
+use Rattle.std.proofs.lemmas.List.{length-set}
+use Rattle.std.proofs.lemmas.List.Sums.{sum_by-set, sum_by-le}
+use Rattle.std.specs.Prelude.{All}
+use Rattle.rept_span.proofs.Filling.{set_here, set_elsewhere}
+use Rattle.rept_isa.specs.declared.row.StepRow.{StepRow}
+use Rattle.rept_reason.specs.declared.fact.Cell.{Cell}
+use Rattle.rept_reason.specs.declared.fact.Cell.TheVariants.{Register, Byte}
+use Rattle.rept_reason.specs.Facts.{told}
+use Rattle.rept_view.specs.declared.drawn.When.{When}
+use Rattle.rept_view.specs.declared.drawn.Drawn.{Drawn}
+use Rattle.rept_view.specs.Seen.{seen_cell}
+use Rattle.rept_log.specs.Around.{around, around_lawful}
+use Rattle.rept_report.specs.Setting.{Setting, HasLaws}
+use Rattle.rept_report.specs.Views.{point_of}
+use Rattle.rept_report.specs.Conclusions.{HasWords}
+use Rattle.rept_report.proofs.ViewLaws.{known_more}
+use Rattle.rept_analysis.specs.declared.pass.Pass.{Pass}
+use Rattle.rept_analysis.specs.declared.pass.Pass.TheVariants.{Never, With, Cut}
+use Rattle.rept_analysis.specs.Work.{Work, Listed, left, left_of}
+use Rattle.rept_analysis.specs.Cells.{cells_known}
+use Rattle.rept_analysis.specs.State.{State, all_known, with_work, with_draws, with_drawn}
+use Rattle.rept_analysis.specs.Drawing.{Knows, Grows, DrawnKnown, DrawnBelow, Drew, IsUncut, IsHalt}
+use Rattle.rept_analysis.specs.Drawing.HasNews.{anew}
+use Rattle.rept_analysis.specs.declared.halt.Halt.{Halt}
+use Rattle.rept_analysis.specs.declared.halt.Halt.TheVariants.{Clash, OutOfMemory}
+use Rattle.rept_span.specs.Filled.{View}
+use Rattle.rept_analysis.proofs.Drawn.{list_known}
+use Rattle.rept_analysis.specs.Kept.{IsKept, IsDrawnWith, IsPass}
+use Rattle.rept_analysis.proofs.Cells.{cells_less, cells_back}
+
+-- where no less is known
+module _ {W : Type 0} (s t : State W) (same : t.setting ≡ s.setting) (more : (p : ℕ) (c : Cell) (v : ℕ) → Knows p c v s → Knows p c v t) where
+  pub seen_more : (i : ℕ) (w : When) (c : Cell) (v : ℕ) → seen_cell (around s.known i) w c ≡ Some v → seen_cell (around t.known i) w c ≡ Some v
+  seen_more i w (Register r) v e = known_more (told s.known.log) (told t.known.log) (λ q x y h. more q (Register x) y h) (point_of i w) r v e
+  seen_more i w (Byte a) v e = more (point_of i w) (Byte a) v e
+
+  with_more : (row : StepRow) (i k : ℕ) → IsDrawnWith row i k s → IsDrawnWith row i k t
+  with_more row i k d = record {
+    view = d.view;
+    lawful = d.lawful;
+    count = subst (λ (S : Setting W). cells_known S.rules row d.view ≡ k) (sym same) d.count;
+    learnt = λ x h. more (point_of i x.when) x.cell x.value (d.learnt x (subst (λ (S : Setting W). Contains (S.rules.draw row d.view) x) same h));
+    less = λ w c v e. seen_more i w c v (d.less w c v e);
+  }
+
+  pub pass_more : (row : StepRow) (i : ℕ) (pass : Pass) → IsPass row i pass s → IsPass row i pass t
+  pass_more row i Never h = h
+  pass_more row i (With k) h = with_more row i k h
+  pass_more row i Cut h = h
+
+  pub passes_more : t.work.drawn ≡ s.work.drawn → ((i : ℕ) (row : StepRow) (pass : Pass) → slice_get s.setting.rows i ≡ Some row → slice_get s.work.drawn i ≡ Some pass → IsPass row i pass s) → (i : ℕ) (row : StepRow) (pass : Pass) → slice_get t.setting.rows i ≡ Some row → slice_get t.work.drawn i ≡ Some pass → IsPass row i pass t
+  passes_more drawn h i row pass at is = pass_more row i pass (h i row pass (subst (λ (S : Setting W). slice_get S.rows i ≡ Some row) same at) (subst (λ (xs : List Pass). slice_get xs i ≡ Some pass) drawn is))
+
+pub never_pass : {W : Type 0} (s : State W) (row : StepRow) (i : ℕ) (x : Pass) → x ≡ Never → IsPass row i x s
+never_pass s row i x e = subst (λ (y : Pass). IsPass row i y s) (sym e) tt
+
+-- other work
+pub kept_work : {W : Type 0} (s : State W) → IsKept s → s.complete ≡ false → (w : Work) → length s.setting.rows ≤ w.room → length w.drawn ≡ length s.setting.rows → ((i : ℕ) (row : StepRow) (pass : Pass) → slice_get s.setting.rows i ≡ Some row → slice_get w.drawn i ≡ Some pass → IsPass row i pass s) → IsKept (with_work s w)
+kept_work s kept open_ w room rows passes = record {
+  few = kept.few;
+  registers = kept.registers;
+  last_is = kept.last_is;
+  sized = kept.sized;
+  filled = kept.filled;
+  once = kept.once;
+  traced = record { entries = kept.traced.entries; trace = kept.traced.trace; logged = kept.traced.logged; agree = kept.traced.agree };
+  listed = kept.listed;
+  shown = kept.shown;
+  calm = kept.calm;
+  stopped = kept.stopped;
+  finished = λ e. absurd (false≢true (sym open_ ∙ e));
+  room = room;
+  rows = rows;
+  drawn = λ i row pass at is. pass_more s (with_work s w) refl (λ p c v e. e) row i pass (passes i row pass at is);
+}
+
+pub same_pass : {x y : Pass} → Some x ≡ Some y → x ≡ y
+same_pass e = cc
+
+-- the list after one row's rules were drawn
+pub put_passes : {W : Type 0} (s : State W) → IsKept s → (i : ℕ) (p : Pass) → i < length s.setting.rows → ((row : StepRow) → slice_get s.setting.rows i ≡ Some row → IsPass row i p s) → (j : ℕ) (row : StepRow) (pass : Pass) → slice_get s.setting.rows j ≡ Some row → slice_get (set s.work.drawn i p) j ≡ Some pass → IsPass row j pass s
+put_passes s kept i p inside here j row pass at is =
+    elim (cases_eq j i) [
+      | inl e ↦
+          let rows = kept.rows in
+          let found : Some p ≡ Some pass = sym (set_here s.work.drawn i p (omega (arith, inside, rows))) ∙ rw e at is in
+          subst (λ (x : Pass). IsPass row j x s) (same_pass found) (subst (λ (k : ℕ). IsPass row k p s) (sym e) (here row (rw e at at)))
+      | inr ne ↦ kept.drawn j row pass at (sym (set_elsewhere s.work.drawn i j p ne) ∙ is)
+    ]
+
+pub kept_put : {W : Type 0} (s : State W) → IsKept s → s.complete ≡ false → (i : ℕ) (p : Pass) → i < length s.setting.rows → ((row : StepRow) → slice_get s.setting.rows i ≡ Some row → IsPass row i p s) → IsKept (with_drawn s (set s.work.drawn i p))
+kept_put s kept open_ i p inside here = kept_work s kept open_ (record { writing = s.work.writing; room = s.work.room; draws = s.work.draws; drawn = set s.work.drawn i p }) kept.room (length-set s.work.drawn i p ∙ kept.rows) (put_passes s kept i p inside here)
+
+pub kept_draws : {W : Type 0} (s : State W) → IsKept s → s.complete ≡ false → (n : ℕ) → IsKept (with_draws s n)
+kept_draws s kept open_ n = kept_work s kept open_ (record { writing = s.work.writing; room = s.work.room; draws = n; drawn = s.work.drawn }) kept.room kept.rows kept.drawn
+
+-- where no more cells are known than when the row's rules were drawn, all that they let one conclude is known
+module _ {W : Type 0} (s : State W) (laws : HasLaws s.setting) (words : HasWords (all_known s)) (i k : ℕ) (row : StepRow) (d : IsDrawnWith row i k s) where
+  pub drawn_before : k ≤ cells_known s.setting.rules row (around s.known i)
+  drawn_before = let less = cells_less s.setting.rules row d.view (around s.known i) d.less in let count = d.count in omega (arith, less, count)
+
+  pub nothing_more : k ≡ cells_known s.setting.rules row (around s.known i) → DrawnKnown row i s
+  nothing_more same x h =
+      let lawful = around_lawful s.known i (λ p r v e. words p r v e) in
+      d.learnt x (laws.rules.needs_enough row (around s.known i) d.view x lawful d.lawful h (λ n needed.
+      let own = laws.rules.needs_own row (around s.known i) x n lawful h needed in
+      cells_back s.setting.rules row d.view (around s.known i) d.less (d.count ∙ same) n.when n.cell own.0 own.1.0 own.1.1 ∙ sym own.1.1))
+
+-- a row's rules were drawn once more
+module _ {W : Type 0} (s b : State W) (n i : ℕ) (p q : Pass) (once : n ≤ s.work.draws + 1) (grows : Grows (with_draws s n) b) (still : b.work ≡ (with_draws s n).work) (at : slice_get s.work.drawn i ≡ Some p) (lower : left_of q + 1 ≤ left_of p) where
+  passes_is : b.work.drawn ≡ s.work.drawn
+  passes_is = rw still refl
+
+  pub left_lower : left (set b.work.drawn i q) < left s.work.drawn
+  left_lower =
+      let sums = sum_by-set left_of s.work.drawn i q p (slice_get_within s.work.drawn i p at) in
+      let read = ap left_of (get_or_from_slice_get s.work.drawn i p p at) in
+      rw passes_is (omega (arith, sums, read, lower))
+
+  pub row_grows : Grows s (with_drawn b (set b.work.drawn i q))
+  row_grows = record {
+    setting = grows.setting;
+    rows = grows.rows;
+    spans = grows.spans;
+    filled = grows.filled;
+    shown = grows.shown;
+    complete = grows.complete;
+    conflict = grows.conflict;
+    answers = grows.answers;
+    older = grows.older;
+    more = grows.more;
+    tracked = grows.tracked;
+    counted = grows.counted;
+    writing = grows.writing;
+    fewer = let less = left_lower in omega (arith, less);
+    spent = let less = left_lower in let draws : b.work.draws ≡ n = rw still refl in omega (arith, less, draws, once);
+    words = grows.words;
+  }
+
+  pub row_uncut : IsUncut s → (q ≡ Cut → ⊥) → IsUncut (with_drawn b (set b.work.drawn i q))
+  row_uncut uncut other j is =
+      elim (cases_eq j i) [
+        | inl e ↦ other (same_pass (sym (set_here b.work.drawn i q (rw passes_is (slice_get_within s.work.drawn i p at))) ∙ rw e at is))
+        | inr ne ↦ uncut j (rw passes_is at (sym (set_elsewhere b.work.drawn i j q ne) ∙ is))
+      ]
+
+-- another list of rows that may write, with as much room
+pub kept_writing : {W : Type 0} (s : State W) → IsKept s → s.complete ≡ false → (listed : Listed) → listed.room ≡ s.work.room → IsKept (with_work s (record { writing = listed.list; room = listed.room; draws = s.work.draws; drawn = s.work.drawn }))
+kept_writing s kept open_ listed room = let old = kept.room in kept_work s kept open_ (record { writing = listed.list; room = listed.room; draws = s.work.draws; drawn = s.work.drawn }) (omega (arith, room, old)) kept.rows kept.drawn
+
+-- no row's rules were drawn
+pub kept_never : {W : Type 0} (s : State W) → IsKept s → s.complete ≡ false → (passes : List Pass) → length passes ≡ length s.work.drawn → ((i : ℕ) (x : Pass) → slice_get passes i ≡ Some x → x ≡ Never) → IsKept (with_drawn s passes)
+kept_never s kept open_ passes long never = kept_work s kept open_ (record { writing = s.work.writing; room = s.work.room; draws = s.work.draws; drawn = passes }) kept.room (long ∙ kept.rows) (λ i row x at is. never_pass s row i x (never i x is))
+
+pub never_uncut : (passes : List Pass) → ((i : ℕ) (x : Pass) → slice_get passes i ≡ Some x → x ≡ Never) → (i : ℕ) → slice_get passes i ≡ Some Cut → ⊥
+never_uncut passes never i is = differs (never i Cut is)
+  where
+    differs : Cut ≡ Never → ⊥
+    differs e = cc
+
+few_left : (x : Pass) → left_of x ≤ 12
+few_left Never = omega arith
+few_left (With k) = omega arith
+few_left Cut = omega arith
+
+each_few : (xs : List Pass) → All (λ x. left_of x ≤ 12) xs
+each_few xs k x lt = few_left (get_or xs k x)
+
+-- rules can be drawn at most twelve times a row
+pub left_most : (xs : List Pass) → left xs ≤ 12 * length xs
+left_most xs = let le = sum_by-le left_of 12 xs (each_few xs) in omega (arith, le)
+
+-- how far a row's rules were drawn
+pub pass_there : {W : Type 0} (s : State W) → IsKept s → (i : ℕ) → i < length s.setting.rows → (p : Pass) × (slice_get s.work.drawn i ≡ Some p)
+pass_there s kept i inside = let rows = kept.rows in (get_or s.work.drawn i Never, slice_get-get_or s.work.drawn i Never (omega (arith, inside, rows)))
+
+-- where more cells are known than when they were, they can be drawn once less afterwards
+module _ {W : Type 0} (s : State W) (laws : HasLaws s.setting) (kept : IsKept s) (words : HasWords (all_known s)) (i cells : ℕ) (row : StepRow) (found : slice_get s.setting.rows i ≡ Some row) (is_cells : cells ≡ cells_known s.setting.rules row (around s.known i)) (few : cells ≤ 11) (more : slice_get s.work.drawn i ≡ Some (With cells) → ⊥) (uncut : IsUncut s) where
+  known_fewer : (k : ℕ) → slice_get s.work.drawn i ≡ Some (With k) → k < cells
+  known_fewer k at =
+      let le = drawn_before s laws words i k row (kept.drawn i row (With k) found at) in
+      elim (cases_eq k cells) [
+        | inl e ↦ absurd (more (subst (λ (n : ℕ). slice_get s.work.drawn i ≡ Some (With n)) e at))
+        | inr ne ↦ omega (arith, le, is_cells, ne)
+      ]
+
+  pub with_lower : (p : Pass) → slice_get s.work.drawn i ≡ Some p → left_of (With cells) + 1 ≤ left_of p
+  with_lower Never at = omega (arith, few)
+  with_lower (With k) at = let less = known_fewer k at in omega (arith, few, less)
+  with_lower Cut at = absurd (uncut i at)
+
+  pub cut_lower : (p : Pass) → slice_get s.work.drawn i ≡ Some p → left_of Cut + 1 ≤ left_of p
+  cut_lower Never at = omega arith
+  cut_lower (With k) at = let less = known_fewer k at in omega (arith, few, less)
+  cut_lower Cut at = absurd (uncut i at)
+
+-- all that a row's rules let one conclude was learnt
+pub drawn_with : {W : Type 0} (s b : State W) (n i cells : ℕ) (row : StepRow) (items : List Drawn) → HasWords (all_known s) → Grows (with_draws s n) b → cells ≡ cells_known s.setting.rules row (around s.known i) → items ≡ s.setting.rules.draw row (around s.known i) → DrawnBelow (length items) items i b → IsDrawnWith row i cells b
+drawn_with s b n i cells row items words grows is_cells is_items known = record {
+  view = around s.known i;
+  lawful = around_lawful s.known i (λ p r v e. words p r v e);
+  count = subst (λ (S : Setting _). cells_known S.rules row (around s.known i) ≡ cells) (sym grows.setting) (sym is_cells);
+  learnt = λ d h. list_known b i items known d (rw is_items (subst (λ (S : Setting _). Contains (S.rules.draw row (around s.known i)) d) grows.setting h));
+  less = λ w c v e. seen_more s b grows.setting grows.more i w c v e;
+}
+
+-- a halt is one whatever the work
+pub halt_work : {W : Type 0} (s : State W) (w : Work) (h : Halt) → IsHalt s h → IsHalt (with_work s w) h
+halt_work s w (Clash p c known value) h = record { is_known = h.is_known; differs = h.differs; follows = h.follows }
+halt_work s w OutOfMemory h = tt
+
+-- with other sets
+pub kept_filled : {W : Type 0} (s : State W) → IsKept s → s.complete ≡ false → (spans : View W) (filled : ℕ) → spans.points ≡ length s.setting.rows + 1 → filled ≤ length s.known.log → IsKept (record { setting = s.setting; known = s.known; spans = spans; filled = filled; shown = s.shown; complete = s.complete; conflict = s.conflict; work = s.work })
+kept_filled s kept open_ spans filled sized within = record {
+  few = kept.few;
+  registers = kept.registers;
+  last_is = kept.last_is;
+  sized = sized;
+  filled = within;
+  once = kept.once;
+  traced = record { entries = kept.traced.entries; trace = kept.traced.trace; logged = kept.traced.logged; agree = kept.traced.agree };
+  listed = kept.listed;
+  shown = kept.shown;
+  calm = kept.calm;
+  stopped = kept.stopped;
+  finished = λ e. absurd (false≢true (sym open_ ∙ e));
+  room = kept.room;
+  rows = kept.rows;
+  drawn = passes_more s (record { setting = s.setting; known = s.known; spans = spans; filled = filled; shown = s.shown; complete = s.complete; conflict = s.conflict; work = s.work }) refl (λ p c v e. e) refl kept.drawn;
+}
+
+-- a row's rules are drawn anew
+module _ {W : Type 0} (s a b : State W) (laws : HasLaws s.setting) (kept : IsKept s) (words : HasWords (all_known s)) (i cells : ℕ) (row : StepRow) (inside : i < length s.setting.rows) (found : slice_get s.setting.rows i ≡ Some row) (is_cells : cells ≡ cells_known s.setting.rules row (around s.known i)) (few : cells ≤ 11) (more : slice_get s.work.drawn i ≡ Some (With cells) → ⊥) (uncut : IsUncut s) (once : a.work.draws ≤ s.work.draws + 1) (same : a ≡ with_draws s a.work.draws) (grows : Grows a b) (still : b.work ≡ a.work) where
+  from_same : Grows (with_draws s a.work.draws) b
+  from_same = subst (λ (x : State W). Grows x b) same grows
+
+  still_same : b.work ≡ (with_draws s a.work.draws).work
+  still_same = still ∙ ap (λ (x : State W). x.work) same
+
+  there : (p : Pass) × (slice_get s.work.drawn i ≡ Some p)
+  there = pass_there s kept i inside
+
+  pub anew_grows : (c : State W) → c ≡ with_drawn b (set b.work.drawn i (With cells)) → Grows s c
+  anew_grows c is = subst (λ (x : State W). Grows s x) (sym is) (row_grows s b a.work.draws i there.0 (With cells) once from_same still_same there.1 (with_lower s laws kept words i cells row found is_cells few more uncut there.0 there.1))
+
+  pub cut_grows : (c : State W) → c ≡ with_drawn b (set b.work.drawn i Cut) → Grows s c
+  cut_grows c is = subst (λ (x : State W). Grows s x) (sym is) (row_grows s b a.work.draws i there.0 Cut once from_same still_same there.1 (cut_lower s laws kept words i cells row found is_cells few more uncut there.0 there.1))
+
+  pub anew_drew : (c : State W) (P : State W → Type 0) → c ≡ with_drawn b (set b.work.drawn i (With cells)) → Drew s c true P
+  anew_drew c P is =
+      let lower = with_lower s laws kept words i cells row found is_cells few more uncut there.0 there.1 in
+      subst (λ (x : State W). Drew s x true P) (sym is) (record {
+        news = λ _. anew (left_lower s b a.work.draws i there.0 (With cells) once from_same still_same there.1 lower);
+        unchanged = λ e. absurd (true≢false e);
+        closed = λ e. absurd (true≢false e);
+        uncut = λ u. row_uncut s b a.work.draws i there.0 (With cells) once from_same still_same there.1 lower u with_cut;
+      })
+    where
+      with_cut : With cells ≡ Cut → ⊥
+      with_cut e = cc
+
+  pub anew_pass : (items : List Drawn) → items ≡ s.setting.rules.draw row (around s.known i) → DrawnBelow (length items) items i b → (other : StepRow) → slice_get b.setting.rows i ≡ Some other → IsDrawnWith other i cells b
+  anew_pass items is_items known other at =
+      let is_row : row ≡ other = same_row (sym found ∙ subst (λ (S : Setting W). slice_get S.rows i ≡ Some other) from_same.setting at) in
+      subst (λ (x : StepRow). IsDrawnWith x i cells b) is_row (drawn_with s b a.work.draws i cells row items words from_same is_cells is_items known)
+    where
+      same_row : {x y : StepRow} → Some x ≡ Some y → x ≡ y
+      same_row e = cc
+
+pub halt_after : {W : Type 0} (s t : State W) (w : Work) (h : Halt) → t ≡ with_work s w → IsHalt s h → IsHalt t h
+halt_after s t w h is halt = subst (λ (x : State _). IsHalt x h) (sym is) (halt_work s w h halt)
+
+-- one more is `Never`
+pub never_more : (xs : List Pass) (i : ℕ) → i < length xs → ((j : ℕ) (x : Pass) → j < i → slice_get xs j ≡ Some x → x ≡ Never) → (j : ℕ) (x : Pass) → j < i + 1 → slice_get (set xs i Never) j ≡ Some x → x ≡ Never
+never_more xs i inside before j x lt at =
+    elim (cases_eq j i) [
+      | inl e ↦ same_pass (sym (rw e at at) ∙ set_here xs i Never inside)
+      | inr ne ↦ before j x (omega (arith, lt, ne)) (sym (set_elsewhere xs i j Never ne) ∙ at)
+    ]
+
+pub never_all : (xs : List Pass) (n : ℕ) → length xs ≤ n → ((j : ℕ) (x : Pass) → j < n → slice_get xs j ≡ Some x → x ≡ Never) → (j : ℕ) (x : Pass) → slice_get xs j ≡ Some x → x ≡ Never
+never_all xs n le before j x at = let lt = slice_get_within xs j x at in before j x (omega (arith, lt, le)) at

@@ -1,0 +1,68 @@
+-- What each way to end says.
+use Rattle.std.proofs.lemmas.Bool.{cases_eq}
+use Rattle.rept_reason.specs.declared.fact.Cell.TheVariants.{Register}
+use Rattle.rept_report.proofs.Told.{same_some}
+use Rattle.rept_analysis.proofs.Stopping.{answered}
+use Rattle.std.proofs.Common.{◌≡◌, ◌≤◌, length, arith, inl, inr, ℕ, true, Some, None, Result, Ok, Err, refl, subst, ◌∙◌}
+use Rattle.std.specs.Prelude.{⊤, OnOk}
+use Rattle.rept_report.specs.declared.conflict.ConflictKind.{ConflictKind}
+use Rattle.rept_report.specs.Setting.{Setting, HasLaws}
+use Rattle.rept_report.specs.Closure.{IsConsistent, IsReport}
+use Rattle.rept_report.specs.Soundness.{AlwaysHolds, IsSound, HasNoExecution}
+use Rattle.rept_report.proofs.Soundness.{closure_sound, conflict_sound, report_sound}
+use Rattle.rept_analysis.specs.declared.stop.Stop.{Stop}
+use Rattle.rept_analysis.specs.declared.stop.Stop.TheVariants.{Conflict, OutOfMemory}
+use Rattle.rept_analysis.specs.State.{State}
+use Rattle.rept_analysis.specs.Kept.{register_answer, answers, IsKept}
+use Rattle.rept_analysis.specs.Refined.{KeepsAnswers, IsEnded, IsStopped, Outcome}
+
+module _ {W : Type 0} (old new : State W) where
+  pub path_of : (r : Result ⊤ Stop) → Outcome old new r → new.setting ≡ old.setting
+  path_of (Ok u) h = h.setting
+  path_of (Err (Conflict kind)) h = h.setting
+  path_of (Err OutOfMemory) h = h.setting
+
+  pub kept_of : (r : Result ⊤ Stop) → Outcome old new r → KeepsAnswers old new
+  kept_of (Ok u) h = h.kept
+  kept_of (Err (Conflict kind)) h = h.kept
+  kept_of (Err OutOfMemory) h = h.kept
+
+  pub report_of : (r : Result ⊤ Stop) → Outcome old new r → OnOk r (IsReport new.setting (answers new))
+  report_of (Ok u) h = h.finished.report
+  report_of (Err e) h = tt
+
+  pub complete_of : (r : Result ⊤ Stop) → Outcome old new r → OnOk r (new.complete ≡ true)
+  complete_of (Ok u) h = h.complete
+  complete_of (Err e) h = tt
+
+  pub consistent_of : (r : Result ⊤ Stop) → Outcome old new r → OnOk r (IsConsistent old.setting)
+  consistent_of (Ok u) h = subst (λ (S : Setting W). IsConsistent S) h.setting h.finished.report.consistent
+  consistent_of (Err e) h = tt
+
+  pub stopped_of : (r : Result ⊤ Stop) (kind : ConflictKind) → Outcome old new r → r ≡ Err (Conflict kind) → IsStopped old new kind
+  stopped_of r kind h e = subst (λ (x : Result ⊤ Stop). Outcome old new x) e h
+
+  pub sound_of : HasLaws new.setting → (r : Result ⊤ Stop) → Outcome old new r → OnOk r (IsSound new.setting (answers new))
+  sound_of laws (Ok u) h = report_sound new.setting laws (answers new) h.finished.report
+  sound_of laws (Err e) h = tt
+
+  pub impossible_of : HasLaws old.setting → (r : Result ⊤ Stop) (kind : ConflictKind) → Outcome old new r → r ≡ Err (Conflict kind) → HasNoExecution old.setting
+  impossible_of laws r kind h e = conflict_sound old.setting laws kind (stopped_of r kind h e).has
+
+module _ {W : Type 0} (s : State W) (kept : IsKept s) where
+  pub stopped_again : (kind : ConflictKind) → s.conflict ≡ Some kind → IsStopped s s kind
+  stopped_again kind e = record { setting = refl; recorded = e; has = kept.stopped kind e; kept = λ p r v x. x }
+
+  pub ended_again : s.complete ≡ true → s.conflict ≡ None → IsEnded s s
+  ended_again complete calm = record { setting = refl; complete = complete; conflict = calm; finished = kept.finished complete; kept = λ p r v x. x }
+
+-- what is answered of a register holds in every execution; x0 is 0
+pub answer_sound : {W : Type 0} (s : State W) → HasLaws s.setting → IsKept s → (p r v : ℕ) → p ≤ length s.setting.rows → register_answer s p r ≡ Some v → AlwaysHolds s.setting p (Register r) v
+answer_sound s laws kept p r v early e =
+    elim (cases_eq r 0) [
+      | inl z ↦
+          let is : Some 0 ≡ Some v = rw z at e in
+          let value : 0 ≡ v = same_some is in
+          λ run x. rw z ((x.states p early).zero ∙ value)
+      | inr ne ↦ closure_sound s.setting laws (record { point = p; cell = Register r; value = v }) (answered s laws kept p r v e (omega (arith, ne)))
+    ]

@@ -1,0 +1,435 @@
+-- A byte's value that is carried over several points is as if it were learnt at one after another.
+use Rattle.std.proofs.Common.{◌≡◌, ℕ, zero, suc, ◌+◌, ◌-◌, ◌<◌, ◌≤◌, ◌^◌, ◌⊎◌, ◌&&◌, Bool, true, false, cond, eqb, List, length, Option, Some, None, Result, Ok, Err, inl, inr, refl, sym, ap, subst, ◌∙◌, arith, Contains, max}
+use Rattle.std.proofs.lemmas.Bool.{cases_lt, cases_eq, cond-true, cond-false, and_parts, and_from, eq-eqb, eqb-true, false≢true}
+use mathlib.Core.Path.{fun_ext}
+use Rattle.rept_reason.specs.declared.fact.Cell.{Cell}
+use Rattle.rept_reason.specs.declared.fact.Cell.TheVariants.{Register, Byte}
+use Rattle.rept_reason.specs.Facts.{told}
+use Rattle.rept_report.specs.Setting.{Setting, HasLaws}
+use Rattle.rept_report.specs.Views.{Carries}
+use Rattle.rept_report.specs.Conclusions.IsCarried.{onward, back}
+use Rattle.rept_report.specs.Conflicts.{IsQuiet}
+use Rattle.rept_report.specs.Log.{oldest}
+use Rattle.rept_report.proofs.Told.{same_some, none_some}
+use Rattle.rept_report.proofs.Places.{oldest_less}
+use Rattle.rept_report.proofs.Monotony.{spared_more}
+use Rattle.std.specs.declared.alloc.AllocError.{AllocError}
+use Rattle.rept_reason.specs.declared.fact.Fact.{Fact}
+use Rattle.rept_versions.specs.declared.facts.Carried.{Carried}
+use Rattle.rept_versions.specs.declared.facts.Carried.TheVariants.{Same, More, Stop}
+use Rattle.rept_alias.specs.declared.addresses.CallAccess.{CallAccess}
+use Rattle.rept_alias.specs.Accesses.{call_hits}
+use Rattle.rept_versions.specs.declared.facts.Stretch.{Stretch}
+use Rattle.rept_versions.specs.Facts.{Told, Store, Between, Spreads, Carries as StoreCarries, Nexts}
+use Rattle.rept_log.proofs.Stores.{stays_same}
+use Rattle.rept_log.specs.declared.answer.Answer.TheVariants.{New}
+use Rattle.rept_log.specs.Known.{Known, knows, AddsByte, SameLog}
+use Rattle.rept_analysis.specs.State.{State, all_known}
+use Rattle.rept_analysis.specs.Drawing.{fact_at, Knows, IsTracked, Grows, IsBrought, IsSparedAt, IsSparedBetween, IsSpreadTo, IsCarriedFrom, IsCarriedAt, IsAccess, IsPassed}
+use Rattle.rept_analysis.specs.Drawing.HasNews.{fact}
+use Rattle.rept_analysis.specs.Told.{Sends}
+use Rattle.rept_analysis.specs.Kept.{IsKept}
+use Rattle.rept_analysis.proofs.Drawn.{Grows_itself, Grows_trans}
+use Rattle.rept_analysis.proofs.Following.{brought_follows, hit_carried}
+use Rattle.rept_analysis.proofs.Passing.{passes_more}
+use Rattle.rept_analysis.proofs.Learning.{with_known, same_known, kept_same, known_words, told_byte}
+
+-- the same log, facts and addresses
+pub kept_like : {W : Type 0} (s : State W) (k k' : Known) → k'.last ≡ k.last → k'.log ≡ k.log → k'.store.fact ≡ k.store.fact → k'.store.tracked ≡ k.store.tracked → s.complete ≡ false → IsKept (with_known s k) → IsKept (with_known s k')
+kept_like s k k' last log facts tracked open_ kept = record {
+  few = kept.few;
+  registers = kept.registers;
+  last_is = last ∙ kept.last_is;
+  sized = kept.sized;
+  filled = rw log kept.filled;
+  once = rw log kept.once;
+  traced = record { entries = kept.traced.entries; trace = kept.traced.trace; logged = kept.traced.logged ∙ sym log; agree = λ p c. kept.traced.agree p c ∙ same p c };
+  listed = λ p a v e. subst (λ (xs : List ℕ). Contains xs a) (sym tracked) (kept.listed p a v (same p (Byte a) ∙ e));
+  shown = rw log kept.shown;
+  calm = λ u below. rw log (kept.calm u below);
+  stopped = kept.stopped;
+  finished = λ e. absurd (false≢true (sym open_ ∙ e));
+  room = kept.room;
+  rows = kept.rows;
+  drawn = passes_more (with_known s k) (with_known s k') refl (λ p c v e. sym (same p c) ∙ e) refl kept.drawn;
+}
+  where
+    same : (p : ℕ) (c : Cell) → knows k p c ≡ knows k' p c
+    same p (Register r) = rw log refl
+    same p (Byte a) = rw facts refl
+
+-- a byte that a row may not write, by the facts of which the sets are, is brought over it
+module _ {W : Type 0} (s : State W) (laws : HasLaws s.setting) (kept : IsKept s) (i a v : ℕ) (inside : i < length s.setting.rows) (small : a < 2 ^ 32) (spared : IsSparedAt i a s) where
+  carries : IsQuiet s.setting (all_known s) → Carries s.setting (all_known s) a i (i + 1)
+  carries quiet = record { inside = inside; next = refl; spared = spared_more s.setting laws (told (oldest s.filled s.known.log)) (all_known s) (λ p r w e. oldest_less s.filled s.known.log kept.once p (Register r) w e) (known_words s kept) quiet i a small spared }
+
+  pub up_brought : Knows i (Byte a) v s → IsBrought s (fact_at (i + 1) (Byte a) v)
+  up_brought h quiet = onward a i (i + 1) refl refl (carries quiet) h
+
+  pub down_brought : Knows (i + 1) (Byte a) v s → IsBrought s (fact_at i (Byte a) v)
+  down_brought h quiet = back a i (i + 1) refl refl (carries quiet) h
+
+pub spared_after : {W : Type 0} (s t : State W) (i a : ℕ) → Grows s t → IsSparedAt i a s → IsSparedAt i a t
+spared_after s t i a g h = rw (g.setting, g.older) h
+
+module _ {W : Type 0} (s : State W) (laws : HasLaws s.setting) (kept : IsKept s) (open_ : s.complete ≡ false) (a v : ℕ) (small : a < 2 ^ 32) (tracked : IsTracked a s) where
+  -- one fact more
+  abbrev with_fact : Known → ℕ → Known
+  with_fact k p = record { last = k.last; log = k.log; store = record { fact = λ q b. cond (eqb q p && eqb b a) (Some v) (k.store.fact q b); tracked = k.store.tracked; spare = k.store.spare; places = k.store.places }; left = k.left }
+
+  fact_here : (k : Known) (p : ℕ) → (with_fact k p).store.fact p a ≡ Some v
+  fact_here k p = cond-true (eqb p p && eqb a a) (Some v) (k.store.fact p a) (and_from (eqb p p) (eqb a a) (eq-eqb p p refl) (eq-eqb a a refl))
+
+  fact_else : (k : Known) (p q b : ℕ) → (q ≡ p → b ≡ a → ⊥) → (with_fact k p).store.fact q b ≡ k.store.fact q b
+  fact_else k p q b differs = cond-false (eqb q p && eqb b a) (Some v) (k.store.fact q b) (not_here (eqb q p && eqb b a) refl)
+    where
+      not_here : (x : Bool) → (eqb q p && eqb b a) ≡ x → (eqb q p && eqb b a) ≡ false
+      not_here true e = let parts = and_parts (eqb q p) (eqb b a) e in absurd (differs (eqb-true q p parts.0) (eqb-true b a parts.1))
+      not_here false e = e
+
+  same_fact : (k : Known) (p : ℕ) → k.store.fact p a ≡ Some v → with_fact k p ≡ k
+  same_fact k p known = ap (λ (f : Told). record { last = k.last; log = k.log; store = record { fact = f; tracked = k.store.tracked; spare = k.store.spare; places = k.store.places }; left = k.left }) (fun_ext (λ (q : ℕ). fun_ext (λ (b : ℕ). at q b)))
+    where
+      at : (q b : ℕ) → (with_fact k p).store.fact q b ≡ k.store.fact q b
+      at q b =
+          elim (cases_eq q p) [
+            | inr ne ↦ fact_else k p q b (λ e x. ne e)
+            | inl e ↦ elim (cases_eq b a) [
+              | inr ne ↦ fact_else k p q b (λ x f. ne f)
+              | inl f ↦ rw (e, f) (fact_here k p ∙ sym known)
+            ]
+          ]
+
+  adds : (k : Known) (p : ℕ) → k.store.fact p a ≡ None → AddsByte true k (with_fact k p) (fact_at p (Byte a) v) a false
+  adds k p none = record {
+    last = refl;
+    log = refl;
+    left = refl;
+    had_room = λ e. absurd (false≢true e);
+    store = record { none = none; here = fact_here k p; others = λ q b ne. fact_else k p q b ne; tracked = refl; places = refl; spare = omega arith; beside = λ _ _. omega arith };
+  }
+
+  -- the values at one point after another
+  abbrev chain : (ℕ → ℕ) → ℕ → State W
+  chain pt zero = s
+  chain pt (suc d) = with_known (chain pt d) (with_fact (chain pt d).known (pt (suc d)))
+
+  chain_is : (pt : ℕ → ℕ) (d : ℕ) → chain pt d ≡ with_known s (chain pt d).known
+  chain_is pt zero = refl
+  chain_is pt (suc d) = ap (λ (x : State W). with_known x (with_fact (chain pt d).known (pt (suc d)))) (chain_is pt d)
+
+  chain_log : (pt : ℕ → ℕ) (d : ℕ) → (chain pt d).known.log ≡ s.known.log
+  chain_log pt zero = refl
+  chain_log pt (suc d) = chain_log pt d
+
+  chain_last : (pt : ℕ → ℕ) (d : ℕ) → (chain pt d).known.last ≡ s.known.last
+  chain_last pt zero = refl
+  chain_last pt (suc d) = chain_last pt d
+
+  chain_tracked : (pt : ℕ → ℕ) (d : ℕ) → (chain pt d).known.store.tracked ≡ s.known.store.tracked
+  chain_tracked pt zero = refl
+  chain_tracked pt (suc d) = chain_tracked pt d
+
+  chain_else : (pt : ℕ → ℕ) (d q b : ℕ) → ((j : ℕ) → 0 < j → j ≤ d → q ≡ pt j → b ≡ a → ⊥) → (chain pt d).known.store.fact q b ≡ s.known.store.fact q b
+  chain_else pt zero q b out = refl
+  chain_else pt (suc d) q b out = fact_else (chain pt d).known (pt (suc d)) q b (out (suc d) (omega arith) (omega arith)) ∙ chain_else pt d q b (λ j positive le e f. out j positive (omega (arith, le)) e f)
+
+  chain_value : (pt : ℕ → ℕ) (d q w : ℕ) → (chain pt d).known.store.fact q a ≡ Some w → (w ≡ v) ⊎ (s.known.store.fact q a ≡ Some w)
+  chain_value pt zero q w e = inr e
+  chain_value pt (suc d) q w e =
+      elim (cases_eq q (pt (suc d))) [
+        | inl is ↦ inl (same_some (sym e ∙ rw is (fact_here (chain pt d).known (pt (suc d)))))
+        | inr ne ↦ chain_value pt d q w (sym (fact_else (chain pt d).known (pt (suc d)) q a (λ x f. ne x)) ∙ e)
+      ]
+
+  chain_stays : (pt : ℕ → ℕ) (d q : ℕ) → (chain pt d).known.store.fact q a ≡ Some v → (chain pt (suc d)).known.store.fact q a ≡ Some v
+  chain_stays pt d q e =
+      elim (cases_eq q (pt (suc d))) [
+        | inl is ↦ rw is (fact_here (chain pt d).known (pt (suc d)))
+        | inr ne ↦ fact_else (chain pt d).known (pt (suc d)) q a (λ x f. ne x) ∙ e
+      ]
+
+  module _ (pt : ℕ → ℕ) (D : ℕ) (early : (d : ℕ) → d ≤ D → pt d ≤ length s.setting.rows) (free : (d w : ℕ) → d ≤ D → s.known.store.fact (pt d) a ≡ Some w → w ≡ v) (start : s.known.store.fact (pt 0) a ≡ Some v) (reach : (d : ℕ) → d < D → (t : State W) → HasLaws t.setting → IsKept t → Grows s t → Knows (pt d) (Byte a) v t → IsBrought t (fact_at (pt (suc d)) (Byte a) v)) where
+    step : (t : State W) → IsKept t → Grows s t → (p : ℕ) → p ≤ length s.setting.rows → t.known.store.fact p a ≡ None → IsBrought t (fact_at p (Byte a) v) → IsKept (with_known t (with_fact t.known p)) × Grows t (with_known t (with_fact t.known p))
+    step t kept_t g p le none brought =
+        let early_t : p ≤ length t.setting.rows = rw g.rows le in
+        let both = told_byte t kept_t true p a v early_t small (g.tracked a tracked) (g.complete ∙ open_) (brought_follows t p a v early_t small brought) false (λ _. brought) (with_fact t.known p) kept_t.once (Ok New) (adds t.known p none) in
+        (both.0, both.1.grows)
+
+    chain_kept : (d : ℕ) → d ≤ D → IsKept (chain pt d) × Grows s (chain pt d) × Knows (pt d) (Byte a) v (chain pt d)
+    chain_kept zero le = (kept, Grows_itself s, start)
+    chain_kept (suc d) le = next (chain_kept d (omega (arith, le))) ((chain pt d).known.store.fact (pt (suc d)) a) refl
+      where
+        next : IsKept (chain pt d) × Grows s (chain pt d) × Knows (pt d) (Byte a) v (chain pt d) → (x : Option ℕ) → (chain pt d).known.store.fact (pt (suc d)) a ≡ x → IsKept (chain pt (suc d)) × Grows s (chain pt (suc d)) × Knows (pt (suc d)) (Byte a) v (chain pt (suc d))
+        next (k, g, h) None none =
+            let laws_t : HasLaws (chain pt d).setting = subst (λ (S : Setting W). HasLaws S) (sym g.setting) laws in
+            let both = step (chain pt d) k g (pt (suc d)) (early (suc d) le) none (reach d (omega (arith, le)) (chain pt d) laws_t k g h) in
+            (both.0, Grows_trans s (chain pt d) (chain pt (suc d)) g both.1, fact_here (chain pt d).known (pt (suc d)))
+        next (k, g, h) (Some w) some =
+            let value : w ≡ v = elim (chain_value pt d (pt (suc d)) w some) [ inl e ↦ e | inr e ↦ free (suc d) w le e ] in
+            let known : (chain pt d).known.store.fact (pt (suc d)) a ≡ Some v = some ∙ ap Some value in
+            let same : chain pt (suc d) ≡ chain pt d = ap (λ (x : Known). with_known (chain pt d) x) (same_fact (chain pt d).known (pt (suc d)) known) in
+            (subst (λ (x : State W). IsKept x) (sym same) k, subst (λ (x : State W). Grows s x) (sym same) g, fact_here (chain pt d).known (pt (suc d)))
+
+    chain_here : (d j : ℕ) → d ≤ D → j ≤ d → (chain pt d).known.store.fact (pt j) a ≡ Some v
+    chain_here zero j le h = let e : 0 ≡ j = omega (arith, h) in subst (λ (x : ℕ). s.known.store.fact (pt x) a ≡ Some v) e start
+    chain_here (suc d) j le h =
+        elim (cases_eq j (suc d)) [
+          | inl e ↦ rw e (fact_here (chain pt d).known (pt (suc d)))
+          | inr ne ↦ chain_stays pt d (pt j) (chain_here d j (omega (arith, le)) (omega (arith, h, ne)))
+        ]
+
+    -- a store that has these facts
+    pub chain_done : (k : Known) → k.last ≡ s.known.last → k.log ≡ s.known.log → k.store.tracked ≡ s.known.store.tracked → ((q b : ℕ) → k.store.fact q b ≡ (chain pt D).known.store.fact q b) → IsKept (with_known s k) × Grows s (with_known s k)
+    chain_done k last log same_tracked same =
+        let t = chain_kept D (omega arith) in
+        let at : IsKept (with_known s (chain pt D).known) = subst (λ (x : State W). IsKept x) (chain_is pt D) t.0 in
+        let g : Grows s (with_known s (chain pt D).known) = subst (λ (x : State W). Grows s x) (chain_is pt D) t.1 in
+        let facts : k.store.fact ≡ (chain pt D).known.store.fact = fun_ext (λ (q : ℕ). fun_ext (λ (b : ℕ). same q b)) in
+        let k_log = log ∙ sym (chain_log pt D) in (
+          kept_like s (chain pt D).known k (last ∙ sym (chain_last pt D)) k_log facts (same_tracked ∙ sym (chain_tracked pt D)) open_ at,
+          record {
+            setting = refl;
+            rows = refl;
+            spans = refl;
+            filled = refl;
+            shown = refl;
+            complete = refl;
+            conflict = refl;
+            answers = rw log refl;
+            older = rw log refl;
+            more = λ p c w e. more_of p c w (g.more p c w e) facts k_log;
+            tracked = λ b h. subst (λ (xs : List ℕ). Contains xs b) (sym same_tracked) h;
+            counted = rw same_tracked (omega arith);
+            writing = refl;
+            fewer = omega arith;
+            spent = omega arith;
+            words = λ words p r w e. words p r w (rw log at e);
+          },
+        )
+      where
+        more_of : (p : ℕ) (c : Cell) (w : ℕ) → knows (chain pt D).known p c ≡ Some w → k.store.fact ≡ (chain pt D).known.store.fact → k.log ≡ (chain pt D).known.log → knows k p c ≡ Some w
+        more_of p (Register r) w e facts k_log = rw k_log e
+        more_of p (Byte b) w e facts k_log = rw facts e
+
+  -- a store in which the value was spread from a point to another one
+  module _ (joins : Bool) (k : Known) (from to : ℕ) (last : k.last ≡ s.known.last) (log : k.log ≡ s.known.log) (from_early : from ≤ length s.setting.rows) (to_early : to ≤ length s.setting.rows) (known : Knows from (Byte a) v s) (spared : IsSparedBetween from to a s) (spreads : Spreads joins s.known.store k.store a from to v) where
+    start_up : s.known.store.fact (from + 0) a ≡ Some v
+    start_up = let e : from ≡ from + 0 = omega arith in subst (λ (p : ℕ). s.known.store.fact p a ≡ Some v) e known
+
+    start_down : s.known.store.fact (from - 0) a ≡ Some v
+    start_down = let e : from ≡ from - 0 = omega arith in subst (λ (p : ℕ). s.known.store.fact p a ≡ Some v) e known
+
+    up : from ≤ to → IsKept (with_known s k) × Grows s (with_known s k)
+    up le = chain_done (λ d. from + d) (to - from) (λ d h. omega (arith, h, to_early, le)) (λ d w h e. spreads.free (from + d) w (inl (omega arith, omega (arith, h, le))) e) start_up reach k last log spreads.tracked same
+      where
+        reach : (d : ℕ) → d < to - from → (t : State W) → HasLaws t.setting → IsKept t → Grows s t → Knows (from + d) (Byte a) v t → IsBrought t (fact_at (from + suc d) (Byte a) v)
+        reach d lt t laws_t kept_t g h =
+            let inside : from + d < length t.setting.rows = rw g.rows (omega (arith, lt, to_early)) in
+            let at = up_brought t laws_t kept_t (from + d) a v inside small (spared_after s t (from + d) a g (spared (from + d) (inl (omega arith, omega (arith, lt))))) h in
+            let next : from + d + 1 ≡ from + suc d = omega arith in
+            subst (λ (p : ℕ). IsBrought t (fact_at p (Byte a) v)) next at
+
+        same : (q b : ℕ) → k.store.fact q b ≡ (chain (λ d. from + d) (to - from)).known.store.fact q b
+        same q b =
+            elim (cases_eq b a) [
+              | inr ne ↦ spreads.others q b (λ x f. ne f) ∙ sym (chain_else (λ d. from + d) (to - from) q b (λ j positive h e f. ne f))
+              | inl is ↦ elim (cases_lt q from) [
+                | inl low ↦ spreads.others q b (λ x f. elim x [ inl y ↦ let z = y.0 in omega (arith, z, low) | inr y ↦ let z = y.0 in omega (arith, z, low, le) ]) ∙ sym (chain_else (λ d. from + d) (to - from) q b (λ j positive h e f. omega (arith, e, low)))
+                | inr high ↦ elim (cases_lt to q) [
+                  | inl past ↦ spreads.others q b (λ x f. elim x [ inl y ↦ let z = y.1 in omega (arith, z, past) | inr y ↦ let z = y.1 in omega (arith, z, past, le) ]) ∙ sym (chain_else (λ d. from + d) (to - from) q b (λ j positive h e f. omega (arith, e, h, past, le)))
+                  | inr under ↦
+                      let at : from + (q - from) ≡ q = omega (arith, high) in
+                      let there = chain_here (λ d. from + d) (to - from) (λ d h. omega (arith, h, to_early, le)) (λ d w h e. spreads.free (from + d) w (inl (omega arith, omega (arith, h, le))) e) start_up reach (to - from) (q - from) (omega arith) (omega (arith, under)) in
+                      let value : (chain (λ d. from + d) (to - from)).known.store.fact q a ≡ Some v = subst (λ (p : ℕ). (chain (λ d. from + d) (to - from)).known.store.fact p a ≡ Some v) at there in
+                      rw is (spreads.here q (inl (high, under)) ∙ sym value)
+                ]
+              ]
+            ]
+
+    down : to ≤ from → IsKept (with_known s k) × Grows s (with_known s k)
+    down le = chain_done (λ d. from - d) (from - to) (λ d h. omega (arith, from_early)) (λ d w h e. spreads.free (from - d) w (inr (omega (arith, h, le), omega arith)) e) start_down reach k last log spreads.tracked same
+      where
+        reach : (d : ℕ) → d < from - to → (t : State W) → HasLaws t.setting → IsKept t → Grows s t → Knows (from - d) (Byte a) v t → IsBrought t (fact_at (from - suc d) (Byte a) v)
+        reach d lt t laws_t kept_t g h =
+            let inside : from - suc d < length t.setting.rows = rw g.rows (omega (arith, lt, from_early)) in
+            let next : from - d ≡ from - suc d + 1 = omega (arith, lt) in
+            let above : Knows (from - suc d + 1) (Byte a) v t = subst (λ (p : ℕ). Knows p (Byte a) v t) next h in
+            down_brought t laws_t kept_t (from - suc d) a v inside small (spared_after s t (from - suc d) a g (spared (from - suc d) (inr (omega (arith, lt), omega (arith, lt))))) above
+
+        same : (q b : ℕ) → k.store.fact q b ≡ (chain (λ d. from - d) (from - to)).known.store.fact q b
+        same q b =
+            elim (cases_eq b a) [
+              | inr ne ↦ spreads.others q b (λ x f. ne f) ∙ sym (chain_else (λ d. from - d) (from - to) q b (λ j positive h e f. ne f))
+              | inl is ↦ elim (cases_lt q to) [
+                | inl low ↦ spreads.others q b (λ x f. elim x [ inl y ↦ let z = y.0 in omega (arith, z, low, le) | inr y ↦ let z = y.0 in omega (arith, z, low) ]) ∙ sym (chain_else (λ d. from - d) (from - to) q b (λ j positive h e f. omega (arith, e, h, low, le)))
+                | inr high ↦ elim (cases_lt from q) [
+                  | inl past ↦ spreads.others q b (λ x f. elim x [ inl y ↦ let z = y.1 in omega (arith, z, past, le) | inr y ↦ let z = y.1 in omega (arith, z, past) ]) ∙ sym (chain_else (λ d. from - d) (from - to) q b (λ j positive h e f. omega (arith, e, past)))
+                  | inr under ↦
+                      let at : from - (from - q) ≡ q = omega (arith, under) in
+                      let there = chain_here (λ d. from - d) (from - to) (λ d h. omega (arith, from_early)) (λ d w h e. spreads.free (from - d) w (inr (omega (arith, h, le), omega arith)) e) start_down reach (from - to) (from - q) (omega arith) (omega (arith, high)) in
+                      let value : (chain (λ d. from - d) (from - to)).known.store.fact q a ≡ Some v = subst (λ (p : ℕ). (chain (λ d. from - d) (from - to)).known.store.fact p a ≡ Some v) at there in
+                      rw is (spreads.here q (inr (high, under)) ∙ sym value)
+                ]
+              ]
+            ]
+
+    pub spread_kept : IsKept (with_known s k) × Grows s (with_known s k)
+    spread_kept =
+        elim (cases_lt to from) [
+          | inl less ↦ down (omega (arith, less))
+          | inr more ↦ up more
+        ]
+
+-- what a store's answer to `carry` comes to
+module _ {W : Type 0} (s : State W) (laws : HasLaws s.setting) (kept : IsKept s) (open_ : s.complete ≡ false) (joins : Bool) (a from to v : ℕ) (small : a < 2 ^ 32) (from_early : from ≤ length s.setting.rows) (to_early : to ≤ length s.setting.rows) (known : Knows from (Byte a) v s) (spared : IsSparedBetween from to a s) where
+  tracked : IsTracked a s
+  tracked = kept.listed from a v known
+
+  between_early : (q : ℕ) → Between from to q → q ≤ length s.setting.rows
+  between_early q (inl y) = let z = y.1 in omega (arith, z, to_early)
+  between_early q (inr y) = let z = y.1 in omega (arith, z, from_early)
+
+  within : (before : ℕ) → Between from to before → IsSparedBetween from before a s
+  within before (inl y) i (inl x) = let p = x.0 in let q = x.1 in let z = y.1 in spared i (inl (p, omega (arith, q, z)))
+  within before (inl y) i (inr x) = let p = x.0 in let q = x.1 in let z = y.0 in absurd (omega (arith, p, q, z))
+  within before (inr y) i (inl x) = let p = x.0 in let q = x.1 in let z = y.1 in absurd (omega (arith, p, q, z))
+  within before (inr y) i (inr x) = let p = x.0 in let q = x.1 in let z = y.0 in spared i (inr (omega (arith, p, z), q))
+
+  spread : (k : Known) → SameLog s.known k → (before : ℕ) → Between from to before → Spreads joins s.known.store k.store a from before v → IsKept (with_known s k) × Grows s (with_known s k)
+  spread k log before at h = spread_kept s laws kept open_ a v small tracked joins k from before log.last log.log from_early (between_early before at) known (within before at) h
+
+  up_spared : (before stop : ℕ) → before + 1 ≡ stop → Between from to before → Between from to stop → IsSparedAt before a s
+  up_spared before stop next (inl y) (inl x) = let p = y.0 in let q = x.1 in spared before (inl (p, omega (arith, next, q)))
+  up_spared before stop next (inr y) (inr x) = let p = y.0 in let q = x.1 in spared before (inr (p, omega (arith, next, q)))
+  up_spared before stop next (inl y) (inr x) = let p = y.0 in let q = x.1 in let z = y.1 in absurd (omega (arith, next, p, q, z))
+  up_spared before stop next (inr y) (inl x) = let p = y.0 in let q = x.1 in let z = y.1 in let w = x.0 in spared before (inl (omega (arith, z, w, next, q, p), omega (arith, next, q)))
+
+  down_spared : (before stop : ℕ) → stop + 1 ≡ before → Between from to before → Between from to stop → IsSparedAt stop a s
+  down_spared before stop next (inl y) (inl x) = let p = x.0 in let q = y.1 in spared stop (inl (p, omega (arith, next, q)))
+  down_spared before stop next (inr y) (inr x) = let p = x.0 in let q = y.1 in spared stop (inr (p, omega (arith, next, q)))
+  down_spared before stop next (inl y) (inr x) = let p = x.0 in let q = x.1 in let z = y.0 in let w = y.1 in spared stop (inr (p, omega (arith, next, q, z, w)))
+  down_spared before stop next (inr y) (inl x) = let p = x.0 in let q = x.1 in let z = y.0 in let w = y.1 in absurd (omega (arith, next, p, q, z, w))
+
+  same_known_is : (k : Known) → SameLog s.known k → k.store ≡ s.known.store → k ≡ s.known
+  same_known_is k log store =
+      ap (λ (x : ℕ). record { last = x; log = k.log; store = k.store; left = k.left }) log.last
+      ∙ ap (λ (x : List Fact). record { last = s.known.last; log = x; store = k.store; left = k.left }) log.log
+      ∙ ap (λ (x : Store). record { last = s.known.last; log = s.known.log; store = x; left = k.left }) store
+      ∙ ap (λ (x : ℕ). record { last = s.known.last; log = s.known.log; store = s.known.store; left = x }) log.left
+
+  pub sent : (k : Known) → SameLog s.known k → (r : Result Carried AllocError) → StoreCarries joins s.known.store k.store a from to v r → IsKept (with_known s k) × Sends s (with_known s k) a from to v r
+  sent k log (Ok Same) (stays, h) =
+      let same = same_known_is k log (stays_same s.known.store k.store stays) in
+      (kept_same s k same kept, (same_known s k same, λ q between. sym (stays.fact q a) ∙ h.here q between))
+  sent k log (Ok More) h =
+      let both = spread_kept s laws kept open_ a v small tracked joins k from to log.last log.log from_early to_early known spared h.0 in
+      let q = h.1.0 in
+      (both.0, (both.1, fact q (Byte a) v (between_early q h.1.1) small h.1.2 (h.0.here q h.1.1), refl))
+  sent k log (Ok (Stop stop k_known found)) (value, stops) =
+      let r = stops.reaches in
+      let both = spread k log r.before r.toward r.spreads in
+      let t = with_known s k in
+      let laws_t : HasLaws t.setting = laws in
+      (both.0, (both.1, record { is_known = both.1.more stop (Byte a) found stops.other; differs = stops.differs; follows = brought_follows t stop a v (between_early stop r.within) small (next_brought k both.0 both.1 r.before stop r.next r.toward r.within (r.spreads.here r.before (itself r.before r.toward))) }, value))
+    where
+      itself : (before : ℕ) → Between from to before → Between from before before
+      itself before (inl y) = inl (y.0, omega arith)
+      itself before (inr y) = inr (omega arith, y.1)
+
+      next_brought : (k : Known) → IsKept (with_known s k) → Grows s (with_known s k) → (before stop : ℕ) → (before + 1 ≡ stop) ⊎ (stop + 1 ≡ before) → Between from to before → Between from to stop → k.store.fact before a ≡ Some v → IsBrought (with_known s k) (fact_at stop (Byte a) v)
+      next_brought k kept_t g before stop (inl next) at within_ h =
+          let early = between_early stop within_ in
+          subst (λ (p : ℕ). IsBrought (with_known s k) (fact_at p (Byte a) v)) next (up_brought (with_known s k) laws kept_t before a v (omega (arith, next, early)) small (spared_after s (with_known s k) before a g (up_spared before stop next at within_)) h)
+      next_brought k kept_t g before stop (inr next) at within_ h =
+          let early = between_early before at in
+          down_brought (with_known s k) laws kept_t stop a v (omega (arith, next, early)) small (spared_after s (with_known s k) stop a g (down_spared before stop next at within_)) (subst (λ (p : ℕ). k.store.fact p a ≡ Some v) (sym next) h)
+  sent k log (Err e) h = let both = spread k log h.reaches.before h.reaches.toward h.reaches.spreads in (both.0, both.1)
+
+-- a segment in which no row may write the byte
+pub segment_spread : {W : Type 0} (s : State W) (a from to at v : ℕ) → from ≤ at → at ≤ to → IsSpreadTo a at to v s → IsSpreadTo a at from v s → IsCarriedFrom a from to s
+segment_spread s a from to at v low high right left i le lt = record {
+  onward = λ w spared h. each (i + 1) (omega (arith, le)) (omega (arith, lt)) ∙ ap Some (same_some (sym (each i le (omega (arith, lt))) ∙ h));
+  back = λ w spared h. each i le (omega (arith, lt)) ∙ ap Some (same_some (sym (each (i + 1) (omega (arith, le)) (omega (arith, lt))) ∙ h));
+}
+  where
+    each : (q : ℕ) → from ≤ q → q ≤ to → Knows q (Byte a) v s
+    each q low_q high_q =
+        elim (cases_lt q at) [
+          | inl less ↦ left q (inr (low_q, omega (arith, less)))
+          | inr more ↦ right q (inl (more, high_q))
+        ]
+
+pub segment_free : {W : Type 0} (s : State W) (a from to : ℕ) → ((q : ℕ) → from ≤ q → q ≤ to → s.known.store.fact q a ≡ None) → IsCarriedFrom a from to s
+segment_free s a from to none i le lt = record {
+  onward = λ w spared h. absurd (none_some (sym (none i le (omega (arith, lt))) ∙ h));
+  back = λ w spared h. absurd (none_some (sym (none (i + 1) (omega (arith, le)) (omega (arith, lt))) ∙ h));
+}
+
+pub between_after : {W : Type 0} (s t : State W) (from to a : ℕ) → Grows s t → IsSparedBetween from to a s → IsSparedBetween from to a t
+between_after s t from to a g h i at = spared_after s t i a g (h i at)
+
+-- rows that were passed, one more
+pub passed_on : {W : Type 0} (s : State W) (from i a : ℕ) → from ≤ i → IsSparedBetween from i a s → IsSparedAt i a s → IsPassed a from i from s
+passed_on s from i a le before here = record { low = omega arith; high = omega (arith, le); spared = each }
+  where
+    each : IsSparedBetween from (i + 1) a s
+    each j (inl x) =
+        let p = x.0 in
+        let q = x.1 in
+        elim (cases_lt j i) [
+          | inl less ↦ before j (inl (p, less))
+          | inr more ↦ let e : i ≡ j = omega (arith, q, more) in subst (λ (k : ℕ). IsSparedAt k a s) e here
+        ]
+    each j (inr x) = let p = x.0 in let q = x.1 in absurd (omega (arith, p, q, le))
+
+pub passed_hit : {W : Type 0} (s : State W) (from i a : ℕ) → from ≤ i → IsPassed a from i (i + 1) s
+passed_hit s from i a le = record { low = omega (arith, le); high = omega arith; spared = each }
+  where
+    each : IsSparedBetween (i + 1) (i + 1) a s
+    each j (inl x) = let p = x.0 in let q = x.1 in absurd (omega (arith, p, q))
+    each j (inr x) = let p = x.0 in let q = x.1 in absurd (omega (arith, p, q))
+
+pub carried_none : {W : Type 0} (s : State W) (a from : ℕ) → IsCarriedFrom a from from s
+carried_none s a from i le lt = absurd (omega (arith, le, lt))
+
+pub carried_join : {W : Type 0} (s : State W) (a from middle to : ℕ) → IsCarriedFrom a from middle s → IsCarriedFrom a middle to s → IsCarriedFrom a from to s
+carried_join s a from middle to one two i le lt =
+    elim (cases_lt i middle) [
+      | inl less ↦ one i le less
+      | inr more ↦ two i more lt
+    ]
+
+pub carried_hit : {W : Type 0} (s : State W) (a from i : ℕ) (access : CallAccess) → a < 2 ^ 32 → IsAccess i access s → call_hits access a ≡ true → IsCarriedFrom a from i s → IsCarriedFrom a from (i + 1) s
+carried_hit s a from i access small h hit before j le lt =
+    elim (cases_lt j i) [
+      | inl less ↦ before j le less
+      | inr more ↦ let e : i ≡ j = omega (arith, lt, more) in subst (λ (k : ℕ). IsCarriedAt k a s) e (hit_carried s i a access small h hit)
+    ]
+
+pub next_free : {W : Type 0} (s : State W) (a from to : ℕ) → Nexts s.known.store.fact a from None → IsCarriedFrom a from to s
+next_free s a from to h = segment_free s a from to (λ q low high. h q low)
+
+pub next_past : {W : Type 0} (s : State W) (a from to : ℕ) (stretch : Stretch) → Nexts s.known.store.fact a from (Some stretch) → to < stretch.first → IsCarriedFrom a from to s
+next_past s a from to stretch h past = segment_free s a from to (λ q low high. h.free q low (omega (arith, high, past)))
+
+pub next_value : {W : Type 0} (s : State W) (a from at : ℕ) (stretch : Stretch) → Nexts s.known.store.fact a from (Some stretch) → at ≡ max stretch.first from → Knows at (Byte a) stretch.value s
+next_value s a from at stretch h is =
+    let reaches = h.reaches in
+    let ordered = h.run.ordered in
+    h.run.value at (omega (arith, is)) (omega (arith, is, reaches, ordered))
+
+pub next_at : (from to at first : ℕ) → from ≤ to → first ≤ to → at ≡ max first from → (from ≤ at) × (at ≤ to)
+next_at from to at first le reach is = (omega (arith, is), omega (arith, is, reach, le))
+
+pub spared_up : {W : Type 0} (s : State W) (from to at a : ℕ) → from ≤ at → at ≤ to → IsSparedBetween from to a s → IsSparedBetween at to a s
+spared_up s from to at a low high h i (inl x) = let p = x.0 in h i (inl (omega (arith, p, low), x.1))
+spared_up s from to at a low high h i (inr x) = let p = x.0 in let q = x.1 in absurd (omega (arith, p, q, high))
+
+pub spared_down : {W : Type 0} (s : State W) (from to at a : ℕ) → from ≤ at → at ≤ to → IsSparedBetween from to a s → IsSparedBetween at from a s
+spared_down s from to at a low high h i (inl x) = let p = x.0 in let q = x.1 in absurd (omega (arith, p, q, low))
+spared_down s from to at a low high h i (inr x) = let q = x.1 in h i (inl (x.0, omega (arith, q, high)))
+
+pub between_none : {W : Type 0} (s : State W) (p a : ℕ) → IsSparedBetween p p a s
+between_none s p a i (inl x) = let q = x.0 in let r = x.1 in absurd (omega (arith, q, r))
+between_none s p a i (inr x) = let q = x.0 in let r = x.1 in absurd (omega (arith, q, r))

@@ -1,0 +1,154 @@
+-- What stands when an analysis stops.
+use Rattle.std.proofs.Common.{◌≡◌, ℕ, ◌<◌, ◌≤◌, Bool, true, false, List, [], ◌∷◌, length, Some, inl, inr, refl, sym, subst, ◌∙◌, arith, ltb}
+use Rattle.std.proofs.lemmas.Bool.{cases_lt, false≢true, cond-true, cond-false, lt-ltb, le-ltb}
+use Rattle.rept_isa.specs.declared.row.StepRow.{StepRow}
+use Rattle.rept_reason.specs.declared.fact.Fact.{Fact}
+use Rattle.rept_reason.specs.declared.fact.Cell.{Cell}
+use Rattle.rept_reason.specs.declared.fact.Cell.TheVariants.{Register}
+use Rattle.rept_reason.specs.Facts.{Knowledge, In, told}
+use Rattle.rept_report.specs.declared.conflict.ConflictKind.{ConflictKind}
+use Rattle.rept_report.specs.declared.conflict.ConflictKind.TheVariants.{TwoValues}
+use Rattle.rept_report.specs.Setting.{HasLaws}
+use Rattle.rept_report.specs.Conclusions.{Concludes}
+use Rattle.rept_report.specs.Conflicts.{IsQuiet, Shows}
+use Rattle.rept_report.specs.Closure.{InClosure, ClosureHas}
+use Rattle.rept_report.specs.Log.{oldest, Entry, facts_of, add_if, logged_of}
+use Rattle.rept_report.proofs.Told.{told_in}
+use Rattle.rept_report.proofs.Places.{oldest_more, oldest_less}
+use Rattle.rept_report.proofs.ViewLaws.{known_fact}
+use Rattle.rept_report.proofs.Monotony.{quiet_less}
+use Rattle.rept_report.proofs.Traces.{derived_below, least_conflict, clash_closure}
+use Rattle.rept_analysis.specs.State.{State, all_known}
+use Rattle.rept_analysis.specs.Drawing.{IsClash, IsSettled, IsRowDrawn}
+use Rattle.rept_analysis.specs.Kept.{register_answer, IsKept}
+use Rattle.rept_analysis.specs.Refined.{clash_kind}
+use Rattle.rept_analysis.proofs.Passing.{passes_more}
+use Rattle.rept_analysis.proofs.Learning.{behind}
+use Rattle.rept_analysis.proofs.Reported.{settled_report}
+
+logged_in : (es : List Entry) (f : Fact) → In (logged_of es) f → In (facts_of es) f
+logged_in [] f h = h
+logged_in (e ∷ es) f h = either (λ k. logged_in es f k) e.logged h
+  where
+    either : (In (logged_of es) f → In (facts_of es) f) → (b : Bool) → In (add_if b e.fact (logged_of es)) f → In (facts_of (e ∷ es)) f
+    either older true (inl is) = inl is
+    either older true (inr k) = inr (older k)
+    either older false k = inr (older k)
+
+module _ {W : Type 0} (s : State W) (laws : HasLaws s.setting) (kept : IsKept s) where
+  -- what is quiet was quiet at each place before
+  pub quiet_before : (t u : ℕ) → u ≤ t → IsQuiet s.setting (told (oldest t s.known.log)) → IsQuiet s.setting (told (oldest u s.known.log))
+  quiet_before t u le quiet = quiet_less s.setting laws (told (oldest u s.known.log)) (told (oldest t s.known.log)) (λ p r v e. oldest_more u t s.known.log kept.once le p (Register r) v e) quiet
+
+  -- what the least loud front shows is a conflict of the closure
+  pub shown_conflict : (t : ℕ) → ((u : ℕ) → u < t → IsQuiet s.setting (told (oldest u s.known.log))) → (kind : ConflictKind) → Shows s.setting (told (oldest t s.known.log)) kind → ClosureHas s.setting kind
+  shown_conflict t quiet kind shows = least_conflict s.setting laws kept.traced.entries kept.traced.trace t (λ u below. rw kept.traced.logged (quiet u below)) kind (rw kept.traced.logged shows)
+
+  -- so is a clash on a quiet log
+  pub clash_conflict : (p : ℕ) (c : Cell) (known value : ℕ) → IsQuiet s.setting (all_known s) → IsClash s p c known value → ClosureHas s.setting (clash_kind p c known value)
+  clash_conflict p c known value quiet clash =
+      let same = behind s kept in
+      let calm = subst (λ (K : Knowledge). IsQuiet s.setting K) (sym same) quiet in
+      let follows = subst (λ (K : Knowledge). Concludes s.setting K (record { point = p; cell = c; value = value })) (sym same) (clash.follows quiet) in
+      let both = clash_closure s.setting laws kept.traced.entries kept.traced.trace calm (record { point = p; cell = c; value = value }) known follows (kept.traced.agree p c ∙ clash.is_known) in
+      elim (cases_lt known value) [
+        | inl lt ↦ rw (cond-true (ltb known value) (TwoValues p c known value) (TwoValues p c value known) (lt-ltb known value lt)) (both.0 lt)
+        | inr le ↦ rw (cond-false (ltb known value) (TwoValues p c known value) (TwoValues p c value known) (le-ltb known value le)) (both.1 (more le))
+      ]
+    where
+      more : value ≤ known → value < known
+      more le = let differs = clash.differs in elim (cases_lt value known) [ inl lt ↦ lt | inr ge ↦ absurd (differs (omega (arith, le, ge))) ]
+
+  -- what is answered of registers is of the closure
+  pub answered : (p r v : ℕ) → register_answer s p r ≡ Some v → 0 < r → InClosure s.setting (record { point = p; cell = Register r; value = v })
+  answered p r v e named =
+      let d = derived_below s.setting laws kept.traced.entries kept.traced.trace s.shown (λ u below. rw kept.traced.logged (kept.calm u below)) in
+      elim (known_fact (told (oldest s.shown s.known.log)) p r v e) [
+        | inl z ↦ let zero_is = z.0 in absurd (omega (arith, named, zero_is))
+        | inr h ↦
+            let at = told_in (oldest s.shown s.known.log) p (Register r) v h.1 in
+            (facts_of d.0, d.1, logged_in d.0 _ (rw (d.2, kept.traced.logged) at))
+      ]
+
+  abbrev stopped_at : ℕ → ConflictKind → State W
+  stopped_at limit kind = record { setting = s.setting; known = s.known; spans = s.spans; filled = s.filled; shown = limit; complete = s.complete; conflict = Some kind; work = s.work }
+
+  -- an analysis that stops at a place
+  pub kept_stopped : s.complete ≡ false → (limit : ℕ) (kind : ConflictKind) → limit ≤ length s.known.log → ((u : ℕ) → u < limit → IsQuiet s.setting (told (oldest u s.known.log))) → ClosureHas s.setting kind → IsKept (stopped_at limit kind)
+  kept_stopped open_ limit kind within quiet found = record {
+    few = kept.few;
+    registers = kept.registers;
+    last_is = kept.last_is;
+    sized = kept.sized;
+    filled = kept.filled;
+    once = kept.once;
+    traced = record { entries = kept.traced.entries; trace = kept.traced.trace; logged = kept.traced.logged; agree = kept.traced.agree };
+    listed = kept.listed;
+    shown = within;
+    calm = quiet;
+    stopped = λ kind' e. subst (ClosureHas s.setting) (some_kind e) found;
+    finished = λ e. absurd (false≢true (sym open_ ∙ e));
+    room = kept.room;
+    rows = kept.rows;
+    drawn = passes_more s (stopped_at limit kind) refl (λ p c v e. e) refl kept.drawn;
+  }
+    where
+      some_kind : {x y : ConflictKind} → Some x ≡ Some y → x ≡ y
+      some_kind e = cc
+
+  abbrev shown_to : ℕ → State W
+  shown_to limit = record { setting = s.setting; known = s.known; spans = s.spans; filled = s.filled; shown = limit; complete = s.complete; conflict = s.conflict; work = s.work }
+
+  -- one that answers more
+  pub kept_shown : s.complete ≡ false → (limit : ℕ) → limit ≤ length s.known.log → ((u : ℕ) → u < limit → IsQuiet s.setting (told (oldest u s.known.log))) → IsKept (shown_to limit)
+  kept_shown open_ limit within quiet = record {
+    few = kept.few;
+    registers = kept.registers;
+    last_is = kept.last_is;
+    sized = kept.sized;
+    filled = kept.filled;
+    once = kept.once;
+    traced = record { entries = kept.traced.entries; trace = kept.traced.trace; logged = kept.traced.logged; agree = kept.traced.agree };
+    listed = kept.listed;
+    shown = within;
+    calm = quiet;
+    stopped = kept.stopped;
+    finished = λ e. absurd (false≢true (sym open_ ∙ e));
+    room = kept.room;
+    rows = kept.rows;
+    drawn = passes_more s (shown_to limit) refl (λ p c v e. e) refl kept.drawn;
+  }
+
+  abbrev finished_at : State W
+  finished_at = record { setting = s.setting; known = s.known; spans = s.spans; filled = s.filled; shown = length s.known.log; complete = true; conflict = s.conflict; work = s.work }
+
+  again : (i : ℕ) (row : StepRow) → IsRowDrawn row i s → IsRowDrawn row i finished_at
+  again i row d = record {
+    registers = λ r named in_file kept'. let k = d.registers r named in_file kept' in record { onward = k.onward; back = k.back };
+    tracked = d.tracked;
+    drawn = d.drawn;
+  }
+
+  -- one that has ended
+  pub kept_finished : IsSettled s → IsKept finished_at
+  kept_finished settled = record {
+    few = kept.few;
+    registers = kept.registers;
+    last_is = kept.last_is;
+    sized = kept.sized;
+    filled = kept.filled;
+    once = kept.once;
+    traced = record { entries = kept.traced.entries; trace = kept.traced.trace; logged = kept.traced.logged; agree = kept.traced.agree };
+    listed = kept.listed;
+    shown = omega arith;
+    calm = λ u below. quiet_less s.setting laws (told (oldest u s.known.log)) (all_known s) (λ p r v e. oldest_less u s.known.log kept.once p (Register r) v e) settled.quiet;
+    stopped = kept.stopped;
+    finished = λ _. record {
+      settled = record { quiet = settled.quiet; fitted = settled.fitted; filled = settled.filled; drawn = record { last = settled.drawn.last; rows = λ i inside row found. again i row (settled.drawn.rows i inside row found); bytes = settled.drawn.bytes; carried = λ a i at inside. let k = settled.drawn.carried a i at inside in record { onward = k.onward; back = k.back }; singles = settled.drawn.singles } };
+      report = settled_report s laws kept settled;
+      all = refl;
+    };
+    room = kept.room;
+    rows = kept.rows;
+    drawn = passes_more s finished_at refl (λ p c v e. e) refl kept.drawn;
+  }

@@ -1,0 +1,16 @@
+use Rattle.std.proofs.Common.{◌≡◌, ◌≤◌, length}
+use Rattle.rept_analysis.specs.State.{state_of}
+use Rattle.rept_analysis.specs.Drawing.{Grows, Drew, IsSparedBetween, IsCarriedFrom, past}
+use Rattle.rept_analysis.proofs.analysis.Analysis.carry_address.Given as goal
+
+abbrev pub invariant-loop-k : goal.invariant-loop-k
+invariant-loop-k g l =
+    let st = state_of g.W.Partial.sets g.W.Transfer.moves g.R.RowRules.rules g.B.ByteFacts.store in
+    record {
+      grows : Grows (st l.fn.self) (st l.self);
+      drew : Drew (st l.fn.self) (st l.self) l.learnt (IsCarriedFrom l.a 0 l.from);
+      from : l.from ≤ past (st l.fn.self).work.writing l.k;
+      spared : IsSparedBetween l.from (past (st l.fn.self).work.writing l.k) l.a (st l.self);
+      count : l.count ≡ length (st l.fn.self).work.writing;
+      rows : l.rows ≡ length (st l.fn.self).setting.rows;
+    }

@@ -1,0 +1,23 @@
+use Rattle.std.proofs.Common.{◌+◌, ◌≤◌, arith}
+use Rattle.rept_analysis.specs.State.{state_of}
+use Rattle.rept_analysis.specs.Drawing.{LastKnown, LastKnownBelow}
+use Rattle.rept_analysis.proofs.Drawn.{Drew_both, Drew_as, Grows_trans, one_more}
+use Rattle.rept_analysis.proofs.analysis.Analysis.draw_all_last.Goals as goal
+
+pub returns-in_err-new-clause-grows : goal.returns-in_err-new-clause-grows
+returns-in_err-new-clause-grows g c = Grows_trans _ _ _ c.loop-r.invariant.grows c.draw_last.ensures.grows
+
+pub loop-r-preserved : goal.loop-r-preserved
+loop-r-preserved g c =
+    let here = rw c.register.ensures at c.in_ok-new.ensures.drew in
+    record {
+      grows = Grows_trans _ _ _ c.loop-r.invariant.grows c.in_ok-new.ensures.grows;
+      drew = Drew_both _ _ _ c.loop-r.learnt c.in_ok-new.new (LastKnownBelow c.loop-r.r) (LastKnown c.loop-r.r) (LastKnownBelow (c.loop-r.r + 1))
+          c.loop-r.invariant.grows c.in_ok-new.ensures.grows c.loop-r.invariant.drew here
+          (λ below at_r r v named inside is. one_more (λ s. LastKnown s (state_of g.W.Partial.sets g.W.Transfer.moves g.R.RowRules.rules g.B.ByteFacts.store c.args.self.now)) c.loop-r.r (λ s lt w n k. below s w n lt k) at_r r inside v named is);
+    }
+
+pub returns-clause-drew : goal.returns-clause-drew
+returns-clause-drew g c =
+    let passed : 32 ≤ c.loop-r.r = omega arith in
+    Drew_as _ _ c.loop-r.learnt (LastKnownBelow c.loop-r.r) (LastKnownBelow 32) c.loop-r.invariant.drew (λ h r v named inside is. h r v named (omega (arith, passed, inside)) is)

@@ -1,0 +1,24 @@
+use Rattle.std.proofs.Common.{◌≡◌, ◌<◌, length, Some, sym, subst, slice_get, arith, ◌∙◌}
+use Rattle.rept_dump.specs.Dump.{exe_of, core_of}
+use Rattle.rept_analysis.specs.Work.{work_of}
+use Rattle.rept_analysis.specs.State.{Whole, state_of}
+use Rattle.rept_analysis.specs.Drawing.{IsFitted}
+use Rattle.rept_analysis.proofs.Following.{words_below}
+use Rattle.rept_analysis.proofs.Answering.{sure_is}
+use Rattle.rept_analysis.proofs.analysis.Analysis.is_sure.Goals as goal
+
+pub invariant_of-view : goal.invariant_of-view
+invariant_of-view g c =
+    let a : Whole g.row.B.Denot g.row.W.Denot g.row.R.Denot = record { rows = c.self.inside.rows.now; last = c.self.inside.last.items; exe = exe_of c.self.inside.dump.now; core = core_of c.self.inside.dump.now; known = c.self.inside.known; spans = c.self.inside.spans; filled = c.self.inside.filled; rules = c.self.inside.rules; shown = c.self.inside.shown; complete = c.self.inside.complete; conflict = c.self.inside.conflict; work = work_of (g.R.RowRules.draws c.self.inside.rules) c.self.inside.writing c.self.inside.drawn } in
+    let inside = subst (λ (x : Whole g.row.B.Denot g.row.W.Denot g.row.R.Denot). c.args.i < length x.rows) (sym c.self.view_is) c.requires.inside in
+    let last_is = c.self.invariant.last_is in
+    let sized = c.self.invariant.sized in
+    record { inside = omega (arith, inside, last_is); near = c.len-len.ensures.near; sized = omega (arith, sized, last_is); words = words_below (state_of g.W.Partial.sets g.W.Transfer.moves g.R.RowRules.rules g.B.ByteFacts.store a) c.self.inside.filled c.len-len.ensures.once c.len-len.ensures.words }
+
+pub returns : goal.returns
+returns g c =
+    let a : Whole g.row.B.Denot g.row.W.Denot g.row.R.Denot = record { rows = c.self.inside.rows.now; last = c.self.inside.last.items; exe = exe_of c.self.inside.dump.now; core = core_of c.self.inside.dump.now; known = c.self.inside.known; spans = c.self.inside.spans; filled = c.self.inside.filled; rules = c.self.inside.rules; shown = c.self.inside.shown; complete = c.self.inside.complete; conflict = c.self.inside.conflict; work = work_of (g.R.RowRules.draws c.self.inside.rules) c.self.inside.writing c.self.inside.drawn } in
+    let inside = subst (λ (x : Whole g.row.B.Denot g.row.W.Denot g.row.R.Denot). c.args.i < length x.rows) (sym c.self.view_is) c.requires.inside in
+    let row = subst (λ (x : Whole g.row.B.Denot g.row.W.Denot g.row.R.Denot). slice_get x.rows c.args.i ≡ Some c.row-row.result) (sym c.self.view_is) c.row-row.ensures in
+    let fitted = subst (λ (x : Whole g.row.B.Denot g.row.W.Denot g.row.R.Denot). IsFitted (state_of g.W.Partial.sets g.W.Transfer.moves g.R.RowRules.rules g.B.ByteFacts.store x)) (sym c.self.view_is) c.requires.fitted in
+    rw (← c.self.view_is) (c.sure.ensures ∙ sure_is (state_of g.W.Partial.sets g.W.Transfer.moves g.R.RowRules.rules g.B.ByteFacts.store a) c.args.i inside fitted c.row-row.result row)

@@ -1,0 +1,16 @@
+use Rattle.std.proofs.Common.{◌<◌, ◌^◌, arith}
+use Rattle.rept_reason.specs.declared.fact.Cell.TheVariants.{Register}
+use Rattle.rept_analysis.specs.Drawing.{Knows}
+use Rattle.rept_analysis.proofs.Drawn.{Drew_new, clash_found}
+use Rattle.rept_analysis.proofs.analysis.Analysis.learn.Goals as goal
+
+pub returns-in-New-clause-drew : goal.returns-in-New-clause-drew
+returns-in-New-clause-drew g c =
+    let told = rw c.in-New.is at c.tell.ensures in
+    Drew_new _ _ (Knows c.args.point (Register c.args.r) c.args.value) told.news told.still
+
+pub returns-in-Clash-clause-halt : goal.returns-in-Clash-clause-halt
+returns-in-Clash-clause-halt g c =
+    let told = rw c.in-Clash.is at c.tell.ensures in
+    let small : c.args.value < 2 ^ 32 = omega arith in
+    clash_found _ _ c.args.point (Register c.args.r) c.in-Clash.known c.args.value told.0 told.1 told.2 (c.requires.follows small)

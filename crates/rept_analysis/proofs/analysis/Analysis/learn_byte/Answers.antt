@@ -1,0 +1,13 @@
+use Rattle.rept_reason.specs.declared.fact.Cell.TheVariants.{Byte}
+use Rattle.rept_analysis.specs.Drawing.{Knows}
+use Rattle.rept_analysis.proofs.Drawn.{Drew_new, clash_found}
+use Rattle.rept_analysis.proofs.analysis.Analysis.learn_byte.Goals as goal
+
+pub returns-in-Ok-New-clause-drew : goal.returns-in-Ok-New-clause-drew
+returns-in-Ok-New-clause-drew g c = let told = rw c.in-Ok-New.field-0-is at c.in-Ok-New.ensures in
+    Drew_new _ _ (Knows c.args.point (Byte c.args.a) c.args.value) told.news told.still
+
+pub returns-in-Ok-Clash-clause-halt : goal.returns-in-Ok-Clash-clause-halt
+returns-in-Ok-Clash-clause-halt g c =
+    let told = rw c.in-Ok-Clash.field-0-is at c.in-Ok-Clash.ensures in
+    clash_found _ _ c.args.point (Byte c.args.a) c.in-Ok-Clash.known c.args.value told.0 told.1 told.2 c.requires.follows

@@ -1,0 +1,24 @@
+use Rattle.std.proofs.Common.{◌≡◌, ◌+◌, ℕ, length, ap, subst, arith}
+use Rattle.rept_analysis.specs.State.{State, state_of}
+use Rattle.rept_analysis.specs.Drawing.{AreWritingsBefore}
+use Rattle.rept_analysis.proofs.Listing.{writings_listed, writings_back, listed_then}
+use Rattle.rept_analysis.proofs.analysis.Analysis.list_writing.Goals as goal
+
+pub list_row-requires-clause-before : goal.list_row-requires-clause-before
+list_row-requires-clause-before g c = writings_listed (state_of g.W.Partial.sets g.W.Transfer.moves g.R.RowRules.rules g.B.ByteFacts.store c.args.self.now) (state_of g.W.Partial.sets g.W.Transfer.moves g.R.RowRules.rules g.B.ByteFacts.store c.loop-i.self) _ c.loop-i.invariant.same c.loop-i.i c.loop-i.self.work.writing c.loop-i.invariant.listed
+
+pub loop-i-preserved : goal.loop-i-preserved
+loop-i-preserved g c = record {
+  same = listed_then (state_of g.W.Partial.sets g.W.Transfer.moves g.R.RowRules.rules g.B.ByteFacts.store c.args.self.now) (state_of g.W.Partial.sets g.W.Transfer.moves g.R.RowRules.rules g.B.ByteFacts.store c.loop-i.self) (state_of g.W.Partial.sets g.W.Transfer.moves g.R.RowRules.rules g.B.ByteFacts.store c.list_row.new.self) _ _ c.loop-i.invariant.same c.list_row.ensures.same;
+  room = c.list_row.ensures.room;
+  listed = writings_back (state_of g.W.Partial.sets g.W.Transfer.moves g.R.RowRules.rules g.B.ByteFacts.store c.args.self.now) (state_of g.W.Partial.sets g.W.Transfer.moves g.R.RowRules.rules g.B.ByteFacts.store c.loop-i.self) _ c.loop-i.invariant.same (c.loop-i.i + 1) c.list_row.new.self.work.writing c.list_row.ensures.listed;
+  count = c.loop-i.invariant.count;
+}
+
+pub returns-clause-listed : goal.returns-clause-listed
+returns-clause-listed g c =
+    let rows = ap (λ (x : State g.row.W.Denot). length x.setting.rows) c.loop-i.invariant.same in
+    let count = c.loop-i.invariant.count in
+    let all : c.loop-i.i ≡ length c.loop-i.self.rows = omega (arith, rows, count) in
+    let listed = subst (λ (n : ℕ). AreWritingsBefore n c.loop-i.self.work.writing (state_of g.W.Partial.sets g.W.Transfer.moves g.R.RowRules.rules g.B.ByteFacts.store c.args.self.now)) all c.loop-i.invariant.listed in
+    writings_listed (state_of g.W.Partial.sets g.W.Transfer.moves g.R.RowRules.rules g.B.ByteFacts.store c.args.self.now) (state_of g.W.Partial.sets g.W.Transfer.moves g.R.RowRules.rules g.B.ByteFacts.store c.loop-i.self) _ c.loop-i.invariant.same (length c.loop-i.self.rows) c.loop-i.self.work.writing listed

@@ -1,0 +1,14 @@
+use Rattle.std.proofs.Common.{◌≡◌, ◌≤◌, length}
+use Rattle.rept_analysis.specs.State.{state_of, with_writing}
+use Rattle.rept_analysis.specs.Drawing.{AreWritingsBefore}
+use Rattle.rept_analysis.proofs.analysis.Analysis.list_writing.Given as goal
+
+abbrev pub invariant-loop-i : goal.invariant-loop-i
+invariant-loop-i g l =
+    let st = state_of g.W.Partial.sets g.W.Transfer.moves g.R.RowRules.rules g.B.ByteFacts.store in
+    record {
+      same : st l.self ≡ with_writing (st l.fn.self) (st l.self).work.writing;
+      room : length (st l.self).work.writing ≤ l.i;
+      listed : AreWritingsBefore l.i (st l.self).work.writing (st l.fn.self);
+      count : l.count ≡ length (st l.fn.self).setting.rows;
+    }

@@ -1,0 +1,30 @@
+use Rattle.rept_analysis.specs.State.{state_of}
+use Rattle.rept_analysis.proofs.Refining.{path_of, kept_of, report_of, complete_of, consistent_of, stopped_of, sound_of, impossible_of}
+use Rattle.rept_analysis.proofs.analysis.Analysis.refine.Goals as goal
+
+pub returns-clause-path : goal.returns-clause-path
+returns-clause-path g c = path_of (state_of g.W.Partial.sets g.W.Transfer.moves g.R.RowRules.rules g.B.ByteFacts.store c.args.self.now) (state_of g.W.Partial.sets g.W.Transfer.moves g.R.RowRules.rules g.B.ByteFacts.store c.outcome-outcome.new.self) c.outcome-outcome.result c.outcome-outcome.ensures.outcome
+
+pub returns-clause-kept : goal.returns-clause-kept
+returns-clause-kept g c = kept_of (state_of g.W.Partial.sets g.W.Transfer.moves g.R.RowRules.rules g.B.ByteFacts.store c.args.self.now) (state_of g.W.Partial.sets g.W.Transfer.moves g.R.RowRules.rules g.B.ByteFacts.store c.outcome-outcome.new.self) c.outcome-outcome.result c.outcome-outcome.ensures.outcome
+
+pub returns-clause-report : goal.returns-clause-report
+returns-clause-report g c = report_of (state_of g.W.Partial.sets g.W.Transfer.moves g.R.RowRules.rules g.B.ByteFacts.store c.args.self.now) (state_of g.W.Partial.sets g.W.Transfer.moves g.R.RowRules.rules g.B.ByteFacts.store c.outcome-outcome.new.self) c.outcome-outcome.result c.outcome-outcome.ensures.outcome
+
+pub returns-clause-complete : goal.returns-clause-complete
+returns-clause-complete g c = complete_of (state_of g.W.Partial.sets g.W.Transfer.moves g.R.RowRules.rules g.B.ByteFacts.store c.args.self.now) (state_of g.W.Partial.sets g.W.Transfer.moves g.R.RowRules.rules g.B.ByteFacts.store c.outcome-outcome.new.self) c.outcome-outcome.result c.outcome-outcome.ensures.outcome
+
+pub returns-clause-consistent : goal.returns-clause-consistent
+returns-clause-consistent g c = consistent_of (state_of g.W.Partial.sets g.W.Transfer.moves g.R.RowRules.rules g.B.ByteFacts.store c.args.self.now) (state_of g.W.Partial.sets g.W.Transfer.moves g.R.RowRules.rules g.B.ByteFacts.store c.outcome-outcome.new.self) c.outcome-outcome.result c.outcome-outcome.ensures.outcome
+
+pub returns-clause-conflict : goal.returns-clause-conflict
+returns-clause-conflict g c = λ kind e. (stopped_of (state_of g.W.Partial.sets g.W.Transfer.moves g.R.RowRules.rules g.B.ByteFacts.store c.args.self.now) (state_of g.W.Partial.sets g.W.Transfer.moves g.R.RowRules.rules g.B.ByteFacts.store c.outcome-outcome.new.self) c.outcome-outcome.result kind c.outcome-outcome.ensures.outcome e).has
+
+pub returns-clause-recorded : goal.returns-clause-recorded
+returns-clause-recorded g c = λ kind e. (stopped_of (state_of g.W.Partial.sets g.W.Transfer.moves g.R.RowRules.rules g.B.ByteFacts.store c.args.self.now) (state_of g.W.Partial.sets g.W.Transfer.moves g.R.RowRules.rules g.B.ByteFacts.store c.outcome-outcome.new.self) c.outcome-outcome.result kind c.outcome-outcome.ensures.outcome e).recorded
+
+pub returns-clause-sound : goal.returns-clause-sound
+returns-clause-sound g c = sound_of (state_of g.W.Partial.sets g.W.Transfer.moves g.R.RowRules.rules g.B.ByteFacts.store c.args.self.now) (state_of g.W.Partial.sets g.W.Transfer.moves g.R.RowRules.rules g.B.ByteFacts.store c.outcome-outcome.new.self) (record { sets = g.met.W.Partial.lawful; moves = g.met.W.Transfer.covers; rules = g.met.R.RowRules.lawful }) c.outcome-outcome.result c.outcome-outcome.ensures.outcome
+
+pub returns-clause-impossible : goal.returns-clause-impossible
+returns-clause-impossible g c = λ kind e. impossible_of (state_of g.W.Partial.sets g.W.Transfer.moves g.R.RowRules.rules g.B.ByteFacts.store c.args.self.now) (state_of g.W.Partial.sets g.W.Transfer.moves g.R.RowRules.rules g.B.ByteFacts.store c.outcome-outcome.new.self) (record { sets = g.met.W.Partial.lawful; moves = g.met.W.Transfer.covers; rules = g.met.R.RowRules.lawful }) c.outcome-outcome.result kind c.outcome-outcome.ensures.outcome e

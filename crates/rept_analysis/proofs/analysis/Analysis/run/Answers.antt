@@ -1,0 +1,41 @@
+use Rattle.std.proofs.Common.{arith}
+use Rattle.rept_analysis.specs.State.{state_of}
+use Rattle.rept_analysis.proofs.Ending.{Continues_trans, ended_after, stopped_after, halted_after}
+use Rattle.rept_analysis.proofs.Passing.{left_most}
+use Rattle.rept_analysis.proofs.analysis.Analysis.run.Goals as goal
+
+pub returns-in-Ok-true-clause-outcome : goal.returns-in-Ok-true-clause-outcome
+returns-in-Ok-true-clause-outcome g c = ended_after (state_of g.W.Partial.sets g.W.Transfer.moves g.R.RowRules.rules g.B.ByteFacts.store c.args.self.now) (state_of g.W.Partial.sets g.W.Transfer.moves g.R.RowRules.rules g.B.ByteFacts.store c.settle.new.self) (state_of g.W.Partial.sets g.W.Transfer.moves g.R.RowRules.rules g.B.ByteFacts.store c.finish.new.self) (Continues_trans _ (state_of g.W.Partial.sets g.W.Transfer.moves g.R.RowRules.rules g.B.ByteFacts.store c.restart.new.self) _ c.restart.ensures.continues c.settle.ensures.continues) c.finish.ensures.ended
+
+pub returns-in-Ok-false-clause-outcome : goal.returns-in-Ok-false-clause-outcome
+returns-in-Ok-false-clause-outcome g c = stopped_after (state_of g.W.Partial.sets g.W.Transfer.moves g.R.RowRules.rules g.B.ByteFacts.store c.args.self.now) (state_of g.W.Partial.sets g.W.Transfer.moves g.R.RowRules.rules g.B.ByteFacts.store c.settle.new.self) (state_of g.W.Partial.sets g.W.Transfer.moves g.R.RowRules.rules g.B.ByteFacts.store c.stop_least.new.self) c.stop_least.result (Continues_trans _ (state_of g.W.Partial.sets g.W.Transfer.moves g.R.RowRules.rules g.B.ByteFacts.store c.restart.new.self) _ c.restart.ensures.continues c.settle.ensures.continues) c.stop_least.ensures.ended
+
+pub returns-in-Err-clause-outcome : goal.returns-in-Err-clause-outcome
+returns-in-Err-clause-outcome g c = halted_after (state_of g.W.Partial.sets g.W.Transfer.moves g.R.RowRules.rules g.B.ByteFacts.store c.args.self.now) (state_of g.W.Partial.sets g.W.Transfer.moves g.R.RowRules.rules g.B.ByteFacts.store c.settle.new.self) (state_of g.W.Partial.sets g.W.Transfer.moves g.R.RowRules.rules g.B.ByteFacts.store c.stop.new.self) c.stop.result (Continues_trans _ (state_of g.W.Partial.sets g.W.Transfer.moves g.R.RowRules.rules g.B.ByteFacts.store c.restart.new.self) _ c.restart.ensures.continues c.settle.ensures.continues) c.stop.ensures.ended
+
+pub returns-in-Ok-true-clause-draws : goal.returns-in-Ok-true-clause-draws
+returns-in-Ok-true-clause-draws g c =
+    let most = left_most (state_of g.W.Partial.sets g.W.Transfer.moves g.R.RowRules.rules g.B.ByteFacts.store c.restart.new.self).work.drawn in
+    let rows = c.restart.ensures.rows in
+    let draws = c.restart.ensures.draws in
+    let spent = c.settle.ensures.spent in
+    let still = c.finish.ensures.still in
+    omega (arith, most, rows, draws, spent, still)
+
+pub returns-in-Ok-false-clause-draws : goal.returns-in-Ok-false-clause-draws
+returns-in-Ok-false-clause-draws g c =
+    let most = left_most (state_of g.W.Partial.sets g.W.Transfer.moves g.R.RowRules.rules g.B.ByteFacts.store c.restart.new.self).work.drawn in
+    let rows = c.restart.ensures.rows in
+    let draws = c.restart.ensures.draws in
+    let spent = c.settle.ensures.spent in
+    let still = c.stop_least.ensures.still in
+    omega (arith, most, rows, draws, spent, still)
+
+pub returns-in-Err-clause-draws : goal.returns-in-Err-clause-draws
+returns-in-Err-clause-draws g c =
+    let most = left_most (state_of g.W.Partial.sets g.W.Transfer.moves g.R.RowRules.rules g.B.ByteFacts.store c.restart.new.self).work.drawn in
+    let rows = c.restart.ensures.rows in
+    let draws = c.restart.ensures.draws in
+    let spent = c.settle.ensures.spent in
+    let still = c.stop.ensures.still in
+    omega (arith, most, rows, draws, spent, still)

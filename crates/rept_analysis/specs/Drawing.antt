@@ -1,0 +1,303 @@
+-- What drawing conclusions does to an analysis. This project's own.
+use Rattle.std.specs.Prelude.{◌≡◌, ◌≢◌, ℕ, zero, suc, ◌+◌, ◌<◌, ◌≤◌, ◌^◌, ◌⊎◌, ⊤, Bool, true, false, List, length, Some, None, Contains, slice_get}
+use Rattle.rept_isa.specs.declared.row.StepRow.{StepRow}
+use Rattle.rept_isa.specs.Operands.{written_by}
+use Rattle.rept_versions.specs.Facts.{Between}
+use Rattle.rept_alias.specs.declared.addresses.CallAccess.{CallAccess}
+use Rattle.rept_alias.specs.Accesses.{call_hits}
+use Rattle.rept_machine.specs.Arithmetic.{beside}
+use Rattle.rept_partial.specs.declared.flat.Flat.{Flat}
+use Rattle.rept_partial.specs.declared.flat.Flat.TheVariants.{Known}
+use Rattle.rept_reason.specs.declared.fact.Fact.{Fact}
+use Rattle.rept_reason.specs.declared.fact.Cell.{Cell}
+use Rattle.rept_reason.specs.declared.fact.Cell.TheVariants.{Register, Byte}
+use Rattle.rept_reason.specs.Facts.{IsCell, told}
+use Rattle.rept_span.specs.Filled.{entry_at, IsFilled}
+use Rattle.rept_view.specs.declared.drawn.Drawn.{Drawn}
+use Rattle.rept_view.specs.Rules.{IsRowByte, Fits}
+use Rattle.rept_log.specs.Around.{around}
+use Rattle.rept_report.specs.Setting.{way_of}
+use Rattle.rept_report.specs.Views.{point_of, may_write}
+use Rattle.rept_report.specs.Conclusions.{HasWords, IsCarried, Concludes}
+use Rattle.rept_report.specs.Conflicts.{IsQuiet}
+use Rattle.rept_report.specs.Log.{oldest}
+use Rattle.rept_analysis.specs.declared.halt.Halt.{Halt}
+use Rattle.rept_analysis.specs.declared.halt.Halt.TheVariants.{Clash, OutOfMemory}
+use Rattle.rept_analysis.specs.declared.writing.Writing.{Writing}
+use Rattle.rept_analysis.specs.declared.pass.Pass.TheVariants.{Cut}
+use Rattle.rept_analysis.specs.Work.{left, row_past}
+use Rattle.rept_analysis.specs.State.{State, all_known}
+
+abbrev pub fact_at : ℕ → Cell → ℕ → Fact
+fact_at p c v = record { point = p; cell = c; value = v }
+
+-- the cell is known to have the value
+abbrev pub Knows : {W : Type 0} → ℕ → Cell → ℕ → State W → Type 0
+Knows p c v s = all_known s p c ≡ Some v
+
+abbrev pub IsTracked : {W : Type 0} → ℕ → State W → Type 0
+IsTracked a s = Contains s.known.store.tracked a
+
+-- another state of the same analysis, which knows no less
+pub record Grows {W : Type 0} (old new : State W) : Type 0 where
+  pub setting : new.setting ≡ old.setting
+  pub rows : new.setting.rows ≡ old.setting.rows
+  pub spans : new.spans ≡ old.spans
+  pub filled : new.filled ≡ old.filled
+  pub shown : new.shown ≡ old.shown
+  pub complete : new.complete ≡ old.complete
+  pub conflict : new.conflict ≡ old.conflict
+  pub answers : oldest new.shown new.known.log ≡ oldest old.shown old.known.log
+  pub older : oldest new.filled new.known.log ≡ oldest old.filled old.known.log
+  pub more : (p : ℕ) (c : Cell) (v : ℕ) → Knows p c v old → Knows p c v new
+  pub tracked : (a : ℕ) → IsTracked a old → IsTracked a new
+  pub counted : length old.known.store.tracked ≤ length new.known.store.tracked
+  pub writing : new.work.writing ≡ old.work.writing
+  pub fewer : left new.work.drawn ≤ left old.work.drawn
+  pub spent : new.work.draws + left new.work.drawn ≤ old.work.draws + left old.work.drawn
+  pub words : HasWords (all_known old) → HasWords (all_known new)
+
+-- a cell is known that wasn't, an address is tracked that wasn't, or rules were drawn
+pub data HasNews {W : Type 0} (old new : State W) : Type 0 where
+  fact : (p : ℕ) (c : Cell) (v : ℕ) → p ≤ length old.setting.rows → IsCell c → all_known old p c ≡ None → Knows p c v new → HasNews old new
+  address : (a : ℕ) → a < 2 ^ 32 → (IsTracked a old → ⊥) → IsTracked a new → HasNews old new
+  anew : left new.work.drawn < left old.work.drawn → HasNews old new
+
+-- of no row something that its rules let one conclude wasn't learnt
+abbrev pub IsUncut : {W : Type 0} → State W → Type 0
+IsUncut s = (i : ℕ) → slice_get s.work.drawn i ≡ Some Cut → ⊥
+
+-- drawing brought news, or it changed nothing, and P holds
+pub record Drew {W : Type 0} (old new : State W) (learnt : Bool) (P : State W → Type 0) : Type 0 where
+  pub news : learnt ≡ true → HasNews old new
+  pub unchanged : learnt ≡ false → new ≡ old
+  pub closed : learnt ≡ false → P old
+  pub uncut : IsUncut old → IsUncut new
+
+-- the fact follows from what is known, if that leaves no range empty and no turn wrong
+abbrev pub IsFollowing : {W : Type 0} → State W → Fact → Type 0
+IsFollowing s f = IsQuiet s.setting (all_known s) → Concludes s.setting (all_known s) f
+
+-- it does so by being carried
+abbrev pub IsBrought : {W : Type 0} → State W → Fact → Type 0
+IsBrought s f = IsQuiet s.setting (all_known s) → IsCarried s.setting (all_known s) f
+
+-- a value that follows, where another is known
+pub record IsClash {W : Type 0} (s : State W) (p : ℕ) (c : Cell) (known value : ℕ) : Type 0 where
+  pub is_known : Knows p c known s
+  pub differs : known ≢ value
+  pub follows : IsFollowing s (fact_at p c value)
+
+abbrev pub IsHalt : {W : Type 0} → State W → Halt → Type 0
+IsHalt s (Clash p c known value) = IsClash s p c known value
+IsHalt s OutOfMemory = ⊤
+
+-- the sets are those of some of the facts
+abbrev pub IsFitted : {W : Type 0} → State W → Type 0
+IsFitted s = IsFilled (way_of s.setting) s.spans (told (oldest s.filled s.known.log))
+
+-- a register has one value before and after row i
+pub record IsKeptAt {W : Type 0} (i r : ℕ) (s : State W) : Type 0 where
+  pub onward : (v : ℕ) → Knows i (Register r) v s → Knows (i + 1) (Register r) v s
+  pub back : (v : ℕ) → Knows (i + 1) (Register r) v s → Knows i (Register r) v s
+
+-- so have the registers below x(n) that the row doesn't write
+abbrev pub KeptBelow : {W : Type 0} → ℕ → StepRow → ℕ → State W → Type 0
+KeptBelow n row i s = (r : ℕ) → 0 < r → r < n → written_by row.instr ≢ Some r → IsKeptAt i r s
+
+-- a byte has one value before and after row i, which may not write it by the facts of which the sets are
+pub record IsCarriedAt {W : Type 0} (i a : ℕ) (s : State W) : Type 0 where
+  pub onward : (v : ℕ) → may_write s.setting (told (oldest s.filled s.known.log)) i a ≡ false → Knows i (Byte a) v s → Knows (i + 1) (Byte a) v s
+  pub back : (v : ℕ) → may_write s.setting (told (oldest s.filled s.known.log)) i a ≡ false → Knows (i + 1) (Byte a) v s → Knows i (Byte a) v s
+
+-- a conclusion of row i is known
+abbrev pub KnowsDrawn : {W : Type 0} → ℕ → Drawn → State W → Type 0
+KnowsDrawn i d s = Knows (point_of i d.when) d.cell d.value s
+
+-- so are the first n that a list has
+abbrev pub DrawnBelow : {W : Type 0} → ℕ → List Drawn → ℕ → State W → Type 0
+DrawnBelow n list i s = (k : ℕ) (d : Drawn) → k < n → slice_get list k ≡ Some d → KnowsDrawn i d s
+
+-- so are all that the row lets one draw
+abbrev pub DrawnKnown : {W : Type 0} → StepRow → ℕ → State W → Type 0
+DrawnKnown row i s = (d : Drawn) → Contains (s.setting.rules.draw row (around s.known i)) d → KnowsDrawn i d s
+
+-- the bytes that the row's rules look at are tracked
+abbrev pub IsRowTracked : {W : Type 0} → StepRow → ℕ → State W → Type 0
+IsRowTracked row i s = (a : ℕ) → IsRowByte s.setting.rules row (around s.known i) a → IsTracked a s
+
+-- all that row i lets one conclude is known
+pub record IsRowDrawn {W : Type 0} (row : StepRow) (i : ℕ) (s : State W) : Type 0 where
+  pub registers : KeptBelow 32 row i s
+  pub tracked : IsRowTracked row i s
+  pub drawn : DrawnKnown row i s
+
+abbrev pub IsRowClosed : {W : Type 0} → ℕ → State W → Type 0
+IsRowClosed i s = (row : StepRow) → slice_get s.setting.rows i ≡ Some row → IsRowDrawn row i s
+
+abbrev pub RowsClosedBelow : {W : Type 0} → ℕ → State W → Type 0
+RowsClosedBelow n s = (i : ℕ) → i < n → IsRowClosed i s
+
+-- the last value of a register is known after the last row
+abbrev pub LastKnown : {W : Type 0} → ℕ → State W → Type 0
+LastKnown r s = (v : ℕ) → 0 < r → slice_get s.setting.last r ≡ Some v → Knows (length s.setting.rows) (Register r) v s
+
+-- so are those of the registers below x(n)
+abbrev pub LastKnownBelow : {W : Type 0} → ℕ → State W → Type 0
+LastKnownBelow n s = (r v : ℕ) → 0 < r → r < n → slice_get s.setting.last r ≡ Some v → Knows (length s.setting.rows) (Register r) v s
+
+-- the byte of the dump is known after the last row
+abbrev pub LastByteKnown : {W : Type 0} → ℕ → State W → Type 0
+LastByteKnown a s = (v : ℕ) → s.setting.dump a ≡ Some v → Knows (length s.setting.rows) (Byte a) v s
+
+-- so are those of the first n tracked addresses
+abbrev pub LastBytesBelow : {W : Type 0} → ℕ → State W → Type 0
+LastBytesBelow n s = (k a : ℕ) → k < n → slice_get s.known.store.tracked k ≡ Some a → LastByteKnown a s
+
+-- a set of one value is known
+abbrev pub SingleKnown : {W : Type 0} → ℕ → ℕ → State W → Type 0
+SingleKnown p r s = (set : _) (v : ℕ) → entry_at s.spans p r ≡ Some set → s.setting.sets.as_exact set ≡ Some v → 0 < r → Knows p (Register r) v s
+
+abbrev pub PointSingles : {W : Type 0} → ℕ → ℕ → State W → Type 0
+PointSingles n p s = (r : ℕ) → r < n → SingleKnown p r s
+
+abbrev pub SinglesBelow : {W : Type 0} → ℕ → State W → Type 0
+SinglesBelow n s = (p : ℕ) → p < n → PointSingles 32 p s
+
+-- all one-step conclusions are known, with the sets as they are
+pub record IsDrawnAll {W : Type 0} (s : State W) : Type 0 where
+  pub last : LastKnownBelow 32 s
+  pub rows : RowsClosedBelow (length s.setting.rows) s
+  pub bytes : (a : ℕ) → IsTracked a s → LastByteKnown a s
+  pub carried : (a i : ℕ) → IsTracked a s → i < length s.setting.rows → IsCarriedAt i a s
+  pub singles : SinglesBelow (length s.setting.rows + 1) s
+
+-- the same path and facts, with other sets
+pub record SameFacts {W : Type 0} (old new : State W) : Type 0 where
+  pub setting : new.setting ≡ old.setting
+  pub known : new.known ≡ old.known
+  pub shown : new.shown ≡ old.shown
+  pub complete : new.complete ≡ old.complete
+  pub conflict : new.conflict ≡ old.conflict
+  pub draws : new.work.draws ≡ old.work.draws
+  pub drawn : new.work.drawn ≡ old.work.drawn
+
+-- another state of the same analysis, which answers the same
+pub record Continues {W : Type 0} (old new : State W) : Type 0 where
+  pub setting : new.setting ≡ old.setting
+  pub shown : new.shown ≡ old.shown
+  pub complete : new.complete ≡ old.complete
+  pub conflict : new.conflict ≡ old.conflict
+  pub answers : oldest new.shown new.known.log ≡ oldest old.shown old.known.log
+
+-- all is learnt: no range is empty and no turn wrong, the sets are those of all facts, and each conclusion is known
+pub record IsSettled {W : Type 0} (s : State W) : Type 0 where
+  pub quiet : IsQuiet s.setting (all_known s)
+  pub fitted : IsFitted s
+  pub filled : s.filled ≡ length s.known.log
+  pub drawn : IsDrawnAll s
+
+-- the value, if there is one, is known
+abbrev pub IsLearntAt : {W : Type 0} → ℕ → ℕ → Flat → State W → Type 0
+IsLearntAt p r x s = (v : ℕ) → x ≡ Known v → 0 < r → Knows p (Register r) v s
+
+-- these are the bytes that row i may write by the facts of which the sets are
+abbrev pub IsAccess : {W : Type 0} → ℕ → CallAccess → State W → Type 0
+IsAccess i access s = (a : ℕ) → a < 2 ^ 32 → call_hits access a ≡ may_write s.setting (told (oldest s.filled s.known.log)) i a
+
+-- the bytes from an address on are tracked
+abbrev pub AreTrackedFrom : {W : Type 0} → ℕ → ℕ → State W → Type 0
+AreTrackedFrom start n s = (k : ℕ) → k < n → IsTracked (beside start k) s
+
+-- the same log and facts on bytes
+pub record SameKnown {W : Type 0} (old new : State W) : Type 0 where
+  pub setting : new.setting ≡ old.setting
+  pub log : new.known.log ≡ old.known.log
+  pub fact : new.known.store.fact ≡ old.known.store.fact
+
+-- a conclusion that follows, on a cell that can be learnt
+pub record IsConclusion {W : Type 0} (i : ℕ) (d : Drawn) (s : State W) : Type 0 where
+  pub cell : IsCell d.cell
+  pub fits : Fits d.cell d.value
+  pub follows : d.value < 2 ^ 32 → IsFollowing s (fact_at (point_of i d.when) d.cell d.value)
+  pub tracked : (a : ℕ) → d.cell ≡ Byte a → IsTracked a s
+
+abbrev pub AreConclusions : {W : Type 0} → ℕ → List Drawn → State W → Type 0
+AreConclusions i list s = (k : ℕ) (d : Drawn) → slice_get list k ≡ Some d → IsConclusion i d s
+
+-- what is known of a byte at the one point is known at the other
+abbrev pub IsBroughtTo : {W : Type 0} → ℕ → ℕ → ℕ → State W → Type 0
+IsBroughtTo from to a s = (v : ℕ) → Knows from (Byte a) v s → Knows to (Byte a) v s
+
+abbrev pub RowsClosed : {W : Type 0} → State W → Type 0
+RowsClosed s = RowsClosedBelow (length s.setting.rows) s
+
+abbrev pub LastBytesKnown : {W : Type 0} → State W → Type 0
+LastBytesKnown s = (a : ℕ) → IsTracked a s → LastByteKnown a s
+
+abbrev pub SinglesKnown : {W : Type 0} → State W → Type 0
+SinglesKnown s = SinglesBelow (length s.setting.rows + 1) s
+
+-- row i may not write the byte, by the facts of which the sets are
+abbrev pub IsSparedAt : {W : Type 0} → ℕ → ℕ → State W → Type 0
+IsSparedAt i a s = may_write s.setting (told (oldest s.filled s.known.log)) i a ≡ false
+
+-- so may none of the rows between two points
+abbrev pub IsSparedBetween : {W : Type 0} → ℕ → ℕ → ℕ → State W → Type 0
+IsSparedBetween from to a s = (i : ℕ) → ((from ≤ i) × (i < to)) ⊎ ((to ≤ i) × (i < from)) → IsSparedAt i a s
+
+-- the byte has the value at each point from one to another
+abbrev pub IsSpreadTo : {W : Type 0} → ℕ → ℕ → ℕ → ℕ → State W → Type 0
+IsSpreadTo a from to v s = (q : ℕ) → Between from to q → Knows q (Byte a) v s
+
+-- the byte is carried over each of the rows from one to before another that may not write it
+abbrev pub IsCarriedFrom : {W : Type 0} → ℕ → ℕ → ℕ → State W → Type 0
+IsCarriedFrom a from to s = (i : ℕ) → from ≤ i → i < to → IsCarriedAt i a s
+
+-- over all rows
+abbrev pub IsCarriedAlong : {W : Type 0} → ℕ → State W → Type 0
+IsCarriedAlong a s = IsCarriedFrom a 0 (length s.setting.rows) s
+
+-- so are the first n tracked bytes
+abbrev pub CarriedAlongBelow : {W : Type 0} → ℕ → State W → Type 0
+CarriedAlongBelow n s = (k a : ℕ) → k < n → slice_get s.known.store.tracked k ≡ Some a → IsCarriedAlong a s
+
+-- so are all
+abbrev pub AllCarried : {W : Type 0} → State W → Type 0
+AllCarried s = (a : ℕ) → IsTracked a s → IsCarriedAlong a s
+
+-- no row from one to before another may write anything, by the facts of which the sets are
+abbrev pub IsSilent : {W : Type 0} → ℕ → ℕ → State W → Type 0
+IsSilent from to s = (i a : ℕ) → from ≤ i → i < to → a < 2 ^ 32 → IsSparedAt i a s
+
+-- the row after the one before an index in a list of rows that may write
+abbrev pub past : List Writing → ℕ → ℕ
+past list zero = 0
+past list (suc k) = row_past (slice_get list k)
+
+-- a row of such a list, with the bytes that it may write; no row between the one before it and this one may write
+pub record IsWriting {W : Type 0} (list : List Writing) (k : ℕ) (w : Writing) (s : State W) : Type 0 where
+  pub low : past list k ≤ w.row
+  pub inside : w.row < length s.setting.rows
+  pub access : IsAccess w.row w.access s
+  pub silent : IsSilent (past list k) w.row s
+
+-- these are the rows before one that may write
+pub record AreWritingsBefore {W : Type 0} (n : ℕ) (list : List Writing) (s : State W) : Type 0 where
+  pub each : (k : ℕ) (w : Writing) → slice_get list k ≡ Some w → IsWriting list k w s
+  pub low : past list (length list) ≤ n
+  pub silent : IsSilent (past list (length list)) n s
+
+-- the rows that may write are listed
+abbrev pub AreWritings : {W : Type 0} → State W → Type 0
+AreWritings s = AreWritingsBefore (length s.setting.rows) s.work.writing s
+
+-- up to row i the byte is carried to a point, and from this point on no row up to i may write it
+pub record IsPassed {W : Type 0} (a from i next : ℕ) (s : State W) : Type 0 where
+  pub low : from ≤ next
+  pub high : next ≤ i + 1
+  pub spared : IsSparedBetween next (i + 1) a s
+
+-- all rows' conclusions are known, and all tracked bytes are carried
+abbrev pub IsDrawnThrough : {W : Type 0} → State W → Type 0
+IsDrawnThrough s = RowsClosed s × AllCarried s

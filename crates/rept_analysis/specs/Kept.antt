@@ -1,0 +1,77 @@
+-- What always holds of an analysis. This project's own.
+use Rattle.std.specs.Prelude.{◌≡◌, ℕ, ◌+◌, ◌<◌, ◌≤◌, ◌==◌, Bool, true, false, ◌||◌, List, [], ◌∷◌, length, Option, Some, Contains, slice_get}
+use Rattle.rept_reason.specs.declared.fact.Cell.{Cell}
+use Rattle.rept_reason.specs.declared.fact.Cell.TheVariants.{Byte}
+use Rattle.rept_reason.specs.Facts.{Knowledge, told, register_known}
+use Rattle.rept_report.specs.declared.conflict.ConflictKind.{ConflictKind}
+use Rattle.rept_report.specs.Conflicts.{IsQuiet}
+use Rattle.rept_report.specs.Closure.{ClosureHas, IsReport}
+use Rattle.rept_report.specs.Log.{oldest, Entry, facts_of, logged_of, IsTrace, OnceEach}
+use Rattle.rept_report.specs.Implied.{with_implied}
+use Rattle.rept_isa.specs.declared.row.StepRow.{StepRow}
+use Rattle.rept_view.specs.declared.drawn.When.{When}
+use Rattle.rept_view.specs.declared.drawn.Drawn.{Drawn}
+use Rattle.rept_view.specs.Seen.{Seen, IsLawful, seen_cell}
+use Rattle.rept_log.specs.Around.{around}
+use Rattle.rept_analysis.specs.declared.pass.Pass.{Pass}
+use Rattle.rept_analysis.specs.declared.pass.Pass.TheVariants.{Never, With, Cut}
+use Rattle.rept_analysis.specs.Cells.{cells_known}
+use Rattle.rept_analysis.specs.State.{State, all_known}
+use Rattle.rept_analysis.specs.Drawing.{IsTracked, IsSettled, Knows, KnowsDrawn}
+
+-- whether an address is one of these
+abbrev pub is_among : List ℕ → ℕ → Bool
+is_among [] a = false
+is_among (x ∷ xs) a = x == a || is_among xs a
+
+-- what is answered of registers: x0 is 0, and of the others what the oldest facts of the log tell
+abbrev pub register_answer : {W : Type 0} → State W → ℕ → ℕ → Option ℕ
+register_answer s p r = register_known (told (oldest s.shown s.known.log)) p r
+
+-- all that an analysis says that has ended: what it knows, and the bytes of the dump that no row may write
+abbrev pub answers : {W : Type 0} → State W → Knowledge
+answers s = with_implied s.setting (all_known s) (is_among s.known.store.tracked)
+
+-- how the facts were learnt
+pub record IsTraced {W : Type 0} (s : State W) : Type 0 where
+  pub entries : List Entry
+  pub trace : IsTrace s.setting entries
+  pub logged : logged_of entries ≡ s.known.log
+  pub agree : (p : ℕ) (c : Cell) → told (facts_of entries) p c ≡ all_known s p c
+
+pub record IsFinished {W : Type 0} (s : State W) : Type 0 where
+  pub settled : IsSettled s
+  pub report : IsReport s.setting (answers s)
+  pub all : s.shown ≡ length s.known.log
+
+-- The row's rules were drawn from something that was seen around the row, in which so many of its cells were known: what they let one
+-- conclude from it is known, and so is all that was seen.
+pub record IsDrawnWith {W : Type 0} (row : StepRow) (i k : ℕ) (s : State W) : Type 0 where
+  pub view : Seen
+  pub lawful : IsLawful view
+  pub count : cells_known s.setting.rules row view ≡ k
+  pub learnt : (d : Drawn) → Contains (s.setting.rules.draw row view) d → KnowsDrawn i d s
+  pub less : (w : When) (c : Cell) (v : ℕ) → seen_cell view w c ≡ Some v → seen_cell (around s.known i) w c ≡ Some v
+
+-- what is kept of how far they were drawn is so
+abbrev pub IsPass : {W : Type 0} → StepRow → ℕ → Pass → State W → Type 0
+IsPass row i Never s = Unit {0}
+IsPass row i (With k) s = IsDrawnWith row i k s
+IsPass row i Cut s = Unit {0}
+
+pub record IsKept {W : Type 0} (s : State W) : Type 0 where
+  pub few : length s.setting.rows ≤ 65536
+  pub registers : length s.setting.last ≡ 32
+  pub last_is : s.known.last ≡ length s.setting.rows
+  pub sized : s.spans.points ≡ length s.setting.rows + 1
+  pub filled : s.filled ≤ length s.known.log
+  pub once : OnceEach s.known.log
+  pub traced : IsTraced s
+  pub listed : (p a v : ℕ) → Knows p (Byte a) v s → IsTracked a s
+  pub shown : s.shown ≤ length s.known.log
+  pub calm : (u : ℕ) → u < s.shown → IsQuiet s.setting (told (oldest u s.known.log))
+  pub stopped : (kind : ConflictKind) → s.conflict ≡ Some kind → ClosureHas s.setting kind
+  pub finished : s.complete ≡ true → IsFinished s
+  pub room : length s.setting.rows ≤ s.work.room
+  pub rows : length s.work.drawn ≡ length s.setting.rows
+  pub drawn : (i : ℕ) (row : StepRow) (pass : Pass) → slice_get s.setting.rows i ≡ Some row → slice_get s.work.drawn i ≡ Some pass → IsPass row i pass s

@@ -1,0 +1,14 @@
+pub mod Moments
+pub mod Sums
+pub mod Work
+pub mod Cells
+pub mod State
+pub mod Drawing
+pub mod Kept
+pub mod Logged
+pub mod Told
+pub mod Measure
+pub mod Counts
+pub mod Answers
+pub mod Refined
+pub mod Reasoned

@@ -1,0 +1,91 @@
+-- An analysis, as its callers see it, and what definitions speak of in it. This project's own.
+use Rattle.std.specs.Prelude.{◌≡◌, ℕ, Bool, List, Option}
+use Rattle.rept_isa.specs.declared.row.StepRow.{StepRow}
+use Rattle.rept_elf.specs.Segments.{ElfSegment}
+use Rattle.rept_elf.specs.Segments.{greatest_end}
+use Rattle.rept_dump.specs.declared.status.Status.{Status}
+use Rattle.rept_dump.specs.Status.{IsStatus}
+use Rattle.rept_dump.specs.Memory.{byte_at}
+use Rattle.rept_partial.specs.Sets.{Sets}
+use Rattle.rept_span.specs.Moves.{Moves}
+use Rattle.rept_span.specs.Filled.{View}
+use Rattle.rept_view.specs.Rules.{Rules}
+use Rattle.rept_versions.specs.Facts.{Store}
+use Rattle.rept_log.specs.Known.{Held, Known, known_of, knows}
+use Rattle.rept_report.specs.declared.conflict.ConflictKind.{ConflictKind}
+use Rattle.rept_report.specs.Setting.{Setting}
+use Rattle.rept_reason.specs.Facts.{Knowledge}
+use Rattle.rept_analysis.specs.declared.writing.Writing.{Writing}
+use Rattle.rept_analysis.specs.declared.pass.Pass.{Pass}
+use Rattle.rept_analysis.specs.Work.{Work}
+
+-- The rows and the last register values; the segments of the executable and of the core file; the facts that were learnt; the
+-- sets of values that were filled last, and of how many facts in the log; the rules; how many facts in the log, from the oldest on,
+-- are answered; whether all is learnt, and the conflict that was answered; and its work.
+pub record Whole (B W R : Type 0) : Type 0 where
+  pub rows : List StepRow
+  pub last : List ℕ
+  pub exe : List ElfSegment
+  pub core : List ElfSegment
+  pub known : Held B
+  pub spans : View W
+  pub filled : ℕ
+  pub rules : R
+  pub shown : ℕ
+  pub complete : Bool
+  pub conflict : Option ConflictKind
+  pub work : Work
+
+-- the same, with the setting in which it is read
+pub record State (W : Type 0) : Type 0 where
+  pub setting : Setting W
+  pub known : Known
+  pub spans : View W
+  pub filled : ℕ
+  pub shown : ℕ
+  pub complete : Bool
+  pub conflict : Option ConflictKind
+  pub work : Work
+
+abbrev pub setting_of : {B W R : Type 0} → Sets W → Moves W → Rules → Whole B W R → Setting W
+setting_of sets moves rules a = record { sets = sets; moves = moves; rules = rules; rows = a.rows; last = a.last; dump = byte_at a.exe a.core; image_end = greatest_end a.exe }
+
+abbrev pub state_of : {B W R : Type 0} → Sets W → Moves W → Rules → (B → Store) → Whole B W R → State W
+state_of sets moves rules store a = record {
+  setting = setting_of sets moves rules a;
+  known = known_of store a.known;
+  spans = a.spans;
+  filled = a.filled;
+  shown = a.shown;
+  complete = a.complete;
+  conflict = a.conflict;
+  work = a.work;
+}
+
+-- the same with other work
+abbrev pub with_work : {W : Type 0} → State W → Work → State W
+with_work s w = record { setting = s.setting; known = s.known; spans = s.spans; filled = s.filled; shown = s.shown; complete = s.complete; conflict = s.conflict; work = w }
+
+-- the same with another list of rows that may write
+abbrev pub with_writing : {W : Type 0} → State W → List Writing → State W
+with_writing s list = with_work s (record { writing = list; room = s.work.room; draws = s.work.draws; drawn = s.work.drawn })
+
+-- the same, where rules were drawn so often
+abbrev pub with_draws : {W : Type 0} → State W → ℕ → State W
+with_draws s n = with_work s (record { writing = s.work.writing; room = s.work.room; draws = n; drawn = s.work.drawn })
+
+-- the same, where they were drawn so far
+abbrev pub with_drawn : {W : Type 0} → State W → List Pass → State W
+with_drawn s passes = with_work s (record { writing = s.work.writing; room = s.work.room; draws = s.work.draws; drawn = passes })
+
+-- the same but for how often rules were drawn
+abbrev pub but_draws : {W : Type 0} → State W → State W
+but_draws s = with_draws s 0
+
+-- all that is known
+abbrev pub all_known : {W : Type 0} → State W → Knowledge
+all_known s = knows s.known
+
+-- these are the values of x0 to x31 in the note of registers
+abbrev pub HasRegisters : List ℕ → List ℕ → Type 0
+HasRegisters note last = (s : Status) × IsStatus note s × (last ≡ s.regs)

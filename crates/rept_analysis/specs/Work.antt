@@ -1,0 +1,35 @@
+-- What an analysis keeps of its own work: which rows may write, and how often the rules of each row can be drawn still. This project's own.
+use Rattle.std.specs.Prelude.{ℕ, ◌+◌, ◌-◌, List, Option, Some, None, sum_by}
+use Rattle.rept_analysis.specs.declared.writing.Writing.{Writing}
+use Rattle.rept_analysis.specs.declared.pass.Pass.{Pass}
+use Rattle.rept_analysis.specs.declared.pass.Pass.TheVariants.{Never, With, Cut}
+
+-- rows that may write, and for how many there is room
+pub record Listed : Type 0 where
+  pub list : List Writing
+  pub room : ℕ
+
+-- The same; how often rules were drawn; and how far those of each row were.
+pub record Work : Type 0 where
+  pub writing : List Writing
+  pub room : ℕ
+  pub draws : ℕ
+  pub drawn : List Pass
+
+abbrev pub work_of : ℕ → Listed → List Pass → Work
+work_of draws listed drawn = record { writing = listed.list; room = listed.room; draws = draws; drawn = drawn }
+
+-- How often a row's rules can be drawn still: once at first, and once for each of its eleven cells that wasn't known when they were.
+abbrev pub left_of : Pass → ℕ
+left_of Never = 12
+left_of (With k) = 11 - k
+left_of Cut = 0
+
+-- how often those of all rows can
+abbrev pub left : List Pass → ℕ
+left passes = sum_by left_of passes
+
+-- the row after the one that the entry before an index has, or the first one
+abbrev pub row_past : Option Writing → ℕ
+row_past None = 0
+row_past (Some w) = w.row + 1

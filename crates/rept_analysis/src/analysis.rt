@@ -1,0 +1,308 @@
+// What follows from a path and the dump in which it ends, learnt step by step.
+ghost use Rattle.std.specs.Prelude.{◌≡◌, ◌+◌, ◌*◌, ◌<◌, ◌≤◌, ℕ, length, true, false, IsOk, IfOk, OnOk, Some, None, Ok, Err, slice_get};
+ghost use Rattle.rept_isa.specs.declared.row.StepRow.{StepRow};
+ghost use Rattle.rept_dump.specs.Dump.{exe_of, core_of, registers_of};
+ghost use Rattle.rept_dump.specs.Status.{IsStatus};
+ghost use Rattle.rept_dump.specs.declared.status.Status.{Status};
+ghost use Rattle.rept_steps.specs.Linked.{EndBefore};
+ghost use Rattle.rept_reason.specs.declared.fact.Cell.TheVariants.{Register};
+ghost use Rattle.rept_reason.specs.Facts.{told, flat, register_known};
+ghost use Rattle.rept_span.specs.Filled.{entry_at};
+ghost use Rattle.rept_dump.specs.Memory.{byte_at};
+ghost use Rattle.rept_report.specs.declared.conflict.ConflictKind.{ConflictKind};
+ghost use Rattle.rept_analysis.specs.State.{HasRegisters, setting_of, state_of};
+ghost use Rattle.rept_analysis.specs.Drawing.{fact_at};
+ghost use Rattle.rept_analysis.specs.Kept.{IsKept, register_answer, answers};
+ghost use Rattle.rept_analysis.specs.Refined.{KeepsAnswers};
+ghost use Rattle.rept_report.specs.Closure.{InClosure, ClosureHas, IsConsistent, IsReport};
+ghost use Rattle.rept_report.specs.Soundness.{AlwaysHolds, IsSound, HasNoExecution};
+
+mod account;
+mod answering;
+mod carrying;
+mod cells;
+mod counting;
+mod drawing;
+mod fronts;
+mod learning;
+mod looking;
+mod refining;
+mod stopping;
+mod sweeping;
+#[cfg(test)]
+mod tests;
+mod why;
+
+use crate::pass::Passes;
+use crate::stop::Stop;
+use crate::writing::Writings;
+use rept_dump::Dump;
+use rept_isa::{Reg, StepRow};
+use rept_log::FactLog;
+use rept_partial::Flat;
+use rept_report::ConflictKind;
+use rept_span::{Spans, Transfer};
+use rept_steps::Steps;
+use rept_versions::ByteFacts;
+use rept_view::RowRules;
+use std::alloc::{AllocError as OutOfMemory, Global};
+use std::marker::Model;
+
+/// What follows from a path and the dump in which it ends.
+#[derive(Drop)]
+pub struct Analysis<'a, B: ByteFacts, W: Transfer, R: RowRules> {
+    alloc: Global,
+    rows: &'a [StepRow],
+    last: Vec<u32>,
+    dump: &'a Dump<'a>,
+    known: FactLog<B>,
+    spans: Spans<W>,
+    filled: u32,
+    rules: R,
+    shown: u32,
+    complete: bool,
+    conflict: Option<ConflictKind>,
+    writing: Writings,
+    drawn: Passes,
+}
+
+impl<'a, B: ByteFacts, W: Transfer, R: RowRules> Model for Analysis<'a, B, W, R> {
+    ghost use Rattle.rept_dump.specs.Dump.{exe_of, core_of};
+    ghost use Rattle.rept_analysis.specs.State.{Whole, state_of};
+    ghost use Rattle.rept_analysis.specs.Kept.{IsKept};
+    ghost use Rattle.rept_analysis.specs.Work.{work_of};
+
+    ghost Value = { Whole B W R };
+
+    ghost view = { λ a. record { rows = a.rows.now; last = a.last.items; exe = exe_of a.dump.now; core = core_of a.dump.now; known = a.known; spans = a.spans; filled = a.filled; rules = a.rules; shown = a.shown; complete = a.complete; conflict = a.conflict; work = work_of (R.draws a.rules) a.writing a.drawn } };
+
+    ghost invariant = { λ a. IsKept (state_of W.sets W.moves R.rules B.store (record { rows = a.rows.now; last = a.last.items; exe = exe_of a.dump.now; core = core_of a.dump.now; known = a.known; spans = a.spans; filled = a.filled; rules = a.rules; shown = a.shown; complete = a.complete; conflict = a.conflict; work = work_of (R.draws a.rules) a.writing a.drawn })) };
+}
+
+/// The register of a number below 32.
+fn register(number: u8) -> Reg
+    requires { number < 32 }
+    ensures { result ≡ number }
+{
+    Reg::new(number).unwrap()
+}
+
+/// So many bytes of accesses at most.
+fn access_bytes<R: RowRules>(rows: &[StepRow]) -> u32
+    requires { length rows.now ≤ 65536 }
+    ensures { result ≤ 524288 }
+{
+    let mut sum = 0;
+    for row in rows {
+        sum += R::places(row);
+    }
+    sum
+}
+
+impl<'a, B: ByteFacts, W: Transfer, R: RowRules> Analysis<'a, B, W, R> {
+    /// An analysis of these rows, at most 65,536, which end in these register values and this dump. Nothing is known yet.
+    fn over(
+        alloc: Global,
+        rows: &'a [StepRow],
+        last: Vec<u32>,
+        dump: &'a Dump<'a>,
+        rules: R,
+    ) -> Result<Analysis<'a, B, W, R>, OutOfMemory>
+        requires few { length rows.now ≤ 65536 }
+        requires registers { length last.items ≡ 32 }
+        ensures path { IfOk result (λ a. (a.rows ≡ rows.now) × (a.last ≡ last.items) × (a.exe ≡ exe_of dump.now) × (a.core ≡ core_of dump.now)) }
+    {
+        let bytes = access_bytes::<R>(rows);
+        let count = rows.len() as u32;
+        let known = FactLog::new(alloc, count, bytes)?;
+        let spans = Spans::new(alloc, count + 1)?;
+        let writing = Writings::new(alloc, rows.len())?;
+        let drawn = Passes::new(alloc, rows.len())?;
+        Ok(Analysis {
+            alloc,
+            rows,
+            last,
+            dump,
+            known,
+            spans,
+            filled: 0,
+            rules,
+            shown: 0,
+            complete: false,
+            conflict: None,
+            writing,
+            drawn,
+        })
+    }
+
+    /// How many rows there are, which is the last point.
+    fn count(&self) -> u32
+        ensures value { result ≡ length self.now.rows }
+        ensures few { result ≤ 65536 }
+        ensures last { self.now.known.last ≡ length self.now.rows }
+        ensures sized { self.now.spans.points ≡ length self.now.rows + 1 }
+        ensures filled { self.now.filled ≤ length self.now.known.log }
+    {
+        self.rows.len() as u32
+    }
+
+    fn row(&self, i: u32) -> StepRow
+        requires { i < length self.now.rows }
+        ensures { slice_get self.now.rows i ≡ Some result }
+    {
+        let rows = self.rows;
+        rows[i as usize]
+    }
+
+    fn last_value(&self, r: Reg) -> u32
+        ensures { slice_get self.now.last r ≡ Some result }
+    {
+        let _rows = &self.rows;
+        self.last[r.number() as usize]
+    }
+
+    /// How many facts there are in the log.
+    fn len(&self) -> u32
+        ensures value { result ≡ length self.now.known.log }
+    {
+        self.known.len()
+    }
+
+    /// What is known of a register at a point.
+    fn known(&self, point: u32, r: Reg) -> Flat
+        requires point { point ≤ length self.now.rows }
+        ensures value { result ≡ flat (register_known (told self.now.known.log) point r) }
+        ensures in_file { r < 32 }
+    {
+        let _rows = &self.rows;
+        self.known.known(point, r)
+    }
+
+    /// What is known of a byte at a point, or nothing where it isn't tracked.
+    fn known_byte(&self, point: u32, a: u32) -> Option<u8>
+        ensures { result ≡ (B.store self.now.known.bytes).fact point a }
+    {
+        self.known.byte(point, a)
+    }
+
+    /// What always holds.
+    fn held(&self)
+        ensures { IsKept (state_of W.sets W.moves R.rules B.store self.now) }
+    {
+        let _rows = &self.rows;
+    }
+
+    /// How many addresses are tracked.
+    fn tracked_count(&self) -> usize
+        ensures { result ≡ length (B.store self.now.known.bytes).tracked }
+    {
+        self.known.count()
+    }
+
+    /// The tracked address at an index.
+    fn address(&self, k: usize) -> u32
+        requires { k < length (B.store self.now.known.bytes).tracked }
+        ensures { slice_get (B.store self.now.known.bytes).tracked k ≡ Some result }
+    {
+        self.known.address(k)
+    }
+
+    /// The byte of the dump at an address.
+    fn dump_byte(&self, a: u32) -> Option<u8>
+        ensures { result ≡ byte_at self.now.exe self.now.core a }
+    {
+        self.dump.byte(a)
+    }
+
+    /// The set of a register, as the sets were filled.
+    fn span(&self, point: u32, r: Reg) -> W
+        requires point { point ≤ length self.now.rows }
+        ensures { entry_at self.now.spans point r ≡ Some result }
+    {
+        let _rows = &self.rows;
+        self.spans.at(point, r)
+    }
+
+    /// Learns all that follows from the path and the dump. Ok: what the analysis answers is then the report, exactly the facts of
+    /// the closure, which has no conflict; another call changes nothing. `Stop::Conflict`: the closure has this conflict, and
+    /// another call answers the same one. `Stop::OutOfMemory`: memory ran out, and another call goes on. What was answered of
+    /// registers is answered still.
+    pub fn refine(&mut self) -> Result<(), Stop>
+        ensures path { (setting_of W.sets W.moves R.rules self.new) ≡ (setting_of W.sets W.moves R.rules self.old) }
+        ensures kept { KeepsAnswers (state_of W.sets W.moves R.rules B.store self.old) (state_of W.sets W.moves R.rules B.store self.new) }
+        ensures report { OnOk result (IsReport (setting_of W.sets W.moves R.rules self.new) (answers (state_of W.sets W.moves R.rules B.store self.new))) }
+        ensures complete { OnOk result (self.new.complete ≡ true) }
+        ensures consistent { OnOk result (IsConsistent (setting_of W.sets W.moves R.rules self.old)) }
+        ensures conflict { (kind : ConflictKind) → result ≡ Err (Stop.Conflict kind) → ClosureHas (setting_of W.sets W.moves R.rules self.old) kind }
+        ensures recorded { (kind : ConflictKind) → result ≡ Err (Stop.Conflict kind) → self.new.conflict ≡ Some kind }
+
+        // Over all executions of the path that end in the dump.
+        ensures sound { OnOk result (IsSound (setting_of W.sets W.moves R.rules self.new) (answers (state_of W.sets W.moves R.rules B.store self.new))) }
+        ensures impossible { (kind : ConflictKind) → result ≡ Err (Stop.Conflict kind) → HasNoExecution (setting_of W.sets W.moves R.rules self.old) }
+
+        // It draws the rules of each row at most 12 times: once at first, and once for each of the row's cells that becomes known.
+        ensures draws { R.draws self.new.rules ≤ R.draws self.old.rules + 12 * length self.old.rows }
+
+        // A second call answers as the first did.
+        ensures again { (kind : ConflictKind) → self.old.conflict ≡ Some kind → (result ≡ Err (Stop.Conflict kind)) × ((state_of W.sets W.moves R.rules B.store self.new) ≡ (state_of W.sets W.moves R.rules B.store self.old)) }
+        ensures settled { self.old.complete ≡ true → self.old.conflict ≡ None → IsOk result × ((state_of W.sets W.moves R.rules B.store self.new) ≡ (state_of W.sets W.moves R.rules B.store self.old)) }
+    {
+        self.counted();
+        let outcome = self.outcome();
+        self.counted();
+        outcome
+    }
+
+    /// What is known of a register at a point. x0 is 0. Each known value stands in the closure, also before `refine` and after it
+    /// answered a stop; after it answered Ok, `Unknown` comes exactly where the closure has no value.
+    pub fn reg(&self, point: u32, r: Reg) -> Flat
+        requires point { point ≤ length self.now.rows }
+        ensures value { result ≡ flat (register_answer (state_of W.sets W.moves R.rules B.store self.now) point r) }
+        ensures derived { (v : ℕ) → result ≡ Flat.Known v → 0 < r → InClosure (setting_of W.sets W.moves R.rules self.now) (fact_at point (Register r) v) }
+        ensures sound { (v : ℕ) → result ≡ Flat.Known v → AlwaysHolds (setting_of W.sets W.moves R.rules self.now) point (Register r) v }
+    {
+        self.held();
+        self.shown_below(point, r)
+    }
+
+    fn shown_below(&self, point: u32, r: Reg) -> Flat
+        requires point { point ≤ length self.now.rows }
+        ensures { result ≡ flat (register_answer (state_of W.sets W.moves R.rules B.store self.now) point r) }
+    {
+        let _rows = &self.rows;
+        self.known.known_below(self.shown, point, r)
+    }
+
+    /// How often rules were drawn is so of the rules that are kept.
+    fn counted(&self)
+        ensures { self.now.work.draws ≡ R.draws self.now.rules }
+    {
+        let _rows = &self.rows;
+    }
+
+    /// The rows of the path.
+    pub fn rows(&self) -> &'a [StepRow]
+        ensures { result.now ≡ self.now.rows }
+    {
+        self.rows
+    }
+
+    /// An analysis of these steps, which end in this dump, by these rules. Nothing is known yet. `OutOfMemory` says that its room
+    /// can't be had.
+    pub fn prepare(
+        alloc: Global,
+        steps: &'a Steps,
+        dump: &'a Dump<'a>,
+        rules: R,
+    ) -> Result<Analysis<'a, B, W, R>, OutOfMemory>
+        requires steps { 0 < length steps.now }
+        requires end { (s : Status) → IsStatus (registers_of dump.now) s → EndBefore steps.now s.pc }
+        ensures path { IfOk result (λ a. a.rows ≡ steps.now) }
+        ensures last { IfOk result (λ a. HasRegisters (registers_of dump.now) a.last) }
+        ensures memory { IfOk result (λ a. (a.exe ≡ exe_of dump.now) × (a.core ≡ core_of dump.now)) }
+    {
+        let status = dump.status();
+        let last = Vec::from_slice(alloc, &status.regs)?;
+        Analysis::over(alloc, steps.rows(), last, dump, rules)
+    }
+}

@@ -1,0 +1,166 @@
+// What an analysis answers of ranges, bytes, writers and numbers.
+ghost use Rattle.std.specs.Prelude.{◌≡◌, ◌+◌, ◌-◌, ◌<◌, ◌≤◌, ℕ, length, true, false, Some, None, slice_get, is_some};
+ghost use Rattle.rept_reason.specs.declared.fact.Cell.TheVariants.{Byte};
+ghost use Rattle.rept_reason.specs.Facts.{told, register_fact};
+ghost use Rattle.rept_span.specs.Filled.{entry_at};
+ghost use Rattle.rept_span.specs.Ranges.{range};
+ghost use Rattle.rept_report.specs.Setting.{way_of};
+ghost use Rattle.rept_report.specs.Views.{may_write, is_sure};
+ghost use Rattle.rept_report.specs.Closure.{InClosure};
+ghost use Rattle.rept_report.specs.Implied.{untouched, implied};
+ghost use Rattle.rept_report.specs.Writers.{IsWriter};
+ghost use Rattle.rept_report.specs.Log.{oldest};
+ghost use Rattle.rept_analysis.specs.State.{setting_of, state_of};
+ghost use Rattle.rept_analysis.specs.Drawing.{IsFitted, fact_at};
+ghost use Rattle.rept_analysis.specs.Kept.{IsKept, answers};
+ghost use Rattle.rept_analysis.specs.Answers.{unsaid};
+
+use super::Analysis;
+use crate::moment::Moment;
+use rept_isa::Reg;
+use rept_report::Writer;
+use rept_span::Transfer;
+use rept_versions::ByteFacts;
+use rept_view::RowRules;
+
+impl<'a, B: ByteFacts, W: Transfer, R: RowRules> Analysis<'a, B, W, R> {
+    /// Whether all is learnt.
+    pub(super) fn ended(&self) -> bool
+        ensures value { result ≡ self.now.complete }
+        ensures kept { IsKept (state_of W.sets W.moves R.rules B.store self.now) }
+    {
+        self.complete
+    }
+
+    /// The set of a register at a point, as it was filled last.
+    fn filled(&self, point: u32, r: Reg) -> W
+        requires point { point ≤ length self.now.rows }
+        ensures entry { entry_at self.now.spans point r ≡ Some result }
+        ensures in_file { r < 32 }
+    {
+        let _rows = &self.rows;
+        let _number = r.number();
+        self.spans.at(point, r)
+    }
+
+    /// Whether row i may write a byte, by the facts of which the sets are.
+    fn may_write(&self, i: u32, a: u32) -> bool
+        requires inside { i < length self.now.rows }
+        requires fitted { IsFitted (state_of W.sets W.moves R.rules B.store self.now) }
+        ensures { result ≡ may_write (setting_of W.sets W.moves R.rules self.now) (told (oldest self.now.filled self.now.known.log)) i a }
+    {
+        let row = self.row(i);
+        let access = self.access(i, &row);
+        access.may_hit(a)
+    }
+
+    /// Whether row i writes each byte that it may write, by these facts.
+    fn is_sure(&self, i: u32) -> bool
+        requires inside { i < length self.now.rows }
+        requires fitted { IsFitted (state_of W.sets W.moves R.rules B.store self.now) }
+        ensures { result ≡ is_sure (setting_of W.sets W.moves R.rules self.now) (told (oldest self.now.filled self.now.known.log)) i }
+    {
+        let row = self.row(i);
+        let _len = self.known.len();
+        let view = Moment {
+            facts: &self.known,
+            spans: &self.spans,
+            limit: self.filled,
+            row: i,
+        };
+        R::sure(&row, &view)
+    }
+
+    /// Whether no row from a point on may write a byte, by these facts.
+    fn is_untouched(&self, point: u32, a: u32) -> bool
+        requires point { point ≤ length self.now.rows }
+        requires fitted { IsFitted (state_of W.sets W.moves R.rules B.store self.now) }
+        ensures { result ≡ untouched (may_write (setting_of W.sets W.moves R.rules self.now) (told (oldest self.now.filled self.now.known.log))) point (length self.now.rows - point) a }
+    {
+        let count = self.count();
+        for i in point..count {
+            if self.may_write(i, a) {
+                return false;
+            }
+        }
+        true
+    }
+
+    /// The byte of the dump, where it is carried back to a point, by these facts.
+    fn implied(&self, point: u32, a: u32) -> Option<u8>
+        requires point { point ≤ length self.now.rows }
+        requires fitted { IsFitted (state_of W.sets W.moves R.rules B.store self.now) }
+        ensures { result ≡ implied (setting_of W.sets W.moves R.rules self.now) (told (oldest self.now.filled self.now.known.log)) point a }
+    {
+        let byte = self.dump_byte(a)?;
+        if self.is_untouched(point, a) {
+            Some(byte)
+        } else {
+            None
+        }
+    }
+
+    /// What is said of the step that last wrote a byte before a point, by these facts.
+    fn last_writer(&self, point: u32, a: u32) -> Writer
+        requires point { point ≤ length self.now.rows }
+        requires fitted { IsFitted (state_of W.sets W.moves R.rules B.store self.now) }
+        ensures { IsWriter (setting_of W.sets W.moves R.rules self.now) (told (oldest self.now.filled self.now.known.log)) point a result }
+    {
+        for i in (0..point).rev() {
+            if self.may_write(i, a) {
+                return if self.is_sure(i) {
+                    Writer::Writes(i)
+                } else {
+                    Writer::MayWrite(i)
+                };
+            }
+        }
+        Writer::None
+    }
+
+    /// The set of values of a register at a point: all words, unless all is learnt.
+    pub fn range(&self, point: u32, r: Reg) -> W
+        requires { point ≤ length self.now.rows }
+        ensures ended { self.now.complete ≡ true → range (way_of (setting_of W.sets W.moves R.rules self.now)) (answers (state_of W.sets W.moves R.rules B.store self.now)) point r ≡ Some result }
+        ensures open { self.now.complete ≡ false → result ≡ W.sets.unknown }
+    {
+        if self.ended() {
+            self.filled(point, r)
+        } else {
+            W::unknown()
+        }
+    }
+
+    /// The value of the byte at an address, at a point, where it follows: none, unless all is learnt.
+    pub fn byte(&self, point: u32, a: u32) -> Option<u8>
+        requires { point ≤ length self.now.rows }
+        ensures ended { self.now.complete ≡ true → result ≡ answers (state_of W.sets W.moves R.rules B.store self.now) point (Byte a) }
+        ensures open { self.now.complete ≡ false → result ≡ None }
+        ensures derived { (v : ℕ) → result ≡ Some v → InClosure (setting_of W.sets W.moves R.rules self.now) (fact_at point (Byte a) v) }
+    {
+        if !self.ended() {
+            return None;
+        }
+        match self.known_byte(point, a) {
+            Some(v) => Some(v),
+            None => self.implied(point, a),
+        }
+    }
+
+    /// What is said of the step that last wrote a byte before a point: that the step before the point may write it, unless all
+    /// is learnt.
+    pub fn writer(&self, point: u32, a: u32) -> Writer
+        requires { point ≤ length self.now.rows }
+        ensures ended { self.now.complete ≡ true → IsWriter (setting_of W.sets W.moves R.rules self.now) (answers (state_of W.sets W.moves R.rules B.store self.now)) point a result }
+        ensures open { self.now.complete ≡ false → result ≡ unsaid point }
+    {
+        if self.ended() {
+            return self.last_writer(point, a);
+        }
+        if point == 0 {
+            Writer::None
+        } else {
+            Writer::MayWrite(point - 1)
+        }
+    }
+}

@@ -1,0 +1,228 @@
+// The carrying of bytes over rows that may not write them.
+ghost use Rattle.std.specs.Prelude.{◌≡◌, ◌∷◌, ◌++◌, [], ◌+◌, ◌<◌, ◌≤◌, ℕ, length, true, false, Some, None, IfOk, IfErr, slice_get, ⊤};
+ghost use Rattle.rept_alias.specs.Accesses.{call_hits};
+ghost use Rattle.rept_reason.specs.declared.fact.Cell.TheVariants.{Byte};
+ghost use Rattle.rept_versions.specs.Facts.{Nexts};
+ghost use Rattle.rept_analysis.specs.State.{state_of, with_writing};
+ghost use Rattle.rept_analysis.specs.Drawing.{Knows, Grows, Drew, IsHalt, IsFitted, IsAccess, AreWritings, AreWritingsBefore, IsSparedAt, IsSparedBetween, IsSpreadTo, IsCarriedFrom, IsCarriedAlong, AllCarried, IsPassed};
+ghost use Rattle.rept_analysis.specs.Told.{Sends};
+
+use super::Analysis;
+use crate::halt::Halt;
+use crate::writing::Writing;
+use rept_alias::CallAccess;
+use rept_reason::Cell;
+use rept_span::Transfer;
+use rept_versions::{ByteFacts, Carried, Stretch};
+use rept_view::RowRules;
+use std::alloc::AllocError as OutOfMemory;
+
+/// Whether an access has no address.
+fn is_none(access: &CallAccess) -> bool
+    ensures { result ≡ true → (a : ℕ) → call_hits access.now a ≡ false }
+{
+    access.first.is_none() && access.second.is_none()
+}
+
+impl<'a, B: ByteFacts, W: Transfer, R: RowRules> Analysis<'a, B, W, R> {
+    /// Carries a byte's value from a point to another one, over rows that may not write it.
+    fn send(&mut self, a: u32, from: u32, to: u32, value: u8) -> Result<Carried, OutOfMemory>
+        requires open { self.old.complete ≡ false }
+        requires from { from ≤ length self.old.rows }
+        requires to { to ≤ length self.old.rows }
+        requires known { Knows from (Byte a) value (state_of W.sets W.moves R.rules B.store self.old) }
+        requires spared { IsSparedBetween from to a (state_of W.sets W.moves R.rules B.store self.old) }
+        ensures { Sends (state_of W.sets W.moves R.rules B.store self.old) (state_of W.sets W.moves R.rules B.store self.new) a from to value result }
+    {
+        let _value = value;
+        let _rows = &self.rows;
+        self.known.carry(a, from, to)
+    }
+
+    fn spread(&mut self, a: u32, from: u32, to: u32, value: u8) -> Result<bool, Halt>
+        requires from { from ≤ length self.old.rows }
+        requires to { to ≤ length self.old.rows }
+        requires known { Knows from (Byte a) value (state_of W.sets W.moves R.rules B.store self.old) }
+        requires spared { IsSparedBetween from to a (state_of W.sets W.moves R.rules B.store self.old) }
+        requires open { self.old.complete ≡ false }
+        ensures grows { Grows (state_of W.sets W.moves R.rules B.store self.old) (state_of W.sets W.moves R.rules B.store self.new) }
+        ensures drew { IfOk result (λ learnt. Drew (state_of W.sets W.moves R.rules B.store self.old) (state_of W.sets W.moves R.rules B.store self.new) learnt (IsSpreadTo a from to value)) }
+        ensures halt { IfErr result (λ h. IsHalt (state_of W.sets W.moves R.rules B.store self.new) h) }
+    {
+        match self.send(a, from, to, value) {
+            Ok(Carried::Same) => Ok(false),
+            Ok(Carried::More) => Ok(true),
+            Ok(Carried::Stop(point, _, found)) => {
+                let cell = Cell::Byte(a);
+                Err(Halt::Clash {
+                    point,
+                    cell,
+                    known: found as u32,
+                    value: value as u32,
+                })
+            }
+            Err(_) => Err(Halt::OutOfMemory),
+        }
+    }
+
+    /// The first stretch of a byte that ends at a point or later.
+    fn stretch(&self, a: u32, point: u32) -> Option<Stretch>
+        ensures { Nexts (B.store self.now.known.bytes).fact a point result }
+    {
+        self.known.next_stretch(a, point)
+    }
+
+    /// The value of a byte from a point to another one, where no row between may write it.
+    fn carry_segment(&mut self, a: u32, from: u32, to: u32) -> Result<bool, Halt>
+        requires order { from ≤ to }
+        requires to { to ≤ length self.old.rows }
+        requires spared { IsSparedBetween from to a (state_of W.sets W.moves R.rules B.store self.old) }
+        requires open { self.old.complete ≡ false }
+        ensures grows { Grows (state_of W.sets W.moves R.rules B.store self.old) (state_of W.sets W.moves R.rules B.store self.new) }
+        ensures drew { IfOk result (λ learnt. Drew (state_of W.sets W.moves R.rules B.store self.old) (state_of W.sets W.moves R.rules B.store self.new) learnt (IsCarriedFrom a from to)) }
+        ensures halt { IfErr result (λ h. IsHalt (state_of W.sets W.moves R.rules B.store self.new) h) }
+    {
+        match self.stretch(a, from) {
+            None => Ok(false),
+            Some(stretch) => {
+                if to < stretch.first {
+                    return Ok(false);
+                }
+                let at = stretch.first.max(from);
+                let right = self.spread(a, at, to, stretch.value)?;
+                let left = self.spread(a, at, from, stretch.value)?;
+                Ok(right | left)
+            }
+        }
+    }
+
+    /// The value of a byte up to row i, if this row may write it; and the first point from which the value isn't carried yet.
+    fn carry_past(
+        &mut self,
+        a: u32,
+        from: u32,
+        i: u32,
+        access: &CallAccess,
+    ) -> Result<(bool, u32), Halt>
+        requires order { from ≤ i }
+        requires inside { i < length self.old.rows }
+        requires access { IsAccess i access.now (state_of W.sets W.moves R.rules B.store self.old) }
+        requires spared { IsSparedBetween from i a (state_of W.sets W.moves R.rules B.store self.old) }
+        requires open { self.old.complete ≡ false }
+        ensures grows { Grows (state_of W.sets W.moves R.rules B.store self.old) (state_of W.sets W.moves R.rules B.store self.new) }
+        ensures drew { IfOk result (λ r. Drew (state_of W.sets W.moves R.rules B.store self.old) (state_of W.sets W.moves R.rules B.store self.new) r.0 (IsCarriedFrom a from r.1)) }
+        ensures passed { IfOk result (λ r. IsPassed a from i r.1 (state_of W.sets W.moves R.rules B.store self.old)) }
+        ensures halt { IfErr result (λ h. IsHalt (state_of W.sets W.moves R.rules B.store self.new) h) }
+    {
+        if !access.may_hit(a) {
+            return Ok((false, from));
+        }
+        let _count = self.count();
+        let new = self.carry_segment(a, from, i)?;
+        Ok((new, i + 1))
+    }
+
+    /// How many rows may write.
+    fn writing_count(&self) -> usize
+        ensures { result ≡ length self.now.work.writing }
+    {
+        self.writing.len()
+    }
+
+    /// The row that may write, at an index.
+    fn writing_at(&self, k: usize) -> Writing
+        requires { k < length self.now.work.writing }
+        ensures { slice_get self.now.work.writing k ≡ Some result }
+    {
+        self.writing.at(k)
+    }
+
+    /// The value of a byte over all rows that may not write it.
+    fn carry_address(&mut self, a: u32) -> Result<bool, Halt>
+        requires writings { AreWritings (state_of W.sets W.moves R.rules B.store self.old) }
+        requires open { self.old.complete ≡ false }
+        ensures grows { Grows (state_of W.sets W.moves R.rules B.store self.old) (state_of W.sets W.moves R.rules B.store self.new) }
+        ensures drew { IfOk result (λ learnt. Drew (state_of W.sets W.moves R.rules B.store self.old) (state_of W.sets W.moves R.rules B.store self.new) learnt (IsCarriedAlong a)) }
+        ensures halt { IfErr result (λ h. IsHalt (state_of W.sets W.moves R.rules B.store self.new) h) }
+    {
+        let rows = self.count();
+        let count = self.writing_count();
+        let mut learnt = false;
+        let mut from = 0;
+        for k in 0..count {
+            let writing = self.writing_at(k);
+            let passed = self.carry_past(a, from, writing.row, &writing.access)?;
+            learnt = learnt | passed.0;
+            from = passed.1;
+        }
+        let new = self.carry_segment(a, from, rows)?;
+        Ok(learnt | new)
+    }
+
+    /// The values of all tracked bytes.
+    pub(super) fn carry_tracked(&mut self) -> Result<bool, Halt>
+        requires writings { AreWritings (state_of W.sets W.moves R.rules B.store self.old) }
+        requires open { self.old.complete ≡ false }
+        ensures grows { Grows (state_of W.sets W.moves R.rules B.store self.old) (state_of W.sets W.moves R.rules B.store self.new) }
+        ensures drew { IfOk result (λ learnt. Drew (state_of W.sets W.moves R.rules B.store self.old) (state_of W.sets W.moves R.rules B.store self.new) learnt (AllCarried)) }
+        ensures halt { IfErr result (λ h. IsHalt (state_of W.sets W.moves R.rules B.store self.new) h) }
+    {
+        let count = self.tracked_count();
+        let mut learnt = false;
+        for k in 0..count {
+            let a = self.address(k);
+            let new = self.carry_address(a)?;
+            learnt = learnt | new;
+        }
+        Ok(learnt)
+    }
+
+    /// Takes all rows out of the list of those that may write.
+    fn clear_writing(&mut self)
+        requires open { self.old.complete ≡ false }
+        ensures { (state_of W.sets W.moves R.rules B.store self.new) ≡ with_writing (state_of W.sets W.moves R.rules B.store self.old) [] }
+    {
+        self.writing.clear();
+    }
+
+    /// Adds a row to it.
+    fn add_writing(&mut self, row: u32, access: CallAccess)
+        requires open { self.old.complete ≡ false }
+        requires room { length self.old.work.writing < length self.old.rows }
+        ensures { (state_of W.sets W.moves R.rules B.store self.new) ≡ with_writing (state_of W.sets W.moves R.rules B.store self.old) (self.old.work.writing ++ record { row = row; access = access } ∷ []) }
+    {
+        self.writing.add(row, access);
+    }
+
+    /// Adds row i, if it may write, by the facts of which the sets are.
+    fn list_row(&mut self, i: u32)
+        requires open { self.old.complete ≡ false }
+        requires inside { i < length self.old.rows }
+        requires room { length self.old.work.writing ≤ i }
+        requires fitted { IsFitted (state_of W.sets W.moves R.rules B.store self.old) }
+        requires before { AreWritingsBefore i self.old.work.writing (state_of W.sets W.moves R.rules B.store self.old) }
+        ensures same { (state_of W.sets W.moves R.rules B.store self.new) ≡ with_writing (state_of W.sets W.moves R.rules B.store self.old) self.new.work.writing }
+        ensures room { length self.new.work.writing ≤ i + 1 }
+        ensures listed { AreWritingsBefore (i + 1) self.new.work.writing (state_of W.sets W.moves R.rules B.store self.old) }
+    {
+        let row = self.row(i);
+        let access = self.access(i, &row);
+        if !is_none(&access) {
+            self.add_writing(i, access);
+        }
+    }
+
+    /// Lists the rows that may write, by the facts of which the sets are.
+    pub(super) fn list_writing(&mut self)
+        requires open { self.old.complete ≡ false }
+        requires fitted { IsFitted (state_of W.sets W.moves R.rules B.store self.old) }
+        ensures same { (state_of W.sets W.moves R.rules B.store self.new) ≡ with_writing (state_of W.sets W.moves R.rules B.store self.old) self.new.work.writing }
+        ensures listed { AreWritings (state_of W.sets W.moves R.rules B.store self.new) }
+    {
+        let count = self.count();
+        self.clear_writing();
+        for i in 0..count {
+            self.list_row(i);
+        }
+    }
+}

@@ -1,0 +1,137 @@
+// How much an analysis answers.
+ghost use Rattle.std.specs.Prelude.{◌≡◌, ◌+◌, ◌*◌, ◌<◌, ◌≤◌, ℕ, length, true, is_some, slice_get};
+ghost use Rattle.rept_reason.specs.Facts.{told, register_known, register_fact};
+ghost use Rattle.rept_report.specs.Log.{oldest};
+ghost use Rattle.rept_analysis.specs.State.{setting_of, state_of};
+ghost use Rattle.rept_analysis.specs.Kept.{answers};
+ghost use Rattle.rept_analysis.specs.Counts.{is_call, base_of, is_store, row_is, calls_below, stores_below, known_at, known_below, IsCounted};
+
+use super::{Analysis, register};
+use rept_isa::{Instr, Reg, reads};
+use rept_partial::Flat;
+use rept_report::Counts;
+use rept_span::Transfer;
+use rept_versions::ByteFacts;
+use rept_view::RowRules;
+
+/// Whether the instruction is an environment call.
+fn is_call(instr: Instr) -> bool
+    ensures { result ≡ is_call instr }
+{
+    matches!(instr, Instr::Ecall)
+}
+
+/// The register of a store's base.
+fn base(instr: &Instr) -> Option<Reg>
+    ensures { result ≡ base_of instr.now }
+{
+    match *instr {
+        Instr::Store { .. } => reads(instr).0,
+        _ => None,
+    }
+}
+
+impl<'a, B: ByteFacts, W: Transfer, R: RowRules> Analysis<'a, B, W, R> {
+    /// Whether the value of a register other than x0 is answered.
+    fn is_told(&self, point: u32, r: Reg) -> bool
+        requires { point ≤ length self.now.rows }
+        ensures { result ≡ is_some (register_fact (told (oldest self.now.shown self.now.known.log)) point r) }
+    {
+        let _rows = &self.rows;
+        self.known.fact_below(self.shown, point, r).is_some()
+    }
+
+    /// How many registers other than x0 are answered at a point.
+    fn told_at(&self, point: u32) -> u32
+        requires { point ≤ length self.now.rows }
+        ensures value { result ≡ known_at (told (oldest self.now.shown self.now.known.log)) point 32 }
+        ensures few { result ≤ 32 }
+    {
+        let mut sum = 0;
+        for r in 0..32u8 {
+            if self.is_told(point, register(r)) {
+                sum += 1;
+            }
+        }
+        sum
+    }
+
+    /// How many are at all points.
+    fn told(&self) -> u32
+        ensures { result ≡ known_below (told (oldest self.now.shown self.now.known.log)) (length self.now.rows + 1) }
+    {
+        let count = self.count();
+        let mut sum = 0;
+        for point in 0..count + 1 {
+            sum += self.told_at(point);
+        }
+        sum
+    }
+
+    /// How many rows are environment calls.
+    fn calls(&self) -> u32
+        ensures { result ≡ calls_below self.now.rows (length self.now.rows) }
+    {
+        let count = self.count();
+        let mut sum = 0;
+        for i in 0..count {
+            if is_call(self.row(i).instr) {
+                sum += 1;
+            }
+        }
+        sum
+    }
+
+    /// Whether the value of a register before row i is answered.
+    fn is_base_known(&self, i: u32, r: Reg) -> bool
+        requires { i ≤ length self.now.rows }
+        ensures { result ≡ is_some (register_known (told (oldest self.now.shown self.now.known.log)) i r) }
+    {
+        let _rows = &self.rows;
+        match self.known.known_below(self.shown, i, r) {
+            Flat::Known(_) => true,
+            Flat::Unknown => false,
+        }
+    }
+
+    /// Whether row i is a store whose base is known, or isn't.
+    fn is_store(&self, known: bool, i: u32) -> bool
+        requires { i < length self.now.rows }
+        ensures { result ≡ row_is (slice_get self.now.rows i) (is_store known (told (oldest self.now.shown self.now.known.log)) i) }
+    {
+        let row = self.row(i);
+        match base(&row.instr) {
+            Some(r) => self.is_base_known(i, r) == known,
+            None => false,
+        }
+    }
+
+    /// How many rows are such stores.
+    fn stores(&self, known: bool) -> u32
+        ensures { result ≡ stores_below self.now.rows (told (oldest self.now.shown self.now.known.log)) known (length self.now.rows) }
+    {
+        let count = self.count();
+        let mut sum = 0;
+        for i in 0..count {
+            if self.is_store(known, i) {
+                sum += 1;
+            }
+        }
+        sum
+    }
+
+    /// How many rows there are, of which kind, and how much is answered.
+    pub fn counts(&self) -> Counts
+        ensures shown { IsCounted (setting_of W.sets W.moves R.rules self.now) (told (oldest self.now.shown self.now.known.log)) result }
+        ensures ended { self.now.complete ≡ true → IsCounted (setting_of W.sets W.moves R.rules self.now) (answers (state_of W.sets W.moves R.rules B.store self.now)) result }
+    {
+        let _ended = self.ended();
+        Counts {
+            steps: self.count(),
+            calls: self.calls(),
+            registers: self.told(),
+            exact: self.stores(true),
+            inexact: self.stores(false),
+        }
+    }
+}

@@ -1,0 +1,293 @@
+// What a row lets one conclude.
+ghost use Rattle.std.specs.Prelude.{◌≡◌, ◌≤◌, set, ◌≢◌, ◌+◌, ◌<◌, ◌↔◌, length, true, false, IsTrue, IfOk, IfErr, Some, None, Ok, Err, slice_get};
+ghost use Rattle.rept_isa.specs.declared.row.StepRow.{StepRow};
+ghost use Rattle.rept_isa.specs.Operands.{written_by};
+ghost use Rattle.rept_reason.specs.declared.fact.Cell.{Cell};
+ghost use Rattle.rept_reason.specs.declared.fact.Cell.TheVariants.{Register, Byte};
+ghost use Rattle.rept_view.specs.declared.drawn.Drawn.{Drawn};
+ghost use Rattle.rept_log.specs.Around.{around};
+ghost use Rattle.rept_analysis.specs.declared.pass.Pass.{Pass};
+ghost use Rattle.rept_analysis.specs.Cells.{cells_known};
+ghost use Rattle.rept_analysis.specs.Kept.{IsPass};
+ghost use Rattle.rept_analysis.specs.State.{state_of, with_draws, with_drawn};
+ghost use Rattle.rept_analysis.specs.Drawing.{IsTracked, Grows, Drew, IsHalt, KeptBelow, IsKeptAt, AreTrackedFrom, SameKnown, IsConclusion, AreConclusions, DrawnBelow, IsRowClosed, KnowsDrawn, DrawnKnown, IsRowTracked, IsUncut};
+ghost use Rattle.rept_log.specs.Known.{known_of};
+ghost use Rattle.rept_analysis.specs.Told.{Tracks};
+
+use super::{Analysis, register};
+use crate::halt::Halt;
+use crate::offset::address;
+use crate::pass::Pass;
+use rept_isa::{Instr, Reg, StepRow, reads, writes};
+use rept_log::Around;
+use rept_log::views::point_at;
+use rept_partial::Flat;
+use rept_reason::Cell;
+use rept_span::Transfer;
+use rept_versions::ByteFacts;
+use rept_view::{Drawn, RowRules};
+use smallvec::SmallVec;
+
+/// Whether the instruction leaves the register as it is.
+fn keeps(instr: &Instr, r: Reg) -> bool
+    ensures { IsTrue result ↔ (written_by instr.now ≢ Some r) }
+{
+    writes(instr) != Some(r)
+}
+
+/// Whether rules were drawn, all that they let one conclude was learnt, and so many cells were known then.
+fn is_with(pass: Pass, cells: u32) -> bool
+    ensures yes { result ≡ true → pass ≡ Pass.With cells }
+    ensures no { result ≡ false → pass ≡ Pass.With cells → ⊥ }
+{
+    match pass {
+        Pass::With(known) => known == cells,
+        Pass::Never | Pass::Cut => false,
+    }
+}
+
+impl<'a, B: ByteFacts, W: Transfer, R: RowRules> Analysis<'a, B, W, R> {
+    /// The value of a register that row i keeps, onward and back.
+    fn carry(&mut self, i: u32, row: &StepRow, r: Reg) -> Result<bool, Halt>
+        requires inside { i < length self.old.rows }
+        requires row { slice_get self.old.rows i ≡ Some row.now }
+        requires open { self.old.complete ≡ false }
+        ensures grows { Grows (state_of W.sets W.moves R.rules B.store self.old) (state_of W.sets W.moves R.rules B.store self.new) }
+        ensures drew { IfOk result (λ learnt. Drew (state_of W.sets W.moves R.rules B.store self.old) (state_of W.sets W.moves R.rules B.store self.new) learnt (λ s. 0 < r → written_by row.now.instr ≢ Some r → IsKeptAt i r s)) }
+        ensures halt { IfErr result (λ h. IsHalt (state_of W.sets W.moves R.rules B.store self.new) h) }
+    {
+        if !keeps(&row.instr, r) {
+            return Ok(false);
+        }
+        let _count = self.count();
+        let before = self.known(i, r);
+        let onward = self.learn_if(i + 1, r, before)?;
+        let after = self.known(i + 1, r);
+        let back = self.learn_if(i, r, after)?;
+        Ok(onward | back)
+    }
+
+    /// The values of all registers that row i keeps.
+    fn carry_all(&mut self, i: u32, row: &StepRow) -> Result<bool, Halt>
+        requires inside { i < length self.old.rows }
+        requires row { slice_get self.old.rows i ≡ Some row.now }
+        requires open { self.old.complete ≡ false }
+        ensures grows { Grows (state_of W.sets W.moves R.rules B.store self.old) (state_of W.sets W.moves R.rules B.store self.new) }
+        ensures drew { IfOk result (λ learnt. Drew (state_of W.sets W.moves R.rules B.store self.old) (state_of W.sets W.moves R.rules B.store self.new) learnt (KeptBelow 32 row.now i)) }
+        ensures halt { IfErr result (λ h. IsHalt (state_of W.sets W.moves R.rules B.store self.new) h) }
+    {
+        let mut learnt = false;
+        for r in 1..32u8 {
+            let new = self.carry(i, row, register(r))?;
+            learnt = learnt | new;
+        }
+        Ok(learnt)
+    }
+
+    /// Tracks an address.
+    fn track_one(&mut self, a: u32) -> Result<bool, Halt>
+        requires open { self.old.complete ≡ false }
+        ensures grows { Grows (state_of W.sets W.moves R.rules B.store self.old) (state_of W.sets W.moves R.rules B.store self.new) }
+        ensures drew { IfOk result (λ learnt. Drew (state_of W.sets W.moves R.rules B.store self.old) (state_of W.sets W.moves R.rules B.store self.new) learnt (IsTracked a)) }
+        ensures halt { IfErr result (λ h. IsHalt (state_of W.sets W.moves R.rules B.store self.new) h) }
+        ensures tracked { IfOk result (λ _. IsTracked a (state_of W.sets W.moves R.rules B.store self.new)) }
+        ensures same { SameKnown (state_of W.sets W.moves R.rules B.store self.old) (state_of W.sets W.moves R.rules B.store self.new) }
+    {
+        match self.track(a) {
+            Ok(true) => Ok(true),
+            Ok(false) => Ok(false),
+            Err(_) => Err(Halt::OutOfMemory),
+        }
+    }
+
+    /// Tracks so many addresses from one on.
+    fn track_from(&mut self, start: u32, count: u32) -> Result<bool, Halt>
+        requires open { self.old.complete ≡ false }
+        ensures grows { Grows (state_of W.sets W.moves R.rules B.store self.old) (state_of W.sets W.moves R.rules B.store self.new) }
+        ensures drew { IfOk result (λ learnt. Drew (state_of W.sets W.moves R.rules B.store self.old) (state_of W.sets W.moves R.rules B.store self.new) learnt (AreTrackedFrom start count)) }
+        ensures halt { IfErr result (λ h. IsHalt (state_of W.sets W.moves R.rules B.store self.new) h) }
+        ensures tracked { IfOk result (λ _. AreTrackedFrom start count (state_of W.sets W.moves R.rules B.store self.new)) }
+        ensures same { SameKnown (state_of W.sets W.moves R.rules B.store self.old) (state_of W.sets W.moves R.rules B.store self.new) }
+    {
+        let mut learnt = false;
+        for k in 0..count {
+            let a = start.wrapping_add(k);
+            let new = self.track_one(a)?;
+            learnt = learnt | new;
+        }
+        Ok(learnt)
+    }
+
+    /// Tracks the bytes that row i's rules look at.
+    fn track_row(&mut self, i: u32, row: &StepRow) -> Result<bool, Halt>
+        requires inside { i < length self.old.rows }
+        requires row { slice_get self.old.rows i ≡ Some row.now }
+        requires open { self.old.complete ≡ false }
+        ensures grows { Grows (state_of W.sets W.moves R.rules B.store self.old) (state_of W.sets W.moves R.rules B.store self.new) }
+        ensures drew { IfOk result (λ learnt. Drew (state_of W.sets W.moves R.rules B.store self.old) (state_of W.sets W.moves R.rules B.store self.new) learnt (IsRowTracked row.now i)) }
+        ensures halt { IfErr result (λ h. IsHalt (state_of W.sets W.moves R.rules B.store self.new) h) }
+        ensures tracked { IfOk result (λ _. IsRowTracked row.now i (state_of W.sets W.moves R.rules B.store self.new)) }
+    {
+        let (first, _) = reads(&row.instr);
+        match first {
+            None => Ok(false),
+            Some(r) => match self.known(i, r) {
+                Flat::Unknown => Ok(false),
+                Flat::Known(base) => {
+                    let count = R::places(row).min(4);
+                    let start = address(base, &row.instr);
+                    let learnt = self.track_from(start, count)?;
+                    Ok(learnt)
+                }
+            },
+        }
+    }
+
+    /// What row i lets one draw.
+    fn list_drawn(&mut self, i: u32, row: &StepRow) -> SmallVec<Drawn, 16>
+        requires inside { i < length self.old.rows }
+        requires row { slice_get self.old.rows i ≡ Some row.now }
+        requires open { self.old.complete ≡ false }
+        ensures list { result.items ≡ R.rules.draw row.now (around (known_of B.store self.old.known) i) }
+        ensures same { (state_of W.sets W.moves R.rules B.store self.new) ≡ with_draws (state_of W.sets W.moves R.rules B.store self.old) self.new.work.draws }
+        ensures once { self.new.work.draws ≤ self.old.work.draws + 1 }
+    {
+        let _len = self.known.len();
+        let _count = self.rows.len();
+        let view = Around {
+            facts: &self.known,
+            row: i,
+        };
+        self.rules.draw(self.alloc, row, &view)
+    }
+
+    /// Adds a conclusion of row i.
+    fn conclude(&mut self, i: u32, drawn: &Drawn) -> Result<bool, Halt>
+        requires inside { i < length self.old.rows }
+        requires conclusion { IsConclusion i drawn.now (state_of W.sets W.moves R.rules B.store self.old) }
+        requires open { self.old.complete ≡ false }
+        ensures grows { Grows (state_of W.sets W.moves R.rules B.store self.old) (state_of W.sets W.moves R.rules B.store self.new) }
+        ensures drew { IfOk result (λ learnt. Drew (state_of W.sets W.moves R.rules B.store self.old) (state_of W.sets W.moves R.rules B.store self.new) learnt (KnowsDrawn i drawn.now)) }
+        ensures known { IfOk result (λ _. KnowsDrawn i drawn.now (state_of W.sets W.moves R.rules B.store self.new)) }
+        ensures still { self.new.work ≡ self.old.work }
+        ensures halt { IfErr result (λ h. IsHalt (state_of W.sets W.moves R.rules B.store self.new) h) }
+    {
+        let _count = self.count();
+        let point = point_at(i, drawn.when);
+        match &drawn.cell {
+            Cell::Register(r) => {
+                let learnt = self.learn(point, *r, drawn.value)?;
+                Ok(learnt)
+            }
+            Cell::Byte(a) => {
+                let learnt = self.learn_byte(point, *a, drawn.value as u8, true)?;
+                Ok(learnt)
+            }
+        }
+    }
+
+    /// Adds conclusions of row i.
+    fn conclude_all(&mut self, i: u32, list: &[Drawn]) -> Result<bool, Halt>
+        requires inside { i < length self.old.rows }
+        requires conclusions { AreConclusions i list.now (state_of W.sets W.moves R.rules B.store self.old) }
+        requires open { self.old.complete ≡ false }
+        ensures grows { Grows (state_of W.sets W.moves R.rules B.store self.old) (state_of W.sets W.moves R.rules B.store self.new) }
+        ensures drew { IfOk result (λ learnt. Drew (state_of W.sets W.moves R.rules B.store self.old) (state_of W.sets W.moves R.rules B.store self.new) learnt (DrawnBelow (length list.now) list.now i)) }
+        ensures known { IfOk result (λ _. DrawnBelow (length list.now) list.now i (state_of W.sets W.moves R.rules B.store self.new)) }
+        ensures still { self.new.work ≡ self.old.work }
+        ensures halt { IfErr result (λ h. IsHalt (state_of W.sets W.moves R.rules B.store self.new) h) }
+    {
+        self.held();
+        let mut learnt = false;
+        for drawn in list {
+            let new = self.conclude(i, drawn)?;
+            learnt = learnt | new;
+        }
+        Ok(learnt)
+    }
+
+    /// How far row i's rules were drawn.
+    fn pass(&self, i: u32) -> Pass
+        requires { i < length self.now.rows }
+        ensures { slice_get self.now.work.drawn i ≡ Some result }
+    {
+        let _rows = &self.rows;
+        self.drawn.at(i)
+    }
+
+    /// Keeps how far they were.
+    fn keep_pass(&mut self, i: u32, pass: Pass)
+        requires inside { i < length self.old.rows }
+        requires pass { (row : StepRow) → slice_get self.old.rows i ≡ Some row → IsPass row i pass (state_of W.sets W.moves R.rules B.store self.old) }
+        requires open { self.old.complete ≡ false }
+        ensures { (state_of W.sets W.moves R.rules B.store self.new) ≡ with_drawn (state_of W.sets W.moves R.rules B.store self.old) (set self.old.work.drawn i pass) }
+    {
+        let _rows = &self.rows;
+        self.drawn.put(i, pass);
+    }
+
+    /// All that row i lets one draw, where more of its cells are known than when its rules were drawn last.
+    fn draw_drawn(&mut self, i: u32, row: &StepRow) -> Result<bool, Halt>
+        requires inside { i < length self.old.rows }
+        requires row { slice_get self.old.rows i ≡ Some row.now }
+        requires tracked { IsRowTracked row.now i (state_of W.sets W.moves R.rules B.store self.old) }
+        requires open { self.old.complete ≡ false }
+        requires uncut { IsUncut (state_of W.sets W.moves R.rules B.store self.old) }
+        ensures grows { Grows (state_of W.sets W.moves R.rules B.store self.old) (state_of W.sets W.moves R.rules B.store self.new) }
+        ensures drew { IfOk result (λ learnt. Drew (state_of W.sets W.moves R.rules B.store self.old) (state_of W.sets W.moves R.rules B.store self.new) learnt (DrawnKnown row.now i)) }
+        ensures halt { IfErr result (λ h. IsHalt (state_of W.sets W.moves R.rules B.store self.new) h) }
+    {
+        let cells = self.cells(i, row);
+        let pass = self.pass(i);
+        if is_with(pass, cells) {
+            self.held();
+            return Ok(false);
+        }
+        self.draw_anew(i, row, cells)
+    }
+
+    /// All that it lets one draw, where so many of its cells are known, and more than then.
+    fn draw_anew(&mut self, i: u32, row: &StepRow, cells: u32) -> Result<bool, Halt>
+        requires inside { i < length self.old.rows }
+        requires row { slice_get self.old.rows i ≡ Some row.now }
+        requires tracked { IsRowTracked row.now i (state_of W.sets W.moves R.rules B.store self.old) }
+        requires open { self.old.complete ≡ false }
+        requires uncut { IsUncut (state_of W.sets W.moves R.rules B.store self.old) }
+        requires cells { cells ≡ cells_known R.rules row.now (around (known_of B.store self.old.known) i) }
+        requires few { cells ≤ 11 }
+        requires more { slice_get self.old.work.drawn i ≡ Some (Pass.With cells) → ⊥ }
+        ensures grows { Grows (state_of W.sets W.moves R.rules B.store self.old) (state_of W.sets W.moves R.rules B.store self.new) }
+        ensures drew { IfOk result (λ learnt. Drew (state_of W.sets W.moves R.rules B.store self.old) (state_of W.sets W.moves R.rules B.store self.new) learnt (DrawnKnown row.now i)) }
+        ensures halt { IfErr result (λ h. IsHalt (state_of W.sets W.moves R.rules B.store self.new) h) }
+    {
+        self.held();
+        let list = self.list_drawn(i, row);
+        self.held();
+        match self.conclude_all(i, list.as_slice()) {
+            Ok(_) => {
+                self.keep_pass(i, Pass::With(cells));
+                Ok(true)
+            }
+            Err(halt) => {
+                self.keep_pass(i, Pass::Cut);
+                Err(halt)
+            }
+        }
+    }
+
+    /// All that row i lets one conclude.
+    pub(super) fn draw_row(&mut self, i: u32) -> Result<bool, Halt>
+        requires inside { i < length self.old.rows }
+        requires open { self.old.complete ≡ false }
+        requires uncut { IsUncut (state_of W.sets W.moves R.rules B.store self.old) }
+        ensures grows { Grows (state_of W.sets W.moves R.rules B.store self.old) (state_of W.sets W.moves R.rules B.store self.new) }
+        ensures drew { IfOk result (λ learnt. Drew (state_of W.sets W.moves R.rules B.store self.old) (state_of W.sets W.moves R.rules B.store self.new) learnt (IsRowClosed i)) }
+        ensures halt { IfErr result (λ h. IsHalt (state_of W.sets W.moves R.rules B.store self.new) h) }
+    {
+        let row = self.row(i);
+        let registers = self.carry_all(i, &row)?;
+        let tracked = self.track_row(i, &row)?;
+        let drawn = self.draw_drawn(i, &row)?;
+        Ok(registers | tracked | drawn)
+    }
+}

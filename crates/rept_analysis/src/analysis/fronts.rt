@@ -1,0 +1,150 @@
+// Fronts of the log of an analysis, and the reasons that rest on them.
+ghost use Rattle.std.specs.Prelude.{◌≡◌, ◌+◌, ◌<◌, ◌≤◌, length, true, IfOk, IfSome, IfNone};
+ghost use Rattle.rept_reason.specs.declared.fact.Cell.TheVariants.{Register, Byte};
+ghost use Rattle.rept_report.specs.Log.{oldest};
+ghost use Rattle.rept_report.specs.Why.{Because, IsDrawnBecause, IsKnownBecause, IsCarriedBecause};
+ghost use Rattle.rept_log.specs.Fronts.{front_of, stands, told_by};
+ghost use Rattle.rept_analysis.specs.State.{setting_of, state_of};
+ghost use Rattle.rept_analysis.specs.Reasoned.{basis_at, AreSetsOf, KeepsAll};
+
+use super::Analysis;
+use rept_isa::Reg;
+use rept_log::{Below, Front};
+use rept_reason::{Fact, Reason};
+use rept_span::{Spans, Transfer};
+use rept_versions::ByteFacts;
+use rept_view::RowRules;
+use std::alloc::{AllocError as OutOfMemory, Global};
+
+impl<'a, B: ByteFacts, W: Transfer, R: RowRules> Analysis<'a, B, W, R> {
+    /// Fills sets from the facts at places below a limit.
+    pub(super) fn fill_sets(&self, spans: &mut Spans<W>, limit: u32)
+        requires sized { spans.old.points ≡ length self.now.rows + 1 }
+        requires complete { self.now.complete ≡ true }
+        ensures sets { AreSetsOf (setting_of W.sets W.moves R.rules self.now) (oldest limit self.now.known.log) spans.new }
+        ensures sized { spans.new.points ≡ length self.now.rows + 1 }
+    {
+        self.held();
+        let rows = self.rows;
+        let view = Below {
+            facts: &self.known,
+            limit,
+        };
+        spans.fill(rows, &view).unwrap();
+    }
+
+    /// Sets that are filled from the facts at places below a limit.
+    pub(super) fn sets_below(&self, limit: u32) -> Result<Spans<W>, OutOfMemory>
+        requires complete { self.now.complete ≡ true }
+        ensures sets { IfOk result (λ spans. AreSetsOf (setting_of W.sets W.moves R.rules self.now) (oldest limit self.now.known.log) spans) }
+        ensures sized { IfOk result (λ spans. spans.points ≡ length self.now.rows + 1) }
+    {
+        let mut spans = Spans::new(self.alloc, self.count() + 1)?;
+        self.fill_sets(&mut spans, limit);
+        Ok(spans)
+    }
+
+    /// The byte that stands in the front of the log below a limit.
+    pub(super) fn byte_below(&self, spans: &Spans<W>, limit: u32, point: u32, a: u32) -> Option<u8>
+        requires within { limit ≤ length self.now.known.log }
+        requires sets { AreSetsOf (setting_of W.sets W.moves R.rules self.now) (oldest limit self.now.known.log) spans.now }
+        requires point { point ≤ length self.now.rows }
+        ensures { result ≡ stands (front_of W.sets W.moves R.rules (basis_at self.now limit)) point (Byte a) }
+    {
+        let _len = self.known.len();
+        let front: Front<'_, '_, B, W, R> = Front::new(
+            &self.known,
+            limit,
+            self.rows,
+            self.last.as_slice(),
+            self.dump,
+            spans,
+        );
+        front.byte(point, a)
+    }
+
+    /// The reason of a register's value by what stands in the front.
+    pub(super) fn known_below(
+        &mut self,
+        alloc: Global,
+        spans: &Spans<W>,
+        limit: u32,
+        fact: &Fact,
+        r: Reg,
+    ) -> Result<Option<Reason>, OutOfMemory>
+        requires within { limit ≤ length self.old.known.log }
+        requires sets { AreSetsOf (setting_of W.sets W.moves R.rules self.old) (oldest limit self.old.known.log) spans.now }
+        requires point { fact.now.point ≤ length self.old.rows }
+        requires cell { fact.now.cell ≡ Register r }
+        requires named { 0 < r }
+        ensures found { IfOk result (λ found. IfSome found (λ reason. IsKnownBecause (front_of W.sets W.moves R.rules (basis_at self.old limit)).setting (stands (front_of W.sets W.moves R.rules (basis_at self.old limit))) fact.now (told_by reason))) }
+        ensures none { IfOk result (λ found. IfNone found ((why : Because) → IsKnownBecause (front_of W.sets W.moves R.rules (basis_at self.old limit)).setting (stands (front_of W.sets W.moves R.rules (basis_at self.old limit))) fact.now why → ⊥)) }
+        ensures same { KeepsAll (state_of W.sets W.moves R.rules B.store self.old) (state_of W.sets W.moves R.rules B.store self.new) }
+    {
+        let _len = self.known.len();
+        let front = Front::new(
+            &self.known,
+            limit,
+            self.rows,
+            self.last.as_slice(),
+            self.dump,
+            spans,
+        );
+        front.of_register(&mut self.rules, alloc, fact, r)
+    }
+
+    /// The reason of a fact by what a row lets one draw from what stands in the front.
+    pub(super) fn drawn_below(
+        &mut self,
+        alloc: Global,
+        spans: &Spans<W>,
+        limit: u32,
+        fact: &Fact,
+    ) -> Result<Option<Reason>, OutOfMemory>
+        requires within { limit ≤ length self.old.known.log }
+        requires sets { AreSetsOf (setting_of W.sets W.moves R.rules self.old) (oldest limit self.old.known.log) spans.now }
+        requires point { fact.now.point ≤ length self.old.rows }
+        ensures found { IfOk result (λ found. IfSome found (λ reason. IsDrawnBecause (front_of W.sets W.moves R.rules (basis_at self.old limit)).setting (stands (front_of W.sets W.moves R.rules (basis_at self.old limit))) fact.now (told_by reason))) }
+        ensures none { IfOk result (λ found. IfNone found ((why : Because) → IsDrawnBecause (front_of W.sets W.moves R.rules (basis_at self.old limit)).setting (stands (front_of W.sets W.moves R.rules (basis_at self.old limit))) fact.now why → ⊥)) }
+        ensures same { KeepsAll (state_of W.sets W.moves R.rules B.store self.old) (state_of W.sets W.moves R.rules B.store self.new) }
+    {
+        let _len = self.known.len();
+        let front = Front::new(
+            &self.known,
+            limit,
+            self.rows,
+            self.last.as_slice(),
+            self.dump,
+            spans,
+        );
+        front.drawn(&mut self.rules, alloc, fact)
+    }
+
+    /// The reason by which a byte is carried in the front.
+    pub(super) fn carried_below(
+        &self,
+        alloc: Global,
+        spans: &Spans<W>,
+        limit: u32,
+        fact: &Fact,
+        a: u32,
+    ) -> Result<Option<Reason>, OutOfMemory>
+        requires within { limit ≤ length self.now.known.log }
+        requires sets { AreSetsOf (setting_of W.sets W.moves R.rules self.now) (oldest limit self.now.known.log) spans.now }
+        requires point { fact.now.point ≤ length self.now.rows }
+        requires cell { fact.now.cell ≡ Byte a }
+        ensures found { IfOk result (λ found. IfSome found (λ reason. IsCarriedBecause (front_of W.sets W.moves R.rules (basis_at self.now limit)).setting (front_of W.sets W.moves R.rules (basis_at self.now limit)).facts fact.now (told_by reason))) }
+        ensures none { IfOk result (λ found. IfNone found ((why : Because) → IsCarriedBecause (front_of W.sets W.moves R.rules (basis_at self.now limit)).setting (front_of W.sets W.moves R.rules (basis_at self.now limit)).facts fact.now why → ⊥)) }
+    {
+        let _len = self.known.len();
+        let front: Front<'_, '_, B, W, R> = Front::new(
+            &self.known,
+            limit,
+            self.rows,
+            self.last.as_slice(),
+            self.dump,
+            spans,
+        );
+        front.carried(alloc, fact, a)
+    }
+}

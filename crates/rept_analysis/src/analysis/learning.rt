@@ -1,0 +1,145 @@
+// What learning one fact does to an analysis.
+ghost use Rattle.std.specs.Prelude.{◌≡◌, ◌<◌, ◌≤◌, ◌^◌, ℕ, length, true, false, IfOk, IfErr, Ok, Err};
+ghost use Rattle.rept_reason.specs.declared.fact.Cell.{Cell};
+ghost use Rattle.rept_reason.specs.declared.fact.Cell.TheVariants.{Register, Byte};
+ghost use Rattle.rept_analysis.specs.State.{state_of};
+ghost use Rattle.rept_analysis.specs.Drawing.{fact_at, Knows, IsTracked, Grows, Drew, IsFollowing, IsBrought, IsHalt, IsLearntAt};
+ghost use Rattle.rept_analysis.specs.Told.{TellsRegister, TellsByte, Tracks};
+
+use super::Analysis;
+use crate::halt::Halt;
+use rept_isa::Reg;
+use rept_log::Answer;
+use rept_partial::Flat;
+use rept_reason::Cell;
+use rept_span::Transfer;
+use rept_versions::ByteFacts;
+use rept_view::RowRules;
+use std::alloc::AllocError as OutOfMemory;
+
+impl<'a, B: ByteFacts, W: Transfer, R: RowRules> Analysis<'a, B, W, R> {
+    /// Learns a register's value that follows.
+    fn tell(&mut self, point: u32, r: Reg, value: u32) -> Answer
+        requires point { point ≤ length self.old.rows }
+        requires named { 0 < r }
+        requires follows { value < 2 ^ 32 → IsFollowing (state_of W.sets W.moves R.rules B.store self.old) (fact_at point (Register r) value) }
+        requires open { self.old.complete ≡ false }
+        ensures { TellsRegister (state_of W.sets W.moves R.rules B.store self.old) (state_of W.sets W.moves R.rules B.store self.new) point r value result }
+    {
+        let _number = r.number();
+        let answer = self.known.learn_register(point, r, value);
+        let _len = self.known.len();
+        answer
+    }
+
+    /// Learns a byte's value that follows.
+    fn tell_byte(
+        &mut self,
+        point: u32,
+        a: u32,
+        value: u8,
+        keep: bool,
+    ) -> Result<Answer, OutOfMemory>
+        requires point { point ≤ length self.old.rows }
+        requires tracked { IsTracked a (state_of W.sets W.moves R.rules B.store self.old) }
+        requires follows { IsFollowing (state_of W.sets W.moves R.rules B.store self.old) (fact_at point (Byte a) value) }
+        requires brought { keep ≡ false → IsBrought (state_of W.sets W.moves R.rules B.store self.old) (fact_at point (Byte a) value) }
+        requires open { self.old.complete ≡ false }
+        ensures { TellsByte (state_of W.sets W.moves R.rules B.store self.old) (state_of W.sets W.moves R.rules B.store self.new) point a value result }
+    {
+        let answer = self.known.learn_byte(point, a, value, keep);
+        let _len = self.known.len();
+        answer
+    }
+
+    /// Makes an address one of those that are tracked. Answers whether it wasn't.
+    pub(super) fn track(&mut self, a: u32) -> Result<bool, OutOfMemory>
+        requires open { self.old.complete ≡ false }
+        ensures { Tracks (state_of W.sets W.moves R.rules B.store self.old) (state_of W.sets W.moves R.rules B.store self.new) a result }
+    {
+        self.known.track(a)
+    }
+
+    /// Adds a value that follows, and says whether it was new.
+    pub(super) fn learn(&mut self, point: u32, r: Reg, value: u32) -> Result<bool, Halt>
+        requires point { point ≤ length self.old.rows }
+        requires named { 0 < r }
+        requires follows { value < 2 ^ 32 → IsFollowing (state_of W.sets W.moves R.rules B.store self.old) (fact_at point (Register r) value) }
+        requires open { self.old.complete ≡ false }
+        ensures grows { Grows (state_of W.sets W.moves R.rules B.store self.old) (state_of W.sets W.moves R.rules B.store self.new) }
+        ensures drew { IfOk result (λ learnt. Drew (state_of W.sets W.moves R.rules B.store self.old) (state_of W.sets W.moves R.rules B.store self.new) learnt (Knows point (Register r) value)) }
+        ensures known { IfOk result (λ _. Knows point (Register r) value (state_of W.sets W.moves R.rules B.store self.new)) }
+        ensures still { self.new.work ≡ self.old.work }
+        ensures halt { IfErr result (λ h. IsHalt (state_of W.sets W.moves R.rules B.store self.new) h) }
+    {
+        match self.tell(point, r, value) {
+            Answer::Old => Ok(false),
+            Answer::New => Ok(true),
+            Answer::Clash(known) => {
+                let cell = Cell::Register(r);
+                Err(Halt::Clash {
+                    point,
+                    cell,
+                    known,
+                    value,
+                })
+            }
+        }
+    }
+
+    /// Adds a byte's value that follows, and says whether it was new.
+    pub(super) fn learn_byte(
+        &mut self,
+        point: u32,
+        a: u32,
+        value: u8,
+        keep: bool,
+    ) -> Result<bool, Halt>
+        requires point { point ≤ length self.old.rows }
+        requires tracked { IsTracked a (state_of W.sets W.moves R.rules B.store self.old) }
+        requires follows { IsFollowing (state_of W.sets W.moves R.rules B.store self.old) (fact_at point (Byte a) value) }
+        requires brought { keep ≡ false → IsBrought (state_of W.sets W.moves R.rules B.store self.old) (fact_at point (Byte a) value) }
+        requires open { self.old.complete ≡ false }
+        ensures grows { Grows (state_of W.sets W.moves R.rules B.store self.old) (state_of W.sets W.moves R.rules B.store self.new) }
+        ensures drew { IfOk result (λ learnt. Drew (state_of W.sets W.moves R.rules B.store self.old) (state_of W.sets W.moves R.rules B.store self.new) learnt (Knows point (Byte a) value)) }
+        ensures known { IfOk result (λ _. Knows point (Byte a) value (state_of W.sets W.moves R.rules B.store self.new)) }
+        ensures still { self.new.work ≡ self.old.work }
+        ensures halt { IfErr result (λ h. IsHalt (state_of W.sets W.moves R.rules B.store self.new) h) }
+    {
+        match self.tell_byte(point, a, value, keep) {
+            Err(_) => Err(Halt::OutOfMemory),
+            Ok(Answer::Old) => Ok(false),
+            Ok(Answer::New) => Ok(true),
+            Ok(Answer::Clash(known)) => {
+                let cell = Cell::Byte(a);
+                Err(Halt::Clash {
+                    point,
+                    cell,
+                    known,
+                    value: value as u32,
+                })
+            }
+        }
+    }
+
+    /// Adds the value if there is one, and the register is not x0.
+    pub(super) fn learn_if(&mut self, point: u32, r: Reg, value: Flat) -> Result<bool, Halt>
+        requires point { point ≤ length self.old.rows }
+        requires follows { (v : ℕ) → value ≡ Flat.Known v → 0 < r → r < 32 → v < 2 ^ 32 → IsFollowing (state_of W.sets W.moves R.rules B.store self.old) (fact_at point (Register r) v) }
+        requires open { self.old.complete ≡ false }
+        ensures grows { Grows (state_of W.sets W.moves R.rules B.store self.old) (state_of W.sets W.moves R.rules B.store self.new) }
+        ensures drew { IfOk result (λ learnt. Drew (state_of W.sets W.moves R.rules B.store self.old) (state_of W.sets W.moves R.rules B.store self.new) learnt (IsLearntAt point r value)) }
+        ensures halt { IfErr result (λ h. IsHalt (state_of W.sets W.moves R.rules B.store self.new) h) }
+    {
+        if r.number() == 0 {
+            return Ok(false);
+        }
+        match value {
+            Flat::Known(value) => {
+                let learnt = self.learn(point, r, value)?;
+                Ok(learnt)
+            }
+            Flat::Unknown => Ok(false),
+        }
+    }
+}

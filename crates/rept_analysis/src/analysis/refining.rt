@@ -1,0 +1,124 @@
+// Learning all that follows.
+ghost use Rattle.std.specs.Prelude.{◌≡◌, ◌<◌, ◌+◌, ◌*◌, ◌≤◌, length, true, false, IsOk, IfErr, Some, None, Ok, Err};
+ghost use Rattle.rept_reason.specs.Facts.{told};
+ghost use Rattle.rept_report.specs.Conflicts.{IsQuiet};
+ghost use Rattle.rept_report.specs.declared.conflict.ConflictKind.{ConflictKind};
+ghost use Rattle.rept_analysis.specs.State.{setting_of, state_of};
+ghost use Rattle.rept_analysis.specs.Drawing.{IsHalt, IsSettled, IsFitted, SameFacts, Continues, AreWritings, IsUncut};
+ghost use Rattle.rept_analysis.specs.Work.{left};
+ghost use Rattle.rept_report.specs.Log.{oldest};
+ghost use Rattle.rept_analysis.specs.Refined.{IsEnded, Outcome};
+
+use super::Analysis;
+use crate::halt::Halt;
+use crate::stop::Stop;
+use rept_report::ConflictKind;
+use rept_span::Transfer;
+use rept_versions::ByteFacts;
+use rept_view::RowRules;
+
+impl<'a, B: ByteFacts, W: Transfer, R: RowRules> Analysis<'a, B, W, R> {
+    /// Whether the facts at places below the limit leave no set empty and no turn wrong. The sets are then theirs, and the rows that
+    /// may write are listed.
+    fn ready(&mut self, limit: u32) -> bool
+        requires open { self.old.complete ≡ false }
+        requires within { limit ≤ length self.old.known.log }
+        ensures same { SameFacts (state_of W.sets W.moves R.rules B.store self.old) (state_of W.sets W.moves R.rules B.store self.new) }
+        ensures limit { self.new.filled ≡ limit }
+        ensures fitted { result ≡ true → IsFitted (state_of W.sets W.moves R.rules B.store self.new) }
+        ensures writings { result ≡ true → AreWritings (state_of W.sets W.moves R.rules B.store self.new) }
+        ensures quiet { result ≡ true → IsQuiet (setting_of W.sets W.moves R.rules self.old) (told (oldest limit self.old.known.log)) }
+        ensures loud { result ≡ false → IsQuiet (setting_of W.sets W.moves R.rules self.old) (told (oldest limit self.old.known.log)) → ⊥ }
+    {
+        let quiet = self.is_quiet(limit);
+        if !quiet {
+            return false;
+        }
+        self.list_writing();
+        true
+    }
+
+    /// Forgets how far rules were drawn.
+    fn restart(&mut self)
+        requires open { self.old.complete ≡ false }
+        ensures continues { Continues (state_of W.sets W.moves R.rules B.store self.old) (state_of W.sets W.moves R.rules B.store self.new) }
+        ensures draws { self.new.work.draws ≡ self.old.work.draws }
+        ensures rows { length self.new.work.drawn ≡ length self.old.rows }
+        ensures uncut { IsUncut (state_of W.sets W.moves R.rules B.store self.new) }
+    {
+        let _rows = &self.rows;
+        self.drawn.clear();
+    }
+
+    /// Rounds until nothing is new, each with the sets of the facts before it. Answers whether these have values.
+    fn settle(&mut self) -> Result<bool, Halt>
+        requires open { self.old.complete ≡ false }
+        requires uncut { IsUncut (state_of W.sets W.moves R.rules B.store self.old) }
+        ensures spent { self.new.work.draws ≤ self.old.work.draws + left self.old.work.drawn }
+        ensures continues { Continues (state_of W.sets W.moves R.rules B.store self.old) (state_of W.sets W.moves R.rules B.store self.new) }
+        ensures settled { result ≡ Ok true → IsSettled (state_of W.sets W.moves R.rules B.store self.new) }
+        ensures loud { result ≡ Ok false → IsQuiet (setting_of W.sets W.moves R.rules self.new) (told self.new.known.log) → ⊥ }
+        ensures halt { IfErr result (λ h. IsHalt (state_of W.sets W.moves R.rules B.store self.new) h) }
+    {
+        loop {
+            let len = self.len();
+            let quiet = self.ready(len);
+            if !quiet {
+                return Ok(false);
+            }
+            let learnt = self.sweep()?;
+            if !learnt {
+                break;
+            }
+        }
+        Ok(true)
+    }
+
+    /// All facts are answered from now on.
+    fn finish(&mut self)
+        requires settled { IsSettled (state_of W.sets W.moves R.rules B.store self.old) }
+        requires open { self.old.conflict ≡ None }
+        ensures ended { IsEnded (state_of W.sets W.moves R.rules B.store self.old) (state_of W.sets W.moves R.rules B.store self.new) }
+        ensures still { self.new.work.draws ≡ self.old.work.draws }
+    {
+        self.held();
+        let len = self.known.len();
+        self.shown = len;
+        self.complete = true;
+    }
+
+    /// Learns all that follows, where nothing is known to be complete or contradictory yet.
+    fn run(&mut self) -> Result<(), Stop>
+        requires open { self.old.complete ≡ false }
+        requires calm { self.old.conflict ≡ None }
+        ensures outcome { Outcome (state_of W.sets W.moves R.rules B.store self.old) (state_of W.sets W.moves R.rules B.store self.new) result }
+        ensures draws { self.new.work.draws ≤ self.old.work.draws + 12 * length self.old.rows }
+    {
+        self.restart();
+        match self.settle() {
+            Ok(true) => {
+                self.finish();
+                Ok(())
+            }
+            Ok(false) => Err(Stop::Conflict(self.stop_least())),
+            Err(halt) => Err(self.stop(&halt)),
+        }
+    }
+
+    /// Learns all that follows. A second call answers as the first did, but where memory ran out it goes on.
+    pub(super) fn outcome(&mut self) -> Result<(), Stop>
+        ensures outcome { Outcome (state_of W.sets W.moves R.rules B.store self.old) (state_of W.sets W.moves R.rules B.store self.new) result }
+        ensures draws { self.new.work.draws ≤ self.old.work.draws + 12 * length self.old.rows }
+        ensures again { (kind : ConflictKind) → self.old.conflict ≡ Some kind → (result ≡ Err (Stop.Conflict kind)) × ((state_of W.sets W.moves R.rules B.store self.new) ≡ (state_of W.sets W.moves R.rules B.store self.old)) }
+        ensures settled { self.old.complete ≡ true → self.old.conflict ≡ None → IsOk result × ((state_of W.sets W.moves R.rules B.store self.new) ≡ (state_of W.sets W.moves R.rules B.store self.old)) }
+    {
+        let _rows = &self.rows;
+        if let Some(kind) = self.conflict {
+            return Err(Stop::Conflict(kind));
+        }
+        if self.complete {
+            return Ok(());
+        }
+        self.run()
+    }
+}

@@ -1,0 +1,161 @@
+// What is answered after a conflict, and where memory ran out.
+ghost use Rattle.std.specs.Prelude.{◌≡◌, ◌+◌, ◌<◌, ◌≤◌, length, false, Some};
+ghost use Rattle.rept_reason.specs.declared.fact.Cell.{Cell};
+ghost use Rattle.rept_reason.specs.Facts.{told};
+ghost use Rattle.rept_report.specs.Conflicts.{IsQuiet};
+ghost use Rattle.rept_report.specs.declared.conflict.ConflictKind.{ConflictKind};
+ghost use Rattle.rept_report.specs.Log.{oldest};
+ghost use Rattle.rept_analysis.specs.State.{setting_of, state_of};
+ghost use Rattle.rept_analysis.specs.Drawing.{IsHalt, SameFacts, IsClash};
+ghost use Rattle.rept_analysis.specs.Refined.{QuietBelow, IsStopped, IsPaused, IsHalted, clash_kind};
+ghost use Rattle.rept_report.specs.Closure.{ClosureHas};
+
+use super::Analysis;
+use crate::halt::Halt;
+use crate::stop::Stop;
+use rept_reason::Cell;
+use rept_report::ConflictKind;
+use rept_span::Transfer;
+use rept_versions::ByteFacts;
+use rept_view::RowRules;
+
+/// The conflict of two values, the smaller one first.
+fn clash_kind(point: u32, cell: Cell, known: u32, value: u32) -> ConflictKind
+    ensures { result ≡ clash_kind point cell known value }
+{
+    if known < value {
+        ConflictKind::TwoValues {
+            point,
+            cell,
+            v: known,
+            w: value,
+        }
+    } else {
+        ConflictKind::TwoValues {
+            point,
+            cell,
+            v: value,
+            w: known,
+        }
+    }
+}
+
+impl<'a, B: ByteFacts, W: Transfer, R: RowRules> Analysis<'a, B, W, R> {
+    /// The least place such that the facts at places below it leave a set empty or a turn wrong.
+    fn bisect(&mut self) -> u32
+        requires open { self.old.complete ≡ false }
+        requires loud { IsQuiet (setting_of W.sets W.moves R.rules self.old) (told self.old.known.log) → ⊥ }
+        ensures same { SameFacts (state_of W.sets W.moves R.rules B.store self.old) (state_of W.sets W.moves R.rules B.store self.new) }
+        ensures within { result ≤ length self.old.known.log }
+        ensures quiet { QuietBelow (state_of W.sets W.moves R.rules B.store self.old) result }
+        ensures loud { IsQuiet (setting_of W.sets W.moves R.rules self.old) (told (oldest result self.old.known.log)) → ⊥ }
+    {
+        self.held();
+        let mut low = 0;
+        let mut high = self.len();
+        while low < high {
+            let middle = low + (high - low) / 2;
+            let quiet = self.is_quiet(middle);
+            if quiet {
+                low = middle + 1;
+            } else {
+                high = middle;
+            }
+        }
+        low
+    }
+
+    /// Keeps a conflict, and answers the facts at places below the limit alone from now on.
+    fn stop_at(&mut self, limit: u32, kind: ConflictKind)
+        requires open { self.old.complete ≡ false }
+        requires within { limit ≤ length self.old.known.log }
+        requires later { self.old.shown ≤ limit }
+        requires quiet { QuietBelow (state_of W.sets W.moves R.rules B.store self.old) limit }
+        requires kind { ClosureHas (setting_of W.sets W.moves R.rules self.old) kind }
+        ensures ended { IsStopped (state_of W.sets W.moves R.rules B.store self.old) (state_of W.sets W.moves R.rules B.store self.new) kind }
+        ensures still { self.new.work.draws ≡ self.old.work.draws }
+    {
+        self.shown = limit;
+        self.conflict = Some(kind);
+    }
+
+    /// Rolls back to the least place at which the facts show a conflict, and names it.
+    pub(super) fn stop_least(&mut self) -> ConflictKind
+        requires open { self.old.complete ≡ false }
+        requires loud { IsQuiet (setting_of W.sets W.moves R.rules self.old) (told self.old.known.log) → ⊥ }
+        ensures ended { IsStopped (state_of W.sets W.moves R.rules B.store self.old) (state_of W.sets W.moves R.rules B.store self.new) result }
+        ensures still { self.new.work.draws ≡ self.old.work.draws }
+    {
+        self.held();
+        let limit = self.bisect();
+        let kind = self.look(limit).unwrap();
+        let named = kind;
+        self.stop_at(limit, kind);
+        named
+    }
+
+    /// Names the clash, where the facts show no other conflict, and else their least one.
+    fn stop_clash(&mut self, point: u32, cell: Cell, known: u32, value: u32) -> ConflictKind
+        requires open { self.old.complete ≡ false }
+        requires clash { IsClash (state_of W.sets W.moves R.rules B.store self.old) point cell known value }
+        ensures ended { IsStopped (state_of W.sets W.moves R.rules B.store self.old) (state_of W.sets W.moves R.rules B.store self.new) result }
+        ensures still { self.new.work.draws ≡ self.old.work.draws }
+    {
+        self.held();
+        let len = self.len();
+        let quiet = self.is_quiet(len);
+        if !quiet {
+            return self.stop_least();
+        }
+        let kind = clash_kind(point, cell, known, value);
+        let named = kind;
+        self.stop_at(len, kind);
+        named
+    }
+
+    /// Answers the facts at places below the limit from now on.
+    fn show(&mut self, limit: u32)
+        requires open { self.old.complete ≡ false }
+        requires within { limit ≤ length self.old.known.log }
+        requires later { self.old.shown ≤ limit }
+        requires quiet { QuietBelow (state_of W.sets W.moves R.rules B.store self.old) limit }
+        ensures ended { IsPaused (state_of W.sets W.moves R.rules B.store self.old) (state_of W.sets W.moves R.rules B.store self.new) }
+        ensures still { self.new.work.draws ≡ self.old.work.draws }
+    {
+        self.shown = limit;
+    }
+
+    /// Where memory ran out: answers all facts, where these show no conflict, and else names their least one.
+    fn stop_memory(&mut self) -> Stop
+        requires open { self.old.complete ≡ false }
+        ensures ended { IsHalted (state_of W.sets W.moves R.rules B.store self.old) (state_of W.sets W.moves R.rules B.store self.new) result }
+        ensures still { self.new.work.draws ≡ self.old.work.draws }
+    {
+        self.held();
+        let len = self.len();
+        let quiet = self.is_quiet(len);
+        if !quiet {
+            return Stop::Conflict(self.stop_least());
+        }
+        self.show(len);
+        Stop::OutOfMemory
+    }
+
+    /// What a halt comes to.
+    pub(super) fn stop(&mut self, halt: &Halt) -> Stop
+        requires open { self.old.complete ≡ false }
+        requires halt { IsHalt (state_of W.sets W.moves R.rules B.store self.old) halt.now }
+        ensures ended { IsHalted (state_of W.sets W.moves R.rules B.store self.old) (state_of W.sets W.moves R.rules B.store self.new) result }
+        ensures still { self.new.work.draws ≡ self.old.work.draws }
+    {
+        match halt {
+            Halt::Clash {
+                point,
+                cell,
+                known,
+                value,
+            } => Stop::Conflict(self.stop_clash(*point, *cell, *known, *value)),
+            Halt::OutOfMemory => self.stop_memory(),
+        }
+    }
+}

@@ -1,0 +1,199 @@
+// All rules once: rows, last values and bytes, and sets of one value.
+ghost use Rattle.std.specs.Prelude.{◌≡◌, ◌+◌, ◌<◌, ◌≤◌, ⊤, length, false, IfOk, IfErr, Some, None, Ok, Err};
+ghost use Rattle.rept_analysis.specs.State.{state_of};
+ghost use Rattle.rept_analysis.specs.Drawing.{IsTracked, Grows, Drew, IsHalt, IsFitted, LastKnown, IsDrawnThrough, AreWritings, IsUncut, RowsClosed, LastByteKnown, LastBytesKnown, SingleKnown, PointSingles, SinglesKnown, IsDrawnAll, LastKnownBelow};
+
+use super::{Analysis, register};
+use crate::halt::Halt;
+use rept_isa::Reg;
+use rept_partial::Flat;
+use rept_span::Transfer;
+use rept_versions::ByteFacts;
+use rept_view::RowRules;
+
+impl<'a, B: ByteFacts, W: Transfer, R: RowRules> Analysis<'a, B, W, R> {
+    /// All rows, from the last to the first.
+    fn draw_back(&mut self) -> Result<bool, Halt>
+        requires open { self.old.complete ≡ false }
+        requires uncut { IsUncut (state_of W.sets W.moves R.rules B.store self.old) }
+        ensures grows { Grows (state_of W.sets W.moves R.rules B.store self.old) (state_of W.sets W.moves R.rules B.store self.new) }
+        ensures drew { IfOk result (λ learnt. Drew (state_of W.sets W.moves R.rules B.store self.old) (state_of W.sets W.moves R.rules B.store self.new) learnt (λ _. ⊤)) }
+        ensures halt { IfErr result (λ h. IsHalt (state_of W.sets W.moves R.rules B.store self.new) h) }
+    {
+        let count = self.count();
+        let mut learnt = false;
+        for i in (0..count).rev() {
+            let new = self.draw_row(i)?;
+            learnt = learnt | new;
+        }
+        Ok(learnt)
+    }
+
+    /// All rows, from the first to the last.
+    fn draw_onward(&mut self) -> Result<bool, Halt>
+        requires open { self.old.complete ≡ false }
+        requires uncut { IsUncut (state_of W.sets W.moves R.rules B.store self.old) }
+        ensures grows { Grows (state_of W.sets W.moves R.rules B.store self.old) (state_of W.sets W.moves R.rules B.store self.new) }
+        ensures drew { IfOk result (λ learnt. Drew (state_of W.sets W.moves R.rules B.store self.old) (state_of W.sets W.moves R.rules B.store self.new) learnt (RowsClosed)) }
+        ensures halt { IfErr result (λ h. IsHalt (state_of W.sets W.moves R.rules B.store self.new) h) }
+    {
+        let count = self.count();
+        let mut learnt = false;
+        for i in 0..count {
+            let new = self.draw_row(i)?;
+            learnt = learnt | new;
+        }
+        Ok(learnt)
+    }
+
+    /// The last value of a register.
+    fn draw_last(&mut self, r: Reg) -> Result<bool, Halt>
+        requires open { self.old.complete ≡ false }
+        ensures grows { Grows (state_of W.sets W.moves R.rules B.store self.old) (state_of W.sets W.moves R.rules B.store self.new) }
+        ensures drew { IfOk result (λ learnt. Drew (state_of W.sets W.moves R.rules B.store self.old) (state_of W.sets W.moves R.rules B.store self.new) learnt (LastKnown r)) }
+        ensures halt { IfErr result (λ h. IsHalt (state_of W.sets W.moves R.rules B.store self.new) h) }
+    {
+        let point = self.count();
+        let value = self.last_value(r);
+        let learnt = self.learn_if(point, r, Flat::Known(value))?;
+        Ok(learnt)
+    }
+
+    /// The last values of all registers.
+    fn draw_all_last(&mut self) -> Result<bool, Halt>
+        requires open { self.old.complete ≡ false }
+        ensures grows { Grows (state_of W.sets W.moves R.rules B.store self.old) (state_of W.sets W.moves R.rules B.store self.new) }
+        ensures drew { IfOk result (λ learnt. Drew (state_of W.sets W.moves R.rules B.store self.old) (state_of W.sets W.moves R.rules B.store self.new) learnt (LastKnownBelow 32)) }
+        ensures halt { IfErr result (λ h. IsHalt (state_of W.sets W.moves R.rules B.store self.new) h) }
+    {
+        let mut learnt = false;
+        for r in 1..32u8 {
+            let new = self.draw_last(register(r))?;
+            learnt = learnt | new;
+        }
+        Ok(learnt)
+    }
+
+    /// The byte of the dump at a tracked address.
+    fn draw_last_byte(&mut self, a: u32) -> Result<bool, Halt>
+        requires tracked { IsTracked a (state_of W.sets W.moves R.rules B.store self.old) }
+        requires open { self.old.complete ≡ false }
+        ensures grows { Grows (state_of W.sets W.moves R.rules B.store self.old) (state_of W.sets W.moves R.rules B.store self.new) }
+        ensures drew { IfOk result (λ learnt. Drew (state_of W.sets W.moves R.rules B.store self.old) (state_of W.sets W.moves R.rules B.store self.new) learnt (LastByteKnown a)) }
+        ensures halt { IfErr result (λ h. IsHalt (state_of W.sets W.moves R.rules B.store self.new) h) }
+    {
+        let point = self.count();
+        match self.dump_byte(a) {
+            None => Ok(false),
+            Some(v) => {
+                let learnt = self.learn_byte(point, a, v, false)?;
+                Ok(learnt)
+            }
+        }
+    }
+
+    /// The bytes of the dump at all tracked addresses.
+    fn draw_last_bytes(&mut self) -> Result<bool, Halt>
+        requires open { self.old.complete ≡ false }
+        ensures grows { Grows (state_of W.sets W.moves R.rules B.store self.old) (state_of W.sets W.moves R.rules B.store self.new) }
+        ensures drew { IfOk result (λ learnt. Drew (state_of W.sets W.moves R.rules B.store self.old) (state_of W.sets W.moves R.rules B.store self.new) learnt (LastBytesKnown)) }
+        ensures halt { IfErr result (λ h. IsHalt (state_of W.sets W.moves R.rules B.store self.new) h) }
+    {
+        let count = self.tracked_count();
+        let mut learnt = false;
+        for k in 0..count {
+            let a = self.address(k);
+            let new = self.draw_last_byte(a)?;
+            learnt = learnt | new;
+        }
+        Ok(learnt)
+    }
+
+    /// A set of one value, as the sets were filled.
+    fn draw_single(&mut self, point: u32, r: Reg) -> Result<bool, Halt>
+        requires point { point ≤ length self.old.rows }
+        requires fitted { IsFitted (state_of W.sets W.moves R.rules B.store self.old) }
+        requires open { self.old.complete ≡ false }
+        ensures grows { Grows (state_of W.sets W.moves R.rules B.store self.old) (state_of W.sets W.moves R.rules B.store self.new) }
+        ensures drew { IfOk result (λ learnt. Drew (state_of W.sets W.moves R.rules B.store self.old) (state_of W.sets W.moves R.rules B.store self.new) learnt (SingleKnown point r)) }
+        ensures halt { IfErr result (λ h. IsHalt (state_of W.sets W.moves R.rules B.store self.new) h) }
+    {
+        self.held();
+        let _number = r.number();
+        let span = self.span(point, r);
+        match span.as_exact() {
+            None => Ok(false),
+            Some(v) => {
+                let learnt = self.learn_if(point, r, Flat::Known(v))?;
+                Ok(learnt)
+            }
+        }
+    }
+
+    /// The sets of one value at a point.
+    fn draw_point(&mut self, point: u32) -> Result<bool, Halt>
+        requires point { point ≤ length self.old.rows }
+        requires fitted { IsFitted (state_of W.sets W.moves R.rules B.store self.old) }
+        requires open { self.old.complete ≡ false }
+        ensures grows { Grows (state_of W.sets W.moves R.rules B.store self.old) (state_of W.sets W.moves R.rules B.store self.new) }
+        ensures drew { IfOk result (λ learnt. Drew (state_of W.sets W.moves R.rules B.store self.old) (state_of W.sets W.moves R.rules B.store self.new) learnt (PointSingles 32 point)) }
+        ensures halt { IfErr result (λ h. IsHalt (state_of W.sets W.moves R.rules B.store self.new) h) }
+    {
+        let mut learnt = false;
+        for r in 0..32u8 {
+            let new = self.draw_single(point, register(r))?;
+            learnt = learnt | new;
+        }
+        Ok(learnt)
+    }
+
+    /// All sets of one value.
+    fn draw_singles(&mut self) -> Result<bool, Halt>
+        requires fitted { IsFitted (state_of W.sets W.moves R.rules B.store self.old) }
+        requires open { self.old.complete ≡ false }
+        ensures grows { Grows (state_of W.sets W.moves R.rules B.store self.old) (state_of W.sets W.moves R.rules B.store self.new) }
+        ensures drew { IfOk result (λ learnt. Drew (state_of W.sets W.moves R.rules B.store self.old) (state_of W.sets W.moves R.rules B.store self.new) learnt (SinglesKnown)) }
+        ensures halt { IfErr result (λ h. IsHalt (state_of W.sets W.moves R.rules B.store self.new) h) }
+    {
+        let count = self.count();
+        let mut learnt = false;
+        for point in 0..count + 1 {
+            let new = self.draw_point(point)?;
+            learnt = learnt | new;
+        }
+        Ok(learnt)
+    }
+
+    /// All rows, back and onward, with the tracked bytes carried after each way.
+    fn draw_through(&mut self) -> Result<bool, Halt>
+        requires writings { AreWritings (state_of W.sets W.moves R.rules B.store self.old) }
+        requires open { self.old.complete ≡ false }
+        requires uncut { IsUncut (state_of W.sets W.moves R.rules B.store self.old) }
+        ensures grows { Grows (state_of W.sets W.moves R.rules B.store self.old) (state_of W.sets W.moves R.rules B.store self.new) }
+        ensures drew { IfOk result (λ learnt. Drew (state_of W.sets W.moves R.rules B.store self.old) (state_of W.sets W.moves R.rules B.store self.new) learnt (IsDrawnThrough)) }
+        ensures halt { IfErr result (λ h. IsHalt (state_of W.sets W.moves R.rules B.store self.new) h) }
+    {
+        let back = self.draw_back()?;
+        let first = self.carry_tracked()?;
+        let onward = self.draw_onward()?;
+        let second = self.carry_tracked()?;
+        Ok(back | first | onward | second)
+    }
+
+    /// All rules once: last values and bytes, rows and carried bytes, and sets of one value.
+    pub(super) fn sweep(&mut self) -> Result<bool, Halt>
+        requires fitted { IsFitted (state_of W.sets W.moves R.rules B.store self.old) }
+        requires writings { AreWritings (state_of W.sets W.moves R.rules B.store self.old) }
+        requires open { self.old.complete ≡ false }
+        requires uncut { IsUncut (state_of W.sets W.moves R.rules B.store self.old) }
+        ensures grows { Grows (state_of W.sets W.moves R.rules B.store self.old) (state_of W.sets W.moves R.rules B.store self.new) }
+        ensures drew { IfOk result (λ learnt. Drew (state_of W.sets W.moves R.rules B.store self.old) (state_of W.sets W.moves R.rules B.store self.new) learnt (IsDrawnAll)) }
+        ensures halt { IfErr result (λ h. IsHalt (state_of W.sets W.moves R.rules B.store self.new) h) }
+    {
+        let last = self.draw_all_last()?;
+        let bytes = self.draw_last_bytes()?;
+        let through = self.draw_through()?;
+        let singles = self.draw_singles()?;
+        Ok(last | bytes | through | singles)
+    }
+}

@@ -1,0 +1,237 @@
+// Reasons of facts.
+ghost use Rattle.std.specs.Prelude.{◌≡◌, ◌≢◌, ◌≤◌, ◌<◌, ◌+◌, ◌-◌, ◌↔◌, length, true, false, Some, IfOk, IfSome, IfNone, IsTrue};
+ghost use Rattle.rept_reason.specs.declared.fact.Cell.TheVariants.{Register, Byte};
+ghost use Rattle.rept_report.specs.Log.{entry, place_of, oldest};
+ghost use Rattle.rept_report.specs.Reasons.{StandsIn};
+ghost use Rattle.rept_report.specs.Why.{because, IsReason, IsLeastFront};
+ghost use Rattle.rept_log.specs.Fronts.{told_by};
+ghost use Rattle.rept_analysis.specs.State.{setting_of, state_of};
+ghost use Rattle.rept_analysis.specs.Kept.{answers};
+ghost use Rattle.rept_analysis.specs.Reasoned.{AreSetsOf, KeepsAll, IsNotLast};
+
+use super::Analysis;
+use rept_isa::Reg;
+use rept_reason::{Cell, Fact, Reason};
+use rept_span::{Spans, Transfer};
+use rept_versions::ByteFacts;
+use rept_view::RowRules;
+use std::alloc::{AllocError as OutOfMemory, Global};
+
+impl<'a, B: ByteFacts, W: Transfer, R: RowRules> Analysis<'a, B, W, R> {
+    /// The place in the log of the fact on a register at a point.
+    fn place_at(&self, point: u32, r: Reg) -> Option<u32>
+        requires point { point ≤ length self.now.rows }
+        requires named { 0 < r }
+        ensures place { result ≡ place_of self.now.known.log point (Register r) }
+        ensures within { IfSome result (λ t. t < length self.now.known.log) }
+    {
+        let _rows = &self.rows;
+        self.known.place(point, r)
+    }
+
+    /// Whether the log has a fact at a place.
+    fn is_entry(&self, place: u32, fact: &Fact) -> bool
+        requires { place < length self.now.known.log }
+        ensures { IsTrue result ↔ (entry self.now.known.log place ≡ Some fact.now) }
+    {
+        self.known.entry(place) == *fact
+    }
+
+    /// The place in the log of a register's fact.
+    fn place(&self, fact: &Fact, r: Reg) -> Option<u32>
+        requires point { fact.now.point ≤ length self.now.rows }
+        requires cell { fact.now.cell ≡ Register r }
+        requires complete { self.now.complete ≡ true }
+        ensures found { IfSome result (λ t. entry self.now.known.log t ≡ Some fact.now) }
+        ensures named { IfSome result (λ _. 0 < r) }
+        ensures none { IfNone result (answers (state_of W.sets W.moves R.rules B.store self.now) fact.now.point fact.now.cell ≢ Some fact.now.value) }
+    {
+        self.held();
+        if r.number() == 0 {
+            return None;
+        }
+        let place = self.place_at(fact.point, r)?;
+        if self.is_entry(place, fact) {
+            Some(place)
+        } else {
+            None
+        }
+    }
+
+    /// The reason of a register's fact, by what stands before its place.
+    fn why_register(
+        &mut self,
+        alloc: Global,
+        fact: &Fact,
+        r: Reg,
+    ) -> Result<Option<Reason>, OutOfMemory>
+        requires point { fact.now.point ≤ length self.old.rows }
+        requires cell { fact.now.cell ≡ Register r }
+        requires complete { self.old.complete ≡ true }
+        ensures none { IfOk result (λ found. IfNone found (answers (state_of W.sets W.moves R.rules B.store self.old) fact.now.point fact.now.cell ≢ Some fact.now.value)) }
+        ensures reason { IfOk result (λ found. IfSome found (λ reason. IsReason (setting_of W.sets W.moves R.rules self.old) self.old.known.log fact.now (told_by reason))) }
+        ensures same { KeepsAll (state_of W.sets W.moves R.rules B.store self.old) (state_of W.sets W.moves R.rules B.store self.new) }
+    {
+        self.held();
+        match self.place(fact, r) {
+            None => Ok(None),
+            Some(place) => {
+                let spans = self.sets_below(place)?;
+                self.known_below(alloc, &spans, place, fact, r)
+            }
+        }
+    }
+
+    /// Whether a byte's fact stands in the front of the log below a limit.
+    fn stands_below(&self, spans: &Spans<W>, limit: u32, fact: &Fact, a: u32) -> bool
+        requires within { limit ≤ length self.now.known.log }
+        requires sets { AreSetsOf (setting_of W.sets W.moves R.rules self.now) (oldest limit self.now.known.log) spans.now }
+        requires point { fact.now.point ≤ length self.now.rows }
+        requires cell { fact.now.cell ≡ Byte a }
+        requires complete { self.now.complete ≡ true }
+        ensures { IsTrue result ↔ StandsIn (setting_of W.sets W.moves R.rules self.now) (oldest limit self.now.known.log) fact.now }
+    {
+        self.held();
+        match self.byte_below(spans, limit, fact.point, a) {
+            Some(byte) => u32::from(byte) == fact.value,
+            None => false,
+        }
+    }
+
+    /// How many facts in the log, from the oldest on, are enough for a byte's fact to stand in them.
+    fn least_front(&self, spans: &mut Spans<W>, fact: &Fact, a: u32) -> u32
+        requires sized { spans.old.points ≡ length self.now.rows + 1 }
+        requires point { fact.now.point ≤ length self.now.rows }
+        requires cell { fact.now.cell ≡ Byte a }
+        requires complete { self.now.complete ≡ true }
+        requires known { answers (state_of W.sets W.moves R.rules B.store self.now) fact.now.point fact.now.cell ≡ Some fact.now.value }
+        ensures least { IsLeastFront (setting_of W.sets W.moves R.rules self.now) self.now.known.log fact.now result }
+        ensures within { result ≤ length self.now.known.log }
+        ensures sized { spans.new.points ≡ length self.now.rows + 1 }
+    {
+        self.held();
+        let mut low = 0;
+        let mut high = self.len();
+        while low < high {
+            let middle = low + (high - low) / 2;
+            self.fill_sets(spans, middle);
+            if self.stands_below(spans, middle, fact, a) {
+                high = middle;
+            } else {
+                low = middle + 1;
+            }
+        }
+        low
+    }
+
+    /// The reason of a byte's fact that is the last one of its least front.
+    fn why_drawn(
+        &mut self,
+        alloc: Global,
+        spans: &mut Spans<W>,
+        place: u32,
+        fact: &Fact,
+        a: u32,
+    ) -> Result<Option<Reason>, OutOfMemory>
+        requires sized { spans.old.points ≡ length self.old.rows + 1 }
+        requires point { fact.now.point ≤ length self.old.rows }
+        requires cell { fact.now.cell ≡ Byte a }
+        requires complete { self.old.complete ≡ true }
+        requires least { IsLeastFront (setting_of W.sets W.moves R.rules self.old) self.old.known.log fact.now (place + 1) }
+        requires entry { entry self.old.known.log place ≡ Some fact.now }
+        ensures none { IfOk result (λ found. IfNone found (answers (state_of W.sets W.moves R.rules B.store self.old) fact.now.point fact.now.cell ≢ Some fact.now.value)) }
+        ensures reason { IfOk result (λ found. IfSome found (λ reason. IsReason (setting_of W.sets W.moves R.rules self.old) self.old.known.log fact.now (told_by reason))) }
+        ensures same { KeepsAll (state_of W.sets W.moves R.rules B.store self.old) (state_of W.sets W.moves R.rules B.store self.new) }
+    {
+        self.held();
+        self.fill_sets(spans, place);
+        self.drawn_below(alloc, spans, place, fact)
+    }
+
+    /// The reason of any other byte's fact.
+    fn why_carried(
+        &self,
+        alloc: Global,
+        spans: &mut Spans<W>,
+        limit: u32,
+        fact: &Fact,
+        a: u32,
+    ) -> Result<Option<Reason>, OutOfMemory>
+        requires sized { spans.old.points ≡ length self.now.rows + 1 }
+        requires within { limit ≤ length self.now.known.log }
+        requires point { fact.now.point ≤ length self.now.rows }
+        requires cell { fact.now.cell ≡ Byte a }
+        requires complete { self.now.complete ≡ true }
+        requires least { IsLeastFront (setting_of W.sets W.moves R.rules self.now) self.now.known.log fact.now limit }
+        requires other { IsNotLast self.now.known.log fact.now limit }
+        ensures none { IfOk result (λ found. IfNone found (answers (state_of W.sets W.moves R.rules B.store self.now) fact.now.point fact.now.cell ≢ Some fact.now.value)) }
+        ensures reason { IfOk result (λ found. IfSome found (λ reason. IsReason (setting_of W.sets W.moves R.rules self.now) self.now.known.log fact.now (told_by reason))) }
+    {
+        self.held();
+        self.fill_sets(spans, limit);
+        self.carried_below(alloc, spans, limit, fact, a)
+    }
+
+    /// Whether a byte's fact is answered.
+    fn is_answered(&self, fact: &Fact, a: u32) -> bool
+        requires point { fact.now.point ≤ length self.now.rows }
+        requires cell { fact.now.cell ≡ Byte a }
+        requires complete { self.now.complete ≡ true }
+        ensures { IsTrue result ↔ (answers (state_of W.sets W.moves R.rules B.store self.now) fact.now.point fact.now.cell ≡ Some fact.now.value) }
+    {
+        match self.byte(fact.point, a) {
+            Some(byte) => u32::from(byte) == fact.value,
+            None => false,
+        }
+    }
+
+    /// Whether the fact is the last one of the front of the log below a limit.
+    fn is_last(&self, limit: u32, fact: &Fact) -> bool
+        requires { limit ≤ length self.now.known.log }
+        ensures last { result ≡ true → (0 < limit) × (entry self.now.known.log (limit - 1) ≡ Some fact.now) }
+        ensures other { result ≡ false → IsNotLast self.now.known.log fact.now limit }
+    {
+        limit > 0 && self.is_entry(limit - 1, fact)
+    }
+
+    /// The reason of a byte's fact, by the least front in which it stands.
+    fn why_byte(
+        &mut self,
+        alloc: Global,
+        fact: &Fact,
+        a: u32,
+    ) -> Result<Option<Reason>, OutOfMemory>
+        requires point { fact.now.point ≤ length self.old.rows }
+        requires cell { fact.now.cell ≡ Byte a }
+        requires complete { self.old.complete ≡ true }
+        ensures none { IfOk result (λ found. IfNone found (answers (state_of W.sets W.moves R.rules B.store self.old) fact.now.point fact.now.cell ≢ Some fact.now.value)) }
+        ensures reason { IfOk result (λ found. IfSome found (λ reason. IsReason (setting_of W.sets W.moves R.rules self.old) self.old.known.log fact.now (told_by reason))) }
+        ensures same { KeepsAll (state_of W.sets W.moves R.rules B.store self.old) (state_of W.sets W.moves R.rules B.store self.new) }
+    {
+        if !self.is_answered(fact, a) {
+            return Ok(None);
+        }
+        let mut spans = self.sets_below(0)?;
+        let limit = self.least_front(&mut spans, fact, a);
+        if self.is_last(limit, fact) {
+            return self.why_drawn(alloc, &mut spans, limit - 1, fact, a);
+        }
+        self.why_carried(alloc, &mut spans, limit, fact, a)
+    }
+
+    /// A reason of a fact: the rule that gives it, the facts that the rule rests on, which were known before it, and the ranges that
+    /// the rule looked at, by those facts. `None` exactly where the fact isn't answered. `OutOfMemory` says that the room for the
+    /// search can't be had. Nothing that other calls answer changes.
+    pub fn why(&mut self, alloc: Global, fact: Fact) -> Result<Option<Reason>, OutOfMemory>
+        requires point { fact.point ≤ length self.old.rows }
+        requires complete { self.old.complete ≡ true }
+        ensures none { IfOk result (λ found. IfNone found (answers (state_of W.sets W.moves R.rules B.store self.old) fact.point fact.cell ≢ Some fact.value)) }
+        ensures reason { IfOk result (λ found. IfSome found (λ reason. IsReason (setting_of W.sets W.moves R.rules self.old) self.old.known.log fact (because reason.rule reason.premises.items reason.ranges.items))) }
+        ensures same { KeepsAll (state_of W.sets W.moves R.rules B.store self.old) (state_of W.sets W.moves R.rules B.store self.new) }
+    {
+        match &fact.cell {
+            Cell::Register(r) => self.why_register(alloc, &fact, *r),
+            Cell::Byte(a) => self.why_byte(alloc, &fact, *a),
+        }
+    }
+}

@@ -1,0 +1,14 @@
+// What follows from a path and the dump in which it ends.
+#![tactic(auto)]
+
+pub mod analysis;
+mod halt;
+mod moment;
+mod offset;
+mod pass;
+pub mod stop;
+mod turns;
+mod writing;
+
+pub use analysis::Analysis;
+pub use stop::Stop;

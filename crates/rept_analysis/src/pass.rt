@@ -1,0 +1,79 @@
+// How far the rules of each row were drawn.
+ghost use Rattle.std.specs.Prelude.{◌≡◌, ◌<◌, ℕ, IfOk, Some, length, slice_get, set};
+ghost use Rattle.rept_analysis.specs.declared.pass.Pass.{Pass};
+
+use std::alloc::{AllocError as OutOfMemory, Global};
+use std::marker::Model;
+
+/// How far a row's rules were drawn.
+#[derive(Clone, Copy, PartialEq, Eq, Debug)]
+pub enum Pass {
+    /// They weren't.
+    Never,
+    /// They were, when so many of the row's registers and bytes were known, and all that they let one conclude was learnt.
+    With(u32),
+    /// They were, and something that they let one conclude wasn't learnt.
+    Cut,
+}
+
+/// So for each row.
+#[derive(Drop)]
+pub struct Passes {
+    list: Vec<Pass>,
+}
+
+impl Model for Passes {
+    ghost use Rattle.std.specs.Prelude.{List};
+    ghost use Rattle.rept_analysis.specs.declared.pass.Pass.{Pass};
+
+    ghost Value = { List Pass };
+
+    ghost view = { λ p. p.list.items };
+}
+
+impl Passes {
+    /// No row's rules were drawn, of so many rows.
+    pub fn new(alloc: Global, count: usize) -> Result<Passes, OutOfMemory>
+        ensures length { IfOk result (λ p. length p ≡ count) }
+        ensures never { IfOk result (λ p. (i : ℕ) (x : Pass) → slice_get p i ≡ Some x → x ≡ Pass.Never) }
+    {
+        let list = vec![in alloc; Pass::Never; count]?;
+        Ok(Passes { list })
+    }
+
+    /// How far those of a row were drawn.
+    pub fn at(&self, i: u32) -> Pass
+        requires { i < length self.now }
+        ensures { slice_get self.now i ≡ Some result }
+    {
+        let list = self.list.as_slice();
+        list[i as usize]
+    }
+
+    /// Keeps how far those of a row were drawn.
+    pub fn put(&mut self, i: u32, pass: Pass)
+        requires { i < length self.old }
+        ensures { self.new ≡ set self.old i pass }
+    {
+        self.list[i as usize] = pass;
+    }
+
+    /// No row's rules were drawn.
+    pub fn clear(&mut self)
+        ensures length { length self.new ≡ length self.old }
+        ensures never { (i : ℕ) (x : Pass) → slice_get self.new i ≡ Some x → x ≡ Pass.Never }
+    {
+        forget(&mut self.list);
+    }
+}
+
+/// Makes each of them `Never`.
+fn forget(list: &mut [Pass])
+    ensures length { length list.new ≡ length list.old }
+    ensures never { (i : ℕ) (x : Pass) → slice_get list.new i ≡ Some x → x ≡ Pass.Never }
+{
+    let count = list.len();
+    for i in 0..count {
+        list[i] = Pass::Never;
+    }
+}

@@ -1,0 +1,4 @@
+pub mod Known
+pub mod Around
+pub mod Looking
+pub mod Fronts

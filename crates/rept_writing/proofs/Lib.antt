@@ -1,0 +1,5 @@
+pub mod Filing
+pub mod Keeping
+pub mod Order
+pub mod Reading
+pub mod Passing

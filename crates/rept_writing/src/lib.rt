@@ -1,0 +1,11 @@
+// Rows that may write, found by the address.
+#![tactic(auto)]
+
+mod list;
+mod narrow;
+mod wide;
+
+pub use list::{Writing, Writings};
+
+#[cfg(test)]
+mod tests;

@@ -1,0 +1,135 @@
+// The list of rows that may write, with what finds them by address.
+ghost use Rattle.std.specs.Prelude.{◌≡◌, ◌+◌, ◌<◌, ◌≤◌, [], ◌∷◌, ◌++◌, IfOk, Some, length, slice_get};
+ghost use Rattle.rept_writing.specs.Hits.{IsNextHit};
+ghost use Rattle.rept_writing.specs.Filed.{sooner};
+
+use crate::narrow::{Hit, file, next_narrow};
+use crate::wide::{next_wide, scan};
+use rept_alias::CallAccess;
+use std::alloc::{AllocError as OutOfMemory, Global};
+use std::marker::Model;
+
+/// A row that may write, and the bytes that it may write.
+#[derive(Clone, Copy, PartialEq, Eq, Debug)]
+pub struct Writing {
+    /// the row's number
+    pub row: u32,
+    /// the bytes
+    pub access: CallAccess,
+}
+
+/// Rows that may write, in the order in which they were added, with room for so many as were asked for. The next row that may
+/// write an address is found fast once `index` was called, and by a search through the list before.
+#[derive(Drop)]
+pub struct Writings {
+    list: Vec<Writing>,
+    /// each address of the rows that may write few
+    narrow: Vec<Hit>,
+    /// the indices of the others
+    wide: Vec<usize>,
+    /// whether `narrow` is in order
+    is_indexed: bool,
+}
+
+impl Model for Writings {
+    ghost use Rattle.std.specs.Prelude.{◌≡◌, ◌≤◌, true};
+    ghost use Rattle.std.specs.Vec.{vec_capacity};
+    ghost use Rattle.std.specs.List.Sorted.{IsSorted};
+    ghost use Rattle.rept_writing.specs.Hits.{Listed};
+    ghost use Rattle.rept_writing.specs.Filed.{IsFiled, hit_cmp};
+
+    ghost Value = { Listed };
+
+    ghost view = { λ w. record { list = w.list.items; room = vec_capacity w.list } };
+
+    ghost invariant = { λ w. record { filed : IsFiled w.list.items w.narrow.items w.wide.items; sorted : w.is_indexed ≡ true → IsSorted hit_cmp w.narrow.items; room : vec_capacity w.list ≤ vec_capacity w.wide } };
+}
+
+impl Writings {
+    /// No row, with room for so many rows, and for so many bytes of rows that may write few.
+    pub fn new(alloc: Global, rows: usize, bytes: usize) -> Result<Writings, OutOfMemory>
+        ensures none { IfOk result (λ w. w.list ≡ []) }
+        ensures room { IfOk result (λ w. rows ≤ w.room) }
+    {
+        let list = Vec::with_capacity(alloc, rows)?;
+        let narrow = Vec::with_capacity(alloc, bytes)?;
+        let wide = Vec::with_capacity(alloc, rows)?;
+        Ok(Writings {
+            list,
+            narrow,
+            wide,
+            is_indexed: false,
+        })
+    }
+
+    /// Takes all rows out.
+    pub fn clear(&mut self)
+        ensures none { self.new.list ≡ [] }
+        ensures room { self.new.room ≡ self.old.room }
+    {
+        self.list.clear();
+        self.narrow.clear();
+        self.wide.clear();
+    }
+
+    /// Adds a row.
+    pub fn add(&mut self, row: u32, access: CallAccess)
+        requires { length self.old.list < self.old.room }
+        ensures list { self.new.list ≡ self.old.list ++ record { row = row; access = access } ∷ [] }
+        ensures room { self.new.room ≡ self.old.room }
+    {
+        let index = self.list.len();
+        file(&mut self.narrow, &mut self.wide, index, &access);
+        self.list.push_reserved(Writing { row, access });
+        self.is_indexed = false;
+    }
+
+    /// How many rows there are.
+    pub fn len(&self) -> usize
+        ensures { result ≡ length self.now.list }
+    {
+        self.list.len()
+    }
+
+    /// The row at an index.
+    pub fn at(&self, k: usize) -> Writing
+        requires { k < length self.now.list }
+        ensures { slice_get self.now.list k ≡ Some result }
+    {
+        let list = self.list.as_slice();
+        list[k]
+    }
+
+    /// Makes the rows found fast by address, up to the next change. The list stays as it is; no memory is taken.
+    pub fn index(&mut self)
+        ensures { self.new ≡ self.old }
+    {
+        self.narrow.sort_unstable();
+        self.is_indexed = true;
+    }
+
+    /// The index of the first row from index k on that may write the address. None is said exactly where there is none.
+    pub fn next_hit(&self, k: usize, a: u32) -> Option<usize>
+        ensures { IsNextHit self.now.list k a result }
+    {
+        let list = self.list.as_slice();
+        if self.is_indexed {
+            let narrow = next_narrow(self.narrow.as_slice(), k, a);
+            let wide = next_wide(list, self.wide.as_slice(), k, a);
+            sooner(narrow, wide)
+        } else {
+            scan(list, k, a)
+        }
+    }
+}
+
+/// The lesser of two indices, where there are two.
+fn sooner(first: Option<usize>, second: Option<usize>) -> Option<usize>
+    ensures { result ≡ sooner first second }
+{
+    match (first, second) {
+        (None, _) => second,
+        (Some(_), None) => first,
+        (Some(p), Some(q)) => Some(p.min(q)),
+    }
+}

@@ -1,0 +1,38 @@
+// The rows of many addresses, and the search through all.
+ghost use Rattle.std.specs.Prelude.{◌≡◌, ◌<◌, true, length};
+ghost use Rattle.std.specs.List.{All, Contains};
+ghost use Rattle.std.specs.List.Sorted.{IsNonDecreasing};
+ghost use Rattle.rept_writing.specs.Hits.{IsNextHit, hits_at};
+ghost use Rattle.rept_writing.specs.Filed.{IsFirst};
+
+use crate::list::Writing;
+
+/// The first row from index k on that may write the address, by a look at each.
+pub fn scan(list: &[Writing], k: usize, a: u32) -> Option<usize>
+    ensures { IsNextHit list.now k a result }
+{
+    for j in k..list.len() {
+        let access = list[j].access;
+        if access.may_hit(a) {
+            return Some(j);
+        }
+    }
+    None
+}
+
+/// The first one of these indices, from k on, whose row may write the address.
+pub fn next_wide(list: &[Writing], wide: &[usize], k: usize, a: u32) -> Option<usize>
+    requires rising { IsNonDecreasing wide.now }
+    requires inside { All (λ j. j < length list.now) wide.now }
+    ensures { IsFirst (λ j. Contains wide.now j × (hits_at list.now j a ≡ true)) k result }
+{
+    let from = wide.partition_point(|j| *j < k);
+    for i in from..wide.len() {
+        let j = wide[i];
+        let access = list[j].access;
+        if access.may_hit(a) {
+            return Some(j);
+        }
+    }
+    None
+}
