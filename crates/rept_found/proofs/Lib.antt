@@ -1,0 +1,4 @@
+pub mod Settings
+pub mod Tellings
+pub mod Truths
+pub mod Whys

@@ -1,0 +1,48 @@
+-- What a crash leaves, and the analysis of a path that ends in it (ELF-32 Object File Format; Linux core notes of RISC-V).
+use Rattle.std.specs.Prelude.{ℕ, ◌+◌, ◌*◌, List, map, ◌==◌, if◌then◌else◌}
+use Rattle.std.specs.List.{range_with_len}
+use Rattle.rept_elf.specs.Header.{word_at}
+use Rattle.rept_elf.specs.Segments.{ElfSegment, greatest_end}
+use Rattle.rept_dump.specs.Dump.{exe_of, core_of, registers_of}
+use Rattle.rept_dump.specs.Memory.{byte_at}
+use Rattle.rept_dump.specs.declared.dump.Dump.{Dump}
+use Rattle.rept_isa.specs.declared.row.StepRow.{StepRow}
+use Rattle.rept_partial.specs.Ranges.{range_sets}
+use Rattle.rept_partial.specs.declared.range.Range.{Range}
+use Rattle.rept_report.specs.Setting.{Setting}
+use Rattle.rept_rules.specs.Base.{base_rules}
+use Rattle.rept_span.specs.RangeMoves.{range_moves}
+
+-- an executable and the core file of its crash: the segments of each, and the descriptor of the register note
+pub record Crash : Type 0 where
+  pub exe : List ElfSegment
+  pub core : List ElfSegment
+  pub note : List ℕ
+
+abbrev pub crash_of : Dump → Crash
+crash_of dump = record { exe = exe_of dump; core = core_of dump; note = registers_of dump }
+
+-- the program counter in the descriptor of a register note
+abbrev pub end_pc : List ℕ → ℕ
+end_pc note = word_at note 72
+
+-- the last value of a register
+abbrev pub last_value : List ℕ → ℕ → ℕ
+last_value note r = if r == 0 then 0 else word_at note (72 + 4 * r)
+
+-- the last values of x0 to x31
+unfoldable pub last_values : List ℕ → List ℕ
+last_values note = map (last_value note) (range_with_len 0 32)
+
+-- A path over the executable, and the registers and bytes of the core file in which it ends. Values are followed as ranges, and the
+-- rows let one draw what the rules of RV32IM say.
+abbrev pub setting : Crash → List StepRow → Setting Range
+setting crash rows = record {
+  sets = range_sets;
+  moves = range_moves;
+  rules = base_rules;
+  rows = rows;
+  last = last_values crash.note;
+  dump = byte_at crash.exe crash.core;
+  image_end = greatest_end crash.exe;
+}

@@ -1,0 +1,4 @@
+pub mod Crash
+pub mod Telling
+pub mod Truth
+pub mod View

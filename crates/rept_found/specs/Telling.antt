@@ -1,0 +1,63 @@
+-- What a session tells of a report: what is known, and what follows from it. This project's own.
+use Rattle.std.specs.Prelude.{ℕ, zero, suc, ◌+◌, true, false, List, length, Option, Some, None, if◌then◌else◌}
+use Rattle.rept_partial.specs.declared.range.Range.{Range}
+use Rattle.rept_reason.specs.declared.fact.Fact.{Fact}
+use Rattle.rept_reason.specs.declared.fact.Cell.TheVariants.{Byte}
+use Rattle.rept_reason.specs.Facts.{Knowledge, register_known}
+use Rattle.rept_span.specs.Ranges.{range}
+use Rattle.rept_report.specs.declared.counts.Counts.{Counts}
+use Rattle.rept_report.specs.declared.writer.Writer.{Writer}
+use Rattle.rept_report.specs.declared.writer.Writer as writers
+use Rattle.rept_report.specs.Setting.{Setting, way_of}
+use Rattle.rept_report.specs.Views.{all_words, may_write, is_sure}
+use Rattle.rept_report.specs.Why.{IsReason}
+use Rattle.rept_analysis.specs.Counts.{calls_below, stores_below, known_below}
+use Rattle.rept_session.specs.Shown.{Shown, Told, told}
+
+-- of a step that may write a byte: whether it is known that it does
+abbrev pub writer_at : Setting Range → Knowledge → ℕ → Writer
+writer_at S K j = if is_sure S K j then writers.TheVariants.Writes j else writers.TheVariants.MayWrite j
+
+-- the greatest step before a point that may write the byte
+abbrev pub last_writer : Setting Range → Knowledge → ℕ → ℕ → Writer
+last_writer S K zero a = writers.TheVariants.None
+last_writer S K (suc j) a = if may_write S K j a then writer_at S K j else last_writer S K j a
+
+-- the values that are left, of which a report has some
+abbrev pub left_of : Option Range → Range
+left_of None = all_words
+left_of (Some set) = set
+
+-- how many steps, environment calls, known registers, and stores to known and to unknown addresses there are
+abbrev pub counts_of : Setting Range → Knowledge → Counts
+counts_of S K = record {
+  steps = length S.rows;
+  calls = calls_below S.rows (length S.rows);
+  registers = known_below K (length S.rows + 1);
+  exact = stores_below S.rows K true (length S.rows);
+  inexact = stores_below S.rows K false (length S.rows);
+}
+
+-- what is shown of a report, over a path that leads to an address
+abbrev pub shown_of : Setting Range → Knowledge → ℕ → Shown
+shown_of S K end = record {
+  rows = S.rows;
+  end_pc = end;
+  register = register_known K;
+  range = λ p r. left_of (range (way_of S) K p r);
+  byte = λ p a. K p (Byte a);
+  writer = λ p a. last_writer S K p a;
+  counts = counts_of S K;
+}
+
+-- a report, the order in which it was learnt, and what a session tells besides: the address after the last step, and how many packets
+-- were left out
+pub record Account : Type 0 where
+  pub known : Knowledge
+  pub log : List Fact
+  pub end_pc : ℕ
+  pub skipped : ℕ
+
+-- what a session tells of it, with reasons by that order
+abbrev pub told_of : Setting Range → Account → Told
+told_of S a = told (shown_of S a.known a.end_pc) a.skipped (IsReason S a.log)

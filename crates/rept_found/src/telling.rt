@@ -1,0 +1,57 @@
+// What a session asks of an analysis that has ended.
+use crate::found::Found;
+use rept_isa::{Reg, StepRow};
+use rept_partial::{Flat, Range};
+use rept_reason::{Fact, Reason};
+use rept_report::{Counts, Writer};
+use rept_session::Findings;
+use rept_word::OutOfMemory;
+use std::alloc::Global;
+
+impl<'a> Findings for Found<'a> {
+    ghost use Rattle.rept_report.specs.Why.{IsReason};
+    ghost use Rattle.rept_analysis.specs.Kept.{answers};
+    ghost use Rattle.rept_found.specs.Telling.{shown_of};
+    ghost use Rattle.rept_found.specs.View.{state_in};
+
+    ghost shown = { λ f. shown_of (state_in f).setting (answers (state_in f)) f.end_pc };
+
+    ghost reasons = { λ f fact why. IsReason (state_in f).setting (state_in f).known.log fact why };
+
+    fn rows(&self) -> &[StepRow] {
+        self.analysis.account();
+        self.analysis.rows()
+    }
+
+    fn end_pc(&self) -> u32 {
+        self.end_pc
+    }
+
+    fn reg(&self, point: u32, register: Reg) -> Option<u32> {
+        self.analysis.account();
+        match self.analysis.reg(point, register) {
+            Flat::Known(value) => Some(value),
+            Flat::Unknown => None,
+        }
+    }
+
+    fn range(&self, point: u32, register: Reg) -> Range {
+        self.analysis.range(point, register)
+    }
+
+    fn byte(&self, point: u32, address: u32) -> Option<u8> {
+        self.analysis.byte(point, address)
+    }
+
+    fn writer(&self, point: u32, address: u32) -> Writer {
+        self.analysis.writer(point, address)
+    }
+
+    fn counts(&self) -> Counts {
+        self.analysis.counts()
+    }
+
+    fn why(&mut self, alloc: Global, fact: Fact) -> Result<Option<Reason>, OutOfMemory> {
+        self.analysis.why(alloc, fact)
+    }
+}

@@ -1,0 +1,9 @@
+// A session over an input and an output: each line is answered before the next one is read.
+#![tactic(auto)]
+
+mod serving;
+
+pub use serving::{Served, serve};
+
+#[cfg(test)]
+mod tests;

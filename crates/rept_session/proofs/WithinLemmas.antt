@@ -1,0 +1,108 @@
+-- The commands that lines are stay within the path and their limits.
+use Rattle.std.proofs.Common.{◌≡◌, ℕ, List, [], ◌∷◌, length, Bool, true, false, ◌&&◌, nat_lt, nat_le, Option, None, Some, Result, codes, if◌then◌else◌, IfOk, IfSome, refl, arith}
+use Rattle.std.proofs.lemmas.Bool.Decides.{nat_tests}
+use Rattle.std.specs.Prelude.{option_map}
+use Rattle.std.specs.Option.{option_or}
+use Rattle.std.specs.Str.{bytes_eq}
+use Rattle.rept_session.specs.declared.command.Command.{Command}
+use Rattle.rept_session.specs.declared.command.Command.TheVariants as command
+use Rattle.rept_session.specs.declared.command.BadCommand.{BadCommand}
+use Rattle.rept_session.specs.declared.verb.Verb.{Verb}
+use Rattle.rept_session.specs.declared.verb.Verb.TheVariants.{Lone, One, Two}
+use Rattle.rept_session.specs.declared.verb.Single.{Single}
+use Rattle.rept_session.specs.declared.verb.Single.TheVariants as single
+use Rattle.rept_session.specs.declared.verb.Double.{Double}
+use Rattle.rept_session.specs.declared.verb.Double.TheVariants as double
+use Rattle.rept_session.specs.Commands.{IsWithin, begins_with_digit, command_of, command_of_first, command_of_words, double_command, double_verb, goto_command, is_count, lone_command, single_command, single_verb, verb_of, why_command, with_number, with_register}
+use Rattle.rept_number.specs.Numbers.{number_of_word}
+use Rattle.rept_session.specs.Registers.{register_of}
+use Rattle.rept_session.specs.Words.{words_in}
+
+-- one of two, by a test
+either : {A : Type 0} (P : A → Type 0) (b : Bool) (x y : A) → (b ≡ true → P x) → (b ≡ false → P y) → P (if b then x else y)
+either P true x y p q = p refl
+either P false x y p q = q refl
+
+module _ (last : ℕ) where
+  abbrev Good : Result Command BadCommand → Type 0
+  Good r = IfOk r (IsWithin last)
+
+  abbrev GoodVerb : Option Verb → Type 0
+  GoodVerb None = Unit {0}
+  GoodVerb (Some (Lone c)) = IsWithin last c
+  GoodVerb (Some (One v)) = Unit {0}
+  GoodVerb (Some (Two v)) = Unit {0}
+
+  abbrev GoodLone : Option Command → Type 0
+  GoodLone o = IfSome o (IsWithin last)
+
+  lone : (word : List ℕ) → GoodLone (lone_command word)
+  lone word =
+      either GoodLone (bytes_eq word (codes "where")) _ _ (λ _. tt)
+      (λ _. either GoodLone (bytes_eq word (codes "regs")) _ _ (λ _. tt)
+      (λ _. either GoodLone (bytes_eq word (codes "summary")) _ _ (λ _. tt)
+      (λ _. either GoodLone (bytes_eq word (codes "quit")) _ _ (λ _. tt) (λ _. tt))))
+
+  verb_good : (a : Option Command) (b : Option Single) (c : Option Double) → GoodLone a → GoodVerb (option_or (option_map Lone a) (option_or (option_map One b) (option_map Two c)))
+  verb_good (Some a) b c h = h
+  verb_good None (Some b) c h = tt
+  verb_good None None (Some c) h = tt
+  verb_good None None None h = tt
+
+  number_good : (f : ℕ → Command) → ((k : ℕ) → IsWithin last (f k)) → (o : Option ℕ) → Good (with_number f o)
+  number_good f h None = tt
+  number_good f h (Some k) = h k
+
+  register_good : (f : ℕ → Command) → ((k : ℕ) → IsWithin last (f k)) → (o : Option ℕ) → Good (with_register f o)
+  register_good f h None = tt
+  register_good f h (Some k) = h k
+
+  goto_good : (o : Option ℕ) → Good (goto_command last o)
+  goto_good None = tt
+  goto_good (Some i) = either Good (nat_le i last) _ _ (λ e. grind (arith, nat_tests, e)) (λ _. tt)
+
+  why_good : (o : Option ℕ) (word : List ℕ) → Good (why_command o word)
+  why_good (Some r) word = tt
+  why_good None word = either Good (begins_with_digit word) _ _ (λ _. number_good command.WhyByte (λ k. tt) (number_of_word word)) (λ _. tt)
+
+  single_good : (v : Single) (word : List ℕ) → Good (single_command last v word)
+  single_good single.Back word = number_good command.Back (λ k. tt) (number_of_word word)
+  single_good single.Fwd word = number_good command.Fwd (λ k. tt) (number_of_word word)
+  single_good single.Goto word = goto_good (number_of_word word)
+  single_good single.Reg word = register_good command.Reg (λ k. tt) (register_of word)
+  single_good single.Range word = register_good command.Range (λ k. tt) (register_of word)
+  single_good single.Writer word = number_good command.Writer (λ k. tt) (number_of_word word)
+  single_good single.Why word = why_good (register_of word) word
+
+  both : (a b : Bool) → a && b ≡ true → (a ≡ true) × (b ≡ true)
+  both true true e = (refl, refl)
+  both true false e = let bad : ⊥ = cc in absurd bad
+  both false b e = let bad : ⊥ = cc in absurd bad
+
+  double_good : (v : Double) (a b : Option ℕ) → Good (double_command last v a b)
+  double_good v None b = tt
+  double_good v (Some a) None = tt
+  double_good double.Mem (Some a) (Some k) =
+      either Good (is_count k) _ _ (λ e. let p = both (nat_lt 0 k) (nat_le k 256) e in (grind (arith, nat_tests, p.0), grind (arith, nat_tests, p.1))) (λ _. tt)
+  double_good double.List (Some i) (Some k) =
+      either Good (nat_le i last && is_count k) _ _
+      (λ e. let q = both (nat_le i last) (is_count k) e in let p = both (nat_lt 0 k) (nat_le k 256) q.1 in (grind (arith, nat_tests, q.0), grind (arith, nat_tests, p.0), grind (arith, nat_tests, p.1))) (λ _. tt)
+
+  words_good : (o : Option Verb) (words : List (List ℕ)) → GoodVerb o → Good (command_of_first last o words)
+  words_good None words h = tt
+  words_good (Some (Lone c)) [] h = h
+  words_good (Some (Lone c)) (w ∷ ws) h = tt
+  words_good (Some (One v)) [] h = tt
+  words_good (Some (One v)) (w ∷ []) h = single_good v w
+  words_good (Some (One v)) (w ∷ x ∷ ws) h = tt
+  words_good (Some (Two v)) [] h = tt
+  words_good (Some (Two v)) (w ∷ []) h = tt
+  words_good (Some (Two v)) (w ∷ x ∷ []) h = double_good v (number_of_word w) (number_of_word x)
+  words_good (Some (Two v)) (w ∷ x ∷ y ∷ ws) h = tt
+
+  line_good : (words : List (List ℕ)) → Good (command_of_words last words)
+  line_good [] = tt
+  line_good (w ∷ ws) = words_good (verb_of w) ws (verb_good (lone_command w) (single_verb w) (double_verb w) (lone w))
+
+  pub command_within : (line : List ℕ) → Good (command_of last line)
+  command_within line = either Good (nat_lt 256 (length line)) _ _ (λ _. tt) (λ _. line_good (words_in line))

@@ -1,0 +1,10 @@
+use Rattle.std.proofs.Common.{sym, subst, IfOk}
+use Rattle.rept_session.specs.declared.command.Command.{Command}
+use Rattle.rept_session.specs.Shown.{told}
+use Rattle.rept_session.specs.Texts.{IsText}
+use Rattle.rept_session.proofs.answers.text_of.Goals as goal
+
+pub returns-in-WhyReg-clause-text : goal.returns-in-WhyReg-clause-text
+returns-in-WhyReg-clause-text g c =
+    subst (λ (k : Command). IfOk c.why_register.result (λ text. IsText (told (g.F.Findings.shown c.args.findings.now) c.args.skipped (g.F.Findings.reasons c.args.findings.now)) c.args.point k text)) (sym c.in-WhyReg.is)
+    (c.why_register.ensures.text c.args.skipped)

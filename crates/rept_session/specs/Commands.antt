@@ -1,0 +1,132 @@
+-- Which command a line is. This project's own.
+use Rattle.std.specs.Prelude.{ℕ, ◌≤◌, ◌<◌, List, [], ◌∷◌, length, Bool, false, ◌&&◌, nat_lt, nat_le, Option, None, Some, option_map, Result, Ok, Err, codes, if◌then◌else◌}
+use Rattle.std.specs.Char.{is_ascii_digit}
+use Rattle.std.specs.Option.{option_or}
+use Rattle.std.specs.Str.{bytes_eq}
+use Rattle.rept_session.specs.declared.command.Command.{Command}
+use Rattle.rept_session.specs.declared.command.Command.TheVariants as command
+use Rattle.rept_session.specs.declared.command.BadCommand.{BadCommand}
+use Rattle.rept_session.specs.declared.command.BadCommand.TheVariants as bad
+use Rattle.rept_session.specs.declared.verb.Verb.{Verb}
+use Rattle.rept_session.specs.declared.verb.Verb.TheVariants.{Lone, One, Two}
+use Rattle.rept_session.specs.declared.verb.Single.{Single}
+use Rattle.rept_session.specs.declared.verb.Single.TheVariants as single
+use Rattle.rept_session.specs.declared.verb.Double.{Double}
+use Rattle.rept_session.specs.declared.verb.Double.TheVariants as double
+use Rattle.rept_number.specs.Numbers.{number_of_word}
+use Rattle.rept_session.specs.Registers.{register_of}
+use Rattle.rept_session.specs.Words.{words_in}
+
+-- the commands that take no words
+abbrev pub lone_command : List ℕ → Option Command
+lone_command word =
+    if bytes_eq word (codes "where") then Some command.Where
+    else if bytes_eq word (codes "regs") then Some command.Regs
+    else if bytes_eq word (codes "summary") then Some command.Summary
+    else if bytes_eq word (codes "quit") then Some command.Quit
+    else None
+
+-- those that take one word
+abbrev pub single_verb : List ℕ → Option Single
+single_verb word =
+    if bytes_eq word (codes "back") then Some single.Back
+    else if bytes_eq word (codes "fwd") then Some single.Fwd
+    else if bytes_eq word (codes "goto") then Some single.Goto
+    else if bytes_eq word (codes "reg") then Some single.Reg
+    else if bytes_eq word (codes "range") then Some single.Range
+    else if bytes_eq word (codes "writer") then Some single.Writer
+    else if bytes_eq word (codes "why") then Some single.Why
+    else None
+
+-- those that take two
+abbrev pub double_verb : List ℕ → Option Double
+double_verb word =
+    if bytes_eq word (codes "mem") then Some double.Mem
+    else if bytes_eq word (codes "list") then Some double.List
+    else None
+
+abbrev pub verb_of : List ℕ → Option Verb
+verb_of word = option_or (option_map Lone (lone_command word)) (option_or (option_map One (single_verb word)) (option_map Two (double_verb word)))
+
+-- a command of a number
+abbrev pub with_number : (ℕ → Command) → Option ℕ → Result Command BadCommand
+with_number f None = Err bad.Number
+with_number f (Some n) = Ok (f n)
+
+-- a command of a register
+abbrev pub with_register : (ℕ → Command) → Option ℕ → Result Command BadCommand
+with_register f None = Err bad.Register
+with_register f (Some r) = Ok (f r)
+
+-- `goto`: a point up to the last one
+abbrev pub goto_command : ℕ → Option ℕ → Result Command BadCommand
+goto_command last None = Err bad.Number
+goto_command last (Some i) = if nat_le i last then Ok (command.Goto i) else Err bad.Limit
+
+abbrev pub begins_with_digit : List ℕ → Bool
+begins_with_digit [] = false
+begins_with_digit (byte ∷ bytes) = is_ascii_digit byte
+
+-- `why`: a word that names a register is one; any other is an address, and no register where it doesn't begin with a digit
+abbrev pub why_command : Option ℕ → List ℕ → Result Command BadCommand
+why_command (Some r) word = Ok (command.WhyReg r)
+why_command None word = if begins_with_digit word then with_number command.WhyByte (number_of_word word) else Err bad.Register
+
+abbrev pub single_command : ℕ → Single → List ℕ → Result Command BadCommand
+single_command last single.Back word = with_number command.Back (number_of_word word)
+single_command last single.Fwd word = with_number command.Fwd (number_of_word word)
+single_command last single.Goto word = goto_command last (number_of_word word)
+single_command last single.Reg word = with_register command.Reg (register_of word)
+single_command last single.Range word = with_register command.Range (register_of word)
+single_command last single.Writer word = with_number command.Writer (number_of_word word)
+single_command last single.Why word = why_command (register_of word) word
+
+-- a count of 1 to 256
+abbrev pub is_count : ℕ → Bool
+is_count k = nat_lt 0 k && nat_le k 256
+
+-- `mem` and `list` of two numbers; the first step of `list` is at most the last point
+abbrev pub double_command : ℕ → Double → Option ℕ → Option ℕ → Result Command BadCommand
+double_command last verb None second = Err bad.Number
+double_command last verb (Some first) None = Err bad.Number
+double_command last double.Mem (Some address) (Some count) = if is_count count then Ok (command.Mem address count) else Err bad.Limit
+double_command last double.List (Some first) (Some count) = if nat_le first last && is_count count then Ok (command.List first count) else Err bad.Limit
+
+abbrev pub alone : Command → List (List ℕ) → Result Command BadCommand
+alone c [] = Ok c
+alone c words = Err (bad.Words (length words))
+
+-- the command of a first word, and the words that come after it
+abbrev pub command_of_verb : ℕ → Verb → List (List ℕ) → Result Command BadCommand
+command_of_verb last (Lone c) words = alone c words
+command_of_verb last (One verb) (word ∷ []) = single_command last verb word
+command_of_verb last (One verb) words = Err (bad.Words (length words))
+command_of_verb last (Two verb) (word ∷ second ∷ []) = double_command last verb (number_of_word word) (number_of_word second)
+command_of_verb last (Two verb) words = Err (bad.Words (length words))
+
+abbrev pub command_of_first : ℕ → Option Verb → List (List ℕ) → Result Command BadCommand
+command_of_first last None words = Err bad.Unknown
+command_of_first last (Some verb) words = command_of_verb last verb words
+
+abbrev pub command_of_words : ℕ → List (List ℕ) → Result Command BadCommand
+command_of_words last [] = Ok command.Nothing
+command_of_words last (word ∷ words) = command_of_first last (verb_of word) words
+
+-- the command that a line is, over a path whose points end at `last`, or the first check that fails
+abbrev pub command_of : ℕ → List ℕ → Result Command BadCommand
+command_of last line = if nat_lt 256 (length line) then Err bad.LongLine else command_of_words last (words_in line)
+
+abbrev pub number_of_refusal : BadCommand → ℕ
+number_of_refusal bad.Unknown = 1
+number_of_refusal bad.Number = 2
+number_of_refusal (bad.Words count) = 3
+number_of_refusal bad.Register = 4
+number_of_refusal bad.Limit = 5
+number_of_refusal bad.LongLine = 6
+
+-- a command whose point or step is one of the path, and whose count is 1 to 256
+abbrev pub IsWithin : ℕ → Command → Type 0
+IsWithin last (command.Goto i) = i ≤ last
+IsWithin last (command.Mem address count) = (0 < count) × (count ≤ 256)
+IsWithin last (command.List first count) = (first ≤ last) × (0 < count) × (count ≤ 256)
+IsWithin last _ = Unit {0}

@@ -1,0 +1,7 @@
+pub mod Commands
+pub mod Registers
+pub mod Session
+pub mod SessionLaws
+pub mod Shown
+pub mod Texts
+pub mod Words

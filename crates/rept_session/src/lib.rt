@@ -1,0 +1,23 @@
+// The lines of a session: which command a line is, and the text that answers it.
+#![tactic(auto)]
+
+pub mod answers;
+pub mod command;
+pub mod findings;
+mod lines;
+mod names;
+pub mod parser;
+mod pieces;
+mod reasons;
+pub mod reply;
+mod verb;
+mod words;
+
+pub use answers::{answer, answer_line, refusal_text};
+pub use command::{BadCommand, Command};
+pub use findings::Findings;
+pub use parser::parse;
+pub use reply::Answer;
+
+#[cfg(test)]
+mod tests;

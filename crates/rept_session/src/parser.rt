@@ -1,0 +1,182 @@
+// Reading a line as a command.
+ghost use Rattle.std.specs.Prelude.{◌≡◌, IfOk, MatchResult, None, Some};
+ghost use Rattle.rept_session.specs.Commands.{IsWithin, alone, command_of, begins_with_digit, command_of_verb, double_command, goto_command, single_command, why_command};
+ghost use Rattle.rept_number.specs.Numbers.{number_of_word};
+ghost use Rattle.rept_session.specs.Registers.{register_of};
+ghost use Rattle.rept_session.specs.Words.{words_in};
+ghost use Rattle.rept_session.specs.declared.command.BadCommand.TheVariants as bad;
+ghost use Rattle.rept_session.specs.declared.verb.Verb.TheVariants.{One, Two};
+
+use crate::command::{BadCommand, Command};
+use crate::names::register_named;
+use crate::verb::{Double, Single, Verb, verb_named};
+use crate::words::{count_words, first_word};
+use rept_isa::Reg;
+use rept_number::number_in;
+
+/// The most bytes of a line that is a command.
+const MOST_BYTES: usize = 256;
+
+/// The most bytes or steps that one command tells.
+const MOST_TOLD: u32 = 256;
+
+/// The command that a line is, over a path whose last point is `last`, or the first check that fails. It takes no memory.
+///
+/// A line's words are parted by spaces and tabs. A line without words is `Nothing`.
+pub fn parse(line: &[u8], last: u32) -> Result<Command, BadCommand>
+    ensures value { result ≡ command_of last line.now }
+    ensures within { IfOk result (IsWithin last) }
+{
+    read_line(line, last)
+}
+
+fn read_line(line: &[u8], last: u32) -> Result<Command, BadCommand>
+    ensures { result ≡ command_of last line.now }
+{
+    if line.len() > MOST_BYTES {
+        return Err(BadCommand::LongLine);
+    }
+    let Some((word, rest)) = first_word(line) else {
+        return Ok(Command::Nothing);
+    };
+    match verb_named(word) {
+        Some(found) => read_words(last, found, rest),
+        None => Err(BadCommand::Unknown),
+    }
+}
+
+/// The command of a first word with the words that come after it.
+fn read_words(last: u32, found: Verb, rest: &[u8]) -> Result<Command, BadCommand>
+    ensures { result ≡ command_of_verb last found (words_in rest.now) }
+{
+    match found {
+        Verb::Lone(command) => read_lone(command, rest),
+        Verb::One(single) => read_one(last, single, rest),
+        Verb::Two(double) => read_two(last, double, rest),
+    }
+}
+
+fn read_lone(command: Command, rest: &[u8]) -> Result<Command, BadCommand>
+    ensures { result ≡ alone command (words_in rest.now) }
+{
+    if first_word(rest).is_none() {
+        Ok(command)
+    } else {
+        Err(BadCommand::Words(count_words(rest)))
+    }
+}
+
+fn read_one(last: u32, single: Single, rest: &[u8]) -> Result<Command, BadCommand>
+    ensures { result ≡ command_of_verb last (One single) (words_in rest.now) }
+{
+    let Some((word, more)) = first_word(rest) else {
+        return Err(BadCommand::Words(0));
+    };
+    if first_word(more).is_some() {
+        return Err(BadCommand::Words(count_words(rest)));
+    }
+    read_single(last, single, word)
+}
+
+fn read_two(last: u32, double: Double, rest: &[u8]) -> Result<Command, BadCommand>
+    ensures { result ≡ command_of_verb last (Two double) (words_in rest.now) }
+{
+    let Some((word, more)) = first_word(rest) else {
+        return Err(BadCommand::Words(0));
+    };
+    let Some((second, others)) = first_word(more) else {
+        return Err(BadCommand::Words(1));
+    };
+    if first_word(others).is_some() {
+        return Err(BadCommand::Words(count_words(rest)));
+    }
+    read_double(last, double, word, second)
+}
+
+/// A command of one word.
+fn read_single(last: u32, single: Single, word: &[u8]) -> Result<Command, BadCommand>
+    ensures { result ≡ single_command last single word.now }
+{
+    match single {
+        Single::Back => Ok(Command::Back(read_number(word)?)),
+        Single::Fwd => Ok(Command::Fwd(read_number(word)?)),
+        Single::Goto => read_goto(last, word),
+        Single::Reg => Ok(Command::Reg(read_register(word)?)),
+        Single::Range => Ok(Command::Range(read_register(word)?)),
+        Single::Writer => Ok(Command::Writer(read_number(word)?)),
+        Single::Why => read_why(word),
+    }
+}
+
+fn read_goto(last: u32, word: &[u8]) -> Result<Command, BadCommand>
+    ensures { result ≡ goto_command last (number_of_word word.now) }
+{
+    let point = read_number(word)?;
+    if point > last {
+        return Err(BadCommand::Limit);
+    }
+    Ok(Command::Goto(point))
+}
+
+/// A word that names a register is one; any other is a number where it begins with a digit.
+fn read_why(word: &[u8]) -> Result<Command, BadCommand>
+    ensures { result ≡ why_command (register_of word.now) word.now }
+{
+    if let Some(found) = register_named(word) {
+        return Ok(Command::WhyReg(found));
+    }
+    if !begins_with_digit(word) {
+        return Err(BadCommand::Register);
+    }
+    Ok(Command::WhyByte(read_number(word)?))
+}
+
+fn begins_with_digit(word: &[u8]) -> bool
+    ensures { result ≡ begins_with_digit word.now }
+{
+    match word {
+        [first, ..] => first.is_ascii_digit(),
+        [] => false,
+    }
+}
+
+/// A command of two words.
+fn read_double(last: u32, double: Double, word: &[u8], second: &[u8]) -> Result<Command, BadCommand>
+    ensures { result ≡ double_command last double (number_of_word word.now) (number_of_word second.now) }
+{
+    let first = read_number(word)?;
+    let count = read_number(second)?;
+    if count == 0 || count > MOST_TOLD {
+        return Err(BadCommand::Limit);
+    }
+    match double {
+        Double::Mem => Ok(Command::Mem {
+            address: first,
+            count,
+        }),
+        Double::List => {
+            if first > last {
+                return Err(BadCommand::Limit);
+            }
+            Ok(Command::List { first, count })
+        }
+    }
+}
+
+fn read_number(word: &[u8]) -> Result<u32, BadCommand>
+    ensures { MatchResult result (λ n. number_of_word word.now ≡ Some n) (λ e. (number_of_word word.now ≡ None) × (e ≡ bad.Number)) }
+{
+    match number_in(word) {
+        Some(number) => Ok(number),
+        None => Err(BadCommand::Number),
+    }
+}
+
+fn read_register(word: &[u8]) -> Result<Reg, BadCommand>
+    ensures { MatchResult result (λ r. register_of word.now ≡ Some r) (λ e. (register_of word.now ≡ None) × (e ≡ bad.Register)) }
+{
+    match register_named(word) {
+        Some(found) => Ok(found),
+        None => Err(BadCommand::Register),
+    }
+}

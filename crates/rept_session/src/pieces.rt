@@ -1,0 +1,156 @@
+// Pieces of answers, pushed onto a text.
+ghost use Rattle.std.specs.Prelude.{◌≡◌, ◌++◌, OnOk, Some, codes};
+ghost use Rattle.std.specs.Fmt.{decimal};
+ghost use Rattle.rept_isa.specs.Texts.{register_text};
+ghost use Rattle.rept_session.specs.Texts.{byte_text, cell_text, looked_line, premise_line, range_text, step_line, value_line, value_text, writer_text};
+ghost use Rattle.rept_word.specs.Hex.{hex_byte, hex_word};
+
+use rept_isa::{Reg, Shown, StepRow};
+use rept_partial::{Partial, Range};
+use rept_reason::{Cell, Fact, Looked};
+use rept_report::Writer;
+use rept_word::{OutOfMemory, Text};
+use std::alloc::Global;
+
+/// Words as they stand, and a number in decimal.
+pub fn push_numbered(text: &mut Text, words: &[u8], number: u32) -> Result<(), OutOfMemory>
+    ensures { OnOk result (text.new ≡ text.old ++ (words.now ++ decimal number)) }
+{
+    text.push(words)?;
+    text.push_decimal(number)?;
+    Ok(())
+}
+
+/// The name of a register.
+fn push_name(text: &mut Text, register: Reg) -> Result<(), OutOfMemory>
+    ensures { OnOk result (text.new ≡ text.old ++ register_text register) }
+{
+    push_numbered(text, b"x", u32::from(register.number()))
+}
+
+/// The line of a register and its value.
+pub fn push_value(text: &mut Text, register: Reg, value: Option<u32>) -> Result<(), OutOfMemory>
+    ensures { OnOk result (text.new ≡ text.old ++ value_line register value) }
+{
+    push_name(text, register)?;
+    text.push(b" ")?;
+    push_known(text, value)?;
+    text.push(b"\n")?;
+    Ok(())
+}
+
+fn push_known(text: &mut Text, value: Option<u32>) -> Result<(), OutOfMemory>
+    ensures { OnOk result (text.new ≡ text.old ++ value_text value) }
+{
+    match value {
+        Some(value) => text.push_word(value),
+        None => text.push(b"unknown"),
+    }
+}
+
+/// A register and the values that it may have.
+pub fn push_range(text: &mut Text, register: Reg, range: Range) -> Result<(), OutOfMemory>
+    ensures { OnOk result (text.new ≡ text.old ++ range_text register range) }
+{
+    push_name(text, register)?;
+    text.push(b" ")?;
+    text.push_word(range.lo())?;
+    text.push(b"..")?;
+    text.push_word(range.hi())?;
+    Ok(())
+}
+
+/// A byte as two digits, or `??`.
+pub fn push_known_byte(text: &mut Text, byte: Option<u8>) -> Result<(), OutOfMemory>
+    ensures { OnOk result (text.new ≡ text.old ++ byte_text byte) }
+{
+    match byte {
+        Some(byte) => text.push_byte(byte),
+        None => text.push(b"??"),
+    }
+}
+
+/// Which step wrote a byte.
+pub fn push_writer(text: &mut Text, writer: Writer) -> Result<(), OutOfMemory>
+    ensures { OnOk result (text.new ≡ text.old ++ writer_text writer) }
+{
+    match writer {
+        Writer::Writes(step) => push_numbered(text, b"writes ", step),
+        Writer::MayWrite(step) => push_numbered(text, b"may write ", step),
+        Writer::None => text.push(b"none"),
+    }
+}
+
+/// The line of a step.
+pub fn push_step(
+    alloc: Global,
+    text: &mut Text,
+    step: u32,
+    row: &StepRow,
+) -> Result<(), OutOfMemory>
+    ensures { OnOk result (text.new ≡ text.old ++ step_line step (Some row.now)) }
+{
+    let shown = Shown {
+        at: row.at,
+        instr: row.instr,
+    };
+    let instruction = format!(in alloc; "{shown}")?;
+    text.push_decimal(step)?;
+    text.push(b" ")?;
+    text.push_word(row.at)?;
+    text.push(b" ")?;
+    text.push(instruction.as_bytes())?;
+    text.push(b"\n")?;
+    Ok(())
+}
+
+/// The line of a fact that a rule rests on.
+pub fn push_premise(text: &mut Text, fact: &Fact) -> Result<(), OutOfMemory>
+    ensures { OnOk result (text.new ≡ text.old ++ premise_line fact.now) }
+{
+    push_numbered(text, b"  point ", fact.point)?;
+    text.push(b" ")?;
+    push_cell(text, fact.cell, fact.value)?;
+    text.push(b"\n")?;
+    Ok(())
+}
+
+fn push_cell(text: &mut Text, cell: Cell, value: u32) -> Result<(), OutOfMemory>
+    ensures { OnOk result (text.new ≡ text.old ++ cell_text cell value) }
+{
+    match cell {
+        Cell::Register(register) => push_held(text, register, value),
+        Cell::Byte(address) => push_stored(text, address, (value % 256) as u8),
+    }
+}
+
+/// A register and its value.
+fn push_held(text: &mut Text, register: Reg, value: u32) -> Result<(), OutOfMemory>
+    ensures { OnOk result (text.new ≡ text.old ++ (register_text register ++ codes " " ++ hex_word value)) }
+{
+    push_name(text, register)?;
+    text.push(b" ")?;
+    text.push_word(value)?;
+    Ok(())
+}
+
+/// An address and the byte there.
+fn push_stored(text: &mut Text, address: u32, byte: u8) -> Result<(), OutOfMemory>
+    ensures { OnOk result (text.new ≡ text.old ++ (hex_word address ++ codes " " ++ hex_byte byte)) }
+{
+    text.push_word(address)?;
+    text.push(b" ")?;
+    text.push_byte(byte)?;
+    Ok(())
+}
+
+/// The line of a range that a rule looked at.
+pub fn push_looked(text: &mut Text, looked: &Looked) -> Result<(), OutOfMemory>
+    ensures { OnOk result (text.new ≡ text.old ++ looked_line looked.now) }
+{
+    push_numbered(text, b"  range ", looked.point)?;
+    text.push(b" ")?;
+    push_range(text, looked.reg, looked.range)?;
+    text.push(b"\n")?;
+    Ok(())
+}

@@ -1,0 +1,134 @@
+// Answers that tell why something is known.
+ghost use Rattle.std.specs.Prelude.{◌≡◌, ◌≢◌, ℕ, ◌≤◌, ◌++◌, length, IfOk, OnOk, Some};
+ghost use Rattle.std.specs.List.{flat_map};
+ghost use Rattle.rept_reason.specs.declared.fact.Cell.TheVariants.{Byte, Register};
+ghost use Rattle.rept_session.specs.Shown.{SameReasons, explained, known_value, told};
+ghost use Rattle.rept_session.specs.Texts.{IsExplained, IsRegisterExplained, looked_line, premise_line, reason_lines};
+
+use crate::findings::Findings;
+use crate::pieces::{push_looked, push_numbered, push_premise};
+use rept_isa::Reg;
+use rept_reason::{Cell, Fact, Looked, Reason};
+use rept_word::{OutOfMemory, Text};
+use std::alloc::Global;
+
+/// Why a register's value is known at a point.
+pub fn why_register<F: Findings>(
+    alloc: Global,
+    findings: &mut F,
+    point: u32,
+    register: Reg,
+) -> Result<Text, OutOfMemory>
+    requires { point ≤ length (F.shown findings.old).rows }
+    ensures text { (skipped : ℕ) → IfOk result (IsRegisterExplained (told (F.shown findings.old) skipped (F.reasons findings.old)) point register) }
+    ensures same { F.shown findings.new ≡ F.shown findings.old }
+    ensures same_reasons { SameReasons (F.reasons findings.old) (F.reasons findings.new) }
+{
+    if register.number() == 0 {
+        return whole_text(alloc, b"constant\n");
+    }
+    why_value(alloc, findings, point, register)
+}
+
+/// Why a register other than x0 has its value at a point.
+fn why_value<F: Findings>(
+    alloc: Global,
+    findings: &mut F,
+    point: u32,
+    register: Reg,
+) -> Result<Text, OutOfMemory>
+    requires point { point ≤ length (F.shown findings.old).rows }
+    requires named { register ≢ 0 }
+    ensures text { (skipped : ℕ) → IfOk result (IsExplained (told (F.shown findings.old) skipped (F.reasons findings.old)) point (Register register) ((F.shown findings.old).register point register)) }
+    ensures same { F.shown findings.new ≡ F.shown findings.old }
+    ensures same_reasons { SameReasons (F.reasons findings.old) (F.reasons findings.new) }
+{
+    match findings.reg(point, register) {
+        Some(value) => explain(alloc, findings, point, Cell::Register(register), value),
+        None => whole_text(alloc, b"unknown\n"),
+    }
+}
+
+/// Why the byte at an address is known at a point.
+pub fn why_byte<F: Findings>(
+    alloc: Global,
+    findings: &mut F,
+    point: u32,
+    address: u32,
+) -> Result<Text, OutOfMemory>
+    requires { point ≤ length (F.shown findings.old).rows }
+    ensures text { (skipped : ℕ) → IfOk result (IsExplained (told (F.shown findings.old) skipped (F.reasons findings.old)) point (Byte address) ((F.shown findings.old).byte point address)) }
+    ensures same { F.shown findings.new ≡ F.shown findings.old }
+    ensures same_reasons { SameReasons (F.reasons findings.old) (F.reasons findings.new) }
+{
+    match findings.byte(point, address) {
+        Some(value) => explain(
+            alloc,
+            findings,
+            point,
+            Cell::Byte(address),
+            u32::from(value),
+        ),
+        None => whole_text(alloc, b"unknown\n"),
+    }
+}
+
+/// A text that is known as a whole.
+fn whole_text(alloc: Global, words: &[u8]) -> Result<Text, OutOfMemory>
+    ensures { IfOk result (λ text. text ≡ words.now) }
+{
+    let mut text = Text::new(alloc);
+    text.push(words)?;
+    Ok(text)
+}
+
+/// A reason of a known fact.
+fn explain<F: Findings>(
+    alloc: Global,
+    findings: &mut F,
+    point: u32,
+    cell: Cell,
+    value: u32,
+) -> Result<Text, OutOfMemory>
+    requires point { point ≤ length (F.shown findings.old).rows }
+    requires named { cell ≢ Register 0 }
+    requires known { known_value (F.shown findings.old) point cell ≡ Some value }
+    ensures text { (skipped : ℕ) → IfOk result (IsExplained (told (F.shown findings.old) skipped (F.reasons findings.old)) point cell (Some value)) }
+    ensures same { F.shown findings.new ≡ F.shown findings.old }
+    ensures same_reasons { SameReasons (F.reasons findings.old) (F.reasons findings.new) }
+{
+    let fact = Fact { point, cell, value };
+    match findings.why(alloc, fact)? {
+        Some(reason) => reason_text(alloc, &reason),
+        None => unreachable!(),
+    }
+}
+
+fn reason_text(alloc: Global, reason: &Reason) -> Result<Text, OutOfMemory>
+    ensures { IfOk result (λ text. text ≡ reason_lines (explained reason.now)) }
+{
+    let mut text = Text::new(alloc);
+    push_numbered(&mut text, b"rule ", u32::from(reason.rule))?;
+    text.push(b"\n")?;
+    push_premises(&mut text, reason.premises.as_slice())?;
+    push_ranges(&mut text, reason.ranges.as_slice())?;
+    Ok(text)
+}
+
+fn push_premises(text: &mut Text, premises: &[Fact]) -> Result<(), OutOfMemory>
+    ensures { OnOk result (text.new ≡ text.old ++ flat_map premise_line premises.now) }
+{
+    for premise in premises {
+        push_premise(text, premise)?;
+    }
+    Ok(())
+}
+
+fn push_ranges(text: &mut Text, ranges: &[Looked]) -> Result<(), OutOfMemory>
+    ensures { OnOk result (text.new ≡ text.old ++ flat_map looked_line ranges.now) }
+{
+    for looked in ranges {
+        push_looked(text, looked)?;
+    }
+    Ok(())
+}
