@@ -1,5 +1,5 @@
 -- What was delivered, one part after another.
-use Rattle.std.proofs.Common.{◌≡◌, ◌≢◌, ◌⊎◌, ℕ, ◌+◌, ◌≤◌, List, ◌++◌, length, take, Option, inl, inr, refl, sym, subst, ◌∙◌, arith}
+use Rattle.std.proofs.Common.{◌≡◌, ℕ, ◌+◌, List, ◌++◌, length, take, Option, inl, inr, refl, sym, subst, ◌∙◌, arith}
 use Rattle.std.proofs.lemmas.List.{length-append, take-append-le}
 use Rattle.std.proofs.Math.Seq.{take-append-add}
 use Rattle.std.specs.Io.KnownBytes.{Appends}
@@ -7,7 +7,7 @@ use Rattle.rept_ports.specs.Causes.{OneFault, AppendsPrefix}
 use Rattle.rept_ports.specs.Port.{Port, Move, move}
 use Rattle.rept_ports.proofs.CallerLemmas.{Appends-trans, fault_after}
 use Rattle.rept_app.specs.Delivered.{Delivers, Tells}
-use Rattle.rept_app.specs.Ends.{Stopped, Yields, FaultEnds, PortsEnd}
+use Rattle.rept_app.specs.Ends.{Yields, FaultEnds, PortsEnd}
 use Rattle.rept_app.specs.Lines.{status_of}
 use Rattle.rept_app.specs.declared.refusal.Refusal.{Refusal}
 use Rattle.rept_app.specs.declared.refusal.Refusal.TheVariants as refusal

@@ -1,36 +1,38 @@
 -- How the bytes of the files end the call.
 use Rattle.std.proofs.Common.{◌≡◌, ◌≢◌, ◌⊎◌, ℕ, List, length, Option, None, Some, Result, Ok, Err, MatchOption, inl, inr, refl, sym, ap, subst, ◌∙◌}
-use Rattle.rept_elf.specs.Segments.{ElfSegment, segments}
+use Rattle.rept_elf.specs.Segments.{segments}
 use Rattle.rept_elf.specs.declared.fault.ElfFault.{ElfFault}
 use Rattle.rept_dump.specs.Registers.{Says as NotesSay}
 use Rattle.rept_dump.specs.declared.fault.CoreFault.{CoreFault}
-use Rattle.rept_isa.specs.declared.row.StepRow.{StepRow}
 use Rattle.rept_path.specs.declared.fault.PathFault.{PathFault}
 use Rattle.rept_path.specs.declared.fault.PathFault.TheVariants as fault
+use Rattle.rept_path.specs.declared.rebuilding.Path.{Path}
 use Rattle.rept_ports.specs.Port.{Port, Move}
-use Rattle.rept_engine.specs.Soundness.{HasNoExecution}
+use Rattle.rept_report.specs.Soundness.{HasNoExecution}
+use Rattle.rept_found.specs.Crash.{Crash, setting}
+use Rattle.rept_serve.specs.Serving.{Reading}
 use Rattle.rept_app.specs.Delivered.{Says, Tells}
-use Rattle.rept_app.specs.Ends.{Stopped, Yields, EndsSession, PortsEnd}
-use Rattle.rept_app.specs.Examine.{Walks, Examines, PathYields, RowsYield, WalkYields, NoteYields, FilesEnd, FilesHold, IsPathStatus, IsWalkStatus, IsWalked, IsExamined, PathExcludes, FilesExclude, WalkHolds}
-use Rattle.rept_app.specs.Forms.{executable_fault, core_image_fault, end_pc, last_values}
+use Rattle.rept_app.specs.Ends.{Stopped, Yields, PortsEnd}
+use Rattle.rept_app.specs.Examine.{Walks, Examines, PathYields, WalkYields, NoteYields, FilesEnd, FilesHold, IsPathStatus, IsWalkStatus, IsWalked, IsExamined, PathExcludes, FilesExclude, WalkHolds}
+use Rattle.rept_app.specs.Forms.{executable_fault, core_image_fault, crash_in}
 use Rattle.rept_app.specs.Lines.{status_of}
-use Rattle.rept_app.specs.Path.{IsTracePath, HasNoPath, unread}
-use Rattle.rept_app.specs.Session.{Reading}
+use Rattle.rept_app.specs.Path.{IsTracePath, HasNoPath}
 use Rattle.rept_app.specs.Study.{Studies, IsStudied, StudyHolds}
-use Rattle.rept_app.specs.Told.{Examined, NotesTold, Analysed}
-use Rattle.rept_app.specs.declared.refusal.Unbuilt.TheVariants as unbuilt
+use Rattle.rept_app.specs.Told.{Examined, NotesTold, Reads}
 use Rattle.rept_app.specs.declared.refusal.Refusal.TheVariants as refusal
 use Rattle.rept_app.specs.declared.status.Status.{Status}
 use Rattle.rept_app.specs.declared.status.Status.TheVariants as ends
 
--- how a call ends that tells why the path isn't analysed
+-- how a call ends that tells why there is no path
 abbrev pub WalkTold : Status → Type 0
-WalkTold status = (status ≡ ends.Trace) ⊎ (status ≡ ends.NotBuilt) ⊎ Stopped status
+WalkTold status = (status ≡ ends.Trace) ⊎ Stopped status
+
+stopped_path : (status : Status) → Stopped status → IsPathStatus status
+stopped_path status h = inr (inr (inr (inr h)))
 
 all_walks : (status : Status) → WalkTold status → IsWalkStatus status
 all_walks status (inl h) = inl h
-all_walks status (inr (inl h)) = inr (inr (inr (inl h)))
-all_walks status (inr (inr h)) = inr (inr (inr (inr (inr (inr h)))))
+all_walks status (inr h) = inr (stopped_path status h)
 
 -- a path that is told has another status than a trace that has none
 no_trace : (status : Status) → IsPathStatus status → status ≡ ends.Trace → ⊥
@@ -39,11 +41,7 @@ no_trace status (inr (inl h)) e = cc
 no_trace status (inr (inr (inl h))) e = cc
 no_trace status (inr (inr (inr (inl h)))) e = cc
 no_trace status (inr (inr (inr (inr (inl h))))) e = cc
-no_trace status (inr (inr (inr (inr (inr (inl h)))))) e = cc
-no_trace status (inr (inr (inr (inr (inr (inr h)))))) e = cc
-
-stopped_path : (status : Status) → Stopped status → IsPathStatus status
-stopped_path status h = inr (inr (inr (inr (inr h))))
+no_trace status (inr (inr (inr (inr (inr h))))) e = cc
 
 -- the status of a trace without a path
 trace_told : (f : PathFault) (status : Status) → (f ≡ fault.OutOfMemory → ⊥) → Yields (status_of (refusal.Path f)) status → Yields ends.Trace status
@@ -91,21 +89,8 @@ not_input (fault.Packet p) e = cc
 not_input (fault.Trapped k a) e = cc
 not_input fault.OutOfMemory e = cc
 
-pub as_code : (status : Status) → Yields ends.NotBuilt status → WalkTold status
-as_code status (inl h) = inr (inl h)
-as_code status (inr h) = inr (inr h)
-
-either : (o : Option ℕ) (P : Type 0) (Q : ℕ → Type 0) → P → ((x : ℕ) → Q x) → MatchOption o P Q
-either None P Q p q = p
-either (Some x) P Q p q = q x
-
--- where no step is left unread
-pub none_left : (o : Option ℕ) → ((x : ℕ) → o ≡ Some x → ⊥) → None ≡ o
-none_left None h = refl
-none_left (Some x) h = absurd (h x refl)
-
-module _ (exe : List ElfSegment) (note trace : List ℕ) (from : ℕ) (status : Status) where
-  pub told_walked : (source sink : Move Port) → PortsEnd source sink status → WalkTold status → WalkYields exe note trace from status → IsWalked exe note trace from source sink status
+module _ (crash : Crash) (trace : List ℕ) (from : ℕ) (status : Status) where
+  pub told_walked : (source sink : Move Port) → PortsEnd source sink status → WalkTold status → WalkYields crash trace from status → IsWalked crash trace from source sink status
   told_walked source sink ports so yields = record {
     ports = ports;
     yields = yields;
@@ -113,16 +98,13 @@ module _ (exe : List ElfSegment) (note trace : List ℕ) (from : ℕ) (status : 
   }
 
   -- a call that stopped ends so whatever the path is
-  stopped_rows : Stopped status → (rows : List StepRow) → RowsYield note rows status
-  stopped_rows s rows = either (unread rows) (PathYields note rows status) (λ _. Yields ends.NotBuilt status) (record { conflict = λ _ _. inr s; report = λ _. stopped_report s }) (λ _. inr s)
-    where
-      stopped_report : Stopped status → EndsSession status
-      stopped_report h = inr (inr (inr (inr h)))
+  stopped_rows : Stopped status → (path : Path) → PathYields crash path status
+  stopped_rows s path = record { conflict = λ _ _. inr s; report = λ _. inr (inr (inr s)) }
 
-  pub memory_yields : Stopped status → WalkYields exe note trace from status
+  pub memory_yields : Stopped status → WalkYields crash trace from status
   memory_yields s = record {
     refused = λ _ _. inr s;
-    walked = λ rows _. stopped_rows s rows;
+    walked = λ path _. stopped_rows s path;
     only = λ e. absurd (no_trace status (stopped_path status s) e);
   }
 
@@ -134,114 +116,83 @@ module _ (exe : List ElfSegment) (note trace : List ℕ) (from : ℕ) (status : 
       stops (inl h) = inr h
       stops (inr h) = h
 
-  module _ (f : PathFault) (none : (rows : List StepRow) → IsTracePath exe note trace from rows → f ≡ fault.OutOfMemory) (one : (g : PathFault) → HasNoPath exe note trace from g → (f ≡ fault.OutOfMemory) ⊎ (f ≡ g)) (no_memory : (g : PathFault) → HasNoPath exe note trace from g → g ≢ fault.OutOfMemory) where
-    pub refused_told : (f ≡ fault.OutOfMemory) ⊎ HasNoPath exe note trace from f → Yields (status_of (refusal.Path f)) status → WalkTold status
-    refused_told (inl e) so = inr (inr (memory_stops f e so))
-    refused_told (inr has) so = elim (trace_told f status (no_memory f has) so) [ inl h ↦ inl h | inr h ↦ inr (inr h) ]
+  module _ (f : PathFault) (none : (path : Path) → IsTracePath crash trace from path → f ≡ fault.OutOfMemory) (one : (g : PathFault) → HasNoPath crash trace from g → (f ≡ fault.OutOfMemory) ⊎ (f ≡ g)) (no_memory : (g : PathFault) → HasNoPath crash trace from g → g ≢ fault.OutOfMemory) where
+    pub refused_told : (f ≡ fault.OutOfMemory) ⊎ HasNoPath crash trace from f → Yields (status_of (refusal.Path f)) status → WalkTold status
+    refused_told (inl e) so = inr (memory_stops f e so)
+    refused_told (inr has) so = trace_told f status (no_memory f has) so
 
-    pub refused_yields : (f ≡ fault.OutOfMemory) ⊎ HasNoPath exe note trace from f → Yields (status_of (refusal.Path f)) status → WalkYields exe note trace from status
+    pub refused_yields : (f ≡ fault.OutOfMemory) ⊎ HasNoPath crash trace from f → Yields (status_of (refusal.Path f)) status → WalkYields crash trace from status
     refused_yields why so = record {
       refused = λ g has. same g has (one g has);
-      walked = λ rows path. stopped_rows (memory_stops f (none rows path) so) rows;
+      walked = λ path is. stopped_rows (memory_stops f (none path is) so) path;
       only = λ e. which e why;
     }
       where
-        same : (g : PathFault) → HasNoPath exe note trace from g → (f ≡ fault.OutOfMemory) ⊎ (f ≡ g) → Yields ends.Trace status
+        same : (g : PathFault) → HasNoPath crash trace from g → (f ≡ fault.OutOfMemory) ⊎ (f ≡ g) → Yields ends.Trace status
         same g has (inl e) = inr (memory_stops f e so)
         same g has (inr e) = trace_told g status (no_memory g has) (subst (λ (x : PathFault). Yields (status_of (refusal.Path x)) status) e so)
 
-        which : status ≡ ends.Trace → (f ≡ fault.OutOfMemory) ⊎ HasNoPath exe note trace from f → (g : PathFault) × HasNoPath exe note trace from g
+        which : status ≡ ends.Trace → (f ≡ fault.OutOfMemory) ⊎ HasNoPath crash trace from f → (g : PathFault) × HasNoPath crash trace from g
         which e (inl m) = absurd (no_trace status (stopped_path status (memory_stops f m so)) e)
         which e (inr has) = (f, has)
 
   -- where it has a path
-  module _ (rows : List StepRow) (only : (others : List StepRow) → IsTracePath exe note trace from others → rows ≡ others) (none : (f : PathFault) → HasNoPath exe note trace from f → ⊥) where
-    rows_yield : RowsYield note rows status → (status ≡ ends.Trace → ⊥) → WalkYields exe note trace from status
-    rows_yield yields never = record {
+  module _ (path : Path) (only : (others : Path) → IsTracePath crash trace from others → path ≡ others) (none : (f : PathFault) → HasNoPath crash trace from f → ⊥) where
+    path_yields : PathYields crash path status → (status ≡ ends.Trace → ⊥) → WalkYields crash trace from status
+    path_yields yields never = record {
       refused = λ f has. absurd (none f has);
-      walked = λ others path. subst (λ rs. RowsYield note rs status) (only others path) yields;
+      walked = λ others is. subst (λ (p : Path). PathYields crash p status) (only others is) yields;
       only = λ e. absurd (never e);
     }
 
-    abbrev At : Option ℕ → Type 0
-    At o = MatchOption o (PathYields note rows status) (λ _. Yields ends.NotBuilt status)
-
-    pub unread_yields : (address : ℕ) → Some address ≡ unread rows → Yields ends.NotBuilt status → WalkYields exe note trace from status
-    unread_yields address is so = rows_yield (subst At is so) (told so)
-      where
-        told : Yields ends.NotBuilt status → status ≡ ends.Trace → ⊥
-        told (inl h) e = cc
-        told (inr h) e = no_trace status (stopped_path status h) e
-
-    pub studied_walked : None ≡ unread rows → (source sink : Move Port) → IsStudied rows (last_values note) source sink status → IsWalked exe note trace from source sink status
-    studied_walked is source sink s = record {
+    pub studied_walked : (source sink : Move Port) → IsStudied crash path source sink status → IsWalked crash trace from source sink status
+    studied_walked source sink s = record {
       ports = s.ports;
-      yields = rows_yield (subst At is (record { conflict = s.conflict; report = s.report })) (no_trace status s.ends_so);
+      yields = path_yields (record { conflict = s.conflict; report = s.report }) (no_trace status s.ends_so);
       ends_so = inr s.ends_so;
     }
 
-module _ (exe : List ElfSegment) (note trace : List ℕ) (from : ℕ) (reading : Reading) (text : List ℕ) (status : Status) where
+module _ (crash : Crash) (trace : List ℕ) (from : ℕ) (reading : Reading) (text : List ℕ) (status : Status) where
   as_memory : (f : PathFault) → f ≡ fault.OutOfMemory → Says (refusal.Path f) text status → Says refusal.OutOfMemory text status
   as_memory f e h = plain (subst (λ (g : PathFault). Says (refusal.Path g) text status) e h)
     where
       plain : Says (refusal.Path fault.OutOfMemory) text status → Says refusal.OutOfMemory text status
       plain s = record { line = s.line; ending = s.ending }
 
-  pub refused_walks : (f : PathFault) → (f ≡ fault.OutOfMemory) ⊎ HasNoPath exe note trace from f → Tells (refusal.Path f) text status → Walks exe note trace from reading text status
+  pub refused_walks : (f : PathFault) → (f ≡ fault.OutOfMemory) ⊎ HasNoPath crash trace from f → Tells (refusal.Path f) text status → Walks crash trace from reading text status
   refused_walks f (inl e) (inl h) = inr (inl (as_memory f e h))
   refused_walks f (inr has) (inl h) = inl (inl (f, has, h))
   refused_walks f why (inr h) = inr (inl h)
 
-  module _ (rows : List StepRow) (path : IsTracePath exe note trace from rows) where
-    abbrev Then : Option ℕ → Type 0
-    Then o = MatchOption o (Analysed note rows reading.input text status) (λ address. Says (refusal.NotBuilt (unbuilt.Code address)) text status)
+  pub studies_walk : (path : Path) → IsTracePath crash trace from path → Studies crash path reading text status → Walks crash trace from reading text status
+  studies_walk path is (inl h) = inl (inr (path, is, inl h))
+  studies_walk path is (inr (inl (a, account, inl h))) = inl (inr (path, is, inr (a, account, h)))
+  studies_walk path is (inr (inl (a, account, inr h))) = inr (inr (path, a, is, account, h))
+  studies_walk path is (inr (inr h)) = inr (inl h)
 
-    pub unread_walks : (address : ℕ) → Some address ≡ unread rows → Tells (refusal.NotBuilt (unbuilt.Code address)) text status → Walks exe note trace from reading text status
-    unread_walks address is (inl h) = inl (inr (rows, path, subst Then is h))
-    unread_walks address is (inr h) = inr (inl h)
-
-    pub studies_walk : None ≡ unread rows → Studies rows (last_values note) (end_pc note) reading text status → Walks exe note trace from reading text status
-    studies_walk is (inl h) = inl (inr (rows, path, subst Then is (inl h)))
-    studies_walk is (inr (inl (known, report, inl h))) = inl (inr (rows, path, subst Then is (inr (known, report, h))))
-    studies_walk is (inr (inl (known, report, inr h))) = inr (inr (rows, known, record { path = path; read = sym is }, report, h))
-    studies_walk is (inr (inr h)) = inr (inl h)
-
-module _ (exe : List ElfSegment) (note trace : List ℕ) (from : ℕ) (rows : List StepRow) (only : (others : List StepRow) → IsTracePath exe note trace from others → rows ≡ others) where
-  pub path_excludes : HasNoExecution rows (last_values note) → PathExcludes exe note trace from
-  path_excludes none others follows = subst (λ rs. HasNoExecution rs (last_values note)) (only others follows.path) none
-
--- what is said of the same path, values and address
-pub studies_at : (rows rows' : List StepRow) (registers registers' : List ℕ) (pc pc' : ℕ) (left : Reading) (text : List ℕ) (status : Status) → rows' ≡ rows → registers' ≡ registers → pc' ≡ pc → Studies rows' registers' pc' left text status → Studies rows registers pc left text status
-studies_at rows rows' registers registers' pc pc' left text status er el ep h =
-    subst (λ r. Studies r registers pc left text status) er (subst (λ l. Studies rows' l pc left text status) el (subst (λ n. Studies rows' registers' n left text status) ep h))
-
-pub studied_at : (rows rows' : List StepRow) (registers registers' : List ℕ) (source sink : Move Port) (status : Status) → rows' ≡ rows → registers' ≡ registers → IsStudied rows' registers' source sink status → IsStudied rows registers source sink status
-studied_at rows rows' registers registers' source sink status er el h = subst (λ r. IsStudied r registers source sink status) er (subst (λ l. IsStudied rows' l source sink status) el h)
-
-pub holds_at : {P : Type 0} (rows rows' : List StepRow) (registers registers' : List ℕ) (status : Status) → rows' ≡ rows → registers' ≡ registers → P ⊎ StudyHolds rows' registers' status → P ⊎ StudyHolds rows registers status
-holds_at {P} rows rows' registers registers' status er el h = subst (λ r. P ⊎ StudyHolds r registers status) er (subst (λ l. P ⊎ StudyHolds rows' l status) el h)
+pub path_excludes : (crash : Crash) (trace : List ℕ) (from : ℕ) (path : Path) → ((others : Path) → IsTracePath crash trace from others → path ≡ others) → HasNoExecution (setting crash path.steps) → PathExcludes crash trace from
+path_excludes crash trace from path only none others is = subst (λ (p : Path). HasNoExecution (setting crash p.steps)) (only others is) none
 
 -- where a session may have been held over a path, so it may over its trace and its files
-pub study_holds : {P : Type 0} (exe : List ElfSegment) (note trace : List ℕ) (from : ℕ) (rows : List StepRow) (status : Status) → IsTracePath exe note trace from rows → None ≡ unread rows → P ⊎ StudyHolds rows (last_values note) status → P ⊎ WalkHolds exe note trace from status
-study_holds exe note trace from rows status path read (inl p) = inl p
-study_holds exe note trace from rows status path read (inr (consistent, so)) = inr ((rows, record { path = path; read = sym read }, consistent), so)
+pub study_holds : {P : Type 0} (crash : Crash) (trace : List ℕ) (from : ℕ) (path : Path) (status : Status) → IsTracePath crash trace from path → P ⊎ StudyHolds crash path status → P ⊎ WalkHolds crash trace from status
+study_holds crash trace from path status is (inl p) = inl p
+study_holds crash trace from path status is (inr (consistent, so)) = inr ((path, is, consistent), so)
 
-pub walk_holds : {P : Type 0} (exe core trace : List ℕ) (from : ℕ) (note : List ℕ) (status : Status) → None ≡ executable_fault exe → None ≡ core_image_fault core → NotesSay (length core) (segments core) (Ok note)
-    → P ⊎ WalkHolds (segments exe) note trace from status → P ⊎ FilesHold exe core trace from status
-walk_holds exe core trace from note status e k says (inl p) = inl p
-walk_holds exe core trace from note status e k says (inr ((rows, follows, consistent), so)) =
-    inr ((note, rows, record { read = record { exe_accepted = sym e; core_accepted = sym k; noted = says }; follows = follows }, consistent), so)
+-- the files are accepted, and this is what the note holds
+pub reads_here : (exe core note : List ℕ) → None ≡ executable_fault exe → None ≡ core_image_fault core → NotesSay (length core) (segments core) (Ok note) → Reads exe core note
+reads_here exe core note e k says = record { exe_accepted = sym e; core_accepted = sym k; noted = says }
 
-pub none_at : (rows rows' : List StepRow) (registers registers' : List ℕ) → rows' ≡ rows → registers' ≡ registers → HasNoExecution rows' registers' → HasNoExecution rows registers
-none_at rows rows' registers registers' er el h = subst (λ r. HasNoExecution r registers) er (subst (λ l. HasNoExecution rows' l) el h)
+pub walk_holds : {P : Type 0} (exe core trace : List ℕ) (from : ℕ) (note : List ℕ) (status : Status) → Reads exe core note → P ⊎ WalkHolds (crash_in exe core note) trace from status → P ⊎ FilesHold exe core trace from status
+walk_holds exe core trace from note status read (inl p) = inl p
+walk_holds exe core trace from note status read (inr ((path, is, consistent), so)) = inr ((note, path, read, is, consistent), so)
 
 -- the files of the examination
 module _ (exe core trace : List ℕ) (from : ℕ) (status : Status) where
   abbrev AfterExe : Option ElfFault → Type 0
-  AfterExe o = MatchOption o (MatchOption (core_image_fault core) ((said : Result (List ℕ) CoreFault) → NotesSay (length core) (segments core) said → NoteYields (segments exe) trace from said status) (λ _. Yields ends.Core status)) (λ _. Yields ends.Executable status)
+  AfterExe o = MatchOption o (MatchOption (core_image_fault core) ((said : Result (List ℕ) CoreFault) → NotesSay (length core) (segments core) said → NoteYields (crash_in exe core) trace from said status) (λ _. Yields ends.Core status)) (λ _. Yields ends.Executable status)
 
   abbrev AfterCore : Option ElfFault → Type 0
-  AfterCore o = MatchOption o ((said : Result (List ℕ) CoreFault) → NotesSay (length core) (segments core) said → NoteYields (segments exe) trace from said status) (λ _. Yields ends.Core status)
+  AfterCore o = MatchOption o ((said : Result (List ℕ) CoreFault) → NotesSay (length core) (segments core) said → NoteYields (crash_in exe core) trace from said status) (λ _. Yields ends.Core status)
 
   pub exe_end : (fault : ElfFault) → Some fault ≡ executable_fault exe → Yields ends.Executable status → FilesEnd exe core trace from status
   exe_end fault e so = subst AfterExe e so
@@ -250,18 +201,18 @@ module _ (exe core trace : List ℕ) (from : ℕ) (status : Status) where
   core_end fault e k so = subst AfterExe e (subst AfterCore k so)
 
   module _ (e : None ≡ executable_fault exe) (k : None ≡ core_image_fault core) (here : Result (List ℕ) CoreFault) (only : (said : Result (List ℕ) CoreFault) → NotesSay (length core) (segments core) said → said ≡ here) where
-    pub notes_end : NoteYields (segments exe) trace from here status → FilesEnd exe core trace from status
-    notes_end yields = subst AfterExe e (subst AfterCore k (λ said says. subst (λ s. NoteYields (segments exe) trace from s status) (sym (only said says)) yields))
+    pub notes_end : NoteYields (crash_in exe core) trace from here status → FilesEnd exe core trace from status
+    notes_end yields = subst AfterExe e (subst AfterCore k (λ said says. subst (λ s. NoteYields (crash_in exe core) trace from s status) (sym (only said says)) yields))
 
   -- a call that stopped ends so whatever the files are
   pub stopped_end : Stopped status → FilesEnd exe core trace from status
   stopped_end s = at (executable_fault exe) (core_image_fault core)
     where
-      note : (said : Result (List ℕ) CoreFault) → NoteYields (segments exe) trace from said status
+      note : (said : Result (List ℕ) CoreFault) → NoteYields (crash_in exe core) trace from said status
       note (Err fault) = inr s
-      note (Ok n) = memory_yields (segments exe) n trace from status s
+      note (Ok n) = memory_yields (crash_in exe core n) trace from status s
 
-      at : (a b : Option ElfFault) → MatchOption a (MatchOption b ((said : Result (List ℕ) CoreFault) → NotesSay (length core) (segments core) said → NoteYields (segments exe) trace from said status) (λ _. Yields ends.Core status)) (λ _. Yields ends.Executable status)
+      at : (a b : Option ElfFault) → MatchOption a (MatchOption b ((said : Result (List ℕ) CoreFault) → NotesSay (length core) (segments core) said → NoteYields (crash_in exe core) trace from said status) (λ _. Yields ends.Core status)) (λ _. Yields ends.Executable status)
       at (Some f) b = inr s
       at None (Some f) = inr s
       at None None = λ said says. note said
@@ -274,7 +225,7 @@ module _ (exe core trace : List ℕ) (from : ℕ) (status : Status) where
   pub told_examined : (source sink : Move Port) → PortsEnd source sink status → (status ≡ ends.Executable) ⊎ (status ≡ ends.Core) ⊎ Stopped status → FilesEnd exe core trace from status → IsExamined exe core trace from source sink status
   told_examined source sink ports so yields = record { ports = ports; yields = yields; ends_so = all_statuses so }
 
-  pub walked_examined : (note : List ℕ) → FilesEnd exe core trace from status → (source sink : Move Port) → IsWalked (segments exe) note trace from source sink status → IsExamined exe core trace from source sink status
+  pub walked_examined : (note : List ℕ) → FilesEnd exe core trace from status → (source sink : Move Port) → IsWalked (crash_in exe core note) trace from source sink status → IsExamined exe core trace from source sink status
   walked_examined note yields source sink w = record { ports = w.ports; yields = yields; ends_so = inr (inr w.ends_so) }
 
 -- what is written of them
@@ -302,10 +253,10 @@ module _ (exe core trace : List ℕ) (from : ℕ) (reading : Reading) (text : Li
     notes_refused fault says (inr h) = inr (inl h)
 
     module _ (note : List ℕ) (says : NotesSay (length core) (segments core) (Ok note)) where
-      pub walks_examine : Walks (segments exe) note trace from reading text status → Examines exe core trace from reading text status
+      pub walks_examine : Walks (crash_in exe core note) trace from reading text status → Examines exe core trace from reading text status
       walks_examine (inl h) = inl (notes_examine (Ok note, says, h))
       walks_examine (inr (inl h)) = inr (inl h)
-      walks_examine (inr (inr cut)) = inr (inr (note, record { exe_accepted = sym e; core_accepted = sym k; noted = says }, cut))
+      walks_examine (inr (inr cut)) = inr (inr (note, reads_here exe core note e k says, cut))
 
 abbrev pub said_ok : List ℕ → Result (List ℕ) CoreFault
 said_ok n = Ok n
@@ -314,11 +265,10 @@ module _ (exe core trace : List ℕ) (from : ℕ) (note : List ℕ) (only : (sai
   same_note : (n : List ℕ) → said_ok n ≡ said_ok note → n ≡ note
   same_note n e = cc
 
-  pub files_exclude : PathExcludes (segments exe) note trace from → FilesExclude exe core trace from
-  files_exclude none n rows leads run x =
-      let same = same_note n (only (Ok n) leads.read.noted) in
-      let none' : PathExcludes (segments exe) n trace from = subst (λ m. PathExcludes (segments exe) m trace from) (sym same) none in
-      none' rows leads.follows _ _ run x
+  pub files_exclude : PathExcludes (crash_in exe core note) trace from → FilesExclude exe core trace from
+  files_exclude none n read =
+      let same = same_note n (only (Ok n) read.noted) in
+      subst (λ m. PathExcludes (crash_in exe core m) trace from) (sym same) none
 
 -- what is said of the bytes that an image borrows
 pub says_at : (bytes core : List ℕ) (said : Result (List ℕ) CoreFault) → bytes ≡ core → NotesSay (length bytes) (segments bytes) said → NotesSay (length core) (segments core) said
@@ -328,8 +278,10 @@ pub only_at : (bytes core : List ℕ) (here : Result (List ℕ) CoreFault) → b
     → (said : Result (List ℕ) CoreFault) → NotesSay (length core) (segments core) said → said ≡ here
 only_at bytes core here e only said h = only said (subst (λ b. NotesSay (length b) (segments b) said) (sym e) h)
 
-pub segments_at : (all : List ElfSegment) (bytes exe : List ℕ) → all ≡ segments bytes → bytes ≡ exe → all ≡ segments exe
-segments_at all bytes exe h e = h ∙ ap segments e
+-- the crash of a dump is that of the bytes that its images borrow
+pub crash_is : (crash : Crash) (exe_bytes exe core_bytes core : List ℕ) → crash.exe ≡ segments exe_bytes → exe_bytes ≡ exe → crash.core ≡ segments core_bytes → core_bytes ≡ core → crash ≡ crash_in exe core crash.note
+crash_is crash exe_bytes exe core_bytes core e b k d =
+    ap (λ x. record { exe = x; core = crash.core; note = crash.note }) (e ∙ ap segments b) ∙ ap (λ x. record { exe = segments exe; core = x; note = crash.note }) (k ∙ ap segments d)
 
 -- the ends of a call that tells a refusal of the files
 pub as_exe : (status : Status) → (status ≡ ends.Executable) ⊎ Stopped status → (status ≡ ends.Executable) ⊎ (status ≡ ends.Core) ⊎ Stopped status
@@ -339,6 +291,3 @@ as_exe status (inr h) = inr (inr h)
 pub as_core : (status : Status) → (status ≡ ends.Core) ⊎ Stopped status → (status ≡ ends.Executable) ⊎ (status ≡ ends.Core) ⊎ Stopped status
 as_core status (inl h) = inr (inl h)
 as_core status (inr h) = inr (inr h)
-
-pub walked_at : (here there : List ElfSegment) (note trace : List ℕ) (from : ℕ) (source sink : Move Port) (status : Status) → here ≡ there → IsWalked here note trace from source sink status → IsWalked there note trace from source sink status
-walked_at here there note trace from source sink status e h = subst (λ s. IsWalked s note trace from source sink status) e h

@@ -1,10 +1,8 @@
-pub mod AnswerLemmas
-pub mod LineLemmas
+pub mod HeldLemmas
 pub mod LoadLemmas
 pub mod PathLemmas
 pub mod DeliveredLemmas
 pub mod ExamineLemmas
-pub mod FormLemmas
-pub mod SessionLemmas
 pub mod StudyLemmas
+pub mod ToldLemmas
 pub mod TopLemmas

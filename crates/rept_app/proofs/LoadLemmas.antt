@@ -2,8 +2,8 @@
 use Rattle.std.proofs.Common.{◌≡◌, ℕ, ◌≤◌, List, length, Option, None, Some, IfSome, MatchOption, subst, ap, ◌∙◌}
 use Rattle.rept_ports.specs.Causes.{Rose, next_count}
 use Rattle.rept_ports.specs.Shelves.{Files, Shelved, IsOver}
-use Rattle.rept_app.specs.Loading.{Fits, FitBefore, LoadRefuses, StopsAt, limit_of, loads_to}
-use Rattle.rept_app.specs.Words.{Names}
+use Rattle.rept_app.specs.Loading.{Fits, LoadRefuses, StopsAt, limit_of}
+use Rattle.rept_words.specs.Words.{Names}
 use Rattle.rept_app.specs.declared.refusal.FileKind.{FileKind}
 use Rattle.rept_app.specs.declared.refusal.FileKind.TheVariants as file
 use Rattle.rept_app.specs.declared.refusal.Refusal.{Refusal}
@@ -25,7 +25,7 @@ module _ (old mid new : Shelved) (name : List ℕ) (kind : FileKind) (files : mi
   refuses_before (refusal.TooLarge k) h = (h.0, by_files (λ fs. IsOver fs name (limit_of kind)) h.1)
   refuses_before refusal.OutOfMemory h = tt
   refuses_before refusal.Usage h = absurd h
-  refuses_before (refusal.NotBuilt what) h = absurd h
+  refuses_before refusal.NotBuilt h = absurd h
   refuses_before refusal.TooMuchInput h = absurd h
   refuses_before (refusal.Executable f) h = absurd h
   refuses_before (refusal.CoreImage f) h = absurd h

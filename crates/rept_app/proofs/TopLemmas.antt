@@ -1,29 +1,33 @@
 -- How the top call ends, from how its parts end.
 use Rattle.std.proofs.Common.{◌≡◌, ◌⊎◌, ℕ, ◌+◌, ◌<◌, ◌≤◌, List, length, Bool, true, false, Option, None, Some, MatchOption, IfSome, inl, inr, refl, sym, ap, subst, ◌∙◌, arith, cond, nat_lt, nat_eq}
 use Rattle.std.proofs.lemmas.Bool.Decides.{nat_tests}
-use Rattle.std.specs.Prelude.{Err, Ok}
 use Rattle.rept_ports.specs.Causes.{Rose, OneFault}
 use Rattle.rept_ports.specs.Port.{Port, Move, move}
 use Rattle.rept_ports.specs.Shelves.{Files, Shelved, IsOver}
 use Rattle.rept_isa.specs.declared.row.StepRow.{StepRow}
-use Rattle.rept_engine.specs.Report.{IsReport}
-use Rattle.rept_engine.specs.Soundness.{IsSound}
+use Rattle.rept_path.specs.declared.rebuilding.Path.{Path}
+use Rattle.rept_reason.specs.Facts.{Knowledge}
+use Rattle.rept_report.specs.Closure.{IsReport}
+use Rattle.rept_session.specs.Shown.{Told as ToldOf}
+use Rattle.rept_found.specs.Crash.{Crash, setting}
+use Rattle.rept_found.specs.Telling.{told_of}
+use Rattle.rept_found.specs.Truth.{IsTrueReport}
+use Rattle.rept_serve.specs.Serving.{Reading}
 use Rattle.rept_app.specs.Delivered.{Delivers, Says, Tells}
 use Rattle.rept_app.specs.Ends.{Stopped, Yields, EndsSession, FaultEnds, PortsEnd}
-use Rattle.rept_app.specs.Forms.{last_values, dump_of, image_end}
+use Rattle.rept_app.specs.Held.{CutOff}
 use Rattle.rept_app.specs.Examine.{Examines, FilesEnd, IsExamined, IsWalkStatus, FilesExclude, FilesHold}
 use Rattle.rept_app.specs.Lines.{status_of}
-use Rattle.rept_app.specs.Loading.{Loading, loading, loading_by, fetched, fetched_all, limit_of, MatchLoading, Fits, FitBefore, name_of, loads_to, ComesTo, LoadRefuses, StopsAt, LoadingStops, AllLoaded, LoadsAll, first_packet}
+use Rattle.rept_app.specs.Loading.{Loading, loading, loading_by, fetched, fetched_all, limit_of, MatchLoading, Fits, FitBefore, name_of, loads_to, ComesTo, LoadRefuses, MeaningStops, LoadingStops, LoadsAll, first_packet}
 use Rattle.rept_app.specs.Loading.Loading.{Refused, Loaded}
-use Rattle.rept_app.specs.Told.{Given, given, Examined, Writes, Holds, ReportHolds, NoExecution}
-use Rattle.rept_app.specs.Top.{TopCauses, LacksFile, LoadEnds, LastLoad, LoadsOf, EndsBy, EndsByFiles, Completes}
-use Rattle.rept_app.specs.Words.{Names, Meaning, meaning_of}
-use Rattle.rept_app.specs.Words.Meaning.{Open, Made}
+use Rattle.rept_app.specs.Told.{Given, given, Examined, Opening, Writes, Holds, ReportHolds, NoExecution, crash_at, setting_at}
+use Rattle.rept_app.specs.Top.{TopCauses, LacksFile, LoadEnds, LoadsOf, EndsBy, EndsByFiles, Completes}
+use Rattle.rept_words.specs.Words.{Names, Meaning, meaning_of}
+use Rattle.rept_words.specs.Words.Meaning.{Open, Made}
 use Rattle.rept_app.specs.declared.refusal.FileKind.{FileKind}
 use Rattle.rept_app.specs.declared.refusal.FileKind.TheVariants as file
 use Rattle.rept_app.specs.declared.refusal.Refusal.{Refusal}
 use Rattle.rept_app.specs.declared.refusal.Refusal.TheVariants as refusal
-use Rattle.rept_app.specs.declared.refusal.Unbuilt.TheVariants as unbuilt
 use Rattle.rept_app.specs.declared.status.Status.{Status}
 use Rattle.rept_app.specs.declared.status.Status.TheVariants as ends
 use Rattle.rept_app.proofs.ExamineLemmas.{stopped_end}
@@ -42,7 +46,7 @@ why old new name kind (refusal.NoFile k) h = inr (inl (ap refusal.NoFile h.0, h.
 why old new name kind (refusal.TooLarge k) h = inr (inr (inl (ap refusal.TooLarge h.0, h.1)))
 why old new name kind refusal.OutOfMemory h = inr (inr (inr refl))
 why old new name kind refusal.Usage h = absurd h
-why old new name kind (refusal.NotBuilt what) h = absurd h
+why old new name kind refusal.NotBuilt h = absurd h
 why old new name kind refusal.TooMuchInput h = absurd h
 why old new name kind (refusal.Executable f) h = absurd h
 why old new name kind (refusal.CoreImage f) h = absurd h
@@ -89,6 +93,9 @@ module _ (files : Files) (names : Names) (from : ℕ) where
   over kind before large = comes_to kind (refusal.TooLarge kind) before
       (λ next. ap (λ (o : Option (List ℕ)). fetched kind o next) large.1 ∙ ap (λ (b : Bool). cond b (Refused (refusal.TooLarge kind)) (next large.0)) (is_over (limit_of kind) (length large.0) large.2))
 
+abbrev pub opening : List ℕ → List ℕ → List ℕ → ℕ → List ℕ → Path → Opening
+opening exe core trace from note path = record { exe = exe; core = core; trace = trace; from = from; note = note; path = path }
+
 module _ (words : List (List ℕ)) (files : Files) where
   -- why no files are loaded: a load failed, memory ran out, or the files say so
   abbrev pub Stops : Shelved → Shelved → Refusal → Type 0
@@ -106,14 +113,15 @@ module _ (words : List (List ℕ)) (files : Files) where
       inr (inr (ap (loading_by files) named ∙ over files names (first_packet from) kind before (at_told old.files _ (λ fs. IsOver fs (name_of names kind) (limit_of kind) × (new.faults ≡ old.faults)) files told h.1).0 ∙ ap Refused (sym h.0)))
   names_stop old new names from kind r told named before loads (inr (inr (inr h))) = inr (inl h)
 
-  words_stop : (old new : Shelved) (r : Refusal) → old.files ≡ Some files → (m : Option Meaning) → meaning_of words ≡ m → LoadingStops m old new r → Stops old new r
+  words_stop : (old new : Shelved) (r : Refusal) → old.files ≡ Some files → (m : Option Meaning) → meaning_of words ≡ m → MeaningStops m old new r → Stops old new r
   words_stop old new r told None e h = inr (inr (ap (loading_by files) e ∙ ap Refused (sym h.0)))
   words_stop old new r told (Some (Made seed steps)) e h = inr (inr (ap (loading_by files) e ∙ ap Refused (sym h.0)))
   words_stop old new r told (Some (Open names from)) e (kind, s) =
       names_stop old new names from kind r told e (at_files old.files (λ fs. FitBefore fs names kind) files told s.before) s.loads (why old new (name_of names kind) kind r s.why)
 
   pub stops : (old new : Shelved) (r : Refusal) → old.files ≡ Some files → LoadingStops (meaning_of words) old new r → Stops old new r
-  stops old new r told h = words_stop old new r told (meaning_of words) refl h
+  stops old new r told (inl h) = inr (inl h.0)
+  stops old new r told (inr h) = words_stop old new r told (meaning_of words) refl h
 
   abbrev Ends : Status → Loading → Type 0
   Ends status l = MatchLoading l (λ r. EndsBy (status_of r) status) (λ exe core trace from. FilesEnd exe core trace from status ⊎ (status ≡ ends.LoadFault))
@@ -157,12 +165,12 @@ module _ (words : List (List ℕ)) (files : Files) where
     pub examined_writes : (exe core trace : List ℕ) (from : ℕ) → loading words files ≡ Loaded exe core trace from → Examines exe core trace from (record { input = input; left = source.after.bytes }) text status → Writes Here text status
     examined_writes exe core trace from at (inl h) = inl (subst Whole (sym at) h)
     examined_writes exe core trace from at (inr (inl h)) = inr (inr (inl h))
-    examined_writes exe core trace from at (inr (inr (note, read, (rows, known, follows, report, cut)))) =
-        inr (inr (inr (exe, core, trace, from, note, rows, known, record { loaded = at; leads = record { read = read; follows = follows } }, report, cut)))
+    examined_writes exe core trace from at (inr (inr (note, read, (path, a, is, account, cut)))) =
+        inr (inr (inr (opening exe core trace from note path, a, record { loaded = at; read = read; path = is }, account, cut)))
 
   module _ (exe core trace : List ℕ) (from : ℕ) (at : loading words files ≡ Loaded exe core trace from) where
     pub files_hold : (status : Status) → FilesHold exe core trace from status → Holds words files
-    files_hold status ((note, rows, leads, consistent), so) = (exe, core, trace, from, note, rows, record { loaded = at; leads = leads }, consistent)
+    files_hold status ((note, path, read, is, consistent), so) = (opening exe core trace from note path, record { loaded = at; read = read; path = is }, consistent)
 
     pub examined_ends : (source sink : Move Port) (status : Status) → IsExamined exe core trace from source sink status → EndsByFiles words files status
     examined_ends source sink status c = subst (Ends status) (sym at) (inl c.yields)
@@ -179,11 +187,28 @@ module _ (words : List (List ℕ)) (files : Files) where
         subst (λ n. P e c t n) same.3 (subst (λ x. P e c x from) same.2 (subst (λ x. P e x trace from) same.1 (subst (λ x. P x core trace from) same.0 p)))
 
     pub examined_excludes : FilesExclude exe core trace from → NoExecution words files
-    examined_excludes none e c t k note rows opens = moved FilesExclude e c t k opens.loaded none note rows opens.leads
+    examined_excludes none o opens = moved FilesExclude o.exe o.core o.trace o.from opens.loaded none o.note opens.read o.path opens.path
 
--- what reports say of any path that is analysed, they say of that of the files
-pub reports_hold : (words : List (List ℕ)) (files : Files) → ((rows : List StepRow) (last : List ℕ) (known : ℕ → ℕ → Option ℕ) → IsReport rows last known → IsSound rows last known) → ReportHolds words files
-reports_hold words files sound exe core trace from note rows known opens report run x p r v early in_file e = sound rows (last_values note) known report p r v early in_file e (image_end exe) (dump_of exe core) run x
+-- what is told of the report of any path and crash, is told of that of the files
+pub reports_hold : (words : List (List ℕ)) (files : Files) → ((crash : Crash) (rows : List StepRow) (known : Knowledge) → IsReport (setting crash rows) known → IsTrueReport (setting crash rows) known) → ReportHolds words files
+reports_hold words files true_of o known opens report = true_of (crash_at o) o.path.steps known report
+
+-- a session that was cut short ends with one of two statuses
+cut_ends : (t : ToldOf) (reading : Reading) (text : List ℕ) (status : Status) → CutOff t reading text status → (status ≡ ends.InputFault) ⊎ (status ≡ ends.OutOfMemory)
+cut_ends t reading text ends.InputFault h = inl refl
+cut_ends t reading text ends.OutOfMemory h = inr refl
+cut_ends t reading text ends.Ok h = absurd h
+cut_ends t reading text ends.Inconsistent h = absurd h
+cut_ends t reading text ends.Usage h = absurd h
+cut_ends t reading text ends.LoadFault h = absurd h
+cut_ends t reading text ends.NoFile h = absurd h
+cut_ends t reading text ends.TooLarge h = absurd h
+cut_ends t reading text ends.Executable h = absurd h
+cut_ends t reading text ends.Core h = absurd h
+cut_ends t reading text ends.Trace h = absurd h
+cut_ends t reading text ends.OutputFault h = absurd h
+cut_ends t reading text ends.TooMuchInput h = absurd h
+cut_ends t reading text ends.NotBuilt h = absurd h
 
 -- what is written where no count rose
 pub completed : (g : Given) (shelf : Move Shelved) (source sink : Move Port) (status : Status) → TopCauses shelf source sink status → Delivers (Writes g) sink status → Completes g shelf source sink status
@@ -191,8 +216,8 @@ completed g shelf source sink status c (inr h) no_load no_read no_write = absurd
 completed g shelf source sink status c (inl (text, inl h, appended, calm)) no_load no_read no_write = inr (text, h, appended)
 completed g shelf source sink status c (inl (text, inr (inl (kind, comes, loads, says)), appended, calm)) no_load no_read no_write = absurd (no_load (c.load says.ending).rose)
 completed g shelf source sink status c (inl (text, inr (inr (inl says)), appended, calm)) no_load no_read no_write = inl says.ending
-completed g shelf source sink status c (inl (text, inr (inr (inr (exe, core, trace, from, note, rows, known, opens, report, inl failed))), appended, calm)) no_load no_read no_write = absurd (no_read (c.ports.input failed.ending).rose)
-completed g shelf source sink status c (inl (text, inr (inr (inr (exe, core, trace, from, note, rows, known, opens, report, inr ran))), appended, calm)) no_load no_read no_write = inl ran.ending
+completed g shelf source sink status c (inl (text, inr (inr (inr (o, a, opens, account, cut))), appended, calm)) no_load no_read no_write =
+    elim (cut_ends (told_of (setting_at o) a) g.reading text status cut) [ inl e ↦ absurd (no_read (c.ports.input e).rose) | inr e ↦ inl e ]
 
 -- a count that rose by at most one stands as it was, or one fault was counted
 counted : (before now : ℕ) → before ≤ now → now ≤ before + 1 → (now ≡ before) ⊎ OneFault before now
@@ -292,12 +317,16 @@ module _ (old new : Shelved) (source : Port) (sink : Move Port) (status : Status
   file_causes name kind r (inr (inr (inl h))) so = lacks_causes (λ fs. IsOver fs name (limit_of kind)) (as_large (by r (refusal.TooLarge kind) h.0 so)) h.1
   file_causes name kind r (inr (inr (inr h))) so = let s = memory (by r refusal.OutOfMemory h so) in stopped_causes s (either_way (inr (inr s)))
 
-  pub refused_causes : (m : Option Meaning) (r : Refusal) → LoadingStops m old new r → Yields (status_of r) status → TopCauses (move old new) (move source source) sink status
-  refused_causes None r h so =
+  meaning_causes : (m : Option Meaning) (r : Refusal) → MeaningStops m old new r → Yields (status_of r) status → TopCauses (move old new) (move source source) sink status
+  meaning_causes None r h so =
       idle_causes ends.Usage (λ (e : ends.Usage ≡ ends.LoadFault). cc) (λ (e : ends.Usage ≡ ends.NoFile). cc) (λ (e : ends.Usage ≡ ends.TooLarge). cc) (ap (λ (s : Shelved). s.faults) h.1) (by r refusal.Usage h.0 so)
-  refused_causes (Some (Made seed steps)) r h so =
-      idle_causes ends.NotBuilt (λ (e : ends.NotBuilt ≡ ends.LoadFault). cc) (λ (e : ends.NotBuilt ≡ ends.NoFile). cc) (λ (e : ends.NotBuilt ≡ ends.TooLarge). cc) (ap (λ (s : Shelved). s.faults) h.1) (by r (refusal.NotBuilt unbuilt.Words) h.0 so)
-  refused_causes (Some (Open names from)) r (kind, s) so = file_causes (name_of names kind) kind r (why old new (name_of names kind) kind r s.why) so
+  meaning_causes (Some (Made seed steps)) r h so =
+      idle_causes ends.NotBuilt (λ (e : ends.NotBuilt ≡ ends.LoadFault). cc) (λ (e : ends.NotBuilt ≡ ends.NoFile). cc) (λ (e : ends.NotBuilt ≡ ends.TooLarge). cc) (ap (λ (s : Shelved). s.faults) h.1) (by r (refusal.NotBuilt) h.0 so)
+  meaning_causes (Some (Open names from)) r (kind, s) so = file_causes (name_of names kind) kind r (why old new (name_of names kind) kind r s.why) so
+
+  pub refused_causes : (m : Option Meaning) (r : Refusal) → LoadingStops m old new r → Yields (status_of r) status → TopCauses (move old new) (move source source) sink status
+  refused_causes m r (inl h) so = stopped_causes (memory (by r refusal.OutOfMemory h.0 so)) (inl (ap (λ (s : Shelved). s.faults) h.1))
+  refused_causes m r (inr h) so = meaning_causes m r h so
 
   -- the loads that were made
   ends_loading : (name : List ℕ) (kind : FileKind) (r : Refusal) → Why old new name kind r → Yields (status_of r) status → (status ≡ ends.LoadFault) ⊎ LacksFile status ⊎ Stopped status
@@ -306,15 +335,24 @@ module _ (old new : Shelved) (source : Port) (sink : Move Port) (status : Status
   ends_loading name kind r (inr (inr (inl h))) so = inr (as_large (by r (refusal.TooLarge kind) h.0 so))
   ends_loading name kind r (inr (inr (inr h))) so = inr (inr (memory (by r refusal.OutOfMemory h so)))
 
-  pub refused_loads : (m : Option Meaning) (r : Refusal) → LoadingStops m old new r → Yields (status_of r) status → LoadsOf m (move old new) status
-  refused_loads None r h so = tt
-  refused_loads (Some (Made seed steps)) r h so = tt
-  refused_loads (Some (Open names from)) r (kind, s) so = record {
+  meaning_loads : (m : Option Meaning) (r : Refusal) → MeaningStops m old new r → Yields (status_of r) status → LoadsOf m (move old new) status
+  meaning_loads None r h so = tt
+  meaning_loads (Some (Made seed steps)) r h so = tt
+  meaning_loads (Some (Open names from)) r (kind, s) so = inl (record {
     last = kind;
     before = s.before;
     loads = s.loads;
     all = inr (ends_loading (name_of names kind) kind r (why old new (name_of names kind) kind r s.why) so);
-  }
+  })
+
+  none_loads : (m : Option Meaning) → new ≡ old → Stopped status → LoadsOf m (move old new) status
+  none_loads None same stopped = tt
+  none_loads (Some (Made seed steps)) same stopped = tt
+  none_loads (Some (Open names from)) same stopped = inr (same, stopped)
+
+  pub refused_loads : (m : Option Meaning) (r : Refusal) → LoadingStops m old new r → Yields (status_of r) status → LoadsOf m (move old new) status
+  refused_loads m r (inl h) so = none_loads m h.1 (memory (by r refusal.OutOfMemory h.0 so))
+  refused_loads m r (inr h) so = meaning_loads m r h so
 
 -- a status with which no call ends that loads no files
 pub record IsOther (other : Status) : Type 0 where
@@ -340,16 +378,20 @@ file_status old new name kind r other is (inr (inl h)) e = is.missing (ap status
 file_status old new name kind r other is (inr (inr (inl h))) e = is.large (ap status_of (sym h.0) ∙ e)
 file_status old new name kind r other is (inr (inr (inr h))) e = is.memory (ap status_of (sym h) ∙ e)
 
+meaning_status : (old new : Shelved) (m : Option Meaning) (r : Refusal) (other : Status) → IsOther other → MeaningStops m old new r → status_of r ≡ other → ⊥
+meaning_status old new None r other is h e = is.usage (ap status_of (sym h.0) ∙ e)
+meaning_status old new (Some (Made seed steps)) r other is h e = is.words (ap status_of (sym h.0) ∙ e)
+meaning_status old new (Some (Open names from)) r other is (kind, s) e = file_status old new (name_of names kind) kind r other is (why old new (name_of names kind) kind r s.why) e
+
 pub no_status : (old new : Shelved) (m : Option Meaning) (r : Refusal) (other : Status) → IsOther other → LoadingStops m old new r → status_of r ≡ other → ⊥
-no_status old new None r other is h e = is.usage (ap status_of (sym h.0) ∙ e)
-no_status old new (Some (Made seed steps)) r other is h e = is.words (ap status_of (sym h.0) ∙ e)
-no_status old new (Some (Open names from)) r other is (kind, s) e = file_status old new (name_of names kind) kind r other is (why old new (name_of names kind) kind r s.why) e
+no_status old new m r other is (inl h) e = is.memory (ap status_of (sym h.0) ∙ e)
+no_status old new m r other is (inr h) e = meaning_status old new m r other is h e
 
 -- all files were loaded
 pub all_loads : (old new : Shelved) (m : Option Meaning) (status : Status) → LoadsAll m old new → LoadsOf m (move old new) status
 all_loads old new None status h = tt
 all_loads old new (Some (Made seed steps)) status h = tt
-all_loads old new (Some (Open names from)) status h = record { last = file.Trace; before = h.before; loads = h.loads; all = inl refl }
+all_loads old new (Some (Open names from)) status h = inl (record { last = file.Trace; before = h.before; loads = h.loads; all = inl refl })
 
 -- the causes of a call whose files were loaded
 pub examined_causes : (old new : Shelved) (exe core trace : List ℕ) (from : ℕ) (source sink : Move Port) (status : Status) → new.files ≡ old.files → new.faults ≡ old.faults → IsExamined exe core trace from source sink status → TopCauses (move old new) source sink status
@@ -368,24 +410,21 @@ examined_causes old new exe core trace from source sink status files calm c = re
     not_walked (inl e) (inr (inr (inr (inl h)))) = cc
     not_walked (inl e) (inr (inr (inr (inr (inl h))))) = cc
     not_walked (inl e) (inr (inr (inr (inr (inr (inl h)))))) = cc
-    not_walked (inl e) (inr (inr (inr (inr (inr (inr (inl h))))))) = cc
-    not_walked (inl e) (inr (inr (inr (inr (inr (inr (inr h))))))) = cc
+    not_walked (inl e) (inr (inr (inr (inr (inr (inr h)))))) = cc
     not_walked (inr (inl e)) (inl h) = cc
     not_walked (inr (inl e)) (inr (inl h)) = cc
     not_walked (inr (inl e)) (inr (inr (inl h))) = cc
     not_walked (inr (inl e)) (inr (inr (inr (inl h)))) = cc
     not_walked (inr (inl e)) (inr (inr (inr (inr (inl h))))) = cc
     not_walked (inr (inl e)) (inr (inr (inr (inr (inr (inl h)))))) = cc
-    not_walked (inr (inl e)) (inr (inr (inr (inr (inr (inr (inl h))))))) = cc
-    not_walked (inr (inl e)) (inr (inr (inr (inr (inr (inr (inr h))))))) = cc
+    not_walked (inr (inl e)) (inr (inr (inr (inr (inr (inr h)))))) = cc
     not_walked (inr (inr e)) (inl h) = cc
     not_walked (inr (inr e)) (inr (inl h)) = cc
     not_walked (inr (inr e)) (inr (inr (inl h))) = cc
     not_walked (inr (inr e)) (inr (inr (inr (inl h)))) = cc
     not_walked (inr (inr e)) (inr (inr (inr (inr (inl h))))) = cc
     not_walked (inr (inr e)) (inr (inr (inr (inr (inr (inl h)))))) = cc
-    not_walked (inr (inr e)) (inr (inr (inr (inr (inr (inr (inl h))))))) = cc
-    not_walked (inr (inr e)) (inr (inr (inr (inr (inr (inr (inr h))))))) = cc
+    not_walked (inr (inr e)) (inr (inr (inr (inr (inr (inr h)))))) = cc
 
     not_loading : (status ≡ ends.LoadFault) ⊎ (status ≡ ends.NoFile) ⊎ (status ≡ ends.TooLarge) → (status ≡ ends.Executable) ⊎ (status ≡ ends.Core) ⊎ IsWalkStatus status → ⊥
     not_loading (inl e) (inl h) = cc

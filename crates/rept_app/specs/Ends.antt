@@ -11,7 +11,7 @@ Stopped status = (status ≡ ends.OutputFault) ⊎ (status ≡ ends.OutOfMemory)
 
 -- the statuses of a call that holds a session
 abbrev pub EndsSession : Status → Type 0
-EndsSession status = (status ≡ ends.Ok) ⊎ (status ≡ ends.NotBuilt) ⊎ (status ≡ ends.InputFault) ⊎ (status ≡ ends.TooMuchInput) ⊎ Stopped status
+EndsSession status = (status ≡ ends.Ok) ⊎ (status ≡ ends.InputFault) ⊎ (status ≡ ends.TooMuchInput) ⊎ Stopped status
 
 -- a call that ends so, unless it stops before
 abbrev pub Yields : Status → Status → Type 0
@@ -28,3 +28,8 @@ pub record PortsEnd (source sink : Move Port) (status : Status) : Type 0 where
   pub input_ends : FaultEnds source.before.faults source.after.faults (Yields ends.InputFault status)
   pub output : status ≡ ends.OutputFault → OneFault sink.before.faults sink.after.faults
   pub output_ends : FaultEnds sink.before.faults sink.after.faults (status ≡ ends.OutputFault)
+
+-- each fault has its cause and ends the session, and no other status comes than these
+pub record IsCaused (source sink : Move Port) (status : Status) : Type 0 where
+  pub ports : PortsEnd source sink status
+  pub answered : EndsSession status

@@ -12,12 +12,10 @@ use Rattle.rept_path.specs.declared.fault.PathFault.{PathFault}
 use Rattle.rept_path.specs.declared.fault.PathFault.TheVariants as path
 use Rattle.rept_reason.specs.declared.fact.Cell.{Cell}
 use Rattle.rept_reason.specs.declared.fact.Cell.TheVariants.{Register, Byte}
-use Rattle.rept_engine.specs.declared.conflict.ConflictKind.{ConflictKind}
-use Rattle.rept_engine.specs.declared.conflict.ConflictKind.TheVariants.{TwoValues}
+use Rattle.rept_report.specs.declared.conflict.ConflictKind.{ConflictKind}
+use Rattle.rept_report.specs.declared.conflict.ConflictKind.TheVariants.{TwoValues, EmptyRange, WrongTurn}
 use Rattle.rept_app.specs.declared.refusal.FileKind.{FileKind}
 use Rattle.rept_app.specs.declared.refusal.FileKind.TheVariants as file
-use Rattle.rept_app.specs.declared.refusal.Unbuilt.{Unbuilt}
-use Rattle.rept_app.specs.declared.refusal.Unbuilt.TheVariants as unbuilt
 use Rattle.rept_app.specs.declared.refusal.Refusal.{Refusal}
 use Rattle.rept_app.specs.declared.refusal.Refusal.TheVariants as refusal
 use Rattle.rept_app.specs.declared.status.Status.{Status}
@@ -37,7 +35,7 @@ status_of (refusal.Executable f) = ends.Executable
 status_of (refusal.CoreImage f) = ends.Core
 status_of (refusal.Core f) = ends.Core
 status_of (refusal.Path f) = status_of_path f
-status_of (refusal.NotBuilt u) = ends.NotBuilt
+status_of refusal.NotBuilt = ends.NotBuilt
 status_of (refusal.Inconsistent kind) = ends.Inconsistent
 status_of refusal.InputFault = ends.InputFault
 status_of refusal.OutOfMemory = ends.OutOfMemory
@@ -96,14 +94,6 @@ path_fault_text (path.Packet f) = codes "path 11 " ++ trace_fault_text f
 path_fault_text (path.Trapped k a) = codes "path 12 " ++ decimal k ++ codes " " ++ hex_word a
 path_fault_text path.OutOfMemory = codes "out-of-memory"
 
-abbrev pub unbuilt_word : Unbuilt → List ℕ
-unbuilt_word unbuilt.Words = codes "words"
-unbuilt_word (unbuilt.Code address) = codes "code " ++ hex_word address
-unbuilt_word unbuilt.Input = codes "input"
-
-abbrev pub unbuilt_text : Unbuilt → List ℕ
-unbuilt_text what = codes "not-built " ++ unbuilt_word what
-
 -- a register as `x5`, a byte as its address
 abbrev pub cell_text : Cell → List ℕ
 cell_text (Register r) = codes "x" ++ decimal r
@@ -118,8 +108,11 @@ abbrev pub two_values_text : ℕ → Cell → ℕ → ℕ → List ℕ
 two_values_text point cell v w =
     codes "inconsistent two-values " ++ decimal point ++ codes " " ++ cell_text cell ++ codes " " ++ value_text_in cell v ++ codes " " ++ value_text_in cell w
 
+-- two values of a register or byte at a point, a register without a value at a point, or a step that went another way
 abbrev pub conflict_text : ConflictKind → List ℕ
 conflict_text (TwoValues point cell v w) = two_values_text point cell v w
+conflict_text (EmptyRange point reg) = codes "inconsistent empty-range " ++ decimal point ++ codes " x" ++ decimal reg
+conflict_text (WrongTurn step) = codes "inconsistent wrong-turn " ++ decimal step
 
 abbrev pub words_of : Refusal → List ℕ
 words_of refusal.Usage = codes "usage: rept open EXE CORE TRACE [FROM] | rept self SEED STEPS"
@@ -130,7 +123,7 @@ words_of (refusal.Executable f) = codes "executable " ++ elf_fault_text f
 words_of (refusal.CoreImage f) = codes "core-image " ++ elf_fault_text f
 words_of (refusal.Core f) = core_fault_text f
 words_of (refusal.Path f) = path_fault_text f
-words_of (refusal.NotBuilt what) = unbuilt_text what
+words_of refusal.NotBuilt = codes "not-built words"
 words_of (refusal.Inconsistent kind) = conflict_text kind
 words_of refusal.InputFault = codes "input-fault"
 words_of refusal.OutOfMemory = codes "out-of-memory"

@@ -1,12 +1,11 @@
 -- What the words and the files come to, before the files are read.
-use Rattle.std.specs.Prelude.{◌≡◌, ℕ, ◌+◌, ◌≤◌, List, length, Option, None, Some, MatchOption, IfSome, Result, OnOk, nat_lt, if◌then◌else◌}
+use Rattle.std.specs.Prelude.{◌≡◌, ◌⊎◌, ℕ, ◌+◌, ◌≤◌, List, length, Option, None, Some, MatchOption, IfSome, Result, OnOk, nat_lt, if◌then◌else◌}
 use Rattle.rept_ports.specs.Causes.{Rose, next_count}
 use Rattle.rept_ports.specs.Shelves.{Files, Shelved, IsOver}
-use Rattle.rept_app.specs.Words.{Names, Meaning, meaning_of}
-use Rattle.rept_app.specs.Words.Meaning.{Open, Made}
+use Rattle.rept_words.specs.Words.{Names, Meaning, meaning_of}
+use Rattle.rept_words.specs.Words.Meaning.{Open, Made}
 use Rattle.rept_app.specs.declared.refusal.FileKind.{FileKind}
 use Rattle.rept_app.specs.declared.refusal.FileKind.TheVariants as file
-use Rattle.rept_app.specs.declared.refusal.Unbuilt.TheVariants as unbuilt
 use Rattle.rept_app.specs.declared.refusal.Refusal.{Refusal}
 use Rattle.rept_app.specs.declared.refusal.Refusal.TheVariants as refusal
 
@@ -38,7 +37,7 @@ first_packet (Some from) = from
 
 abbrev pub loading_by : Files → Option Meaning → Loading
 loading_by files None = Refused refusal.Usage
-loading_by files (Some (Made seed steps)) = Refused (refusal.NotBuilt unbuilt.Words)
+loading_by files (Some (Made seed steps)) = Refused refusal.NotBuilt
 loading_by files (Some (Open names from)) = fetched_all files names (first_packet from)
 
 -- what words and files come to: no meaning, words that aren't read yet, the first file that is missing or too large, or all files
@@ -89,11 +88,15 @@ pub record StopsAt (old new : Shelved) (names : Names) (kind : FileKind) (r : Re
   pub loads : new.loads ≡ loads_to kind old.loads
   pub why : LoadRefuses old new (name_of names kind) kind r
 
--- why no files are loaded: by the words, or by the file whose load was the last
+-- why the words or the files that they name don't come to three files: by the words, or by the file whose load was the last
+abbrev pub MeaningStops : Option Meaning → Shelved → Shelved → Refusal → Type 0
+MeaningStops None old new r = (r ≡ refusal.Usage) × (new ≡ old)
+MeaningStops (Some (Made seed steps)) old new r = (r ≡ refusal.NotBuilt) × (new ≡ old)
+MeaningStops (Some (Open names from)) old new r = (kind : FileKind) × StopsAt old new names kind r
+
+-- why no files are loaded: there was no memory to read the words, or by these
 abbrev pub LoadingStops : Option Meaning → Shelved → Shelved → Refusal → Type 0
-LoadingStops None old new r = (r ≡ refusal.Usage) × (new ≡ old)
-LoadingStops (Some (Made seed steps)) old new r = (r ≡ refusal.NotBuilt unbuilt.Words) × (new ≡ old)
-LoadingStops (Some (Open names from)) old new r = (kind : FileKind) × StopsAt old new names kind r
+LoadingStops m old new r = ((r ≡ refusal.OutOfMemory) × (new ≡ old)) ⊎ MeaningStops m old new r
 
 -- words that name no files, for which no load is made
 abbrev pub NamesNone : Option Meaning → Type 0

@@ -9,8 +9,8 @@ use Rattle.rept_app.specs.Examine.{FilesEnd}
 use Rattle.rept_app.specs.Lines.{status_of}
 use Rattle.rept_app.specs.Loading.{loading, MatchLoading, FitBefore, loads_to}
 use Rattle.rept_app.specs.Told.{Given, Told}
-use Rattle.rept_app.specs.Words.{Names, Meaning}
-use Rattle.rept_app.specs.Words.Meaning.{Open, Made}
+use Rattle.rept_words.specs.Words.{Names, Meaning}
+use Rattle.rept_words.specs.Words.Meaning.{Open, Made}
 use Rattle.rept_app.specs.declared.refusal.FileKind.{FileKind}
 use Rattle.rept_app.specs.declared.refusal.FileKind.TheVariants as file
 use Rattle.rept_app.specs.declared.status.Status.{Status}
@@ -42,11 +42,11 @@ pub record LastLoad (names : Names) (shelf : Move Shelved) (status : Status) : T
   pub loads : shelf.after.loads ≡ loads_to last shelf.before.loads
   pub all : (last ≡ file.Trace) ⊎ (status ≡ ends.LoadFault) ⊎ LacksFile status ⊎ Stopped status
 
--- the loads of words that name files
+-- The loads of words that name files; there are none where memory ran out before.
 abbrev pub LoadsOf : Option Meaning → Move Shelved → Status → Type 0
 LoadsOf None shelf status = Unit {0}
 LoadsOf (Some (Made seed steps)) shelf status = Unit {0}
-LoadsOf (Some (Open names from)) shelf status = LastLoad names shelf status
+LoadsOf (Some (Open names from)) shelf status = LastLoad names shelf status ⊎ ((shelf.after ≡ shelf.before) × Stopped status)
 
 -- a call that ends so, unless a file can't be loaded, the output fails, or memory runs out
 abbrev pub EndsBy : Status → Status → Type 0

@@ -1,11 +1,11 @@
 ghost use Rattle.std.specs.Prelude.{◌≡◌, ◌⊎◌, ◌<◌, ◌^◌, length, IfSome};
-ghost use Rattle.rept_dump.specs.Dump.{exe_of, registers_of};
 ghost use Rattle.rept_ports.specs.Port.{move};
+ghost use Rattle.rept_found.specs.Crash.{crash_of};
 ghost use Rattle.rept_app.specs.Delivered.{Delivers};
 ghost use Rattle.rept_app.specs.Examine.{Examines, IsExamined, FilesExclude, FilesHold, Walks, IsWalked, PathExcludes, WalkHolds};
 
-use crate::path::{first_unread, trace_path};
-use crate::refusal::{Refusal, Unbuilt};
+use crate::path::trace_path;
+use crate::refusal::Refusal;
 use crate::status::Status;
 use crate::study::study;
 use crate::tell::tell;
@@ -55,19 +55,14 @@ fn walk<S: Source, K: Sink>(
     out: &mut K,
 ) -> Status
     requires { length trace.now < 2 ^ 32 }
-    ensures text { IfSome (S.port input.old).bytes (λ bytes. Delivers (Walks (exe_of dump.now) (registers_of dump.now) trace.now from (record { input = bytes; left = (S.port input.new).bytes })) (move (K.port out.old) (K.port out.new)) result) }
-    ensures causes { IsWalked (exe_of dump.now) (registers_of dump.now) trace.now from (move (S.port input.old) (S.port input.new)) (move (K.port out.old) (K.port out.new)) result }
-    ensures stays { (input.new ≡ input.old) ⊎ WalkHolds (exe_of dump.now) (registers_of dump.now) trace.now from result }
-    ensures impossible { result ≡ Status.Inconsistent → PathExcludes (exe_of dump.now) (registers_of dump.now) trace.now from }
+    ensures text { IfSome (S.port input.old).bytes (λ bytes. Delivers (Walks (crash_of dump.now) trace.now from (record { input = bytes; left = (S.port input.new).bytes })) (move (K.port out.old) (K.port out.new)) result) }
+    ensures causes { IsWalked (crash_of dump.now) trace.now from (move (S.port input.old) (S.port input.new)) (move (K.port out.old) (K.port out.new)) result }
+    ensures stays { (input.new ≡ input.old) ⊎ WalkHolds (crash_of dump.now) trace.now from result }
+    ensures impossible { result ≡ Status.Inconsistent → PathExcludes (crash_of dump.now) trace.now from }
 {
     let path = match trace_path(alloc, trace, dump, from) {
         Ok(path) => path,
         Err(fault) => return tell(alloc, out, &Refusal::Path(fault)),
     };
-    let steps = path.steps.rows();
-    if let Some(address) = first_unread(steps) {
-        return tell(alloc, out, &Refusal::NotBuilt(Unbuilt::Code(address)));
-    }
-    let status = dump.status();
-    study(alloc, steps, &status.regs, status.pc, input, out)
+    study(alloc, &path, dump, input, out)
 }

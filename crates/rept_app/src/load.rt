@@ -1,14 +1,14 @@
-ghost use Rattle.std.specs.Prelude.{◌≡◌, ◌≤◌, ◌↔◌, map, length, string_bytes, IsOk, IfOk, IfErr, IfSome, Some, None, Err};
+ghost use Rattle.std.specs.Prelude.{◌≡◌, ◌⊎◌, ◌≤◌, map, length, string_bytes, IsOk, IfOk, IfErr, IfSome, Some, None, Err};
 ghost use Rattle.rept_ports.specs.Shelves.{Loads};
-ghost use Rattle.rept_app.specs.Words.{meaning_of};
-ghost use Rattle.rept_app.specs.Asked.{named_by};
+ghost use Rattle.rept_words.specs.Words.{meaning_of};
+ghost use Rattle.rept_words.specs.Asked.{named_by};
 ghost use Rattle.rept_app.specs.declared.refusal.FileKind.{FileKind};
 ghost use Rattle.rept_app.specs.Loading.{limit_of, fetched_all, first_packet, loading, loads_to, FitBefore, LoadRefuses, LoadingStops, LoadsAll, NamesNone, ShelfMoves, StopsAt};
 ghost use Rattle.rept_app.specs.Loading.Loading.{Loaded};
 
-use crate::refusal::{FileKind, Refusal, Unbuilt};
-use crate::words::{FileNames, Request, meaning};
+use crate::refusal::{FileKind, Refusal};
 use rept_ports::{LoadFault, Shelf};
+use rept_words::{FileNames, Request, meaning};
 use std::alloc::Global;
 
 /// The bytes of the three files of a crash, and the number of the packet to begin from.
@@ -107,13 +107,15 @@ pub fn load_files<H: Shelf>(
     ensures faults { ShelfMoves (H.port shelf.old) (H.port shelf.new) result }
     ensures refused { IfErr result (LoadingStops (meaning_of (map string_bytes words.now)) (H.port shelf.old) (H.port shelf.new)) }
     ensures idle { NamesNone (meaning_of (map string_bytes words.now)) → shelf.new ≡ shelf.old }
-    ensures usage { (result ≡ Err Refusal.Usage) ↔ (meaning_of (map string_bytes words.now) ≡ None) }
+    ensures usage { result ≡ Err Refusal.Usage → meaning_of (map string_bytes words.now) ≡ None }
+    ensures no_meaning { meaning_of (map string_bytes words.now) ≡ None → (result ≡ Err Refusal.Usage) ⊎ (result ≡ Err Refusal.OutOfMemory) }
 {
-    match meaning(words) {
-        None => Err(Refusal::Usage),
-        Some(Request::Open { names, from }) => {
+    match meaning(alloc, words) {
+        Ok(None) => Err(Refusal::Usage),
+        Ok(Some(Request::Open { names, from })) => {
             load_names(alloc, shelf, names, first_packet_of(from))
         }
-        Some(Request::Made { .. }) => Err(Refusal::NotBuilt(Unbuilt::Words)),
+        Ok(Some(Request::Made { .. })) => Err(Refusal::NotBuilt),
+        Err(_) => Err(Refusal::OutOfMemory),
     }
 }

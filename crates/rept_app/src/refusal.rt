@@ -1,13 +1,16 @@
-ghost use Rattle.std.specs.Prelude.{◌≡◌, ◌++◌, IfOk, OnOk};
-ghost use Rattle.rept_app.specs.Lines.{line_of, status_of, status_of_path, file_word, elf_fault_text, core_fault_text, unbuilt_text, unbuilt_word, conflict_text, two_values_text, cell_text, value_text_in};
+ghost use Rattle.std.specs.Prelude.{◌≡◌, ◌++◌, IfOk, OnOk, codes};
+ghost use Rattle.std.specs.Fmt.{decimal};
+ghost use Rattle.rept_app.specs.Lines.{line_of, status_of, status_of_path, file_word, elf_fault_text, core_fault_text, conflict_text, two_values_text, cell_text, value_text_in};
 
 use crate::path_line::push_path_fault;
 use crate::status::Status;
-use crate::texts::{push_numbered, push_placed};
+use crate::texts::push_numbered;
 use rept_dump::CoreFault;
 use rept_elf::ElfFault;
-use rept_engine::{Cell, ConflictKind};
+use rept_isa::Reg;
 use rept_path::PathFault;
+use rept_reason::Cell;
+use rept_report::ConflictKind;
 use rept_word::{OutOfMemory, Text};
 use std::alloc::Global;
 
@@ -17,17 +20,6 @@ pub enum FileKind {
     Exe,
     Core,
     Trace,
-}
-
-/// What isn't read yet.
-#[derive(Clone, Copy, Debug, PartialEq, Eq)]
-pub enum Unbuilt {
-    /// `self`.
-    Words,
-    /// The instruction at this address, the first of the path that isn't read.
-    Code(u32),
-    /// A line of the input is no command that is built.
-    Input,
 }
 
 /// What ends a call, or its session.
@@ -45,7 +37,8 @@ pub enum Refusal {
     Core(CoreFault),
     /// The trace is refused, or has no path.
     Path(PathFault),
-    NotBuilt(Unbuilt),
+    /// The words ask for what isn't built yet: `self`.
+    NotBuilt,
     Inconsistent(ConflictKind),
     InputFault,
     OutOfMemory,
@@ -65,7 +58,7 @@ impl Refusal {
             Refusal::Executable(_) => Status::Executable,
             Refusal::CoreImage(_) | Refusal::Core(_) => Status::Core,
             Refusal::Path(fault) => path_status(fault),
-            Refusal::NotBuilt(_) => Status::NotBuilt,
+            Refusal::NotBuilt => Status::NotBuilt,
             Refusal::Inconsistent(_) => Status::Inconsistent,
             Refusal::InputFault => Status::InputFault,
             Refusal::OutOfMemory => Status::OutOfMemory,
@@ -89,7 +82,7 @@ impl Refusal {
             Refusal::CoreImage(fault) => push_elf_fault(&mut text, b"core-image ", fault)?,
             Refusal::Core(fault) => push_core_fault(&mut text, fault)?,
             Refusal::Path(fault) => push_path_fault(&mut text, fault)?,
-            Refusal::NotBuilt(what) => push_unbuilt(&mut text, *what)?,
+            Refusal::NotBuilt => text.push(b"not-built words")?,
             Refusal::Inconsistent(kind) => push_conflict(&mut text, kind)?,
             Refusal::InputFault => text.push(b"input-fault")?,
             Refusal::OutOfMemory => text.push(b"out-of-memory")?,
@@ -154,23 +147,6 @@ fn push_core_fault(text: &mut Text, fault: &CoreFault) -> Result<(), OutOfMemory
     }
 }
 
-fn push_unbuilt(text: &mut Text, what: Unbuilt) -> Result<(), OutOfMemory>
-    ensures { OnOk result (text.new ≡ text.old ++ unbuilt_text what) }
-{
-    text.push(b"not-built ")?;
-    push_unbuilt_word(text, what)
-}
-
-fn push_unbuilt_word(text: &mut Text, what: Unbuilt) -> Result<(), OutOfMemory>
-    ensures { OnOk result (text.new ≡ text.old ++ unbuilt_word what) }
-{
-    match what {
-        Unbuilt::Words => text.push(b"words"),
-        Unbuilt::Code(address) => push_placed(text, b"code ", address),
-        Unbuilt::Input => text.push(b"input"),
-    }
-}
-
 fn push_conflict(text: &mut Text, kind: &ConflictKind) -> Result<(), OutOfMemory>
     ensures { OnOk result (text.new ≡ text.old ++ conflict_text kind.now) }
 {
@@ -178,7 +154,19 @@ fn push_conflict(text: &mut Text, kind: &ConflictKind) -> Result<(), OutOfMemory
         ConflictKind::TwoValues { point, cell, v, w } => {
             push_two_values(text, *point, cell, *v, *w)
         }
+        ConflictKind::EmptyRange { point, reg } => push_empty_range(text, *point, *reg),
+        ConflictKind::WrongTurn { step } => {
+            push_numbered(text, b"inconsistent wrong-turn ", u64::from(*step))
+        }
     }
+}
+
+fn push_empty_range(text: &mut Text, point: u32, reg: Reg) -> Result<(), OutOfMemory>
+    ensures { OnOk result (text.new ≡ text.old ++ (codes "inconsistent empty-range " ++ decimal point ++ codes " x" ++ decimal reg)) }
+{
+    push_numbered(text, b"inconsistent empty-range ", u64::from(point))?;
+    push_numbered(text, b" x", u64::from(reg.number()))?;
+    Ok(())
 }
 
 fn push_two_values(

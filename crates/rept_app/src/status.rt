@@ -4,7 +4,7 @@ ghost use Rattle.rept_app.specs.Status.{number_of_status};
 /// How a call of the program ends.
 #[derive(Clone, Copy, Debug, PartialEq, Eq)]
 pub enum Status {
-    /// The input was read to its end, and all answers were written.
+    /// The input was read to its end, or to `quit`, and all answers were written.
     Ok,
     /// No execution fits the files.
     Inconsistent,
@@ -30,7 +30,7 @@ pub enum Status {
     OutOfMemory,
     /// The input has more than 1,048,576 bytes.
     TooMuchInput,
-    /// The words or an instruction of the path aren't read yet, or a line of the input is no command that is built.
+    /// The words ask for what isn't built yet.
     NotBuilt,
 }
 

@@ -1,39 +1,39 @@
-ghost use Rattle.std.specs.Prelude.{◌≡◌, ◌⊎◌, ◌≤◌, length, IfSome};
-ghost use Rattle.rept_engine.specs.Soundness.{HasNoExecution};
+ghost use Rattle.std.specs.Prelude.{◌≡◌, ◌⊎◌, ◌<◌, length, IfSome};
+ghost use Rattle.rept_dump.specs.Dump.{registers_of};
 ghost use Rattle.rept_ports.specs.Port.{move};
+ghost use Rattle.rept_report.specs.Soundness.{HasNoExecution};
+ghost use Rattle.rept_steps.specs.Linked.{EndBefore};
+ghost use Rattle.rept_found.specs.Crash.{crash_of, end_pc, setting};
 ghost use Rattle.rept_app.specs.Delivered.{Delivers};
 ghost use Rattle.rept_app.specs.Study.{Studies, IsStudied, StudyHolds};
 
+use crate::hold::hold;
 use crate::refusal::Refusal;
-use crate::session::serve;
 use crate::status::Status;
 use crate::tell::tell;
-use rept_engine::{Analysis, Stop};
-use rept_isa::StepRow;
+use rept_dump::Dump;
+use rept_found::{Stop, search};
+use rept_path::Path;
 use rept_ports::{Sink, Source};
 use std::alloc::Global;
 
-/// Analyses a path that ends in these register values, and answers the input, or tells a conflict.
+/// Analyses a path that ends in a dump, and answers the input, or tells a conflict.
 pub fn study<S: Source, K: Sink>(
     alloc: Global,
-    rows: &[StepRow],
-    registers: &[u32],
-    end_pc: u32,
+    path: &Path,
+    dump: &Dump<'_>,
     input: &mut S,
     out: &mut K,
 ) -> Status
-    requires few { length rows.now ≤ 65536 }
-    requires registers { length registers.now ≡ 32 }
-    ensures text { IfSome (S.port input.old).bytes (λ bytes. Delivers (Studies rows.now registers.now end_pc (record { input = bytes; left = (S.port input.new).bytes })) (move (K.port out.old) (K.port out.new)) result) }
-    ensures causes { IsStudied rows.now registers.now (move (S.port input.old) (S.port input.new)) (move (K.port out.old) (K.port out.new)) result }
-    ensures stays { (input.new ≡ input.old) ⊎ StudyHolds rows.now registers.now result }
-    ensures impossible { result ≡ Status.Inconsistent → HasNoExecution rows.now registers.now }
+    requires some { 0 < length path.now.steps }
+    requires ends { EndBefore path.now.steps (end_pc (registers_of dump.now)) }
+    ensures text { IfSome (S.port input.old).bytes (λ bytes. Delivers (Studies (crash_of dump.now) path.now (record { input = bytes; left = (S.port input.new).bytes })) (move (K.port out.old) (K.port out.new)) result) }
+    ensures causes { IsStudied (crash_of dump.now) path.now (move (S.port input.old) (S.port input.new)) (move (K.port out.old) (K.port out.new)) result }
+    ensures stays { (input.new ≡ input.old) ⊎ StudyHolds (crash_of dump.now) path.now result }
+    ensures impossible { result ≡ Status.Inconsistent → HasNoExecution (setting (crash_of dump.now) path.now.steps) }
 {
-    let Ok(mut analysis) = Analysis::prepare(alloc, rows, registers) else {
-        return tell(alloc, out, &Refusal::OutOfMemory);
-    };
-    match analysis.refine() {
-        Ok(()) => serve(alloc, &analysis, end_pc, input, out),
+    match search(alloc, &path.steps, dump) {
+        Ok(mut found) => hold(alloc, &mut found, path.skipped, input, out),
         Err(Stop::Conflict(kind)) => tell(alloc, out, &Refusal::Inconsistent(kind)),
         Err(Stop::OutOfMemory) => tell(alloc, out, &Refusal::OutOfMemory),
     }

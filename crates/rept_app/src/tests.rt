@@ -135,7 +135,7 @@ const CASES: &[Case] = &[
         registers: [7, 0, 0],
         difference: 0x06,
         input: "regs\n",
-        output: "inconsistent two-values 1 x5 0x00000005 0x00000007\n",
+        output: "inconsistent empty-range 2 x5\n",
         status: Status::Inconsistent,
     },
     Case {
@@ -415,14 +415,7 @@ struct SessionCase {
 
 const SECOND_LINE: &str = "point 1 of 3 pc 0x00010004\n";
 
-const NOT_BUILT: &str = "not-built input\n";
-
 const SESSIONS: &[SessionCase] = &[
-    SessionCase {
-        input: "goto 0x1\n",
-        output: SECOND_LINE,
-        status: Status::Ok,
-    },
     SessionCase {
         input: "goto 0X00000001\n",
         output: SECOND_LINE,
@@ -444,73 +437,33 @@ const SESSIONS: &[SessionCase] = &[
         status: Status::Ok,
     },
     SessionCase {
-        input: "goto 1\r",
-        output: NOT_BUILT,
-        status: Status::NotBuilt,
-    },
-    SessionCase {
         input: "goto 0\nregs",
         output: UNKNOWN_AT_0,
         status: Status::Ok,
     },
     SessionCase {
-        input: "goto 0\ngoto 1\ngoto 4\ngoto 2\n",
-        output: "point 0 of 3 pc 0x00010000\npoint 1 of 3 pc 0x00010004\nnot-built input\n",
-        status: Status::NotBuilt,
+        input: "goto 0\ngoto 4\nfoo\ngoto\ngoto 1\r",
+        output: "point 0 of 3 pc 0x00010000\n? 5\n? 1\n? 3\n? 2\n",
+        status: Status::Ok,
     },
     SessionCase {
-        input: "goto 0\nfoo\n",
-        output: "point 0 of 3 pc 0x00010000\nnot-built input\n",
-        status: Status::NotBuilt,
+        input: "reg a8\nreg x6\nback 3\nrange t0\nfwd 1\nrange x5\n",
+        output: "? 4\nx6 0x0000000a\npoint 0 of 3 pc 0x00010000\nx5 0x00000000..0xffffffff\npoint 1 of 3 pc 0x00010004\nx5 0x00000007..0x00000007\n",
+        status: Status::Ok,
     },
     SessionCase {
-        input: "regs 1\n",
-        output: NOT_BUILT,
-        status: Status::NotBuilt,
+        input: "mem 0x10000 6\nmem 0x20000 1\nwriter 0x10000\n",
+        output: "0x00010000: 93 02 70 00 13 83\n0x00020000: ??\nnone\n",
+        status: Status::Ok,
     },
     SessionCase {
-        input: "goto\n",
-        output: NOT_BUILT,
-        status: Status::NotBuilt,
-    },
-    SessionCase {
-        input: "goto 1 1\n",
-        output: NOT_BUILT,
-        status: Status::NotBuilt,
-    },
-    SessionCase {
-        input: "Regs\n",
-        output: NOT_BUILT,
-        status: Status::NotBuilt,
-    },
-    SessionCase {
-        input: "goto 0x\n",
-        output: NOT_BUILT,
-        status: Status::NotBuilt,
-    },
-    SessionCase {
-        input: "goto 0x000000001\n",
-        output: NOT_BUILT,
-        status: Status::NotBuilt,
-    },
-    SessionCase {
-        input: "goto 00000000001\n",
-        output: NOT_BUILT,
-        status: Status::NotBuilt,
-    },
-    SessionCase {
-        input: "goto 4294967297\n",
-        output: NOT_BUILT,
-        status: Status::NotBuilt,
-    },
-    SessionCase {
-        input: "goto +1\n",
-        output: NOT_BUILT,
-        status: Status::NotBuilt,
+        input: "summary\nquit\nwhere\n",
+        output: "steps 3 calls 0 skipped 0\nregisters 118 of 124\nstores 0 exact 0 inexact\n",
+        status: Status::Ok,
     },
 ];
 
-// The lines of a session, and those that end it.
+// The lines of a session, each in its form, and those that are told why they are no command.
 #[test]
 fn lines_are_answered(rt: HostRuntime) -> Result<(), Fail> {
     let alloc = rt.alloc();
@@ -534,7 +487,7 @@ fn long_inputs_are_told(rt: HostRuntime) -> Result<(), Fail> {
     let mut shelf = first_crash(alloc)?;
     for (count, byte, output, status) in [
         (256, b' ', "", Status::Ok),
-        (257, b' ', NOT_BUILT, Status::NotBuilt),
+        (257, b' ', "? 6\n", Status::Ok),
         (1048576, b'\n', "", Status::Ok),
         (1048577, b'\n', "too-much-input\n", Status::TooMuchInput),
     ] {

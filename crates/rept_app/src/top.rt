@@ -5,21 +5,21 @@ ghost use Rattle.rept_app.specs.Ends.{EndsSession};
 ghost use Rattle.rept_app.specs.Loading.{NamesNone};
 ghost use Rattle.rept_app.specs.Told.{Writes, Holds, ReportHolds, NoExecution, given};
 ghost use Rattle.rept_app.specs.Top.{TopCauses, LoadsOf, EndsByFiles, Completes};
-ghost use Rattle.rept_app.specs.Words.{meaning_of};
+ghost use Rattle.rept_words.specs.Words.{meaning_of};
 
 use crate::examine::examine;
 use crate::load::load_files;
 use crate::status::Status;
 use crate::tell::tell;
-use rept_engine::reports_are_sound;
+use rept_found::reports_are_true;
 use rept_ports::{Shelf, Sink, Source};
 use std::alloc::Global;
 
-/// Opens the crash that the words name, and answers the commands of the input: `goto I` and `regs`.
+/// Opens the crash that the words name, and answers the commands of the input.
 ///
 /// The words are `open EXE CORE TRACE`, and maybe the number of the packet to begin from. The executable, the core file and the
-/// instruction trace are loaded from the shelf; the path that the trace tells is rebuilt; the registers along it are inferred
-/// from their last values in the core file; and each command is answered on the output. Where the files contradict each other,
+/// instruction trace are loaded from the shelf; the path that the trace tells is rebuilt; what registers and memory held along it is
+/// inferred from what the core file has of them; and each command is answered on the output. Where the files contradict each other,
 /// or something is refused, one line is written before the status.
 pub fn rept<H: Shelf, S: Source, K: Sink>(
     alloc: Global,
@@ -53,12 +53,12 @@ pub fn rept<H: Shelf, S: Source, K: Sink>(
     ensures complete { IfSome (H.port shelf.old).files (λ files. IfSome (S.port input.old).bytes (λ left.
         Completes (given (map string_bytes words.now) files (move (H.port shelf.old) (H.port shelf.new)) left (move (S.port input.old) (S.port input.new))) (move (H.port shelf.old) (H.port shelf.new)) (move (S.port input.old) (S.port input.new)) (move (K.port out.old) (K.port out.new)) result)) }
 
-    // What is told of the registers holds in every execution of the path that ends in the dump; a conflict is told only where
-    // there is none.
+    // What is told of values, bytes, ranges and writers holds in every execution of the path that ends in the dump, and reasons rest
+    // on it; a conflict is told only where there is no such execution.
     ensures sound { IfSome (H.port shelf.old).files (λ files. ReportHolds (map string_bytes words.now) files) }
     ensures impossible { IfSome (H.port shelf.old).files (λ files. result ≡ Status.Inconsistent → NoExecution (map string_bytes words.now) files) }
 {
-    reports_are_sound();
+    reports_are_true();
     match load_files(alloc, words, shelf) {
         Ok(files) => {
             let exe = files.exe.as_slice();

@@ -60,7 +60,7 @@ const TRACES: &[TraceCase] = traces![
     PROGRAM, b"RTR1\x01\0\0\0\x01\x07", "0", 0, "path 11 5 0\n", Trace;
     PROGRAM, b"RTR1\x01\0\0\0\x01\x2f", "0", 0, "path 11 6 0\n", Trace;
     PROGRAM, b"RTR1\x01\0\0\0\x03\x13\x02\x20\x01\x06", "0", 0x10014, "path 12 1 0x00010010\n", Trace;
-    PROGRAM, b"RTR1\x01\0\0\0\x03\x13\0\x20\x02\x05\x03", "0", 0x20, "not-built code 0x00010004\n", NotBuilt;
+    PROGRAM, b"RTR1\x01\0\0\0\x03\x13\0\x20\x02\x05\x03", "0", 0x20, "inconsistent empty-range 3 x1\n", Inconsistent;
 ];
 
 // Paths from a packet on, and each reason why there is none.

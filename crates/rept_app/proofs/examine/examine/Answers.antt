@@ -1,13 +1,14 @@
-use Rattle.std.proofs.Common.{◌≡◌, ◌⊎◌, List, Ok, Err, subst}
-use Rattle.rept_elf.specs.Segments.{ElfSegment, segments}
+use Rattle.std.proofs.Common.{◌≡◌, ◌⊎◌, Ok, Err, subst}
 use Rattle.rept_elf.specs.Image.{file_of}
-use Rattle.rept_dump.specs.Dump.{exe_of, registers_of}
-use Rattle.rept_app.specs.Examine.{Examines, Walks, WalkHolds, PathExcludes}
+use Rattle.rept_dump.specs.Dump.{registers_of}
+use Rattle.rept_found.specs.Crash.{Crash, crash_of}
+use Rattle.rept_ports.specs.Port.{move}
+use Rattle.rept_app.specs.Examine.{Examines, Walks, WalkHolds, IsWalked, PathExcludes}
 use Rattle.rept_app.specs.declared.refusal.Refusal.TheVariants as refusal
 use Rattle.rept_app.specs.declared.status.Status.TheVariants as ends
 use Rattle.rept_app.proofs.DeliveredLemmas.{delivers_as, ends_told, told_ports}
-use Rattle.rept_app.proofs.SessionLemmas.{where_told, at_some, reading_of}
-use Rattle.rept_app.proofs.ExamineLemmas.{exe_end, core_end, notes_end, told_examined, walked_examined, exe_examines, core_examines, notes_refused, walks_examine, files_exclude, says_at, only_at, segments_at, as_exe, as_core, walked_at, walk_holds}
+use Rattle.rept_app.proofs.ToldLemmas.{where_told, at_some, reading_of}
+use Rattle.rept_app.proofs.ExamineLemmas.{exe_end, core_end, notes_end, told_examined, walked_examined, exe_examines, core_examines, notes_refused, walks_examine, files_exclude, says_at, only_at, crash_is, as_exe, as_core, reads_here, walk_holds}
 use Rattle.rept_app.proofs.examine.examine.Goals as goal
 
 pub returns-in-Err-clause-text : goal.returns-in-Err-clause-text
@@ -51,17 +52,17 @@ returns-in-Err-read-2-clause-causes g c =
 pub returns-clause-text : goal.returns-clause-text
 returns-clause-text g c =
     let says = says_at (file_of c.in-Ok-read.image) c.args.core.now (Ok (registers_of c.in-Ok-read-2.dump)) c.in-Ok-read.ensures.image c.in-Ok-read-2.ensures.said in
-    let here = segments_at (exe_of c.in-Ok-read-2.dump) (file_of c.in-Ok.image) c.args.exe.now c.in-Ok-read-2.ensures.exe c.in-Ok.ensures.image in
+    let here = crash_is (crash_of c.in-Ok-read-2.dump) (file_of c.in-Ok.image) c.args.exe.now (file_of c.in-Ok-read.image) c.args.core.now c.in-Ok-read-2.ensures.exe c.in-Ok.ensures.image c.in-Ok-read-2.ensures.core c.in-Ok-read.ensures.image in
     where_told _ _ (λ left told. delivers_as _ (Examines c.args.exe.now c.args.core.now c.args.trace.now c.args.from (reading_of left (g.S.Source.port c.walk.new.input).bytes)) _ _
     (λ text status h. walks_examine c.args.exe.now c.args.core.now c.args.trace.now c.args.from (reading_of left (g.S.Source.port c.walk.new.input).bytes) text status c.in-Ok.ensures.fault c.in-Ok-read.ensures.fault (registers_of c.in-Ok-read-2.dump) says
-    (subst (λ (s : List ElfSegment). Walks s (registers_of c.in-Ok-read-2.dump) c.args.trace.now c.args.from (reading_of left (g.S.Source.port c.walk.new.input).bytes) text status) here h))
+    (subst (λ (s : Crash). Walks s c.args.trace.now c.args.from (reading_of left (g.S.Source.port c.walk.new.input).bytes) text status) here h))
     (at_some (g.S.Source.port c.args.input.now).bytes left _ told c.walk.ensures.text))
 
 pub returns-clause-causes : goal.returns-clause-causes
 returns-clause-causes g c =
     let only = only_at (file_of c.in-Ok-read.image) c.args.core.now (Ok (registers_of c.in-Ok-read-2.dump)) c.in-Ok-read.ensures.image c.in-Ok-read-2.ensures.only in
-    let here = segments_at (exe_of c.in-Ok-read-2.dump) (file_of c.in-Ok.image) c.args.exe.now c.in-Ok-read-2.ensures.exe c.in-Ok.ensures.image in
-    let walked = walked_at (exe_of c.in-Ok-read-2.dump) (segments c.args.exe.now) (registers_of c.in-Ok-read-2.dump) c.args.trace.now c.args.from _ _ c.walk.result here c.walk.ensures.causes in
+    let here = crash_is (crash_of c.in-Ok-read-2.dump) (file_of c.in-Ok.image) c.args.exe.now (file_of c.in-Ok-read.image) c.args.core.now c.in-Ok-read-2.ensures.exe c.in-Ok.ensures.image c.in-Ok-read-2.ensures.core c.in-Ok-read.ensures.image in
+    let walked = subst (λ (s : Crash). IsWalked s c.args.trace.now c.args.from (move (g.S.Source.port c.args.input.now) (g.S.Source.port c.walk.new.input)) (move (g.K.Sink.port c.args.out.now) (g.K.Sink.port c.walk.new.out)) c.walk.result) here c.walk.ensures.causes in
     walked_examined c.args.exe.now c.args.core.now c.args.trace.now c.args.from c.walk.result (registers_of c.in-Ok-read-2.dump)
     (notes_end c.args.exe.now c.args.core.now c.args.trace.now c.args.from c.walk.result c.in-Ok.ensures.fault c.in-Ok-read.ensures.fault (Ok (registers_of c.in-Ok-read-2.dump)) only
     walked.yields) _ _ walked
@@ -69,12 +70,12 @@ returns-clause-causes g c =
 pub returns-clause-stays : goal.returns-clause-stays
 returns-clause-stays g c =
     let says = says_at (file_of c.in-Ok-read.image) c.args.core.now (Ok (registers_of c.in-Ok-read-2.dump)) c.in-Ok-read.ensures.image c.in-Ok-read-2.ensures.said in
-    let here = segments_at (exe_of c.in-Ok-read-2.dump) (file_of c.in-Ok.image) c.args.exe.now c.in-Ok-read-2.ensures.exe c.in-Ok.ensures.image in
-    walk_holds c.args.exe.now c.args.core.now c.args.trace.now c.args.from (registers_of c.in-Ok-read-2.dump) c.walk.result c.in-Ok.ensures.fault c.in-Ok-read.ensures.fault says
-    (subst (λ (s : List ElfSegment). (c.walk.new.input ≡ c.args.input.now) ⊎ WalkHolds s (registers_of c.in-Ok-read-2.dump) c.args.trace.now c.args.from c.walk.result) here c.walk.ensures.stays)
+    let here = crash_is (crash_of c.in-Ok-read-2.dump) (file_of c.in-Ok.image) c.args.exe.now (file_of c.in-Ok-read.image) c.args.core.now c.in-Ok-read-2.ensures.exe c.in-Ok.ensures.image c.in-Ok-read-2.ensures.core c.in-Ok-read.ensures.image in
+    walk_holds c.args.exe.now c.args.core.now c.args.trace.now c.args.from (registers_of c.in-Ok-read-2.dump) c.walk.result (reads_here c.args.exe.now c.args.core.now (registers_of c.in-Ok-read-2.dump) c.in-Ok.ensures.fault c.in-Ok-read.ensures.fault says)
+    (subst (λ (s : Crash). (c.walk.new.input ≡ c.args.input.now) ⊎ WalkHolds s c.args.trace.now c.args.from c.walk.result) here c.walk.ensures.stays)
 
 pub returns-clause-impossible : goal.returns-clause-impossible
 returns-clause-impossible g c none =
     let only = only_at (file_of c.in-Ok-read.image) c.args.core.now (Ok (registers_of c.in-Ok-read-2.dump)) c.in-Ok-read.ensures.image c.in-Ok-read-2.ensures.only in
-    let here = segments_at (exe_of c.in-Ok-read-2.dump) (file_of c.in-Ok.image) c.args.exe.now c.in-Ok-read-2.ensures.exe c.in-Ok.ensures.image in
-    files_exclude c.args.exe.now c.args.core.now c.args.trace.now c.args.from (registers_of c.in-Ok-read-2.dump) only (subst (λ (s : List ElfSegment). PathExcludes s (registers_of c.in-Ok-read-2.dump) c.args.trace.now c.args.from) here (c.walk.ensures.impossible none))
+    let here = crash_is (crash_of c.in-Ok-read-2.dump) (file_of c.in-Ok.image) c.args.exe.now (file_of c.in-Ok-read.image) c.args.core.now c.in-Ok-read-2.ensures.exe c.in-Ok.ensures.image c.in-Ok-read-2.ensures.core c.in-Ok-read.ensures.image in
+    files_exclude c.args.exe.now c.args.core.now c.args.trace.now c.args.from (registers_of c.in-Ok-read-2.dump) only (subst (λ (s : Crash). PathExcludes s c.args.trace.now c.args.from) here (c.walk.ensures.impossible none))

@@ -1,4 +1,4 @@
-use Rattle.rept_app.specs.Asked.{named_by}
+use Rattle.rept_words.specs.Asked.{named_by}
 use Rattle.rept_app.specs.declared.refusal.FileKind.TheVariants.{Trace}
 use Rattle.rept_app.proofs.LoadLemmas.{trace_stops}
 use Rattle.rept_app.proofs.load.load_names.Goals as goal

@@ -1,4 +1,4 @@
-use Rattle.std.proofs.Common.{◌≡◌, ◌⊎◌, map, string_bytes, inl, inr, refl, rules}
+use Rattle.std.proofs.Common.{◌≡◌, map, string_bytes, rules}
 use Rattle.rept_ports.specs.Port.{move}
 use Rattle.rept_app.specs.Delivered.{Delivers}
 use Rattle.rept_app.specs.Examine.{Examines}
@@ -7,10 +7,10 @@ use Rattle.rept_app.specs.Loading.{loading}
 use Rattle.rept_app.specs.Loading.Loading.{Loaded}
 use Rattle.rept_app.specs.Told.{Writes, Holds, ReportHolds, NoExecution, given}
 use Rattle.rept_app.specs.Top.{EndsByFiles}
-use Rattle.rept_app.specs.Words.{meaning_of}
+use Rattle.rept_words.specs.Words.{meaning_of}
 use Rattle.rept_app.specs.declared.status.Status.TheVariants as ends
 use Rattle.rept_app.proofs.DeliveredLemmas.{delivers_as, ends_told, told_ports, not_yielded}
-use Rattle.rept_app.proofs.SessionLemmas.{where_told, at_some, reading_of}
+use Rattle.rept_app.proofs.ToldLemmas.{where_told, at_some, reading_of}
 use Rattle.rept_app.proofs.TopLemmas.{both, of_both, loaded_at, stops, refused_ends, refused_writes, refused_causes, refused_loads, no_status, input_only, output_only, conflict_only, examined_writes, examined_ends, examined_causes, examined_excludes, all_loads, files_hold, holds_where, reports_hold, completed}
 use Rattle.rept_app.proofs.top.rept.Goals as goal
 
@@ -67,7 +67,7 @@ returns-in-Ok-clause-complete g c =
     (returns-in-Ok-clause-text g c)))
 
 pub returns-in-Ok-clause-sound : goal.returns-in-Ok-clause-sound
-returns-in-Ok-clause-sound g c = where_told (g.H.Shelf.port c.args.shelf.now).files (ReportHolds (map string_bytes c.args.words.now)) (λ files told. reports_hold (map string_bytes c.args.words.now) files c.reports_are_sound.ensures.report)
+returns-in-Ok-clause-sound g c = where_told (g.H.Shelf.port c.args.shelf.now).files (ReportHolds (map string_bytes c.args.words.now)) (λ files told. reports_hold (map string_bytes c.args.words.now) files c.reports_are_true.ensures)
 
 pub returns-in-Ok-clause-impossible : goal.returns-in-Ok-clause-impossible
 returns-in-Ok-clause-impossible g c =
@@ -137,4 +137,4 @@ returns-in-Err-clause-complete g c =
     (returns-in-Err-clause-text g c)))
 
 pub returns-in-Err-clause-sound : goal.returns-in-Err-clause-sound
-returns-in-Err-clause-sound g c = where_told (g.H.Shelf.port c.args.shelf.now).files (ReportHolds (map string_bytes c.args.words.now)) (λ files told. reports_hold (map string_bytes c.args.words.now) files c.reports_are_sound.ensures.report)
+returns-in-Err-clause-sound g c = where_told (g.H.Shelf.port c.args.shelf.now).files (ReportHolds (map string_bytes c.args.words.now)) (λ files told. reports_hold (map string_bytes c.args.words.now) files c.reports_are_true.ensures)

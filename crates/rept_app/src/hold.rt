@@ -1,0 +1,37 @@
+// Holding a session over what an analysis found.
+ghost use Rattle.std.specs.Prelude.{◌≡◌, IfSome};
+ghost use Rattle.rept_ports.specs.Port.{move};
+ghost use Rattle.rept_session.specs.Shown.{SameReasons, told};
+ghost use Rattle.rept_app.specs.Delivered.{Delivers};
+ghost use Rattle.rept_app.specs.Ends.{IsCaused};
+ghost use Rattle.rept_app.specs.Held.{Holds};
+
+use crate::status::Status;
+use crate::tell::deliver;
+use rept_ports::{Sink, Source};
+use rept_serve::{Served, serve};
+use rept_session::Findings;
+use std::alloc::Global;
+
+/// Answers the lines of the input by what was found, and tells what ended the session. `skipped` is the count of packets that the path
+/// was read without.
+pub fn hold<F: Findings, S: Source, K: Sink>(
+    alloc: Global,
+    findings: &mut F,
+    skipped: u32,
+    input: &mut S,
+    out: &mut K,
+) -> Status
+    ensures text { IfSome (S.port input.old).bytes (λ bytes. Delivers (Holds (told (F.shown findings.old) skipped (F.reasons findings.old)) (record { input = bytes; left = (S.port input.new).bytes })) (move (K.port out.old) (K.port out.new)) result) }
+    ensures causes { IsCaused (move (S.port input.old) (S.port input.new)) (move (K.port out.old) (K.port out.new)) result }
+    ensures same { F.shown findings.new ≡ F.shown findings.old }
+    ensures same_reasons { SameReasons (F.reasons findings.old) (F.reasons findings.new) }
+{
+    match serve(alloc, findings, skipped, input, out) {
+        Served::Ended => Status::Ok,
+        Served::ReadFault => deliver(out, b"input-fault\n", Status::InputFault),
+        Served::TooMuchInput => deliver(out, b"too-much-input\n", Status::TooMuchInput),
+        Served::OutputFault => Status::OutputFault,
+        Served::OutOfMemory => deliver(out, b"out-of-memory\n", Status::OutOfMemory),
+    }
+}
