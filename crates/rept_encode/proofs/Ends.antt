@@ -1,0 +1,161 @@
+-- The first packet, what a call makes of a trace, and the end of the path.
+use Rattle.std.proofs.Common.{◌≡◌, ℕ, ◌+◌, ◌%◌, ◌<◌, ◌==◌, List, [], ◌∷◌, ◌++◌, length, reverse, slice_get, Option, Some, Bool, true, false, cond, Result, Ok, refl, sym, ◌∙◌, ap, subst, arith}
+use Rattle.std.proofs.lemmas.List.{append-nil, reverse-append, reverse-reverse}
+use Rattle.std.proofs.lemmas.Bool.Decides.{eqb_tells, nat_tests}
+use Rattle.std.proofs.lemmas.List.Folds.{list_any-append}
+use Rattle.rept_elf.specs.Segments.{ElfSegment}
+use Rattle.rept_isa.specs.declared.instr.Instr.{Instr}
+use Rattle.rept_isa.specs.declared.row.StepRow.{StepRow}
+use Rattle.rept_isa.specs.Numbers.{plus, following}
+use Rattle.rept_trace.specs.declared.packet.Packet.{Packet}
+use Rattle.rept_trace.specs.declared.packet.Packet.TheVariants.{Start, Support}
+use Rattle.rept_trace.specs.declared.packet.Qual.TheVariants.{EndedRep}
+use Rattle.rept_path.specs.declared.flow.Flow.{Flow}
+use Rattle.rept_path.specs.declared.flow.Flow.TheVariants.{Plain, Branch, Jump, Fixed, Far, Call, Stop}
+use Rattle.rept_path.specs.declared.fault.PathFault.{PathFault}
+use Rattle.rept_path.specs.declared.fault.PathFault.TheVariants.{Gap, End}
+use Rattle.rept_path.specs.Code.{look, flow_of, branches}
+use Rattle.rept_path.specs.Packets.{bits, bits_of, reported, waiting}
+use Rattle.rept_path.specs.Moves.{Place, by_bit, ◌>>=◌}
+use Rattle.rept_path.specs.Gap.{row, by_successor, crossing, gap}
+use Rattle.rept_path.specs.Route.{place, marked}
+use Rattle.rept_path.specs.Trace.{starts, loses, Window, IsPath}
+use Rattle.rept_path.proofs.GapLemmas.{gap_ok}
+use Rattle.rept_path.proofs.MoveLemmas.{branch_of}
+use Rattle.rept_encode.specs.Bits.{passed_by, passed, branch_row, bit_list, start_bit}
+use Rattle.rept_encode.specs.Walkable.{MayLead, calls, IsStepped}
+use Rattle.rept_encode.proofs.Turns.{length_bits, get_bit, position_ok, branch_to}
+use Rattle.rept_encode.specs.State.{Coded, start_at, Begun}
+use Rattle.rept_encode.proofs.Coding.{Stepping, leg_after}
+
+if_start : (b x y : Bool) → cond b (cond b x true ∷ []) [] ≡ cond b (x ∷ []) []
+if_start true x y = refl
+if_start false x y = refl
+
+start_bits : (code : List ElfSegment) (row : StepRow) (privilege : ℕ) → look code row.at ≡ Ok row.instr → bits_of code (Start (start_bit row) privilege row.at) ≡ bit_list row
+start_bits code row privilege h = rw (branch_of code row.at row.instr h) (if_start (branch_row row) (passed row) true)
+
+pub starts_at : (code : List ElfSegment) (here : StepRow) → look code here.at ≡ Ok here.instr → Coded code (start_at here ∷ []) [] [] here []
+unfolding bits reported waiting marked place
+starts_at code here h =
+    let b : bits_of code (start_at here) ≡ bit_list here = start_bits code here 0 h in
+    record {
+      legs = [] ∷ [];
+      stands = record { route = ((position_ok code here.at here.instr h, refl), tt); runs = refl; plain = refl; some = omega arith };
+      seen = refl;
+      moves = tt;
+      at = refl;
+      size = rw b (let e = append-nil (bit_list here) in rw e (length_bits here ∙ omega arith));
+      bit = λ t. rw b (let e = append-nil (bit_list here) in rw e (get_bit here [] 0 t refl));
+    }
+
+at_there : (a b : ℕ) → a ≡ b → (a == b) ≡ true
+at_there a b h = grind (arith, nat_tests)
+
+-- a row crosses to where it leads
+by_next : (code : List ElfSegment) (p : ℕ) (i : Instr) (next : ℕ) (otherwise : PathFault) (s : Result ℕ PathFault) → s ≡ Ok next → (s >>= by_successor code p i next otherwise) ≡ Ok (row p i next false ∷ [])
+by_next code p i next otherwise s h =
+    let f : ℕ → Result (List StepRow) PathFault = by_successor code p i next otherwise in
+    let t : (next == next) ≡ true = at_there next next refl in
+    let one : (s >>= f) ≡ (Ok next >>= f) = ap (λ (x : Result ℕ PathFault). x >>= f) h in
+    one ∙ rw t refl
+
+pub crosses : (code : List ElfSegment) (n p : ℕ) (i : Instr) (next : ℕ) (otherwise : PathFault) (bit : Option Bool) (flow : Flow) → MayLead flow p next → (branches flow ≡ true → bit ≡ Some (passed_by flow p next)) → crossing code n p i next otherwise bit flow ≡ Ok (row p i next (calls flow) ∷ [])
+crosses code n p i next otherwise bit Plain l b = by_next code p i next otherwise (Ok (following p)) (ap (λ (x : ℕ). Ok x) (sym l))
+crosses code n p i next otherwise bit (Jump imm) l b = by_next code p i next otherwise (Ok (plus p imm)) (ap (λ (x : ℕ). Ok x) (sym l))
+crosses code n p i next otherwise bit (Fixed to) l b = by_next code p i next otherwise (Ok to) (ap (λ (x : ℕ). Ok x) (sym l))
+crosses code n p i next otherwise bit (Branch imm) l b = let e = b refl in by_next code p i next otherwise (by_bit n p imm bit) (rw e (branch_to n p next (plus p imm) imm (next == plus p imm) refl (eqb_tells next (plus p imm)) l))
+crosses code n p i next otherwise bit Far l b = let t : (next % 4 == 0) ≡ true = at_there (next % 4) 0 l in rw t refl
+crosses code n p i next otherwise bit Call l b = let t : (next == following p) ≡ true = at_there next (following p) l in rw t refl
+crosses code n p i next otherwise bit Stop l b = elim l [ ]
+
+-- the gap after a row
+pub gap_row : (code : List ElfSegment) (n : ℕ) (all : List Bool) (p : Place) (otherwise : PathFault) (r : StepRow) → p.at ≡ r.at → look code r.at ≡ Ok r.instr → IsStepped r → (branch_row r ≡ true → slice_get all p.branches ≡ Some (passed r)) → length p.rows < 65536 → gap code n all p r.next otherwise ≡ Ok (r ∷ [])
+gap_row code n all p otherwise r at here s b lt =
+    let lead = s.lead in
+    let called = s.call in
+    let x : crossing code n p.at r.instr r.next otherwise (slice_get all p.branches) (flow_of r.instr) ≡ Ok (row p.at r.instr r.next (calls (flow_of r.instr)) ∷ []) = rw at (crosses code n r.at r.instr r.next otherwise (slice_get all p.branches) (flow_of r.instr) lead b) in
+    let same : row p.at r.instr r.next (calls (flow_of r.instr)) ≡ r = rw (at, ← called) refl in
+    let y : crossing code n p.at r.instr r.next otherwise (slice_get all p.branches) (flow_of r.instr) ≡ Ok (r ∷ []) = x ∙ ap (λ (w : StepRow). Ok (w ∷ [])) same in
+    gap_ok code n all p r.next otherwise r.instr (rw at here) (r ∷ []) y (omega arith)
+
+-- A call ends the stretch, and the next one begins after it.
+module _ (code : List ElfSegment) (packets : List Packet) (here next : StepRow) (rows : List StepRow) (c : Coded code packets [] [] here rows) (s : Stepping code here next) (call : calls (flow_of here.instr) ≡ true) (room : length rows < 65536) where
+  abbrev pub ended : Packet
+  ended = Support false EndedRep
+
+  abbrev q : Place
+  q = place code (ended ∷ packets) ([] ∷ c.legs)
+
+  same_place : q ≡ place code packets c.legs
+  unfolding place
+  same_place = refl
+
+  same_bits : bits code (ended ∷ packets) ≡ bits code packets
+  unfolding bits
+  same_bits = append-nil (bits code packets)
+
+  gap_call : gap code (0 + length (ended ∷ packets)) (bits code (ended ∷ packets)) q next.at (Gap (0 + length (ended ∷ packets)) q.at next.at) ≡ Ok (here ∷ [])
+  gap_call =
+      let at : q.at ≡ here.at = ap (λ (x : Place). x.at) same_place ∙ c.at in
+      let seen : rows ≡ (place code packets c.legs).rows = c.seen in
+      let short : length q.rows < 65536 = rw same_place (rw seen at room) in
+      let e = append-nil (bits code packets) in
+      let b : branch_row here ≡ true → slice_get (bits code (ended ∷ packets)) q.branches ≡ Some (passed here) = λ t. rw (same_bits, same_place) (rw e at (c.bit t)) in
+      let n : ℕ = 0 + length (ended ∷ packets) in
+      let g = gap_row code (0 + length (ended ∷ packets)) (bits code (ended ∷ packets)) q (Gap (0 + length (ended ∷ packets)) q.at here.next) here at s.placed s.step b short in
+      subst (λ (a : ℕ). gap code (0 + length (ended ∷ packets)) (bits code (ended ∷ packets)) q a (Gap (0 + length (ended ∷ packets)) q.at a) ≡ Ok (here ∷ [])) s.linked g
+
+  pub by_start : Coded code (start_at next ∷ ended ∷ packets) [] [] next (here ∷ rows)
+  unfolding bits reported waiting marked place
+  by_start =
+      let b : bits_of code (start_at next) ≡ bit_list next = start_bits code next 0 s.there in
+      let e = append-nil (bit_list next) in
+      record {
+        legs = (here ∷ []) ∷ [] ∷ c.legs;
+        stands = record {
+          route = (leg_after code (start_at next) (ended ∷ packets) ([] ∷ c.legs) (here ∷ []) true (omega arith) refl (gap_call, position_ok code next.at next.instr s.there), (leg_after code ended packets c.legs [] false c.stands.some c.stands.runs (record { admitted = (0, refl); legs = refl }), c.stands.route));
+          runs = refl;
+          plain = refl;
+          some = omega arith;
+        };
+        seen = ap (λ (xs : List StepRow). here ∷ xs) c.seen;
+        moves = tt;
+        at = refl;
+        size = rw (b, e) (length_bits next ∙ omega arith);
+        bit = λ t. rw (b, e) (get_bit next [] 0 t refl);
+      }
+
+window : (packets : List Packet) → Begun packets → Window packets 0 0
+window packets b = record { may = record { late = omega arith; start = b.start; whole = b.whole }; first = λ i m. omega arith }
+
+starts_front : (xs ys : List Packet) → starts (slice_get xs 0) ≡ true → starts (slice_get (xs ++ ys) 0) ≡ true
+starts_front [] ys h = absurd (cc)
+starts_front (x ∷ xs) ys h = h
+
+pub reverse-cons : (packet : Packet) (packets : List Packet) → reverse (packet ∷ packets) ≡ reverse packets ++ packet ∷ []
+reverse-cons packet packets = reverse-append (packet ∷ []) packets
+
+-- one packet more, where packets stand newest first
+pub begun_on : (packets : List Packet) (packet : Packet) → Begun (reverse packets) → loses packet ≡ false → Begun (reverse (packet ∷ packets))
+begun_on packets packet b keeps =
+    let one : Begun (reverse packets ++ packet ∷ []) = record { start = starts_front (reverse packets) (packet ∷ []) b.start; whole = let e = list_any-append loses (reverse packets) (packet ∷ []) in let w = b.whole in rw (e, w, keeps) refl } in
+    subst (λ (xs : List Packet). Begun xs) (sym (reverse-cons packet packets)) one
+
+-- A trace that stands at the last row is one of all rows.
+pub ends : (code : List ElfSegment) (packets : List Packet) (here : StepRow) (rows : List StepRow) → Coded code packets [] [] here rows → look code here.at ≡ Ok here.instr → IsStepped here → length rows < 65536 → Begun (reverse packets) → IsPath code (reverse packets) 0 here.next 0 (reverse (here ∷ rows))
+ends code packets here rows c h s lt b =
+    let back : reverse (reverse packets) ≡ packets = reverse-reverse packets in
+    let seen : rows ≡ (place code packets c.legs).rows = c.seen in
+    let short : length (place code packets c.legs).rows < 65536 = rw seen at lt in
+    let e = append-nil (bits code packets) in
+    let bit : branch_row here ≡ true → slice_get (bits code packets) (place code packets c.legs).branches ≡ Some (passed here) = λ t. rw e at (c.bit t) in
+    let cross = gap_row code (length (reverse packets)) (bits code packets) (place code packets c.legs) (End (place code packets c.legs).at here.next) here c.at h s bit short in
+    record {
+      window = window (reverse packets) b;
+      legs = c.legs;
+      route = rw back c.stands.route;
+      last = here ∷ [];
+      end = rw back cross;
+      order = let all : rows ≡ (place code (reverse (reverse packets)) c.legs).rows = rw back seen in ap (λ (xs : List StepRow). reverse (here ∷ xs)) all;
+    }

@@ -1,0 +1,9 @@
+pub mod Coding
+pub mod Cutting
+pub mod Ends
+pub mod JumpEnds
+pub mod Maps
+pub mod Sending
+pub mod Spelling
+pub mod Turns
+pub mod Walks

@@ -1,0 +1,5 @@
+use Rattle.rept_encode.specs.State.{Sent}
+use Rattle.rept_encode.proofs.writer.send_all.Given as goal
+
+abbrev pub invariant-loop-i : goal.invariant-loop-i
+invariant-loop-i l = Sent l.rows l.i l.sender

@@ -1,0 +1,6 @@
+pub mod Added
+pub mod Bits
+pub mod Encoded
+pub mod State
+pub mod Walkable
+pub mod Written

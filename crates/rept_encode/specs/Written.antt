@@ -1,0 +1,72 @@
+-- The numbers whose bytes, the lowest first, are the payloads of packets (Efficient Trace for RISC-V 2.0, the tables of formats 3, 2 and
+-- 1), and how payloads stand in a trace file. Past its fields a number goes on with copies of their last bit.
+use Rattle.std.specs.Prelude.{◌≡◌, ◌≢◌, ℕ, ◌+◌, ◌-◌, ◌*◌, ◌/◌, ◌^◌, ◌<◌, ◌≤◌, nat_le, List, ◌∷◌, ◌++◌, length, take, slice_index, Bool, false, not, if◌then◌else◌}
+use Rattle.std.specs.Int.{w128, to_le_bytes}
+use Rattle.rept_trace.specs.declared.packet.Report.{Report}
+use Rattle.rept_trace.specs.declared.packet.Packet.{Packet}
+use Rattle.rept_trace.specs.declared.packet.Packet.TheVariants.{Start, Context, Support, Address, Map, MapAddress}
+use Rattle.rept_trace.specs.Grammar.{map_width, qual_number, IsPacket}
+
+abbrev pub bit : Bool → ℕ
+bit b = if b then 1 else 0
+
+-- copies of a bit
+abbrev pub copies : Bool → ℕ
+copies b = if b then 2 ^ 47 - 1 else 0
+
+abbrev pub differ : Bool → Bool → Bool
+differ a b = if a then not b else b
+
+-- the highest bit of 30
+abbrev pub high : ℕ → Bool
+high difference = nat_le (2 ^ 29) difference
+
+-- the bits of notify and updiscon
+abbrev pub notify_bit : Report → Bool
+notify_bit r = differ r.notify (high (r.difference / 4))
+
+abbrev pub updiscon_bit : Report → Bool
+updiscon_bit r = differ r.updiscon (notify_bit r)
+
+-- a difference and its flags, of which irreport says nothing
+abbrev pub report_number : Report → ℕ
+report_number r = r.difference / 4 + 2 ^ 30 * (bit (notify_bit r) + 2 * copies (updiscon_bit r))
+
+-- Contexts aren't written.
+abbrev pub number_of : Packet → ℕ
+number_of (Start branch privilege a) = 3 + 16 * bit branch + 32 * privilege + 128 * (a / 4 + 2 ^ 30 * copies (high (a / 4)))
+number_of (Context privilege) = 11 + 16 * privilege
+number_of (Support enabled status) = 15 + 16 * bit enabled + 64 * qual_number status
+number_of (Address report) = 2 + 4 * report_number report
+number_of (Map map) = 1 + 128 * (map + 2 ^ 31 * copies (nat_le (2 ^ 30) map))
+number_of (MapAddress count map report) = 1 + 4 * (count + 32 * (map + 2 ^ map_width count * report_number report))
+
+-- the lowest ten bytes
+abbrev pub ten_bytes : ℕ → List ℕ
+ten_bytes number = take 10 (to_le_bytes w128 number)
+
+-- the byte that is made of copies of the highest bit of the byte before it
+abbrev pub fill_after : ℕ → ℕ
+fill_after before = if nat_le 128 before then 255 else 0
+
+-- The last byte of the payload isn't made of copies of the bit before it.
+abbrev pub IsCut : List ℕ → Type 0
+IsCut payload = (i : ℕ) → i + 2 ≡ length payload → slice_index payload (i + 1) ≢ fill_after (slice_index payload i)
+
+-- A packet's length and its payload, which is cut short, were added.
+pub record Appends (old new : List ℕ) (packet : Packet) : Type 0 where
+  pub payload : List ℕ
+  pub appended : new ≡ old ++ length payload ∷ payload
+  pub some : 0 < length payload
+  pub few : length payload ≤ 10
+  pub spells : IsPacket payload packet
+  pub cut : IsCut payload
+
+-- A report of the packet says nothing by irreport.
+abbrev pub IsSilent : Packet → Type 0
+IsSilent (Start branch privilege a) = Unit {0}
+IsSilent (Context privilege) = Unit {0}
+IsSilent (Support enabled status) = Unit {0}
+IsSilent (Address report) = report.irreport ≡ false
+IsSilent (Map map) = Unit {0}
+IsSilent (MapAddress count map report) = report.irreport ≡ false

@@ -1,0 +1,17 @@
+// A writer of traces: from the steps of a path to packets that tell it.
+#![tactic(auto)]
+
+mod bits;
+mod branch;
+pub mod fault;
+mod payload;
+mod sender;
+mod step;
+mod writer;
+
+pub use fault::{EncodeFault, StepFault};
+pub use step::{push_step, step_between};
+pub use writer::encode;
+
+#[cfg(test)]
+mod tests;

@@ -1,0 +1,166 @@
+ghost use Rattle.std.specs.Prelude.{◌≡◌, ℕ, ◌≤◌, ◌*◌, ◌%◌, ◌⊎◌, false, OnOk, IfOk};
+ghost use Rattle.rept_trace.specs.declared.packet.Packet.{Packet};
+ghost use Rattle.rept_trace.specs.declared.packet.Qual.TheVariants.{EndedRep};
+ghost use Rattle.rept_trace.specs.Fits.{FieldsFit};
+ghost use Rattle.rept_trace.specs.Stream.{header};
+ghost use Rattle.rept_encode.specs.State.{AreBits, said, start_at, report_packet, IsBegun, IsReported, IsSent, IsRestarted, IsWaiting, IsMapped, IsStanding};
+ghost use Rattle.rept_encode.specs.Written.{IsSilent, Appends};
+
+use crate::bits::{Bits, no_bits, with_row};
+use crate::branch::{is_branch, start_bit};
+use crate::payload::push_packet;
+use rept_isa::StepRow;
+use rept_trace::{Packet, Qual, Report};
+use rept_word::{OutOfMemory, Text};
+use std::alloc::Global;
+
+/// A trace that is being written.
+#[derive(Drop)]
+pub struct Sender {
+    /// The bytes so far.
+    pub text: Text,
+    /// The address that was reported last.
+    pub reported: u32,
+    /// The branch bits that wait.
+    pub bits: Bits,
+    /// The row at which a walk over the packets stands.
+    pub walked: usize,
+    /// The last row that is a branch, or the row at which the walk stands, if that is later.
+    pub base: usize,
+}
+
+/// A report of an address that lies so far from the one before, with the bits. It notifies, or says that an uninferable jump
+/// led there.
+fn report_packet(bits: Bits, difference: u32, notify: bool) -> Packet
+    requires bits { AreBits bits 31 }
+    requires even { difference % 4 ≡ 0 }
+    ensures packet { result ≡ report_packet bits.count bits.map (said difference notify) }
+    ensures fits { FieldsFit result }
+    ensures silent { IsSilent result }
+{
+    let report = Report {
+        difference,
+        notify,
+        updiscon: !notify,
+        irreport: false,
+    };
+    if bits.count == 0 {
+        return Packet::Address { report };
+    }
+    Packet::MapAddress {
+        count: bits.count,
+        map: bits.map,
+        report,
+    }
+}
+
+/// A start packet in user mode.
+fn start_packet(branch: bool, address: u32) -> Packet
+    requires { address % 4 ≡ 0 }
+    ensures packet { result ≡ Packet.Start branch 0 address }
+    ensures fits { FieldsFit result }
+    ensures silent { IsSilent result }
+{
+    Packet::Start {
+        branch,
+        privilege: 0,
+        address,
+    }
+}
+
+/// Adds a start packet at the row.
+fn push_start(text: &mut Text, row: &StepRow) -> Result<(), OutOfMemory>
+    requires { row.now.at % 4 ≡ 0 }
+    ensures { OnOk result (Appends text.old text.new (start_at row.now)) }
+{
+    let packet = start_packet(start_bit(row), row.at);
+    push_packet(text, &packet)
+}
+
+/// A trace that begins at the row.
+pub fn begin(alloc: Global, first: &StepRow) -> Result<Sender, OutOfMemory>
+    requires { first.now.at % 4 ≡ 0 }
+    ensures { IfOk result (λ sender. IsBegun sender first.now) }
+{
+    let mut text = Text::new(alloc);
+    text.push(&[0x52, 0x54, 0x52, 0x31, 1, 0, 0, 0])?;
+    push_start(&mut text, first)?;
+    Ok(Sender {
+        text,
+        reported: first.at,
+        bits: no_bits(),
+        walked: 0,
+        base: 0,
+    })
+}
+
+impl Sender {
+    /// Notes that the walk stands at a row of this number and address.
+    fn stand(&mut self, address: u32, number: usize)
+        ensures { IsStanding self.old self.new address number }
+    {
+        self.reported = address;
+        self.bits = no_bits();
+        self.walked = number;
+        self.base = number;
+    }
+
+    /// Reports the address of a row, with all bits that wait.
+    pub fn report(&mut self, to: u32, notify: bool, number: usize) -> Result<(), OutOfMemory>
+        requires bits { AreBits self.old.bits 31 }
+        requires even { (n : ℕ) × (self.old.reported ≡ 4 * n) }
+        requires to { to % 4 ≡ 0 }
+        ensures { OnOk result (IsReported self.old self.old.bits self.new to notify number) }
+    {
+        let difference = to.wrapping_sub(self.reported);
+        let packet = report_packet(self.bits, difference, notify);
+        push_packet(&mut self.text, &packet)?;
+        self.stand(to, number);
+        Ok(())
+    }
+
+    /// Reports the address of a row, with all bits that wait and its own.
+    pub fn send(&mut self, next: &StepRow, notify: bool, number: usize) -> Result<(), OutOfMemory>
+        requires bits { AreBits self.old.bits 30 }
+        requires even { (n : ℕ) × (self.old.reported ≡ 4 * n) }
+        requires to { next.now.at % 4 ≡ 0 }
+        ensures { OnOk result (IsSent self.old self.new next.now notify number) }
+    {
+        self.bits = with_row(self.bits, next);
+        self.report(next.at, notify, number)
+    }
+
+    /// Ends the stretch after a call, and begins another one at the row.
+    pub fn restart(&mut self, next: &StepRow, number: usize) -> Result<(), OutOfMemory>
+        requires { next.now.at % 4 ≡ 0 }
+        ensures { OnOk result (IsRestarted self.old self.new next.now number) }
+    {
+        let packet = Packet::Support {
+            enabled: false,
+            status: Qual::EndedRep,
+        };
+        push_packet(&mut self.text, &packet)?;
+        push_start(&mut self.text, next)?;
+        self.stand(next.at, number);
+        Ok(())
+    }
+
+    /// Keeps a row: its bit waits, or goes out with the map that it fills.
+    pub fn keep(&mut self, next: &StepRow, number: usize) -> Result<(), OutOfMemory>
+        requires { AreBits self.old.bits 30 }
+        ensures { OnOk result (IsWaiting self.old self.new next.now number ⊎ IsMapped self.old self.new next.now number) }
+    {
+        let bits = with_row(self.bits, next);
+        if bits.count == 31 {
+            push_packet(&mut self.text, &Packet::Map { map: bits.map })?;
+            let address = self.reported;
+            self.stand(address, number);
+            return Ok(());
+        }
+        self.bits = bits;
+        if is_branch(next) {
+            self.base = number;
+        }
+        Ok(())
+    }
+}

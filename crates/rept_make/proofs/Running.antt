@@ -1,0 +1,233 @@
+-- One step more of a made run.
+use Rattle.std.proofs.Common.{◌≡◌, ℕ, zero, suc, ◌+◌, ◌-◌, ◌*◌, ◌/◌, ◌%◌, ◌<◌, ◌≤◌, ◌==◌, nat_le, List, [], ◌∷◌, ◌++◌, length, get_or, slice_get, Option, Some, MatchOption, IsTrue, ◌↔◌, Bool, true, false, cond, refl, sym, ◌∙◌, ap, subst, arith, ◌⊎◌, inl, inr, length-append}
+use Rattle.std.proofs.lemmas.Bool.{cases_eq}
+use Rattle.std.proofs.lemmas.Bool.Decides.{nat_tests}
+use Rattle.std.proofs.lemmas.List.Elements.{All-nil, All-push}
+use Rattle.std.proofs.lemmas.Option.{slice_get_within, slice_get-get_or}
+use Rattle.rept_isa.specs.declared.instr.Instr.{Instr}
+use Rattle.rept_isa.specs.declared.instr.Instr.TheVariants.{Lui, Auipc, Jal, Jalr, Branch, Load, Store, Imm, Op, Fence, Ecall, Ebreak, Counter}
+use Rattle.rept_isa.specs.declared.row.StepRow.{StepRow}
+use Rattle.rept_isa.specs.Words.{IsWord}
+use Rattle.rept_isa.specs.Numbers.{plus, following}
+use Rattle.rept_isa.proofs.WordLemmas.{one_instruction}
+use Rattle.rept_steps.specs.Linked.{BeginAt, EndBefore}
+use Rattle.rept_machine.specs.State.{State, IsState}
+use Rattle.rept_machine.specs.declared.machine.Machine.{Machine}
+use Rattle.rept_machine.specs.Machine.{state_of, pc_of, code_of, base_of, next_word, word_of_code, IsNext}
+use Rattle.rept_machine.specs.Arithmetic.{branch_holds}
+use Rattle.rept_machine.specs.Step.{HasEffect, IsStep}
+use Rattle.rept_machine.specs.Choices.{Picks}
+use Rattle.rept_path.specs.declared.flow.Flow.{Flow}
+use Rattle.rept_path.specs.Code.{flow_of}
+use Rattle.rept_encode.specs.Walkable.{MayLead, calls, IsStepped}
+use Rattle.rept_make.specs.Code.{made_instr, IsTame, IsPlaced}
+use Rattle.rept_make.specs.Run.{IsMadeRow, IsMadeRun}
+use Rattle.rept_make.specs.Ran.{Ran}
+use Rattle.rept_make.specs.Start.{start_registers}
+use Rattle.rept_make.specs.Words.{SpellsAt, IsCode}
+use Rattle.rept_make.proofs.Nearness.{Next, near_step}
+
+-- whether a call
+not_call : (b : Bool) (i : Instr) → (IsTrue b ↔ (i ≡ Ecall)) → (i ≡ Ecall → ⊥) → b ≡ false
+not_call true i f no_call = absurd (no_call (f.0 refl))
+not_call false i f no_call = refl
+
+is_call : (b : Bool) → (IsTrue b ↔ (Ecall ≡ Ecall)) → b ≡ true
+is_call true f = refl
+is_call false f = f.1 refl
+
+jalr_calls : (b : Bool) (x y : Flow) → calls x ≡ false → calls y ≡ false → calls (cond b x y) ≡ false
+jalr_calls true x y a c = a
+jalr_calls false x y a c = c
+
+pub called : (b : Bool) (i : Instr) → (IsTrue b ↔ (i ≡ Ecall)) → b ≡ calls (flow_of i)
+called b (Lui rd imm) f = not_call b _ f (λ e. cc)
+called b (Auipc rd imm) f = not_call b _ f (λ e. cc)
+called b (Jal rd imm) f = not_call b _ f (λ e. cc)
+called b (Jalr rd rs1 imm) f = not_call b _ f (λ e. cc) ∙ sym (jalr_calls (rs1 == 0) _ _ refl refl)
+called b (Branch op rs1 rs2 imm) f = not_call b _ f (λ e. cc)
+called b (Load op rd rs1 imm) f = not_call b _ f (λ e. cc)
+called b (Store op rs1 rs2 imm) f = not_call b _ f (λ e. cc)
+called b (Imm op rd rs1 imm) f = not_call b _ f (λ e. cc)
+called b (Op op rd rs1 rs2) f = not_call b _ f (λ e. cc)
+called b Fence f = not_call b _ f (λ e. cc)
+called b Ecall f = is_call b f
+called b Ebreak f = not_call b _ f (λ e. cc)
+called b (Counter rd csr) f = not_call b _ f (λ e. cc)
+
+-- where a step leads, its instruction may lead
+either_way : (b : Bool) (next x y : ℕ) → next ≡ cond b x y → (next ≡ x) ⊎ (next ≡ y)
+either_way true next x y e = inl e
+either_way false next x y e = inr e
+
+tame_leads : (instr : Instr) (e at next : ℕ) (s t : State) → IsTame instr → HasEffect instr e at next s t → MayLead (flow_of instr) at next
+tame_leads (Imm op rd rs1 imm) e at next s t f h = h.onward
+tame_leads (Op op rd rs1 rs2) e at next s t f h = h.onward
+tame_leads (Load op rd rs1 imm) e at next s t f h = h.onward
+tame_leads (Store op rs1 rs2 imm) e at next s t f h = h.onward
+tame_leads (Branch op rs1 rs2 imm) e at next s t f h = either_way (branch_holds op (s.register rs1) (s.register rs2)) next (plus at imm) (following at) h.onward
+tame_leads (Lui rd imm) e at next s t f h = absurd f
+tame_leads (Auipc rd imm) e at next s t f h = absurd f
+tame_leads (Jal rd imm) e at next s t f h = absurd f
+tame_leads (Jalr rd rs1 imm) e at next s t f h = absurd f
+tame_leads Fence e at next s t f h = absurd f
+tame_leads Ecall e at next s t f h = absurd f
+tame_leads Ebreak e at next s t f h = absurd f
+tame_leads (Counter rd csr) e at next s t f h = absurd f
+
+leads : (slot : ℕ) (instr : Instr) (e at next : ℕ) (s t : State) → IsPlaced slot instr → next % 4 ≡ 0 → HasEffect instr e at next s t → MayLead (flow_of instr) at next
+leads slot instr e at next s t p even h = elim (cases_eq slot 64) [
+  | inl x ↦ let i = p.jump x in subst (λ (y : Instr). MayLead (flow_of y) at next) (sym i) even
+  | inr a ↦ elim (cases_eq slot 191) [
+    | inl x ↦ let i = p.number x in subst (λ (y : Instr). MayLead (flow_of y) at next) (sym i) (let k = subst (λ (y : Instr). HasEffect y e at next s t) i h in k.onward)
+    | inr b ↦ elim (cases_eq slot 192) [
+      | inl x ↦ let i = p.call x in subst (λ (y : Instr). MayLead (flow_of y) at next) (sym i) (let k = subst (λ (y : Instr). HasEffect y e at next s t) i h in k.onward)
+      | inr c ↦ elim (cases_eq slot 255) [
+        | inl x ↦ let i = p.back x in subst (λ (y : Instr). MayLead (flow_of y) at next) (sym i) (let k = subst (λ (y : Instr). HasEffect y e at next s t) i h in k.onward)
+        | inr d ↦ tame_leads instr e at next s t (p.tame a b c d) h
+      ]
+    ]
+  ]
+]
+
+-- the word at a slot
+word_there : (words : List ℕ) (j a base : ℕ) → length words ≡ 256 → j < 256 → base ≡ 65536 → a ≡ 65536 + 4 * j → word_of_code words base a ≡ Some (get_or words j 0)
+word_there words j a base size lt start e =
+    let t : nat_le base a ≡ true = grind (arith, nat_tests) in
+    let u : ((a - base) % 4 == 0) ≡ true = (let m : (a - base) % 4 ≡ 0 = omega arith in rw m refl) in
+    let k : (a - base) / 4 ≡ j = omega arith in
+    let g : slice_get words j ≡ Some (get_or words j 0) = slice_get-get_or words j 0 (omega arith) in
+    rw (t, u, k) g
+
+-- one row more
+pub get_push : (rows : List StepRow) (row : StepRow) (i : ℕ) (r : StepRow) → slice_get (rows ++ row ∷ []) i ≡ Some r → (slice_get rows i ≡ Some r) ⊎ ((i ≡ length rows) × (row ≡ r))
+get_push [] row zero r h = inr (refl, (cc))
+get_push [] row (suc i) r h = absurd (cc)
+get_push (x ∷ rows) row zero r h = inl h
+get_push (x ∷ rows) row (suc i) r h = elim (get_push rows row i r h) [ inl g ↦ inl g | inr g ↦ inr (ap suc g.0, g.1) ]
+
+begin_push : (rows : List StepRow) (row : StepRow) (a : ℕ) → BeginAt rows a → (rows ≡ [] → row.at ≡ a) → BeginAt (rows ++ row ∷ []) a
+begin_push [] row a b f = f refl
+begin_push (x ∷ rows) row a b f = b
+
+abbrev longer : ℕ → (ℕ → State) → State → ℕ → State
+longer n run last i = cond (nat_le i n) (run i) last
+
+before : (n : ℕ) (run : ℕ → State) (last : State) (i : ℕ) → i ≤ n → longer n run last i ≡ run i
+before n run last i le = let t : nat_le i n ≡ true = grind (arith, nat_tests) in rw t refl
+
+at_last : (n : ℕ) (run : ℕ → State) (last : State) → longer n run last (n + 1) ≡ last
+at_last n run last = let t : nat_le (n + 1) n ≡ false = grind (arith, nat_tests) in rw t refl
+
+module _ (seed : ℕ) (words : List ℕ) (code : IsCode seed words) (old new : Machine) (rows : List StepRow) (ran : Ran seed words old rows) (row : StepRow) (lawful : (e : ℕ) → IsStep e row (state_of old) (state_of new)) (state : IsState (state_of new)) (picks : Picks row.instr (state_of old) (state_of new)) (at : row.at ≡ pc_of old) (next : pc_of new ≡ row.next) (instr : IsNext old row.instr) (call : IsTrue row.call ↔ (row.instr ≡ Ecall)) (kept : code_of new ≡ code_of old) (base : base_of new ≡ base_of old) where
+  there : row.at ≡ 65536 + 4 * ran.slot.0
+  there = at ∙ ran.slot.2
+
+  spelled : SpellsAt ran.slot.0 (get_or words ran.slot.0 0) (made_instr seed ran.slot.0)
+  spelled = code.spells ran.slot.0 ran.slot.1
+
+  is_made : row.instr ≡ made_instr seed ran.slot.0
+  is_made =
+      let w : next_word old ≡ Some (get_or words ran.slot.0 0) = ap (λ (xs : List ℕ). word_of_code xs (base_of old) (pc_of old)) ran.code ∙ word_there words ran.slot.0 (pc_of old) (base_of old) code.size ran.slot.1 ran.base ran.slot.2 in
+      let i : IsWord (get_or words ran.slot.0 0) row.instr = subst (λ (o : Option ℕ). MatchOption o ⊥ (λ word. IsWord word row.instr)) w instr in
+      one_instruction (get_or words ran.slot.0 0) row.instr (made_instr seed ran.slot.0) i spelled.spelled
+
+  placed : IsPlaced ran.slot.0 row.instr
+  placed = subst (λ (i : Instr). IsPlaced ran.slot.0 i) (sym is_made) spelled.placed
+
+  goes : Next (state_of new) row.next
+  goes = near_step row.at ran.slot.0 row.next (state_of old) (state_of new) there ran.near row.instr 0 ran.slot.1 ran.state.zero placed (lawful 0)
+
+  calls_so : row.call ≡ calls (flow_of row.instr)
+  calls_so = called row.call row.instr call
+
+  stepped : IsStepped row
+  stepped =
+      let there_is = there in
+      let to = goes.1 in
+      record {
+        aligned = omega arith;
+        lead = leads ran.slot.0 row.instr 0 row.at row.next (state_of old) (state_of new) placed (let e = to.2 in omega arith) (lawful 0);
+        call = calls_so;
+      }
+
+  made_row : IsMadeRow seed row (state_of old) (state_of new)
+  made_row = record { slot = ran.slot.0; below = ran.slot.1; at = there; instr = is_made; step = lawful; picks = picks; call = calls_so }
+
+  abbrev run : ℕ → State
+  run = longer (length rows) ran.run (state_of new)
+
+  run_last : run (length (rows ++ row ∷ [])) ≡ state_of new
+  run_last =
+      let size : length (rows ++ row ∷ []) ≡ length rows + 1 = length-append rows (row ∷ []) in
+      rw size (at_last (length rows) ran.run (state_of new))
+
+  run_on : IsMadeRun seed (rows ++ row ∷ []) run
+  run_on =
+      let m = ran.made in
+      let size : length (rows ++ row ∷ []) ≡ length rows + 1 = length-append rows (row ∷ []) in
+      let first : run 0 ≡ ran.run 0 = before (length rows) ran.run (state_of new) 0 (omega arith) in
+      record {
+        registers = λ r. ap (λ (s : State). s.register r) first ∙ m.registers r;
+        memory = λ a. ap (λ (s : State). s.memory a) first ∙ m.memory a;
+        begin = begin_push rows row 65536 m.begin (λ none. at ∙ ran.start none);
+        states = λ i le. elim (cases_eq i (length rows + 1)) [
+          | inl e ↦ subst (λ (k : ℕ). IsState (run k)) (sym e) (subst IsState (sym (at_last (length rows) ran.run (state_of new))) state)
+          | inr ne ↦ subst IsState (sym (before (length rows) ran.run (state_of new) i (omega arith))) (m.states i (omega arith))
+        ];
+        steps = λ i r get. elim (get_push rows row i r get) [
+          | inl g ↦
+              let w = slice_get_within rows i r g in
+              subst (λ (s : State). IsMadeRow seed r s (run (i + 1))) (sym (before (length rows) ran.run (state_of new) i (omega arith))) (subst (λ (t : State). IsMadeRow seed r (ran.run i) t) (sym (before (length rows) ran.run (state_of new) (i + 1) (omega arith))) (m.steps i r g))
+          | inr g ↦
+              let a : run (length rows) ≡ state_of old = before (length rows) ran.run (state_of new) (length rows) (omega arith) ∙ ran.now in
+              let b : run (length rows + 1) ≡ state_of new = at_last (length rows) ran.run (state_of new) in
+              let here : IsMadeRow seed row (run (length rows)) (run (length rows + 1)) = subst (λ (s : State). IsMadeRow seed row s (run (length rows + 1))) (sym a) (subst (λ (t : State). IsMadeRow seed row (state_of old) t) (sym b) made_row) in
+              let same : IsMadeRow seed r (run (length rows)) (run (length rows + 1)) = subst (λ (x : StepRow). IsMadeRow seed x (run (length rows)) (run (length rows + 1))) g.1 here in
+              subst (λ (k : ℕ). IsMadeRow seed r (run k) (run (k + 1))) (sym g.0) same
+        ];
+      }
+
+  push_some : (xs : List StepRow) → (xs ++ row ∷ [] ≡ []) → ⊥
+  push_some [] e = cc
+  push_some (x ∷ xs) e = cc
+
+  pub ran_on : EndBefore (rows ++ row ∷ []) row.next → Ran seed words new (rows ++ row ∷ [])
+  ran_on ends = record {
+    code = kept ∙ ran.code;
+    base = base ∙ ran.base;
+    run = run;
+    made = run_on;
+    now = run_last;
+    near = goes.0;
+    state = state;
+    slot = (goes.1.0, goes.1.1, next ∙ goes.1.2);
+    start = λ none. absurd (push_some rows none);
+    ends = rw next ends;
+    steps = All-push IsStepped rows row ran.steps stepped;
+  }
+
+-- Before the first step.
+pub ran_first : (seed : ℕ) (words : List ℕ) (m : Machine) → code_of m ≡ words → base_of m ≡ 65536 → pc_of m ≡ 65536 → ((r : ℕ) → (state_of m).register r ≡ get_or (start_registers seed) r 0) → ((a : ℕ) → (state_of m).memory a ≡ 0) → IsState (state_of m) → Ran seed words m []
+ran_first seed words m code base pc registers memory state = record {
+  code = code;
+  base = base;
+  run = λ i. state_of m;
+  made = record { registers = registers; memory = memory; begin = tt; states = λ i le. state; steps = λ i row get. absurd (cc) };
+  now = refl;
+  near = record { number = registers 17; place = registers 20; offset = (let o = registers 21 in omega arith); far = 0; reached = registers 22 ∙ refl; few = omega arith; target = registers 23 };
+  state = state;
+  slot = (0, omega arith, pc ∙ refl);
+  start = λ none. pc;
+  ends = tt;
+  steps = All-nil IsStepped;
+}
+
+above_zero : (r : ℕ) → (suc r == 0) ≡ false
+above_zero r = grind (arith, nat_tests)
+
+pub start_of : (seed : ℕ) (regs : List ℕ) (v r : ℕ) → regs ≡ start_registers seed → v ≡ cond (r == 0) 0 (get_or regs r 0) → v ≡ get_or (start_registers seed) r 0
+start_of seed regs v zero is e = e
+start_of seed regs v (suc r) is e =
+    let t = above_zero r in
+    e ∙ ap (λ (b : Bool). cond b 0 (get_or regs (suc r) 0)) t ∙ ap (λ (xs : List ℕ). get_or xs (suc r) 0) is

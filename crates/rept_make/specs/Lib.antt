@@ -1,0 +1,10 @@
+pub mod Code
+pub mod Draws
+pub mod Files
+pub mod Laid
+pub mod Made
+pub mod Near
+pub mod Ran
+pub mod Run
+pub mod Start
+pub mod Words

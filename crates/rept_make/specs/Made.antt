@@ -1,0 +1,53 @@
+-- What a made crash is: its files, and the run that they come from.
+use Rattle.std.specs.Prelude.{◌≡◌, ℕ, ◌+◌, ◌*◌, ◌<◌, List, ◌++◌, length, slice_index, Ok, None}
+use Rattle.rept_isa.specs.declared.row.StepRow.{StepRow}
+use Rattle.rept_steps.specs.Linked.{EndBefore}
+use Rattle.rept_elf.specs.Header.{word_at}
+use Rattle.rept_elf.specs.Segments.{segments, greatest_end}
+use Rattle.rept_elf.specs.Checks.{checks, first_failure}
+use Rattle.rept_elf.specs.declared.fault.Want.TheVariants.{Exec, Core}
+use Rattle.rept_dump.specs.Memory.{byte_at}
+use Rattle.rept_dump.specs.Registers.{Says}
+use Rattle.rept_machine.specs.State.{State}
+use Rattle.rept_machine.specs.Execution.{Execution}
+use Rattle.rept_trace.specs.Stream.{header}
+use Rattle.rept_path.specs.Traced.{IsTraced}
+use Rattle.rept_make.specs.declared.made.Made.{Made}
+use Rattle.rept_make.specs.Files.{bytes_of_words, executable, core_file}
+use Rattle.rept_make.specs.Laid.{laid}
+use Rattle.rept_make.specs.Run.{IsMadeRun}
+use Rattle.rept_make.specs.Words.{IsCode}
+
+-- The registers, from the program counter on, and the data, from 0x20000 on, are those of a state.
+pub record AreSaved (registers data_bytes : List ℕ) (next : ℕ) (s : State) : Type 0 where
+  pub count : length registers ≡ 32
+  pub pc : slice_index registers 0 ≡ next
+  pub saved : (r : ℕ) → 0 < r → r < 32 → slice_index registers r ≡ s.register r
+  pub size : length data_bytes ≡ 1024
+  pub bytes : (i : ℕ) → i < 1024 → slice_index data_bytes i ≡ s.memory (131072 + i)
+
+-- The files are those of a seed's code and of its run of so many steps; the trace tells its rows, and none is skipped. The run, each of
+-- whose memories is laid over the program's bytes, is an execution of the rebuilt path that ends in the dump.
+pub record IsMade (seed steps : ℕ) (made : Made) : Type 0 where
+  pub words : List ℕ
+  pub code : IsCode seed words
+  pub exe : made.exe ≡ executable words
+  pub rows : List StepRow
+  pub run : ℕ → State
+  pub is_run : IsMadeRun seed rows run
+  pub count : length rows ≡ steps
+  pub pc : ℕ
+  pub ends : EndBefore rows pc
+  pub registers : List ℕ
+  pub data_bytes : List ℕ
+  pub saved : AreSaved registers data_bytes pc (run (length rows))
+  pub core : made.core ≡ core_file registers data_bytes
+  pub exe_read : first_failure (checks Exec made.exe) ≡ None
+  pub core_read : first_failure (checks Core made.core) ≡ None
+  pub status : List ℕ
+  pub notes : Says (length made.core) (segments made.core) (Ok status)
+  pub last_pc : word_at status 72 ≡ pc
+  pub rest : List ℕ
+  pub layout : made.trace ≡ header ++ rest
+  pub path : IsTraced (segments made.exe) rest 0 pc 0 rows
+  pub execution : (last : List ℕ) → length last ≡ 32 → ((r : ℕ) → 0 < r → r < 32 → slice_index last r ≡ word_at status (72 + 4 * r)) → Execution (greatest_end (segments made.exe)) rows last (byte_at (segments made.exe) (segments made.core)) (λ i. laid (bytes_of_words words) (run i))

@@ -1,0 +1,14 @@
+// Made crashes: a program that is drawn, its run, and the three files of it.
+#![tactic(auto)]
+
+mod code;
+mod draw;
+mod files;
+mod made;
+mod run;
+mod slot;
+
+pub use made::{Made, make};
+
+#[cfg(test)]
+mod tests;

@@ -1,0 +1,52 @@
+ghost use Rattle.std.specs.Prelude.{◌≡◌, ◌+◌, ◌<◌, ◌≤◌, List, ℕ, length, IfOk, OnOk};
+ghost use Rattle.rept_make.specs.Start.{start_registers};
+ghost use Rattle.rept_make.specs.Ran.{Ran};
+ghost use Rattle.rept_make.specs.Words.{IsCode};
+
+use rept_machine::Machine;
+use rept_steps::Steps;
+use rept_word::OutOfMemory;
+use std::alloc::{AllocError, Global};
+
+/// Makes one step and notes it.
+fn step(machine: &mut Machine<'_>, steps: &mut Steps) -> Result<(), OutOfMemory>
+    requires { (seed : ℕ) × (words : List ℕ) × IsCode seed words × Ran seed words machine.old steps.old }
+    ensures ran { OnOk result ((seed : ℕ) (words : List ℕ) → IsCode seed words → Ran seed words machine.old steps.old → Ran seed words machine.new steps.new) }
+    ensures size { OnOk result (length steps.new ≡ length steps.old + 1) }
+{
+    let Ok(row) = machine.step() else {
+        return Err(AllocError);
+    };
+    match steps.push(row) {
+        Ok(()) => Ok(()),
+        Err(_) => Err(AllocError),
+    }
+}
+
+/// A machine that has run, and its steps.
+#[derive(Drop)]
+pub struct Run<'a> {
+    pub machine: Machine<'a>,
+    pub steps: Steps,
+}
+
+/// The first steps of a seed's code, from its registers and a memory of zeros.
+pub fn make_run<'a>(
+    alloc: Global,
+    seed: u32,
+    code: &'a [u32],
+    registers: [u32; 32],
+    count: u32,
+) -> Result<Run<'a>, OutOfMemory>
+    requires code { IsCode seed code.now }
+    requires registers { registers ≡ start_registers seed }
+    ensures ran { IfOk result (λ run. Ran seed code.now run.machine run.steps) }
+    ensures count { IfOk result (λ run. length run.steps ≡ count) }
+{
+    let mut machine = Machine::new(alloc, code, 0x10000, 0x10000, registers);
+    let mut steps = Steps::new(alloc);
+    for i in 0..count {
+        step(&mut machine, &mut steps)?;
+    }
+    Ok(Run { machine, steps })
+}

@@ -1,0 +1,101 @@
+ghost use Rattle.std.specs.Prelude.{◌≡◌, ◌≤◌, length, IfOk, IfErr, OnOk, OnErr};
+ghost use Rattle.std.specs.Io.KnownBytes.{Consumes, IsAtEnd};
+ghost use Rattle.rept_ports.specs.Port.{move};
+ghost use Rattle.rept_record.specs.Worked.{Traces, IsKept, Writes, Refuses};
+
+use crate::stop::Stop;
+use rept_ports::{LoadFault, Shelf, Sink, Source, write_all};
+use rept_simlog::record;
+use rept_word::Text;
+use std::alloc::Global;
+
+/// The most bytes of an executable.
+const EXE_LIMIT: usize = 64 * 1024 * 1024;
+
+/// The most bytes of a log.
+const LOG_LIMIT: usize = 256 * 1024 * 1024;
+
+/// Why the input isn't read.
+enum InputStop {
+    Failed,
+    TooMuch,
+    OutOfMemory,
+}
+
+/// All bytes of the input.
+fn read_all<S: Source>(alloc: Global, input: &mut S) -> Result<Vec<u8>, InputStop>
+    ensures bytes { IfOk result (λ log. Consumes (S.port input.old).bytes (S.port input.new).bytes log.items) }
+    ensures all { OnOk result (IsAtEnd (S.port input.new).bytes) }
+    ensures within { IfOk result (λ log. length log.items ≤ LOG_LIMIT) }
+{
+    let mut log = Vec::new(alloc);
+    let mut buffer = [0u8; 4096];
+    loop {
+        let count = match input.read(&mut buffer) {
+            Ok(count) => count,
+            Err(_) => return Err(InputStop::Failed),
+        };
+        if count == 0 {
+            return Ok(log);
+        }
+        if count > LOG_LIMIT - log.len() {
+            return Err(InputStop::TooMuch);
+        }
+        if let Err(_) = log.extend_from_slice(&buffer[..count]) {
+            return Err(InputStop::OutOfMemory);
+        }
+    }
+}
+
+/// The trace of the log that comes in, over the executable of a name.
+fn trace_of<H: Shelf, S: Source>(
+    alloc: Global,
+    name: &str,
+    shelf: &mut H,
+    input: &mut S,
+) -> Result<Text, Stop>
+    ensures ok { IfOk result (λ trace. Traces name.now (H.port shelf.old) (S.port input.old) trace) }
+    ensures err { IfErr result (λ stop. Refuses name.now (H.port shelf.old) (S.port input.old) stop) }
+{
+    let exe = match shelf.load(alloc, name, EXE_LIMIT) {
+        Ok(exe) => exe,
+        Err(fault) => match fault {
+            LoadFault::Failed => return Err(Stop::LoadFault),
+            LoadFault::Missing => return Err(Stop::NoFile),
+            LoadFault::TooLarge => return Err(Stop::TooLarge),
+            LoadFault::OutOfMemory => return Err(Stop::OutOfMemory),
+        },
+    };
+    let log = match read_all(alloc, input) {
+        Ok(log) => log,
+        Err(fault) => match fault {
+            InputStop::Failed => return Err(Stop::InputFault),
+            InputStop::TooMuch => return Err(Stop::TooMuchInput),
+            InputStop::OutOfMemory => return Err(Stop::OutOfMemory),
+        },
+    };
+    match record(alloc, exe.as_slice(), log.as_slice()) {
+        Ok(trace) => Ok(trace),
+        Err(refusal) => Err(Stop::Refused(refusal)),
+    }
+}
+
+/// Writes the trace of the log that comes in, over the executable of a name. Nothing is written before all of it was made, and nothing
+/// where the log is refused.
+pub fn run<H: Shelf, S: Source, K: Sink>(
+    alloc: Global,
+    name: &str,
+    shelf: &mut H,
+    input: &mut S,
+    out: &mut K,
+) -> Result<(), Stop>
+    ensures ok { OnOk result (Writes name.now (H.port shelf.old) (S.port input.old) (move (K.port out.old) (K.port out.new))) }
+    ensures err { IfErr result (λ stop. Refuses name.now (H.port shelf.old) (S.port input.old) stop) }
+    ensures quiet { IfErr result (λ stop. IsKept stop (K.port out.old) (K.port out.new)) }
+{
+    let trace = trace_of(alloc, name, shelf, input)?;
+    match write_all(out, trace.bytes()) {
+        Ok(()) => Ok(()),
+        Err(_) => Err(Stop::OutputFault),
+    }
+}

@@ -1,0 +1,113 @@
+-- Lines of a log, and the steps between them.
+use Rattle.std.proofs.Common.{◌≡◌, ℕ, zero, suc, ◌+◌, ◌<◌, List, [], ◌∷◌, ◌++◌, length, get_or, slice_get, Option, Some, false, refl, sym, ◌∙◌, ap, subst, arith, inl, inr, ◌⊎◌, length-append}
+use Rattle.std.proofs.lemmas.List.Elements.{All-from_get_or}
+use Rattle.std.proofs.lemmas.Option.{slice_get_within, slice_get-get_or}
+use Rattle.rept_isa.specs.declared.instr.Instr.TheVariants.{Fence}
+use Rattle.rept_isa.specs.declared.row.StepRow.{StepRow}
+use Rattle.rept_elf.specs.Segments.{ElfSegment}
+use Rattle.rept_steps.specs.Linked.{EndBefore}
+use Rattle.rept_path.specs.Rows.{CarriesCode, CarryCode}
+use Rattle.rept_encode.specs.Walkable.{IsFirstJumpEnd}
+use Rattle.rept_encode.specs.Encoded.{Tells}
+use Rattle.rept_simlog.specs.declared.log.Entry.{Entry}
+use Rattle.rept_simlog.specs.declared.refusal.Refusal.{Refusal}
+use Rattle.rept_simlog.specs.declared.refusal.Refusal.TheVariants.{Executable, NoNumber, NoInstruction, NoStep, JumpEnds, NoSteps, OutOfMemory}
+use Rattle.rept_simlog.specs.Log.{IsNumber, IsLine, AreEntriesThen}
+use Rattle.rept_simlog.specs.Recorded.{IsStepRefused, IsWalkFault}
+use Rattle.rept_simlog.specs.Walk.{IsStepBetween, AddsRow, Along, GoAlong, EndsJump, Records}
+
+-- one entry more
+pub entries_push : (before : ℕ) (bytes rest line after : List ℕ) (entries : List Entry) (entry : Entry) → AreEntriesThen before bytes entries rest → 0 < length rest → IsLine rest line after → entry.line ≡ before + length entries + 1 → IsNumber line entry.address → AreEntriesThen before bytes (entries ++ entry ∷ []) after
+entries_push before bytes rest line after [] entry h some cut place number =
+    let e : rest ≡ bytes = sym h in
+    (line, after, subst (λ (b : List ℕ). 0 < length b) e some, subst (λ (b : List ℕ). IsLine b line after) e cut, (place ∙ omega arith), number, refl)
+entries_push before bytes rest line after (x ∷ entries) entry h some cut place number =
+    (h.0, h.1, h.2, h.3, h.4, h.5, entries_push (before + 1) h.1 rest line after entries entry h.6 some cut (place ∙ omega arith) number)
+
+pub size_push : (old new : List Entry) (entry : Entry) → new ≡ old ++ entry ∷ [] → length new ≡ length old + 1
+size_push old new entry e = ap (length {A = Entry}) e ∙ length-append old (entry ∷ [])
+
+-- a fault between two entries is one of all
+pub lift_fault : (code : List ElfSegment) (entries : List Entry) (i : ℕ) (from to : Entry) (r : Refusal) → slice_get entries i ≡ Some from → slice_get entries (i + 1) ≡ Some to → IsStepRefused code from to r → IsWalkFault code entries r
+lift_fault code entries i from to (NoInstruction k fault) a b h =
+    let w = slice_get_within entries (i + 1) to b in
+    record { i = i; entry = from; there = a; early = w; line = h.0; looked = h.1 }
+lift_fault code entries i from to (NoStep k) a b h = let n = h.1 in record { i = i; from = from; to = to; instr = n.0; there = a; next = b; line = h.0; looked = n.1; none = n.2 }
+lift_fault code entries i from to OutOfMemory a b h = tt
+lift_fault code entries i from to (JumpEnds k) a b h = absurd h
+lift_fault code entries i from to NoSteps a b h = absurd h
+lift_fault code entries i from to (NoNumber k) a b h = absurd h
+lift_fault code entries i from to (Executable fault) a b h = absurd h
+
+get_push : (rows : List StepRow) (row : StepRow) (i : ℕ) (r : StepRow) → slice_get (rows ++ row ∷ []) i ≡ Some r → (slice_get rows i ≡ Some r) ⊎ ((i ≡ length rows) × (row ≡ r))
+get_push [] row zero r h = inr (refl, (cc))
+get_push [] row (suc i) r h = absurd (cc)
+get_push (x ∷ rows) row zero r h = inl h
+get_push (x ∷ rows) row (suc i) r h = elim (get_push rows row i r h) [ inl g ↦ inl g | inr g ↦ inr (ap suc g.0, g.1) ]
+
+same_entry : (entries : List Entry) (i j : ℕ) (a b : Entry) → i ≡ j → slice_get entries i ≡ Some a → slice_get entries j ≡ Some b → a ≡ b
+same_entry entries i j a b e x y =
+    let f : ◌≡◌ {A = Option Entry} (Some a) (Some b) = sym x ∙ ap (λ (k : ℕ). slice_get entries k) e ∙ y in
+    cc
+
+-- one step more along the entries
+pub along_push : (code : List ElfSegment) (entries : List Entry) (old new : List StepRow) (i : ℕ) (from to : Entry) → Along code entries old → length old ≡ i → slice_get entries i ≡ Some from → slice_get entries (i + 1) ≡ Some to → AddsRow code old new from to → Along code entries new
+along_push code entries old new i from to before size a b x = λ j row f t get get_f get_t.
+    let g : slice_get (old ++ x.row ∷ []) j ≡ Some row = subst (λ (rows : List StepRow). slice_get rows j ≡ Some row) x.rows get in
+    elim (get_push old x.row j row g) [
+      | inl h ↦ before j row f t h get_f get_t
+      | inr h ↦
+          let e : j ≡ i = h.0 ∙ size in
+          let same_from : from ≡ f = same_entry entries i j from f (sym e) a get_f in
+          let same_to : to ≡ t = same_entry entries (i + 1) (j + 1) to t (ap (λ (k : ℕ). k + 1) (sym e)) b get_t in
+          let s : IsStepBetween code from to row = subst (λ (r : StepRow). IsStepBetween code from to r) h.1 x.step in
+          subst (λ (u : Entry). IsStepBetween code f u row) same_to (subst (λ (u : Entry). IsStepBetween code u to row) same_from s)
+    ]
+
+pub rows_size : (code : List ElfSegment) (old new : List StepRow) (from to : Entry) → AddsRow code old new from to → length new ≡ length old + 1
+rows_size code old new from to x = ap (length {A = StepRow}) x.rows ∙ length-append old (x.row ∷ [])
+
+pub ends_at : (entries : List Entry) (i : ℕ) (to : Entry) (rows : List StepRow) → slice_get entries (i + 1) ≡ Some to → EndBefore rows to.address → (last : Entry) → slice_get entries (i + 1) ≡ Some last → EndBefore rows last.address
+ends_at entries i to rows a h last get =
+    let same : to ≡ last = same_entry entries (i + 1) (i + 1) to last refl a get in
+    subst (λ (e : Entry). EndBefore rows e.address) same h
+
+pub get_entry : (entries : List Entry) (i : ℕ) (entry : Entry) → entry ≡ get_or entries i entry → i < length entries → slice_get entries i ≡ Some entry
+get_entry entries i entry is lt = slice_get-get_or entries i entry lt ∙ ap (λ (x : Entry). Some x) (sym is)
+
+no_row : StepRow
+no_row = record { at = 0; instr = Fence; next = 0; call = false }
+
+abbrev pub no_entry : Entry
+no_entry = record { line = 0; address = 0 }
+
+-- what is told of the rows
+pub records_is : (code : List ElfSegment) (entries : List Entry) (rows : List StepRow) (trace : List ℕ) → GoAlong code entries rows → Tells trace rows → Records code entries trace
+records_is code entries rows trace g t = record {
+  rows = rows;
+  along = g;
+  rest = t.rest;
+  layout = t.layout;
+  path = λ last get. t.path code last.address carry (g.ends last get);
+}
+  where
+    carry : CarryCode code rows
+    carry = All-from_get_or (CarriesCode code) rows no_row (λ i lt.
+        let count = g.count in
+        let row : slice_get rows i ≡ Some (get_or rows i no_row) = slice_get-get_or rows i no_row lt in
+        let from : slice_get entries i ≡ Some (get_or entries i no_entry) = slice_get-get_or entries i no_entry (omega arith) in
+        let to : slice_get entries (i + 1) ≡ Some (get_or entries (i + 1) no_entry) = slice_get-get_or entries (i + 1) no_entry (omega arith) in
+        let s = g.along i (get_or rows i no_row) (get_or entries i no_entry) (get_or entries (i + 1) no_entry) row from to in
+        s.instr)
+
+pub within_entries : (code : List ElfSegment) (entries : List Entry) (rows : List StepRow) (i : ℕ) → GoAlong code entries rows → IsFirstJumpEnd rows i → i < length entries
+within_entries code entries rows i g f =
+    let w = slice_get_within rows i f.there.call f.there.follows in
+    let count = g.count in
+    omega arith
+
+pub ends_jump : (code : List ElfSegment) (entries : List Entry) (rows : List StepRow) (i line : ℕ) → GoAlong code entries rows → IsFirstJumpEnd rows i → ((entry : Entry) → slice_get entries i ≡ Some entry → entry.line ≡ line) → EndsJump code entries line
+ends_jump code entries rows i line g f is =
+    let w = within_entries code entries rows i g f in
+    let get = slice_get-get_or entries i no_entry w in
+    record { rows = rows; along = g; i = i; first = f; entry = get_or entries i no_entry; there = get; line = is (get_or entries i no_entry) get }

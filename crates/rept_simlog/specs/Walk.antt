@@ -1,0 +1,73 @@
+-- The steps that entries of a log tell over a program.
+use Rattle.std.specs.Prelude.{◌≡◌, ℕ, ◌+◌, ◌%◌, ◌<◌, List, [], ◌∷◌, ◌++◌, length, slice_get, Some, Ok, Err}
+use Rattle.rept_isa.specs.declared.instr.Instr.{Instr}
+use Rattle.rept_isa.specs.declared.row.StepRow.{StepRow}
+use Rattle.rept_steps.specs.Linked.{EndBefore}
+use Rattle.rept_elf.specs.Segments.{ElfSegment}
+use Rattle.rept_trace.specs.Stream.{header}
+use Rattle.rept_path.specs.declared.fault.PathFault.{PathFault}
+use Rattle.rept_path.specs.Code.{look, flow_of}
+use Rattle.rept_path.specs.Traced.{IsTraced}
+use Rattle.rept_encode.specs.Walkable.{MayLead, IsFirstJumpEnd}
+use Rattle.rept_simlog.specs.declared.log.Entry.{Entry}
+
+-- The row is the step from one entry to another, by the instruction that stands there.
+pub record IsStepBetween (code : List ElfSegment) (from to : Entry) (row : StepRow) : Type 0 where
+  pub at : row.at ≡ from.address
+  pub next : row.next ≡ to.address
+  pub instr : look code row.at ≡ Ok row.instr
+
+-- One row was added, the step between two entries.
+pub record AddsRow (code : List ElfSegment) (old new : List StepRow) (from to : Entry) : Type 0 where
+  pub row : StepRow
+  pub rows : new ≡ old ++ row ∷ []
+  pub step : IsStepBetween code from to row
+
+-- Each row is the step from its entry to the next one.
+abbrev pub Along : List ElfSegment → List Entry → List StepRow → Type 0
+Along code entries rows = (i : ℕ) (row : StepRow) (from to : Entry) → slice_get rows i ≡ Some row → slice_get entries i ≡ Some from → slice_get entries (i + 1) ≡ Some to → IsStepBetween code from to row
+
+-- The rows are the steps of all entries: they go along their addresses, and end at the last one.
+pub record GoAlong (code : List ElfSegment) (entries : List Entry) (rows : List StepRow) : Type 0 where
+  pub count : length rows + 1 ≡ length entries
+  pub along : Along code entries rows
+  pub ends : (last : Entry) → slice_get entries (length rows) ≡ Some last → EndBefore rows last.address
+
+-- The entry of this line number has no instruction at its address, by this fault; the last entry needs none.
+pub record LacksInstruction (code : List ElfSegment) (entries : List Entry) (number : ℕ) (fault : PathFault) : Type 0 where
+  pub i : ℕ
+  pub entry : Entry
+  pub there : slice_get entries i ≡ Some entry
+  pub early : i + 1 < length entries
+  pub line : entry.line ≡ number
+  pub looked : look code entry.address ≡ Err fault
+
+-- The code can't come to the entry of this line number from the one before it.
+pub record LacksStep (code : List ElfSegment) (entries : List Entry) (number : ℕ) : Type 0 where
+  pub i : ℕ
+  pub from : Entry
+  pub to : Entry
+  pub instr : Instr
+  pub there : slice_get entries i ≡ Some from
+  pub next : slice_get entries (i + 1) ≡ Some to
+  pub line : to.line ≡ number
+  pub looked : look code from.address ≡ Ok instr
+  pub none : MayLead (flow_of instr) from.address to.address → from.address % 4 ≡ 0 → ⊥
+
+-- The entry of this line number is the first call that directly follows an uninferable jump.
+pub record EndsJump (code : List ElfSegment) (entries : List Entry) (number : ℕ) : Type 0 where
+  pub rows : List StepRow
+  pub along : GoAlong code entries rows
+  pub i : ℕ
+  pub first : IsFirstJumpEnd rows i
+  pub entry : Entry
+  pub there : slice_get entries i ≡ Some entry
+  pub line : entry.line ≡ number
+
+-- In a program the trace tells the steps of the entries, from its first packet on to the last address, and none is skipped.
+pub record Records (code : List ElfSegment) (entries : List Entry) (trace : List ℕ) : Type 0 where
+  pub rows : List StepRow
+  pub along : GoAlong code entries rows
+  pub rest : List ℕ
+  pub layout : trace ≡ header ++ rest
+  pub path : (last : Entry) → slice_get entries (length rows) ≡ Some last → IsTraced code rest 0 last.address 0 rows

@@ -1,0 +1,68 @@
+ghost use Rattle.std.specs.Prelude.{◌≡◌, ◌<◌, ◌^◌, length, slice_get, Some, IfOk, IfErr};
+ghost use Rattle.rept_elf.specs.Image.{segments_of};
+ghost use Rattle.rept_simlog.specs.declared.log.Entry.{Entry};
+ghost use Rattle.rept_simlog.specs.Log.{last_entries};
+ghost use Rattle.rept_simlog.specs.Recorded.{IsWalkFault, IsRecorded, IsRefused};
+ghost use Rattle.rept_simlog.specs.Walk.{Records};
+
+use crate::log::{Entry, entries_of};
+use crate::refusal::Refusal;
+use crate::walk::steps_of;
+use rept_elf::{Image, Want};
+use rept_encode::{EncodeFault, encode};
+use rept_word::Text;
+use std::alloc::Global;
+
+/// The most entries that are recorded: one more than the steps of the longest path.
+const MOST: usize = 65537;
+
+/// The last entries, as many as are recorded.
+fn last_entries(entries: &[Entry]) -> &[Entry]
+    ensures { result.now ≡ last_entries entries.now }
+{
+    if entries.len() > MOST {
+        return &entries[entries.len() - MOST..];
+    }
+    entries
+}
+
+/// The trace of the steps of entries.
+fn record_entries(alloc: Global, image: &Image<'_>, entries: &[Entry]) -> Result<Text, Refusal>
+    ensures ok { IfOk result (λ trace. Records (segments_of image.now) entries.now trace) }
+    ensures err { IfErr result (λ refusal. IsWalkFault (segments_of image.now) entries.now refusal) }
+{
+    if entries.len() < 2 {
+        return Err(Refusal::NoSteps);
+    }
+    let steps = steps_of(alloc, image, entries)?;
+    match encode(alloc, &steps) {
+        Ok(trace) => Ok(trace),
+        Err(fault) => match fault {
+            EncodeFault::JumpEnds(i) => Err(Refusal::JumpEnds(line_of(entries, i))),
+            EncodeFault::OutOfMemory => Err(Refusal::OutOfMemory),
+        },
+    }
+}
+
+/// The line of an entry.
+fn line_of(entries: &[Entry], i: u32) -> u32
+    requires { i < length entries.now }
+    ensures { (entry : Entry) → slice_get entries.now i ≡ Some entry → entry.line ≡ result }
+{
+    entries[i as usize].line
+}
+
+/// The trace of the last 65,536 steps of a log over an executable. The log gives one executed address a line, of which the last is where
+/// the program stopped. What is written is read back as exactly these steps, with none skipped.
+pub fn record(alloc: Global, exe: &[u8], log: &[u8]) -> Result<Text, Refusal>
+    requires { length log.now < 2 ^ 32 }
+    ensures ok { IfOk result (λ trace. IsRecorded exe.now log.now trace) }
+    ensures err { IfErr result (λ refusal. IsRefused exe.now log.now refusal) }
+{
+    let image = match Image::read(exe, Want::Exec) {
+        Ok(image) => image,
+        Err(fault) => return Err(Refusal::Executable(fault)),
+    };
+    let entries = entries_of(alloc, log)?;
+    record_entries(alloc, &image, last_entries(entries.as_slice()))
+}
