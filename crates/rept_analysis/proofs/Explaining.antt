@@ -1,19 +1,18 @@
 -- Each fact that an analysis answers at the end has a reason, and bytes are found in the fronts of its log.
-use Rattle.std.proofs.Common.{◌≡◌, ℕ, ◌+◌, ◌<◌, ◌≤◌, ◌^◌, Bool, List, length, Option, Some, None, refl, sym, ap, subst, ◌∙◌}
+use Rattle.std.proofs.Common.{◌≡◌, ℕ, ◌<◌, ◌≤◌, ◌^◌, Bool, List, length, Some, sym, ap, subst, ◌∙◌}
 use Rattle.rept_reason.specs.declared.fact.Fact.{Fact}
-use Rattle.rept_reason.specs.declared.fact.Cell.{Cell}
-use Rattle.rept_reason.specs.declared.fact.Cell.TheVariants.{Register, Byte}
-use Rattle.rept_reason.specs.Facts.{Knowledge, told}
-use Rattle.rept_report.specs.Setting.{Setting, HasLaws}
+use Rattle.rept_reason.specs.declared.fact.Cell.TheVariants.{Byte}
+use Rattle.rept_reason.specs.Facts.{Knowledge}
+use Rattle.rept_report.specs.Setting.{HasLaws}
 use Rattle.rept_report.specs.Conflicts.{IsQuiet}
-use Rattle.rept_report.specs.Log.{oldest, facts_of, logged_of}
-use Rattle.rept_report.specs.Reasons.{StandsIn, byte_at, standing}
+use Rattle.rept_report.specs.Log.{oldest}
+use Rattle.rept_report.specs.Reasons.{StandsIn, byte_at}
 use Rattle.rept_report.specs.Implied.{with_implied, IsClosed, HasEnded, known_at_end}
 use Rattle.rept_report.specs.Why.{Because, fact_of, IsReason}
 use Rattle.rept_report.proofs.Why.{found_stands}
 use Rattle.rept_report.proofs.Explained.{reason_exists}
 use Rattle.rept_report.proofs.Standing.{stands_up, stands_at}
-use Rattle.rept_analysis.specs.State.{State, all_known}
+use Rattle.rept_analysis.specs.State.{State}
 use Rattle.rept_analysis.specs.Kept.{is_among, answers, IsFinished, IsKept}
 use Rattle.rept_analysis.proofs.Learning.{behind}
 use Rattle.rept_analysis.proofs.Reported.{settled_closed}

@@ -1,22 +1,21 @@
 -- Fronts of the log of an analysis that has ended, and the reasons that are found in them.
-use Rattle.std.proofs.Common.{◌≡◌, ◌≢◌, ℕ, suc, ◌+◌, ◌-◌, ◌<◌, ◌≤◌, ◌^◌, Bool, true, false, eqb, cond, List, [], ◌∷◌, length, Option, Some, None, Result, Ok, Err, IsOk, IfErr, OnOk, IfSome, IfNone, IsTrue, inl, inr, refl, sym, ap, subst, ◌∙◌, arith}
+use Rattle.std.proofs.Common.{◌≡◌, ℕ, ◌+◌, ◌<◌, ◌≤◌, ◌^◌, false, eqb, List, [], ◌∷◌, length, Option, Some, None, Result, Ok, Err, IsOk, IfErr, OnOk, IfSome, IfNone, IsTrue, inl, inr, refl, sym, ap, subst, ◌∙◌, arith}
 use Rattle.std.specs.Prelude.{⊤}
 use Rattle.std.proofs.lemmas.Bool.{cases_eq, cases_order, cases_Bool, cond-true, cond-false, eq-eqb, ne_eqb, eqb-true, false≢true}
 use Rattle.rept_reason.specs.declared.fact.Fact.{Fact}
 use Rattle.rept_reason.specs.declared.fact.Cell.{Cell}
 use Rattle.rept_reason.specs.declared.fact.Cell.TheVariants.{Register, Byte}
-use Rattle.rept_reason.specs.Facts.{Knowledge, IsCell, In, told, speaks}
+use Rattle.rept_reason.specs.Facts.{Knowledge, IsCell, told, speaks}
 use Rattle.rept_span.specs.declared.spans.EmptyAt.{EmptyAt}
 use Rattle.rept_span.specs.Ranges.{IsEmptyFirst}
 use Rattle.rept_span.specs.Filled.{View}
 use Rattle.rept_report.specs.Setting.{Setting, HasLaws, way_of}
-use Rattle.rept_report.specs.Conclusions.{HasWords}
 use Rattle.rept_report.specs.Conflicts.{IsQuiet}
-use Rattle.rept_report.specs.Log.{oldest, entry, place_of, OnceEach, facts_of, logged_of}
-use Rattle.rept_report.specs.Reasons.{StandsIn, byte_at, standing}
+use Rattle.rept_report.specs.Log.{oldest, entry, place_of, OnceEach}
+use Rattle.rept_report.specs.Reasons.{StandsIn, standing}
 use Rattle.rept_report.specs.Why.{Because, fact_of, IsDrawnBecause, IsKnownBecause, IsCarriedBecause, IsLeastFront, IsReason}
 use Rattle.rept_report.specs.Why.IsReason.{of_register, of_drawn_byte, of_carried_byte}
-use Rattle.rept_report.proofs.Told.{none_some, same_some, speaks_is, told_new, told_old, in_told}
+use Rattle.rept_report.proofs.Told.{none_some, same_some, speaks_is, told_old, in_told}
 use Rattle.rept_report.proofs.Places.{oldest_all, oldest_less, place_none}
 use Rattle.rept_report.proofs.Standing.{oldest_in, front_quiet}
 use Rattle.rept_report.proofs.Explained.{entry_in}
@@ -24,7 +23,7 @@ use Rattle.rept_report.proofs.Implied.{known_stands}
 use Rattle.rept_isa.specs.declared.row.StepRow.{StepRow}
 use Rattle.rept_elf.specs.Segments.{ElfSegment}
 use Rattle.rept_log.specs.Fronts.{Basis, IsFront}
-use Rattle.rept_analysis.specs.State.{State, all_known, with_draws}
+use Rattle.rept_analysis.specs.State.{State, with_draws}
 use Rattle.rept_analysis.specs.Drawing.{IsRowDrawn, IsSettled}
 use Rattle.rept_analysis.specs.Kept.{is_among, answers, IsFinished, IsKept}
 use Rattle.rept_analysis.specs.Reasoned.{AreSetsOf, IsNotLast}

@@ -1,5 +1,5 @@
 -- Reasons that rest on what stands in a front of a log.
-use Rattle.std.proofs.Common.{◌≡◌, ◌≢◌, ℕ, ◌+◌, ◌-◌, ◌<◌, ◌≤◌, Bool, true, false, eqb, inl, inr, List, [], ◌∷◌, length, Option, Some, None, is_some, IfSome, IfNone, refl, sym, ap, subst, ◌∙◌, arith, slice_get, Contains}
+use Rattle.std.proofs.Common.{◌≡◌, ℕ, ◌+◌, ◌-◌, ◌<◌, false, eqb, inl, inr, List, [], ◌∷◌, length, Option, Some, None, is_some, IfSome, IfNone, refl, sym, ap, subst, ◌∙◌, arith, slice_get, Contains}
 use Rattle.std.proofs.lemmas.Option.{slice_get_within}
 use Rattle.std.proofs.lemmas.Bool.{cond-true, eq-eqb}
 use Rattle.rept_isa.specs.declared.row.StepRow.{StepRow}
@@ -42,23 +42,23 @@ module _ {W : Type 0} (f : FrontView W) (x : Fact) (r : ℕ) (cell : x.cell ≡ 
   pub only_because : (set : W) → range (way_of f.setting) (told f.facts) x.point r ≡ Some set → f.setting.sets.as_exact set ≡ Some x.value → (why : Because) (l : Looked) → l ≡ looked f.setting (told f.facts) x.point r → why ≡ because 17 [] (l ∷ []) → IsKnownBecause f.setting (stands f) x why
   only_because set at exact why l listed is = only_value r set cell (range_same f.setting (stands f) (told f.facts) (λ p s. refl) x.point r ∙ at) exact (is ∙ ap (λ (y : Looked). because 17 [] (y ∷ [])) (listed ∙ same_looked))
 
-  pub onward_found : (i : ℕ) → x.point ≡ i + 1 → (premise : Fact) → premise ≡ fact_of i x.cell x.value → (found : Option Reason) → IfSome found (λ reason. IsKept f i premise.point r premise.value × (told_by reason ≡ because 3 (premise ∷ []) [])) → IfSome found (λ reason. IsKnownBecause f.setting (stands f) x (told_by reason))
+  pub onward_found : (i : ℕ) → x.point ≡ i + 1 → (premise : Fact) → premise ≡ fact_of i x.cell x.value → (found : Option Reason) → IfSome found (λ reason. IsKept f i r premise × (told_by reason ≡ because 3 (premise ∷ []) [])) → IfSome found (λ reason. IsKnownBecause f.setting (stands f) x (told_by reason))
   onward_found i at premise same None h = tt
   onward_found i at premise same (Some reason) h =
-      let k : IsKept f i i r x.value = rw same at h.0 in
+      let k : IsKept f i r (fact_of i x.cell x.value) = rw same at h.0 in
       kept_onward i r k.row k.is_row at cell k.unwritten k.known (h.1 ∙ ap (λ (y : Fact). because 3 (y ∷ []) []) (same ∙ ap (λ (c : Cell). fact_of i c x.value) cell))
 
-  pub back_found : (premise : Fact) → premise ≡ fact_of (x.point + 1) x.cell x.value → (found : Option Reason) → IfSome found (λ reason. IsKept f x.point premise.point r premise.value × (told_by reason ≡ because 4 (premise ∷ []) [])) → IfSome found (λ reason. IsKnownBecause f.setting (stands f) x (told_by reason))
+  pub back_found : (premise : Fact) → premise ≡ fact_of (x.point + 1) x.cell x.value → (found : Option Reason) → IfSome found (λ reason. IsKept f x.point r premise × (told_by reason ≡ because 4 (premise ∷ []) [])) → IfSome found (λ reason. IsKnownBecause f.setting (stands f) x (told_by reason))
   back_found premise same None h = tt
   back_found premise same (Some reason) h =
-      let k : IsKept f x.point (x.point + 1) r x.value = rw same at h.0 in
+      let k : IsKept f x.point r (fact_of (x.point + 1) x.cell x.value) = rw same at h.0 in
       kept_back x.point r k.row k.is_row refl cell k.unwritten k.known (h.1 ∙ ap (λ (y : Fact). because 4 (y ∷ []) []) (same ∙ ap (λ (c : Cell). fact_of (x.point + 1) c x.value) cell))
 
-  pub not_onward : (i : ℕ) → x.point ≡ i + 1 → (premise : Fact) → premise ≡ fact_of i x.cell x.value → (found : Option Reason) → IfNone found (IsKept f i premise.point r premise.value → ⊥) → IfNone found (IsNotOnward f x r)
-  not_onward i at premise same None h = λ j at' k. let is : j ≡ i = omega arith in let k' : IsKept f i i r x.value = rw is at k in h (rw same k')
+  pub not_onward : (i : ℕ) → x.point ≡ i + 1 → (premise : Fact) → premise ≡ fact_of i x.cell x.value → (found : Option Reason) → IfNone found (IsKept f i r premise → ⊥) → IfNone found (IsNotOnward f x r)
+  not_onward i at premise same None h = λ j at' k. let is : j ≡ i = omega arith in let k' : IsKept f i r (fact_of i x.cell x.value) = rw is at k in h (rw same k')
   not_onward i at premise same (Some reason) h = tt
 
-  pub not_back : (premise : Fact) → premise ≡ fact_of (x.point + 1) x.cell x.value → (found : Option Reason) → IfNone found (IsKept f x.point premise.point r premise.value → ⊥) → IfNone found (IsNotBack f x r)
+  pub not_back : (premise : Fact) → premise ≡ fact_of (x.point + 1) x.cell x.value → (found : Option Reason) → IfNone found (IsKept f x.point r premise → ⊥) → IfNone found (IsNotBack f x r)
   not_back premise same None h = λ k. h (rw same k)
   not_back premise same (Some reason) h = tt
 

@@ -1,18 +1,14 @@
 -- Where a byte that stands in a front of a log comes from.
-use Rattle.std.proofs.Common.{◌≡◌, ℕ, zero, suc, ◌+◌, ◌-◌, ◌<◌, ◌≤◌, ◌⊎◌, false, cond, eqb, List, length, Option, Some, None, inl, inr, refl, sym, ap, ◌∙◌, arith}
+use Rattle.std.proofs.Common.{◌≡◌, ℕ, ◌-◌, ◌<◌, ◌≤◌, eqb, length, Option, Some, None, inl, inr, refl, sym, ap, ◌∙◌, arith}
 use Rattle.std.proofs.lemmas.Bool.{cases_eq, cases_lt, cond-true, cond-false, eq-eqb, ne_eqb}
-use Rattle.rept_reason.specs.declared.fact.Fact.{Fact}
 use Rattle.rept_reason.specs.declared.fact.Cell.TheVariants.{Byte}
 use Rattle.rept_reason.specs.Facts.{told}
-use Rattle.rept_report.specs.Setting.{Setting}
-use Rattle.rept_report.specs.Views.{may_write}
-use Rattle.rept_report.specs.Reasons.{or_else, source, from_later, from_earlier, byte_at}
+use Rattle.rept_report.specs.Reasons.{or_else, source, from_later, from_earlier}
 use Rattle.rept_report.specs.Why.{IsOrigin, IsNearest}
-use Rattle.rept_report.proofs.Told.{none_some, same_some}
-use Rattle.rept_report.proofs.Origins.{IsLater as LaterAt, IsEarlier as EarlierAt, later_first, later_none, earlier_last, earlier_none}
+use Rattle.rept_report.proofs.Told.{none_some}
+use Rattle.rept_report.proofs.Origins.{IsEarlier as EarlierAt, later_first, later_none, earlier_last, earlier_none}
 use Rattle.rept_log.specs.declared.byte_at.ByteAt.{ByteAt}
-use Rattle.rept_log.specs.Looking.{IsFactFrom, IsFactBefore}
-use Rattle.rept_log.specs.Fronts.{FrontView, stands, IsSourceFrom, IsSpared, IsOriginWith, IsLater, IsEarlier}
+use Rattle.rept_log.specs.Fronts.{FrontView, stands, IsFactFrom, IsFactBefore, IsSourceFrom, IsSpared, IsLater, IsEarlier}
 
 module _ {W : Type 0} (f : FrontView W) (a : ℕ) where
   source_fact : (q v : ℕ) → told f.facts q (Byte a) ≡ Some v → source f.setting f.facts a q ≡ Some v
@@ -25,13 +21,13 @@ module _ {W : Type 0} (f : FrontView W) (a : ℕ) where
   source_end q e h = rw e (cond-true (eqb q (length f.setting.rows)) (f.setting.dump a) None (eq-eqb q (length f.setting.rows) h))
 
   module _ (p : ℕ) (early : p ≤ length f.setting.rows) where
-    pub source_of_fact : (o : ByteAt) → IsFactFrom f.facts a p (length f.setting.rows) (Some o) → IsSourceFrom f a p (Some o)
+    pub source_of_fact : (o : ByteAt) → IsFactFrom f a p (Some o) → IsSourceFrom f a p (Some o)
     source_of_fact o (low, high, here, none) = (low, high, source_fact o.point o.byte here, λ r l u. source_free r (none r l u) (omega arith))
 
-    pub source_of_dump : (o : ByteAt) → IsFactFrom f.facts a p (length f.setting.rows) None → o.point ≡ length f.setting.rows → f.setting.dump a ≡ Some o.byte → IsSourceFrom f a p (Some o)
+    pub source_of_dump : (o : ByteAt) → IsFactFrom f a p None → o.point ≡ length f.setting.rows → f.setting.dump a ≡ Some o.byte → IsSourceFrom f a p (Some o)
     source_of_dump o none at e = (omega arith, omega arith, source_end o.point (none o.point (omega arith) (omega arith)) at ∙ e, λ r l u. source_free r (none r l (omega arith)) (omega arith))
 
-    pub source_nowhere : IsFactFrom f.facts a p (length f.setting.rows) None → f.setting.dump a ≡ None → IsSourceFrom f a p None
+    pub source_nowhere : IsFactFrom f a p None → f.setting.dump a ≡ None → IsSourceFrom f a p None
     source_nowhere none e r low high =
         elim (cases_eq r (length f.setting.rows)) [
           | inl at ↦ source_end r (none r low high) at ∙ e
@@ -61,7 +57,7 @@ module _ {W : Type 0} (f : FrontView W) (a : ℕ) where
     pub later_nowhere : IsSourceFrom f a p None → IsLater f a p None
     later_nowhere none r l or = none_some (sym (none r l or.early) ∙ or.has)
 
-    pub earlier_found : (o : ByteAt) → IsFactBefore f.facts a p (Some o) → IsSpared f a o.point p → IsEarlier f a p (Some o)
+    pub earlier_found : (o : ByteAt) → IsFactBefore f a p (Some o) → IsSpared f a o.point p → IsEarlier f a p (Some o)
     earlier_found o (low, here, none) spared = (
       record {
         origin = record { byte = o.byte; early = omega arith; has = source_fact o.point o.byte here; spared = λ i x. elim x [ inl (l, u) ↦ absurd (omega arith) | inr (l, u) ↦ spared i l u ] };
@@ -74,14 +70,14 @@ module _ {W : Type 0} (f : FrontView W) (a : ℕ) where
       ],
     )
 
-    pub earlier_blocked : (o : ByteAt) → IsFactBefore f.facts a p (Some o) → (IsSpared f a o.point p → ⊥) → IsEarlier f a p None
+    pub earlier_blocked : (o : ByteAt) → IsFactBefore f a p (Some o) → (IsSpared f a o.point p → ⊥) → IsEarlier f a p None
     earlier_blocked o (low, here, none) blocked r l or =
         elim (cases_lt o.point r) [
           | inl after ↦ none_some (sym (source_free r (none r after l) (omega arith)) ∙ or.has)
           | inr there ↦ blocked (λ i from to. or.spared i (inr (omega arith, to)))
         ]
 
-    pub earlier_nowhere : IsFactBefore f.facts a p None → IsEarlier f a p None
+    pub earlier_nowhere : IsFactBefore f a p None → IsEarlier f a p None
     earlier_nowhere none r l or = none_some (sym (source_free r (none r l) (omega arith)) ∙ or.has)
 
     -- what is found after the point

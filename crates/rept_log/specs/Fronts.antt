@@ -1,5 +1,5 @@
 -- What stands in a front of a log, the nearest points with a byte of it, and reasons that rest on it. This project's own.
-use Rattle.std.specs.Prelude.{◌≡◌, ◌≢◌, ℕ, ◌+◌, ◌-◌, ◌<◌, ◌≤◌, ◌^◌, ◌⊎◌, false, List, [], ◌∷◌, map, length, Option, Some, None, slice_get}
+use Rattle.std.specs.Prelude.{◌≡◌, ◌≢◌, ℕ, ◌+◌, ◌<◌, ◌≤◌, false, List, [], ◌∷◌, map, length, Option, Some, None, slice_get}
 use Rattle.rept_isa.specs.declared.instr.Instr.TheVariants.{Ecall}
 use Rattle.rept_isa.specs.declared.row.StepRow.{StepRow}
 use Rattle.rept_isa.specs.Operands.{written_by}
@@ -23,7 +23,7 @@ use Rattle.rept_report.specs.Setting.{Setting, way_of}
 use Rattle.rept_report.specs.Views.{point_of, seen_at, registers_at, may_write}
 use Rattle.rept_report.specs.Conclusions.{HasWords}
 use Rattle.rept_report.specs.Reasons.{source, standing}
-use Rattle.rept_report.specs.Why.{Because, because, looked, tells_writes, IsOrigin, IsDrawnBecause}
+use Rattle.rept_report.specs.Why.{Because, because, fact_of, looked, tells_writes, IsOrigin, IsDrawnBecause}
 use Rattle.rept_report.proofs.ViewLaws.{seen_at_lawful, registers_at_lawful}
 use Rattle.rept_log.specs.declared.byte_at.ByteAt.{ByteAt}
 
@@ -78,6 +78,16 @@ abbrev pub IsSourceFrom : {W : Type 0} → FrontView W → ℕ → ℕ → Optio
 IsSourceFrom f a p None = (r : ℕ) → p ≤ r → r ≤ length f.setting.rows → source f.setting f.facts a r ≡ None
 IsSourceFrom f a p (Some o) = (p ≤ o.point) × (o.point ≤ length f.setting.rows) × (source f.setting f.facts a o.point ≡ Some o.byte) × ((r : ℕ) → p ≤ r → r < o.point → source f.setting f.facts a r ≡ None)
 
+-- the first point from p on, within the path, at which the facts have the byte
+abbrev pub IsFactFrom : {W : Type 0} → FrontView W → ℕ → ℕ → Option ByteAt → Type 0
+IsFactFrom f a p None = (q : ℕ) → p ≤ q → q ≤ length f.setting.rows → told f.facts q (Byte a) ≡ None
+IsFactFrom f a p (Some o) = (p ≤ o.point) × (o.point ≤ length f.setting.rows) × (told f.facts o.point (Byte a) ≡ Some o.byte) × ((q : ℕ) → p ≤ q → q < o.point → told f.facts q (Byte a) ≡ None)
+
+-- the last point before p at which they have it
+abbrev pub IsFactBefore : {W : Type 0} → FrontView W → ℕ → ℕ → Option ByteAt → Type 0
+IsFactBefore f a p None = (q : ℕ) → q < p → told f.facts q (Byte a) ≡ None
+IsFactBefore f a p (Some o) = (o.point < p) × (told f.facts o.point (Byte a) ≡ Some o.byte) × ((q : ℕ) → o.point < q → q < p → told f.facts q (Byte a) ≡ None)
+
 -- none of the rows from one point to another one may write the byte
 abbrev pub IsSpared : {W : Type 0} → FrontView W → ℕ → ℕ → ℕ → Type 0
 IsSpared f a p q = (i : ℕ) → p ≤ i → i < q → may_write f.setting (told f.facts) i a ≡ false
@@ -101,12 +111,12 @@ IsEarlier f a p (Some o) = IsOriginWith f a p o × (o.point < p) × ((r : ℕ) �
 abbrev pub told_by : Reason → Because
 told_by reason = because reason.rule reason.premises.items reason.ranges.items
 
--- row i doesn't write the register, and at point q, before or after the row, it has the value
-pub record IsKept {W : Type 0} (f : FrontView W) (i q r v : ℕ) : Type 0 where
+-- row i doesn't write the register, which has the fact's value at its point, before or after the row
+pub record IsKept {W : Type 0} (f : FrontView W) (i r : ℕ) (x : Fact) : Type 0 where
   pub row : StepRow
   pub is_row : slice_get f.setting.rows i ≡ Some row
   pub unwritten : written_by row.instr ≢ Some r
-  pub known : told f.facts q (Register r) ≡ Some v
+  pub known : told f.facts x.point (Register r) ≡ Some x.value
 
 -- the conclusion of row i says what the fact says
 abbrev pub Gives : ℕ → Drawn → Fact → Type 0
@@ -114,11 +124,11 @@ Gives i d f = (f.point ≡ point_of i d.when) × (f.cell ≡ d.cell) × (f.value
 
 -- The fact has no reason by a register's value before a row that doesn't write it.
 abbrev pub IsNotOnward : {W : Type 0} → FrontView W → Fact → ℕ → Type 0
-IsNotOnward f x r = (i : ℕ) → x.point ≡ i + 1 → IsKept f i i r x.value → ⊥
+IsNotOnward f x r = (i : ℕ) → x.point ≡ i + 1 → IsKept f i r (fact_of i x.cell x.value) → ⊥
 
 -- nor by its value after such a row
 abbrev pub IsNotBack : {W : Type 0} → FrontView W → Fact → ℕ → Type 0
-IsNotBack f x r = IsKept f x.point (x.point + 1) r x.value → ⊥
+IsNotBack f x r = IsKept f x.point r (fact_of (x.point + 1) x.cell x.value) → ⊥
 
 -- nor by its last value
 abbrev pub IsNotLast : {W : Type 0} → FrontView W → Fact → ℕ → Type 0

@@ -7,8 +7,7 @@ ghost use Rattle.rept_span.specs.Ranges.{range};
 ghost use Rattle.rept_report.specs.Setting.{way_of};
 ghost use Rattle.rept_report.specs.Log.{oldest};
 ghost use Rattle.rept_report.specs.Views.{known_or, register_range, may_write};
-ghost use Rattle.rept_log.specs.Fronts.{front_of, IsFront};
-ghost use Rattle.rept_log.specs.Looking.{IsFactFrom, IsFactBefore};
+ghost use Rattle.rept_log.specs.Fronts.{front_of, IsFront, IsFactFrom, IsFactBefore};
 
 mod carried;
 mod reasons;
@@ -163,7 +162,7 @@ impl<'k, 'd, B: ByteFacts, W: Transfer, R: RowRules> Front<'k, 'd, B, W, R> {
 
     /// The first point from this one on at which the facts have a byte, and the byte.
     fn fact_from(&self, point: u32, a: u32) -> Option<ByteAt>
-        ensures { IsFactFrom self.now.facts a point (length self.now.rows) result }
+        ensures { IsFactFrom (front_of W.sets W.moves R.rules self.now) a point result }
     {
         let last = self.count();
         let fact = self.facts.first_from(self.limit, point, a)?;
@@ -177,7 +176,7 @@ impl<'k, 'd, B: ByteFacts, W: Transfer, R: RowRules> Front<'k, 'd, B, W, R> {
 
     /// The last point before this one at which the facts have a byte, and the byte.
     fn fact_before(&self, point: u32, a: u32) -> Option<ByteAt>
-        ensures { IsFactBefore self.now.facts a point result }
+        ensures { IsFactBefore (front_of W.sets W.moves R.rules self.now) a point result }
     {
         if point == 0 {
             return None;

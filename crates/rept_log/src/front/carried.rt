@@ -177,7 +177,7 @@ impl<'k, 'd, B: ByteFacts, W: Transfer, R: RowRules> Front<'k, 'd, B, W, R> {
     }
 
     /// The reason by which a byte is carried to its point: it is the dump's, or it is the same at the next point on the way to the
-    /// nearest one from which it is carried.
+    /// nearest one from which it is carried. `OutOfMemory` says that the room for the reason can't be had.
     pub fn carried(&self, alloc: Global, fact: &Fact, a: u32) -> Result<Option<Reason>, OutOfMemory>
         requires point { fact.now.point ≤ length self.now.rows }
         requires cell { fact.now.cell ≡ Byte a }

@@ -74,15 +74,15 @@ fn resting(alloc: Global, rule: u8, premise: Fact) -> Result<Reason, OutOfMemory
 }
 
 impl<'k, 'd, B: ByteFacts, W: Transfer, R: RowRules> Front<'k, 'd, B, W, R> {
-    /// Whether row i leaves a register as it is, and the register has the value at a point before or after the row.
-    fn is_kept(&self, i: u32, point: u32, r: Reg, value: u32) -> bool
+    /// Whether row i leaves a register as it is, and the register has the fact's value at its point, before or after the row.
+    fn is_kept(&self, i: u32, r: Reg, fact: &Fact) -> bool
         requires row { i < length self.now.rows }
-        requires point { point ≤ length self.now.rows }
+        requires point { fact.now.point ≤ length self.now.rows }
         requires named { 0 < r }
-        ensures { IsTrue result ↔ IsKept (front_of W.sets W.moves R.rules self.now) i point r value }
+        ensures { IsTrue result ↔ IsKept (front_of W.sets W.moves R.rules self.now) i r fact.now }
     {
         let row = self.row(i);
-        writes(&row.instr) != Some(r) && self.known(point, r) == Flat::Known(value)
+        writes(&row.instr) != Some(r) && self.known(fact.point, r) == Flat::Known(fact.value)
     }
 
     /// The reason by a register's value on the other side of row i, which doesn't write it.
@@ -97,10 +97,10 @@ impl<'k, 'd, B: ByteFacts, W: Transfer, R: RowRules> Front<'k, 'd, B, W, R> {
         requires row { i < length self.now.rows }
         requires point { premise.now.point ≤ length self.now.rows }
         requires named { 0 < r }
-        ensures found { IfOk result (λ found. IfSome found (λ reason. IsKept (front_of W.sets W.moves R.rules self.now) i premise.now.point r premise.now.value × (told_by reason ≡ because rule (premise.now ∷ []) []))) }
-        ensures none { IfOk result (λ found. IfNone found (IsKept (front_of W.sets W.moves R.rules self.now) i premise.now.point r premise.now.value → ⊥)) }
+        ensures found { IfOk result (λ found. IfSome found (λ reason. IsKept (front_of W.sets W.moves R.rules self.now) i r premise.now × (told_by reason ≡ because rule (premise.now ∷ []) []))) }
+        ensures none { IfOk result (λ found. IfNone found (IsKept (front_of W.sets W.moves R.rules self.now) i r premise.now → ⊥)) }
     {
-        if !self.is_kept(i, premise.point, r, premise.value) {
+        if !self.is_kept(i, r, premise) {
             return Ok(None);
         }
         let reason = resting(alloc, rule, *premise)?;
@@ -285,7 +285,8 @@ impl<'k, 'd, B: ByteFacts, W: Transfer, R: RowRules> Front<'k, 'd, B, W, R> {
         self.drawn_by(rules, alloc, fact.point, fact)
     }
 
-    /// The reason by what a row beside the fact's point lets one draw, the one before it first.
+    /// The reason by what a row beside the fact's point lets one draw, the one before it first. `OutOfMemory` says that its room
+    /// can't be had.
     pub fn drawn(
         &self,
         rules: &mut R,
@@ -303,7 +304,8 @@ impl<'k, 'd, B: ByteFacts, W: Transfer, R: RowRules> Front<'k, 'd, B, W, R> {
         self.drawn_after(rules, alloc, fact)
     }
 
-    /// The reason by which what stands in the front makes a register's value known.
+    /// The reason by which what stands in the front makes a register's value known. `OutOfMemory` says that its room
+    /// can't be had.
     pub fn of_register(
         &self,
         rules: &mut R,

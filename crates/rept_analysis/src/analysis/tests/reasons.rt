@@ -158,7 +158,7 @@ fn check<B: ByteFacts>(
     for wanted in told {
         assert!(rt; analysis.refine().is_ok());
         let fact = fact_of(rt, wanted.fact);
-        assert!(rt; fact.point as usize <= rows.len());
+        assert!(rt; fact.point as usize <= analysis.rows().len());
         match analysis.why(alloc, fact)? {
             None => assert_eq!(rt; wanted.rule, 0),
             Some(reason) => check_reason(rt, &reason, wanted),

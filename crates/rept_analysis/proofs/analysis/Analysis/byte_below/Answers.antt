@@ -1,8 +1,8 @@
-use Rattle.std.proofs.Common.{◌≡◌, ◌∙◌, ℕ, Option, IfOk, IfNone, sym, subst}
+use Rattle.std.proofs.Common.{sym, subst}
 use Rattle.rept_report.specs.Log.{oldest}
-use Rattle.rept_analysis.specs.State.{Whole, setting_of, state_of}
-use Rattle.rept_analysis.specs.Reasoned.{basis_at, AreSetsOf}
-use Rattle.rept_analysis.proofs.Fronts.{front_is, basis_is}
+use Rattle.rept_analysis.specs.State.{Whole, setting_of}
+use Rattle.rept_analysis.specs.Reasoned.{AreSetsOf}
+use Rattle.rept_analysis.proofs.Fronts.{front_is}
 use Rattle.rept_analysis.proofs.analysis.Analysis.byte_below.Goals as goal
 
 pub new-front-requires-clause-front : goal.new-front-requires-clause-front

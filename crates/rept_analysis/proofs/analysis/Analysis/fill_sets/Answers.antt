@@ -1,4 +1,4 @@
-use Rattle.std.proofs.Common.{◌≡◌, ◌∙◌, ℕ, IsOk, IfErr, subst}
+use Rattle.std.proofs.Common.{◌∙◌, IfErr, subst}
 use Rattle.rept_reason.specs.Facts.{told}
 use Rattle.rept_span.specs.Ranges.{IsEmptyFirst}
 use Rattle.rept_span.specs.Filled.{IsFilled}

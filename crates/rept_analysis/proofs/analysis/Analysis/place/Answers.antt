@@ -1,4 +1,4 @@
-use Rattle.std.proofs.Common.{◌≡◌, ℕ, Some, None, sym, ◌∙◌}
+use Rattle.std.proofs.Common.{sym, ◌∙◌}
 use Rattle.std.proofs.lemmas.Bool.{false≢true}
 use Rattle.rept_analysis.specs.State.{state_of}
 use Rattle.rept_analysis.proofs.Fronts.{none_by, no_zero, no_place, no_entry}

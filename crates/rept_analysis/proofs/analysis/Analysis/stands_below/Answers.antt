@@ -1,4 +1,4 @@
-use Rattle.std.proofs.Common.{◌≡◌, ◌∙◌, ℕ, Some, None, sym, ap, subst}
+use Rattle.std.proofs.Common.{◌∙◌, Some, sym, ap}
 use Rattle.rept_analysis.specs.State.{state_of}
 use Rattle.rept_analysis.proofs.Fronts.{found_stands, none_stands}
 use Rattle.rept_analysis.proofs.analysis.Analysis.stands_below.Goals as goal

@@ -1,4 +1,3 @@
-use Rattle.std.proofs.Common.{◌≡◌, ℕ}
 use Rattle.std.proofs.lemmas.Result.{IfOk-weaker}
 use Rattle.rept_report.specs.Why.IsReason.{of_carried_byte}
 use Rattle.rept_log.proofs.Reasoning.{none_after}

@@ -1,4 +1,4 @@
-use Rattle.std.proofs.Common.{◌≡◌, ◌<◌, ℕ, arith}
+use Rattle.std.proofs.Common.{arith}
 use Rattle.std.proofs.lemmas.Result.{IfOk-weaker}
 use Rattle.rept_report.specs.Why.IsReason.{of_drawn_byte}
 use Rattle.rept_report.proofs.Reasons.{entry_within}

@@ -1,4 +1,4 @@
-use Rattle.std.proofs.Common.{◌≡◌, ℕ, sym, subst, ◌∙◌}
+use Rattle.std.proofs.Common.{subst}
 use Rattle.rept_report.specs.Why.{IsNearest}
 use Rattle.rept_log.specs.Fronts.{front_of}
 use Rattle.rept_log.proofs.Reasoning.{none_after, only_dump, not_carried}

@@ -1,4 +1,4 @@
-use Rattle.std.proofs.Common.{◌≡◌, ℕ, sym, ◌∙◌}
+use Rattle.std.proofs.Common.{sym, ◌∙◌}
 use Rattle.std.proofs.lemmas.Result.{IfOk-weaker}
 use Rattle.rept_report.specs.Why.{Because, IsDrawnBecause}
 use Rattle.rept_log.specs.Fronts.{front_of, stands, IsNotLast, IsNotOnward, IsNotBack}
