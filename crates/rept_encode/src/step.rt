@@ -50,12 +50,7 @@ pub fn step_between(instr: &Instr, at: u32, next: u32) -> Option<StepRow>
 
 /// Adds the step of an instruction from where the steps end to the next address. `NoStep` comes exactly where the instruction
 /// can't lead there, or stands at no multiple of 4; `Full` where there are 65,536 steps. A refusal leaves the steps as they were.
-pub fn push_step(
-    steps: &mut Steps,
-    instr: &Instr,
-    at: u32,
-    next: u32,
-) -> Result<(), StepFault>
+pub fn push_step(steps: &mut Steps, instr: &Instr, at: u32, next: u32) -> Result<(), StepFault>
     requires steps { All IsStepped steps.old }
     requires ends { EndBefore steps.old at }
     ensures steps { All IsStepped steps.new }

@@ -37,6 +37,7 @@ fn body(trace: &Text) -> &[u8] {
 }
 
 const NOP: u32 = 0x13;
+
 const ECALL: u32 = 0x73;
 /// `jalr x0, 0(x6)`
 const RETURN: u32 = 0x0003_0067;
@@ -61,8 +62,16 @@ fn branches_are_sent_together(rt: HostRuntime) -> Result<(), Fail> {
 /// Steps without branches: each row alone, by its difference of 4 and a `notify` that says something.
 #[test]
 fn straight_steps_are_sent_one_by_one(rt: HostRuntime) -> Result<(), Fail> {
-    let trace = trace_of(rt.alloc(), &[NOP, NOP, NOP], 0x10000, &[0x10004, 0x10008, 0x1000c])??;
-    assert_eq!(rt; body(&trace), b"\x03\x13\0\x20\x05\x06\0\0\0\xff\x05\x06\0\0\0\xff".as_slice());
+    let trace = trace_of(
+        rt.alloc(),
+        &[NOP, NOP, NOP],
+        0x10000,
+        &[0x10004, 0x10008, 0x1000c],
+    )??;
+    assert_eq!(rt;
+        body(&trace),
+        b"\x03\x13\0\x20\x05\x06\0\0\0\xff\x05\x06\0\0\0\xff".as_slice()
+    );
     Ok(())
 }
 
@@ -70,8 +79,16 @@ fn straight_steps_are_sent_one_by_one(rt: HostRuntime) -> Result<(), Fail> {
 #[test]
 fn calls_end_stretches(rt: HostRuntime) -> Result<(), Fail> {
     let code = [NOP, ECALL, RETURN, NOP];
-    let trace = trace_of(rt.alloc(), &code, 0x10000, &[0x10004, 0x10008, 0x1000c, 0x10010])??;
-    assert_eq!(rt; body(&trace), b"\x03\x13\0\x20\x05\x06\0\0\0\xff\x01\x4f\x03\x13\x01\x20\x05\x06\0\0\0\xfe".as_slice());
+    let trace = trace_of(
+        rt.alloc(),
+        &code,
+        0x10000,
+        &[0x10004, 0x10008, 0x1000c, 0x10010],
+    )??;
+    assert_eq!(rt;
+        body(&trace),
+        b"\x03\x13\0\x20\x05\x06\0\0\0\xff\x01\x4f\x03\x13\x01\x20\x05\x06\0\0\0\xfe".as_slice()
+    );
     Ok(())
 }
 

@@ -1,5 +1,5 @@
 -- What a made crash is: its files, and the run that they come from.
-use Rattle.std.specs.Prelude.{◌≡◌, ℕ, ◌+◌, ◌*◌, ◌<◌, List, ◌++◌, length, slice_index, Ok, None}
+use Rattle.std.specs.Prelude.{◌≡◌, ℕ, ◌+◌, ◌*◌, ◌^◌, ◌<◌, List, ◌++◌, length, slice_index, Ok, None}
 use Rattle.rept_isa.specs.declared.row.StepRow.{StepRow}
 use Rattle.rept_steps.specs.Linked.{EndBefore}
 use Rattle.rept_elf.specs.Header.{word_at}
@@ -49,5 +49,6 @@ pub record IsMade (seed steps : ℕ) (made : Made) : Type 0 where
   pub last_pc : word_at status 72 ≡ pc
   pub rest : List ℕ
   pub layout : made.trace ≡ header ++ rest
+  pub few : length made.trace < 2 ^ 32
   pub path : IsTraced (segments made.exe) rest 0 pc 0 rows
   pub execution : (last : List ℕ) → length last ≡ 32 → ((r : ℕ) → 0 < r → r < 32 → slice_index last r ≡ word_at status (72 + 4 * r)) → Execution (greatest_end (segments made.exe)) rows last (byte_at (segments made.exe) (segments made.core)) (λ i. laid (bytes_of_words words) (run i))

@@ -1,4 +1,4 @@
-ghost use Rattle.std.specs.Prelude.{◌≡◌, ◌+◌, ◌<◌, ◌≤◌, ℕ, length, slice_index, IfOk};
+ghost use Rattle.std.specs.Prelude.{◌≡◌, ◌+◌, ◌^◌, ◌<◌, ◌≤◌, ℕ, length, slice_index, IfOk};
 ghost use Rattle.rept_machine.specs.Machine.{state_of, pc_of};
 ghost use Rattle.rept_encode.specs.Walkable.{IsWalkable};
 ghost use Rattle.rept_encode.specs.Encoded.{Tells};
@@ -55,7 +55,8 @@ fn saved_bytes(alloc: Global, machine: &Machine<'_>) -> Result<Vec<u8>, AllocErr
 /// The trace of the steps.
 fn trace_of(alloc: Global, steps: &Steps) -> Result<Text, OutOfMemory>
     requires { IsWalkable steps.now }
-    ensures { IfOk result (λ trace. Tells trace steps.now) }
+    ensures tells { IfOk result (λ trace. Tells trace steps.now) }
+    ensures few { IfOk result (λ trace. length trace < 2 ^ 32) }
 {
     match encode(alloc, steps) {
         Ok(trace) => Ok(trace),

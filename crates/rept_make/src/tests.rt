@@ -79,7 +79,11 @@ fn long_runs_are_made(rt: HostRuntime) -> Result<(), Fail> {
     assert_eq!(rt; dump.status().pc, 0x103f8);
     assert_eq!(rt; dump.byte(0x20020), Some(54));
     assert_eq!(rt; dump.byte(0x200b3), Some(149));
-    assert!(rt; made.trace.bytes().len() <= 5000, "{} bytes", made.trace.bytes().len());
+    assert!(rt;
+        made.trace.bytes().len() <= 5000,
+        "{} bytes",
+        made.trace.bytes().len()
+    );
     Ok(())
 }
 
