@@ -8,7 +8,7 @@ ghost use Rattle.rept_app.specs.Delivered.{Delivers, Says};
 ghost use Rattle.rept_app.specs.Status.{number_of_status};
 ghost use Rattle.rept_app.specs.Told.{Writes, given};
 ghost use Rattle.rept_app.specs.Top.{TopCauses, EndsByFiles};
-ghost use Rattle.rept_app.specs.Words.{meaning_of};
+ghost use Rattle.rept_words.specs.Words.{meaning_of};
 ghost use Rattle.rept_app.specs.declared.refusal.Refusal.TheVariants as refusal;
 ghost use Rattle.rept_run.specs.Read.{read_words, AreRead};
 
