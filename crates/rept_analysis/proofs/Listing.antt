@@ -1,15 +1,17 @@
 -- The list of the rows that may write.
-use Rattle.std.proofs.Common.{◌≡◌, ℕ, zero, suc, ◌+◌, ◌<◌, ◌≤◌, ◌^◌, false, List, [], ◌∷◌, ◌++◌, length, Some, inl, inr, refl, sym, ap, subst, ◌∙◌, arith, slice_get}
+use Rattle.std.proofs.Common.{◌≡◌, ℕ, zero, suc, ◌+◌, ◌-◌, ◌<◌, ◌≤◌, ◌^◌, false, List, [], ◌∷◌, ◌++◌, length, Some, None, inl, inr, refl, sym, ap, subst, ◌∙◌, arith, slice_get}
 use Rattle.std.proofs.lemmas.Bool.{cases_lt, cases_eq}
 use Rattle.std.proofs.lemmas.Option.{slice_get-get_or, slice_get_within}
 use Rattle.std.proofs.lemmas.List.{length_push, get_or_append_left, get_or_push}
 use Rattle.rept_alias.specs.Accesses.{call_hits}
 use Rattle.rept_alias.specs.declared.addresses.CallAccess.{CallAccess}
+use Rattle.rept_writing.specs.Hits.{hits_at, IsFirstHit}
 use Rattle.rept_report.specs.Log.{oldest}
-use Rattle.rept_analysis.specs.declared.writing.Writing.{Writing}
+use Rattle.rept_writing.specs.declared.list.Writing.{Writing}
 use Rattle.rept_analysis.specs.Work.{row_past}
 use Rattle.rept_analysis.specs.State.{State, with_writing}
-use Rattle.rept_analysis.specs.Drawing.{Grows, IsAccess, IsSparedAt, IsSparedBetween, IsSilent, past, IsWriting, AreWritingsBefore, AreWritings, SameFacts, IsFitted}
+use Rattle.rept_analysis.specs.Drawing.{Grows, IsAccess, IsSparedAt, IsSparedBetween, IsSilent, IsCarriedFrom, past, IsWriting, AreWritingsBefore, AreWritings, SameFacts, IsFitted}
+use Rattle.rept_analysis.proofs.Spreading.{between_none, carried_hit}
 
 -- the same rows may write where path, facts and sets are the same
 module _ {W : Type 0} (s t : State W) (setting : t.setting ≡ s.setting) (older : oldest t.filled t.known.log ≡ oldest s.filled s.known.log) where
@@ -117,11 +119,6 @@ past_at list k w at = at_suc (k + 1) refl
     at_suc zero e = absurd (omega (arith, e))
     at_suc (suc m) e = let same : m ≡ k = omega (arith, e) in rw same (ap row_past at)
 
-pub listed_row : {W : Type 0} (s t : State W) → Grows s t → AreWritings s → (k : ℕ) (w : Writing) → slice_get t.work.writing k ≡ Some w → IsWriting s.work.writing k w t
-listed_row s t g h k w at =
-    let after : AreWritingsBefore (length s.setting.rows) s.work.writing t = writings_like s t g.setting g.older (length s.setting.rows) s.work.writing h in
-    after.each k w (subst (λ (xs : List Writing). slice_get xs k ≡ Some w) g.writing at)
-
 pub listed_end : {W : Type 0} (s t : State W) → Grows s t → AreWritings s → AreWritingsBefore (length s.setting.rows) s.work.writing t
 listed_end s t g h = writings_like s t g.setting g.older (length s.setting.rows) s.work.writing h
 
@@ -140,3 +137,89 @@ writings_back s t list is n rows h = writings_like t s (rw is refl) (rw is refl)
 
 pub listed_then : {W : Type 0} (s t u : State W) (xs ys : List Writing) → t ≡ with_writing s xs → u ≡ with_writing t ys → u ≡ with_writing s ys
 listed_then s t u xs ys p q = q ∙ ap (λ (x : State _). with_writing x ys) p
+
+-- from one index of the list to another one no listed row may write the byte
+abbrev pub IsMissed : List Writing → ℕ → ℕ → ℕ → Type 0
+IsMissed list from to a = (j : ℕ) → from ≤ j → j < to → hits_at list j a ≡ false
+
+-- the rows from the one after one of the list to another one may not write the byte
+pub record IsReached {W : Type 0} (s : State W) (from to a : ℕ) : Type 0 where
+  pub order : from ≤ to
+  pub spared : IsSparedBetween from to a s
+
+-- rows that may write nothing come after
+reach_silent : {W : Type 0} (s : State W) (from middle to a : ℕ) → a < 2 ^ 32 → middle ≤ to → IsSilent middle to s → IsReached s from middle a → IsReached s from to a
+reach_silent s from middle to a small le silent x = let order = x.order in record { order = omega (arith, le, order); spared = between_silent s from middle to a small le x.spared silent order }
+
+-- then one that may not write the byte
+reach_spared : {W : Type 0} (s : State W) (from to a : ℕ) → IsSparedAt to a s → IsReached s from to a → IsReached s from (to + 1) a
+reach_spared s from to a spared x = let order = x.order in record { order = omega (arith, order); spared = each }
+  where
+    each : IsSparedBetween from (to + 1) a s
+    each i (inl p) = let low = p.0 in let high = p.1 in elim (cases_eq i to) [ inl e ↦ rw e spared | inr ne ↦ x.spared i (inl (low, omega (arith, high, ne))) ]
+    each i (inr p) = let high = p.0 in let low = p.1 in let order = x.order in absurd (omega (arith, high, low, order))
+
+reach_none : {W : Type 0} (s : State W) (from a : ℕ) → IsReached s from from a
+reach_none s from a = record { order = omega arith; spared = between_none s from a }
+
+same_hit : (list : List Writing) (j a : ℕ) (w : Writing) → slice_get list j ≡ Some w → hits_at list j a ≡ call_hits w.access a
+same_hit list j a w at = rw at refl
+
+module _ {W : Type 0} (n : ℕ) (list : List Writing) (s : State W) (h : AreWritingsBefore n list s) (from a : ℕ) (small : a < 2 ^ 32) where
+  -- over a row of the list that may not write the byte
+  reach_over : (j : ℕ) (w : Writing) → slice_get list j ≡ Some w → hits_at list j a ≡ false → IsReached s from (past list j) a → IsReached s from (past list (j + 1)) a
+  reach_over j w at miss x =
+      let row = h.each j w at in
+      let spared : IsSparedAt w.row a s = sym (row.access a small) ∙ sym (same_hit list j a w at) ∙ miss in
+      rw (past_at list j w at) (reach_spared s from w.row a spared (reach_silent s from (past list j) w.row a small row.low row.silent x))
+
+  -- over all of them from an index to another one
+  reach_all : (k m j : ℕ) → j ≡ k + m → j ≤ length list → IsMissed list k j a → IsReached s from (past list k) a → IsReached s from (past list j) a
+  reach_all k zero j e le miss x = let same : j ≡ k = omega (arith, e) in rw same x
+  reach_all k (suc m) j e le miss x =
+      let i : ℕ = k + m in
+      let same : j ≡ i + 1 = omega (arith, e) in
+      let before = reach_all k m i refl (omega (arith, e, le)) (λ l low high. miss l low (omega (arith, high, same))) x in
+      let there = slice_get-get_or list i (record { row = 0; access = record { first = None; second = None } }) (omega (arith, same, le)) in
+      rw same (reach_over i _ there (miss i (omega arith) (omega (arith, same))) before)
+
+-- the next row that may write the byte
+pub record IsStop {W : Type 0} (s t : State W) (from a hit : ℕ) (w : Writing) : Type 0 where
+  pub order : from ≤ w.row
+  pub spared : IsSparedBetween from w.row a t
+  pub inside : w.row < length s.setting.rows
+  pub within : hit < length s.work.writing
+  pub next : past s.work.writing (hit + 1) ≡ w.row + 1
+  pub passed : IsCarriedFrom a 0 w.row s → IsCarriedFrom a 0 (w.row + 1) s
+
+module _ {W : Type 0} (s t : State W) (grows : Grows s t) (listed : AreWritings s) (from a k : ℕ) (small : a < 2 ^ 32) (start : from ≡ past s.work.writing k) where
+  here : IsReached t from (past s.work.writing k) a
+  here = subst (λ (p : ℕ). IsReached t from p a) start (reach_none t from a)
+
+  later : AreWritingsBefore (length s.setting.rows) s.work.writing t
+  later = listed_end s t grows listed
+
+  pub hit_stop : (hit : ℕ) (w : Writing) → IsFirstHit t.work.writing k a hit → slice_get t.work.writing hit ≡ Some w → IsStop s t from a hit w
+  hit_stop hit w found there =
+      let first : IsFirstHit s.work.writing k a hit = subst (λ (xs : List Writing). IsFirstHit xs k a hit) grows.writing found in
+      let at : slice_get s.work.writing hit ≡ Some w = subst (λ (xs : List Writing). slice_get xs hit ≡ Some w) grows.writing there in
+      let row = later.each hit w at in
+      let old = listed.each hit w at in
+      let low = first.from in
+      let inside = first.inside in
+      let all = reach_all (length s.setting.rows) s.work.writing t later from a small k (hit - k) hit (omega (arith, low)) (omega (arith, inside)) first.none_before here in
+      let reached = reach_silent t from (past s.work.writing hit) w.row a small row.low row.silent all in
+      record {
+        order = reached.order;
+        spared = reached.spared;
+        inside = old.inside;
+        within = inside;
+        next = past_at s.work.writing hit w at;
+        passed = λ h. carried_hit s a 0 w.row w.access small old.access (sym (same_hit s.work.writing hit a w at) ∙ first.hits) h;
+      }
+
+  pub end_reached : k ≤ length s.work.writing → ((j : ℕ) → k ≤ j → hits_at t.work.writing j a ≡ false) → IsReached t from (length s.setting.rows) a
+  end_reached low missed =
+      let none : (j : ℕ) → k ≤ j → hits_at s.work.writing j a ≡ false = subst (λ (xs : List Writing). (j : ℕ) → k ≤ j → hits_at xs j a ≡ false) grows.writing missed in
+      let all = reach_all (length s.setting.rows) s.work.writing t later from a small k (length s.work.writing - k) (length s.work.writing) (omega (arith, low)) (omega arith) (λ j le lt. none j le) here in
+      reach_silent t from (past s.work.writing (length s.work.writing)) (length s.setting.rows) a small later.low later.silent all

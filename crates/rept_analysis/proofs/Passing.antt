@@ -20,7 +20,8 @@ use Rattle.rept_report.specs.Conclusions.{HasWords}
 use Rattle.rept_report.proofs.ViewLaws.{known_more}
 use Rattle.rept_analysis.specs.declared.pass.Pass.{Pass}
 use Rattle.rept_analysis.specs.declared.pass.Pass.TheVariants.{Never, With, Cut}
-use Rattle.rept_analysis.specs.Work.{Work, Listed, left, left_of}
+use Rattle.rept_writing.specs.Hits.{Listed}
+use Rattle.rept_analysis.specs.Work.{Work, left, left_of}
 use Rattle.rept_analysis.specs.Cells.{cells_known}
 use Rattle.rept_analysis.specs.State.{State, all_known, with_work, with_draws, with_drawn}
 use Rattle.rept_analysis.specs.Drawing.{Knows, Grows, DrawnKnown, DrawnBelow, Drew, IsUncut, IsHalt}

@@ -25,7 +25,7 @@ use Rattle.rept_log.proofs.Stores.{stays_same}
 use Rattle.rept_log.specs.declared.answer.Answer.TheVariants.{New}
 use Rattle.rept_log.specs.Known.{Known, knows, AddsByte, SameLog}
 use Rattle.rept_analysis.specs.State.{State, all_known}
-use Rattle.rept_analysis.specs.Drawing.{fact_at, Knows, IsTracked, Grows, IsBrought, IsSparedAt, IsSparedBetween, IsSpreadTo, IsCarriedFrom, IsCarriedAt, IsAccess, IsPassed}
+use Rattle.rept_analysis.specs.Drawing.{fact_at, Knows, IsTracked, Grows, IsBrought, IsSparedAt, IsSparedBetween, IsSpreadTo, IsCarriedFrom, IsCarriedAt, IsAccess}
 use Rattle.rept_analysis.specs.Drawing.HasNews.{fact}
 use Rattle.rept_analysis.specs.Told.{Sends}
 use Rattle.rept_analysis.specs.Kept.{IsKept}
@@ -365,33 +365,6 @@ segment_free s a from to none i le lt = record {
   onward = λ w spared h. absurd (none_some (sym (none i le (omega (arith, lt))) ∙ h));
   back = λ w spared h. absurd (none_some (sym (none (i + 1) (omega (arith, le)) (omega (arith, lt))) ∙ h));
 }
-
-pub between_after : {W : Type 0} (s t : State W) (from to a : ℕ) → Grows s t → IsSparedBetween from to a s → IsSparedBetween from to a t
-between_after s t from to a g h i at = spared_after s t i a g (h i at)
-
--- rows that were passed, one more
-pub passed_on : {W : Type 0} (s : State W) (from i a : ℕ) → from ≤ i → IsSparedBetween from i a s → IsSparedAt i a s → IsPassed a from i from s
-passed_on s from i a le before here = record { low = omega arith; high = omega (arith, le); spared = each }
-  where
-    each : IsSparedBetween from (i + 1) a s
-    each j (inl x) =
-        let p = x.0 in
-        let q = x.1 in
-        elim (cases_lt j i) [
-          | inl less ↦ before j (inl (p, less))
-          | inr more ↦ let e : i ≡ j = omega (arith, q, more) in subst (λ (k : ℕ). IsSparedAt k a s) e here
-        ]
-    each j (inr x) = let p = x.0 in let q = x.1 in absurd (omega (arith, p, q, le))
-
-pub passed_hit : {W : Type 0} (s : State W) (from i a : ℕ) → from ≤ i → IsPassed a from i (i + 1) s
-passed_hit s from i a le = record { low = omega (arith, le); high = omega arith; spared = each }
-  where
-    each : IsSparedBetween (i + 1) (i + 1) a s
-    each j (inl x) = let p = x.0 in let q = x.1 in absurd (omega (arith, p, q))
-    each j (inr x) = let p = x.0 in let q = x.1 in absurd (omega (arith, p, q))
-
-pub carried_none : {W : Type 0} (s : State W) (a from : ℕ) → IsCarriedFrom a from from s
-carried_none s a from i le lt = absurd (omega (arith, le, lt))
 
 pub carried_join : {W : Type 0} (s : State W) (a from middle to : ℕ) → IsCarriedFrom a from middle s → IsCarriedFrom a middle to s → IsCarriedFrom a from to s
 carried_join s a from middle to one two i le lt =

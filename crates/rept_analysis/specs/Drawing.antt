@@ -23,7 +23,7 @@ use Rattle.rept_report.specs.Conflicts.{IsQuiet}
 use Rattle.rept_report.specs.Log.{oldest}
 use Rattle.rept_analysis.specs.declared.halt.Halt.{Halt}
 use Rattle.rept_analysis.specs.declared.halt.Halt.TheVariants.{Clash, OutOfMemory}
-use Rattle.rept_analysis.specs.declared.writing.Writing.{Writing}
+use Rattle.rept_writing.specs.declared.list.Writing.{Writing}
 use Rattle.rept_analysis.specs.declared.pass.Pass.TheVariants.{Cut}
 use Rattle.rept_analysis.specs.Work.{left, row_past}
 use Rattle.rept_analysis.specs.State.{State, all_known}
@@ -291,12 +291,6 @@ pub record AreWritingsBefore {W : Type 0} (n : ℕ) (list : List Writing) (s : S
 -- the rows that may write are listed
 abbrev pub AreWritings : {W : Type 0} → State W → Type 0
 AreWritings s = AreWritingsBefore (length s.setting.rows) s.work.writing s
-
--- up to row i the byte is carried to a point, and from this point on no row up to i may write it
-pub record IsPassed {W : Type 0} (a from i next : ℕ) (s : State W) : Type 0 where
-  pub low : from ≤ next
-  pub high : next ≤ i + 1
-  pub spared : IsSparedBetween next (i + 1) a s
 
 -- all rows' conclusions are known, and all tracked bytes are carried
 abbrev pub IsDrawnThrough : {W : Type 0} → State W → Type 0

@@ -15,7 +15,7 @@ use Rattle.rept_log.specs.Known.{Held, Known, known_of, knows}
 use Rattle.rept_report.specs.declared.conflict.ConflictKind.{ConflictKind}
 use Rattle.rept_report.specs.Setting.{Setting}
 use Rattle.rept_reason.specs.Facts.{Knowledge}
-use Rattle.rept_analysis.specs.declared.writing.Writing.{Writing}
+use Rattle.rept_writing.specs.declared.list.Writing.{Writing}
 use Rattle.rept_analysis.specs.declared.pass.Pass.{Pass}
 use Rattle.rept_analysis.specs.Work.{Work}
 

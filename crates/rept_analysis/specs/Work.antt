@@ -1,13 +1,9 @@
 -- What an analysis keeps of its own work: which rows may write, and how often the rules of each row can be drawn still. This project's own.
 use Rattle.std.specs.Prelude.{ℕ, ◌+◌, ◌-◌, List, Option, Some, None, sum_by}
-use Rattle.rept_analysis.specs.declared.writing.Writing.{Writing}
+use Rattle.rept_writing.specs.declared.list.Writing.{Writing}
+use Rattle.rept_writing.specs.Hits.{Listed}
 use Rattle.rept_analysis.specs.declared.pass.Pass.{Pass}
 use Rattle.rept_analysis.specs.declared.pass.Pass.TheVariants.{Never, With, Cut}
-
--- rows that may write, and for how many there is room
-pub record Listed : Type 0 where
-  pub list : List Writing
-  pub room : ℕ
 
 -- The same; how often rules were drawn; and how far those of each row were.
 pub record Work : Type 0 where

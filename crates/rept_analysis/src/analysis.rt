@@ -35,7 +35,6 @@ mod why;
 
 use crate::pass::Passes;
 use crate::stop::Stop;
-use crate::writing::Writings;
 use rept_dump::Dump;
 use rept_isa::{Reg, StepRow};
 use rept_log::FactLog;
@@ -45,6 +44,7 @@ use rept_span::{Spans, Transfer};
 use rept_steps::Steps;
 use rept_versions::ByteFacts;
 use rept_view::RowRules;
+use rept_writing::Writings;
 use std::alloc::{AllocError as OutOfMemory, Global};
 use std::marker::Model;
 
@@ -116,7 +116,7 @@ impl<'a, B: ByteFacts, W: Transfer, R: RowRules> Analysis<'a, B, W, R> {
         let count = rows.len() as u32;
         let known = FactLog::new(alloc, count, bytes)?;
         let spans = Spans::new(alloc, count + 1)?;
-        let writing = Writings::new(alloc, rows.len())?;
+        let writing = Writings::new(alloc, rows.len(), bytes as usize)?;
         let drawn = Passes::new(alloc, rows.len())?;
         Ok(Analysis {
             alloc,

@@ -8,7 +8,6 @@ mod offset;
 mod pass;
 pub mod stop;
 mod turns;
-mod writing;
 
 pub use analysis::Analysis;
 pub use stop::Stop;

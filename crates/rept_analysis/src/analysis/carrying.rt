@@ -1,20 +1,21 @@
 // The carrying of bytes over rows that may not write them.
-ghost use Rattle.std.specs.Prelude.{◌≡◌, ◌∷◌, ◌++◌, [], ◌+◌, ◌<◌, ◌≤◌, ℕ, length, true, false, Some, None, IfOk, IfErr, slice_get, ⊤};
+ghost use Rattle.std.specs.Prelude.{◌≡◌, ◌∷◌, ◌++◌, [], ◌+◌, ◌^◌, ◌<◌, ◌≤◌, ℕ, length, true, false, Some, None, IfOk, IfErr, slice_get, ⊤};
 ghost use Rattle.rept_alias.specs.Accesses.{call_hits};
 ghost use Rattle.rept_reason.specs.declared.fact.Cell.TheVariants.{Byte};
 ghost use Rattle.rept_versions.specs.Facts.{Nexts};
 ghost use Rattle.rept_analysis.specs.State.{state_of, with_writing};
-ghost use Rattle.rept_analysis.specs.Drawing.{Knows, Grows, Drew, IsHalt, IsFitted, IsAccess, AreWritings, AreWritingsBefore, IsSparedAt, IsSparedBetween, IsSpreadTo, IsCarriedFrom, IsCarriedAlong, AllCarried, IsPassed};
+ghost use Rattle.rept_analysis.specs.Drawing.{Knows, Grows, Drew, IsHalt, IsFitted, IsAccess, AreWritings, AreWritingsBefore, IsSparedAt, IsSparedBetween, IsSpreadTo, IsCarriedFrom, IsCarriedAlong, AllCarried};
 ghost use Rattle.rept_analysis.specs.Told.{Sends};
+ghost use Rattle.rept_writing.specs.Hits.{IsNextHit};
 
 use super::Analysis;
 use crate::halt::Halt;
-use crate::writing::Writing;
 use rept_alias::CallAccess;
 use rept_reason::Cell;
 use rept_span::Transfer;
 use rept_versions::{ByteFacts, Carried, Stretch};
 use rept_view::RowRules;
+use rept_writing::Writing;
 use std::alloc::AllocError as OutOfMemory;
 
 /// Whether an access has no address.
@@ -96,37 +97,13 @@ impl<'a, B: ByteFacts, W: Transfer, R: RowRules> Analysis<'a, B, W, R> {
         }
     }
 
-    /// The value of a byte up to row i, if this row may write it; and the first point from which the value isn't carried yet.
-    fn carry_past(
-        &mut self,
-        a: u32,
-        from: u32,
-        i: u32,
-        access: &CallAccess,
-    ) -> Result<(bool, u32), Halt>
-        requires order { from ≤ i }
-        requires inside { i < length self.old.rows }
-        requires access { IsAccess i access.now (state_of W.sets W.moves R.rules B.store self.old) }
-        requires spared { IsSparedBetween from i a (state_of W.sets W.moves R.rules B.store self.old) }
-        requires open { self.old.complete ≡ false }
-        ensures grows { Grows (state_of W.sets W.moves R.rules B.store self.old) (state_of W.sets W.moves R.rules B.store self.new) }
-        ensures drew { IfOk result (λ r. Drew (state_of W.sets W.moves R.rules B.store self.old) (state_of W.sets W.moves R.rules B.store self.new) r.0 (IsCarriedFrom a from r.1)) }
-        ensures passed { IfOk result (λ r. IsPassed a from i r.1 (state_of W.sets W.moves R.rules B.store self.old)) }
-        ensures halt { IfErr result (λ h. IsHalt (state_of W.sets W.moves R.rules B.store self.new) h) }
+    /// The index of the first row from index k on that may write the byte, in the list of those that may write.
+    fn next_hit(&self, k: usize, a: u32) -> Option<usize>
+        ensures next { IsNextHit self.now.work.writing k a result }
+        ensures few { length self.now.work.writing < 2 ^ 64 }
     {
-        if !access.may_hit(a) {
-            return Ok((false, from));
-        }
-        let _count = self.count();
-        let new = self.carry_segment(a, from, i)?;
-        Ok((new, i + 1))
-    }
-
-    /// How many rows may write.
-    fn writing_count(&self) -> usize
-        ensures { result ≡ length self.now.work.writing }
-    {
-        self.writing.len()
+        let _count = self.writing.len();
+        self.writing.next_hit(k, a)
     }
 
     /// The row that may write, at an index.
@@ -146,17 +123,24 @@ impl<'a, B: ByteFacts, W: Transfer, R: RowRules> Analysis<'a, B, W, R> {
         ensures halt { IfErr result (λ h. IsHalt (state_of W.sets W.moves R.rules B.store self.new) h) }
     {
         let rows = self.count();
-        let count = self.writing_count();
         let mut learnt = false;
         let mut from = 0;
-        for k in 0..count {
-            let writing = self.writing_at(k);
-            let passed = self.carry_past(a, from, writing.row, &writing.access)?;
-            learnt = learnt | passed.0;
-            from = passed.1;
+        let mut k = 0;
+        loop {
+            match self.next_hit(k, a) {
+                None => {
+                    let new = self.carry_segment(a, from, rows)?;
+                    return Ok(learnt | new);
+                }
+                Some(hit) => {
+                    let row = self.writing_at(hit).row;
+                    let new = self.carry_segment(a, from, row)?;
+                    learnt = learnt | new;
+                    from = row + 1;
+                    k = hit + 1;
+                }
+            }
         }
-        let new = self.carry_segment(a, from, rows)?;
-        Ok(learnt | new)
     }
 
     /// The values of all tracked bytes.
@@ -194,6 +178,14 @@ impl<'a, B: ByteFacts, W: Transfer, R: RowRules> Analysis<'a, B, W, R> {
         self.writing.add(row, access);
     }
 
+    /// Makes the rows of the list found by the byte that they may write.
+    fn index_writing(&mut self)
+        requires open { self.old.complete ≡ false }
+        ensures { (state_of W.sets W.moves R.rules B.store self.new) ≡ (state_of W.sets W.moves R.rules B.store self.old) }
+    {
+        self.writing.index();
+    }
+
     /// Adds row i, if it may write, by the facts of which the sets are.
     fn list_row(&mut self, i: u32)
         requires open { self.old.complete ≡ false }
@@ -224,5 +216,6 @@ impl<'a, B: ByteFacts, W: Transfer, R: RowRules> Analysis<'a, B, W, R> {
         for i in 0..count {
             self.list_row(i);
         }
+        self.index_writing();
     }
 }

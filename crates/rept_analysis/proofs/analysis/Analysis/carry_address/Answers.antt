@@ -1,89 +1,85 @@
-use Rattle.std.proofs.Common.{◌≡◌, ℕ, ◌+◌, ◌<◌, ◌≤◌, ◌^◌, List, length, Some, ap, subst, arith, slice_get}
-use Rattle.rept_analysis.specs.declared.writing.Writing.{Writing}
+use Rattle.std.proofs.Common.{◌+◌, sym, arith}
 use Rattle.rept_analysis.specs.State.{state_of}
-use Rattle.rept_analysis.specs.Drawing.{IsCarriedFrom, IsCarriedAlong, IsSparedBetween, past}
+use Rattle.rept_analysis.specs.Drawing.{IsCarriedFrom, IsCarriedAlong}
 use Rattle.rept_analysis.proofs.Drawn.{Drew_both, Drew_as, Grows_trans}
-use Rattle.rept_analysis.proofs.Spreading.{between_after, carried_join}
-use Rattle.rept_analysis.proofs.Listing.{listed_row, listed_end, past_at, between_silent}
+use Rattle.rept_analysis.proofs.Spreading.{carried_join}
+use Rattle.rept_analysis.proofs.Listing.{hit_stop, end_reached}
 use Rattle.rept_analysis.proofs.analysis.Analysis.carry_address.Goals as goal
-
-pub writing_at-writing-requires : goal.writing_at-writing-requires
-writing_at-writing-requires g c = let same = ap (λ (xs : List Writing). length xs) c.loop-k.invariant.grows.writing in let count = c.loop-k.invariant.count in omega (arith, same, count)
-
-pub carry_past-requires-clause-order : goal.carry_past-requires-clause-order
-carry_past-requires-clause-order g c =
-    let x = listed_row (state_of g.W.Partial.sets g.W.Transfer.moves g.R.RowRules.rules g.B.ByteFacts.store c.args.self.now) (state_of g.W.Partial.sets g.W.Transfer.moves g.R.RowRules.rules g.B.ByteFacts.store c.loop-k.self) c.loop-k.invariant.grows c.requires.writings c.loop-k.k c.writing_at-writing.result c.writing_at-writing.ensures in
-    let low = x.low in
-    let from = c.loop-k.invariant.from in
-    omega (arith, low, from)
-
-pub carry_past-requires-clause-inside : goal.carry_past-requires-clause-inside
-carry_past-requires-clause-inside g c = (listed_row (state_of g.W.Partial.sets g.W.Transfer.moves g.R.RowRules.rules g.B.ByteFacts.store c.args.self.now) (state_of g.W.Partial.sets g.W.Transfer.moves g.R.RowRules.rules g.B.ByteFacts.store c.loop-k.self) c.loop-k.invariant.grows c.requires.writings c.loop-k.k c.writing_at-writing.result c.writing_at-writing.ensures).inside
-
-pub carry_past-requires-clause-access : goal.carry_past-requires-clause-access
-carry_past-requires-clause-access g c = (listed_row (state_of g.W.Partial.sets g.W.Transfer.moves g.R.RowRules.rules g.B.ByteFacts.store c.args.self.now) (state_of g.W.Partial.sets g.W.Transfer.moves g.R.RowRules.rules g.B.ByteFacts.store c.loop-k.self) c.loop-k.invariant.grows c.requires.writings c.loop-k.k c.writing_at-writing.result c.writing_at-writing.ensures).access
-
-pub carry_past-requires-clause-spared : goal.carry_past-requires-clause-spared
-carry_past-requires-clause-spared g c =
-    let x = listed_row (state_of g.W.Partial.sets g.W.Transfer.moves g.R.RowRules.rules g.B.ByteFacts.store c.args.self.now) (state_of g.W.Partial.sets g.W.Transfer.moves g.R.RowRules.rules g.B.ByteFacts.store c.loop-k.self) c.loop-k.invariant.grows c.requires.writings c.loop-k.k c.writing_at-writing.result c.writing_at-writing.ensures in
-    let small : c.args.a < 2 ^ 32 = omega arith in
-    between_silent (state_of g.W.Partial.sets g.W.Transfer.moves g.R.RowRules.rules g.B.ByteFacts.store c.loop-k.self) c.loop-k.from (past (state_of g.W.Partial.sets g.W.Transfer.moves g.R.RowRules.rules g.B.ByteFacts.store c.args.self.now).work.writing c.loop-k.k) c.writing_at-writing.result.row c.args.a small x.low c.loop-k.invariant.spared x.silent c.loop-k.invariant.from
-
-pub returns-in_err-passed-clause-grows : goal.returns-in_err-passed-clause-grows
-returns-in_err-passed-clause-grows g c = Grows_trans _ _ _ c.loop-k.invariant.grows c.carry_past.ensures.grows
-
-pub loop-k-preserved : goal.loop-k-preserved
-loop-k-preserved g c =
-    let s = state_of g.W.Partial.sets g.W.Transfer.moves g.R.RowRules.rules g.B.ByteFacts.store c.args.self.now in
-    let t = state_of g.W.Partial.sets g.W.Transfer.moves g.R.RowRules.rules g.B.ByteFacts.store c.loop-k.self in
-    let u = state_of g.W.Partial.sets g.W.Transfer.moves g.R.RowRules.rules g.B.ByteFacts.store c.carry_past.new.self in
-    let e = c.in_ok-passed.ensures in
-    let from = c.loop-k.from in
-    let next = c.in_ok-passed.passed.1 in
-    let row = c.writing_at-writing.result.row in
-    let at : slice_get s.work.writing c.loop-k.k ≡ Some c.writing_at-writing.result = subst (λ (xs : List Writing). slice_get xs c.loop-k.k ≡ Some c.writing_at-writing.result) c.loop-k.invariant.grows.writing c.writing_at-writing.ensures in
-    let end : past s.work.writing (c.loop-k.k + 1) ≡ row + 1 = past_at s.work.writing c.loop-k.k c.writing_at-writing.result at in
-    record {
-      grows = Grows_trans s t u c.loop-k.invariant.grows e.grows;
-      drew = Drew_both s t u c.loop-k.learnt c.in_ok-passed.passed.0 (IsCarriedFrom c.args.a 0 from) (IsCarriedFrom c.args.a from next) (IsCarriedFrom c.args.a 0 next)
-          c.loop-k.invariant.grows e.grows c.loop-k.invariant.drew e.drew (λ p q. carried_join s c.args.a 0 from next p q);
-      from = rw end e.passed.high;
-      spared = rw end (between_after t u next (row + 1) c.args.a e.grows e.passed.spared);
-      count = c.loop-k.invariant.count;
-      rows = c.loop-k.invariant.rows;
-    }
-
-pub carry_segment-requires-clause-order : goal.carry_segment-requires-clause-order
-carry_segment-requires-clause-order g c =
-    let count = c.loop-k.invariant.count in
-    let end : c.loop-k.k ≡ length (state_of g.W.Partial.sets g.W.Transfer.moves g.R.RowRules.rules g.B.ByteFacts.store c.args.self.now).work.writing = omega (arith, count) in
-    let from = rw end at c.loop-k.invariant.from in
-    let low = c.requires.writings.low in
-    let rows = c.loop-k.invariant.rows in
-    omega (arith, from, low, rows)
 
 pub carry_segment-requires-clause-spared : goal.carry_segment-requires-clause-spared
 carry_segment-requires-clause-spared g c =
     let s = state_of g.W.Partial.sets g.W.Transfer.moves g.R.RowRules.rules g.B.ByteFacts.store c.args.self.now in
-    let t = state_of g.W.Partial.sets g.W.Transfer.moves g.R.RowRules.rules g.B.ByteFacts.store c.loop-k.self in
-    let count = c.loop-k.invariant.count in
-    let end : c.loop-k.k ≡ length s.work.writing = omega (arith, count) in
-    let small : c.args.a < 2 ^ 32 = omega arith in
-    let x = listed_end s t c.loop-k.invariant.grows c.requires.writings in
-    let before = subst (λ (k : ℕ). IsSparedBetween c.loop-k.from (past s.work.writing k) c.args.a t) end c.loop-k.invariant.spared in
-    let from = subst (λ (k : ℕ). c.loop-k.from ≤ past s.work.writing k) end c.loop-k.invariant.from in
-    rw c.loop-k.invariant.rows (between_silent t c.loop-k.from (past s.work.writing (length s.work.writing)) (length s.setting.rows) c.args.a small x.low before x.silent from)
+    let t = state_of g.W.Partial.sets g.W.Transfer.moves g.R.RowRules.rules g.B.ByteFacts.store c.loop-self.self in
+    let i = c.loop-self.invariant in
+    let x = end_reached s t i.grows c.requires.writings c.loop-self.from c.args.a c.loop-self.k (omega arith) i.from i.within c.in-None.ensures.next in
+    rw i.rows x.spared
 
-pub returns-in_err-new-clause-grows : goal.returns-in_err-new-clause-grows
-returns-in_err-new-clause-grows g c = Grows_trans _ _ _ c.loop-k.invariant.grows c.carry_segment.ensures.grows
-
-pub returns-clause-drew : goal.returns-clause-drew
-returns-clause-drew g c =
+pub carry_segment-requires-clause-order : goal.carry_segment-requires-clause-order
+carry_segment-requires-clause-order g c =
     let s = state_of g.W.Partial.sets g.W.Transfer.moves g.R.RowRules.rules g.B.ByteFacts.store c.args.self.now in
-    let t = state_of g.W.Partial.sets g.W.Transfer.moves g.R.RowRules.rules g.B.ByteFacts.store c.loop-k.self in
+    let t = state_of g.W.Partial.sets g.W.Transfer.moves g.R.RowRules.rules g.B.ByteFacts.store c.loop-self.self in
+    let i = c.loop-self.invariant in
+    let x = end_reached s t i.grows c.requires.writings c.loop-self.from c.args.a c.loop-self.k (omega arith) i.from i.within c.in-None.ensures.next in
+    rw i.rows x.order
+
+pub returns-in_err-new-in-None-clause-grows : goal.returns-in_err-new-in-None-clause-grows
+returns-in_err-new-in-None-clause-grows g c = Grows_trans _ _ _ c.loop-self.invariant.grows c.carry_segment.ensures.grows
+
+pub returns-in-None-clause-drew : goal.returns-in-None-clause-drew
+returns-in-None-clause-drew g c =
+    let s = state_of g.W.Partial.sets g.W.Transfer.moves g.R.RowRules.rules g.B.ByteFacts.store c.args.self.now in
+    let t = state_of g.W.Partial.sets g.W.Transfer.moves g.R.RowRules.rules g.B.ByteFacts.store c.loop-self.self in
     let u = state_of g.W.Partial.sets g.W.Transfer.moves g.R.RowRules.rules g.B.ByteFacts.store c.carry_segment.new.self in
-    let from = c.loop-k.from in
+    let i = c.loop-self.invariant in
+    let e = c.in_ok-new-in-None.ensures in
+    let from = c.loop-self.from in
     let n = c.count-rows.result in
-    let whole = Drew_both s t u c.loop-k.learnt c.in_ok-new.new (IsCarriedFrom c.args.a 0 from) (IsCarriedFrom c.args.a from n) (IsCarriedFrom c.args.a 0 n)
-    c.loop-k.invariant.grows c.in_ok-new.ensures.grows c.loop-k.invariant.drew c.in_ok-new.ensures.drew (λ p q. carried_join s c.args.a 0 from n p q) in
-    Drew_as s u _ (IsCarriedFrom c.args.a 0 n) (IsCarriedAlong c.args.a) whole (λ h i low lt. h i low (let value = c.count-rows.ensures.value in omega (arith, lt, value)))
+    let whole = Drew_both s t u c.loop-self.learnt c.in_ok-new-in-None.new (IsCarriedFrom c.args.a 0 from) (IsCarriedFrom c.args.a from n) (IsCarriedFrom c.args.a 0 n)
+    i.grows e.grows i.drew e.drew (λ p q. carried_join s c.args.a 0 from n p q) in
+    Drew_as s u _ (IsCarriedFrom c.args.a 0 n) (IsCarriedAlong c.args.a) whole (λ h j low lt. h j low (let value = c.count-rows.ensures.value in omega (arith, lt, value)))
+
+pub carry_segment-requires-in-Some-clause-order : goal.carry_segment-requires-in-Some-clause-order
+carry_segment-requires-in-Some-clause-order g c =
+    let s = state_of g.W.Partial.sets g.W.Transfer.moves g.R.RowRules.rules g.B.ByteFacts.store c.args.self.now in
+    let t = state_of g.W.Partial.sets g.W.Transfer.moves g.R.RowRules.rules g.B.ByteFacts.store c.loop-self.self in
+    let i = c.loop-self.invariant in
+    (hit_stop s t i.grows c.requires.writings c.loop-self.from c.args.a c.loop-self.k (omega arith) i.from c.in-Some.hit c.writing_at-row.result c.in-Some.ensures.next c.writing_at-row.ensures).order
+
+pub carry_segment-requires-in-Some-clause-to : goal.carry_segment-requires-in-Some-clause-to
+carry_segment-requires-in-Some-clause-to g c =
+    let s = state_of g.W.Partial.sets g.W.Transfer.moves g.R.RowRules.rules g.B.ByteFacts.store c.args.self.now in
+    let t = state_of g.W.Partial.sets g.W.Transfer.moves g.R.RowRules.rules g.B.ByteFacts.store c.loop-self.self in
+    let i = c.loop-self.invariant in
+    let rows = i.grows.rows in
+    let inside = (hit_stop s t i.grows c.requires.writings c.loop-self.from c.args.a c.loop-self.k (omega arith) i.from c.in-Some.hit c.writing_at-row.result c.in-Some.ensures.next c.writing_at-row.ensures).inside in
+    rw rows (omega (arith, inside))
+
+pub carry_segment-requires-in-Some-clause-spared : goal.carry_segment-requires-in-Some-clause-spared
+carry_segment-requires-in-Some-clause-spared g c =
+    let s = state_of g.W.Partial.sets g.W.Transfer.moves g.R.RowRules.rules g.B.ByteFacts.store c.args.self.now in
+    let t = state_of g.W.Partial.sets g.W.Transfer.moves g.R.RowRules.rules g.B.ByteFacts.store c.loop-self.self in
+    let i = c.loop-self.invariant in
+    (hit_stop s t i.grows c.requires.writings c.loop-self.from c.args.a c.loop-self.k (omega arith) i.from c.in-Some.hit c.writing_at-row.result c.in-Some.ensures.next c.writing_at-row.ensures).spared
+
+pub returns-in_err-new-in-Some-clause-grows : goal.returns-in_err-new-in-Some-clause-grows
+returns-in_err-new-in-Some-clause-grows g c = Grows_trans _ _ _ c.loop-self.invariant.grows c.carry_segment-in-Some.ensures.grows
+
+pub loop-self-preserved : goal.loop-self-preserved
+loop-self-preserved g c =
+    let s = state_of g.W.Partial.sets g.W.Transfer.moves g.R.RowRules.rules g.B.ByteFacts.store c.args.self.now in
+    let t = state_of g.W.Partial.sets g.W.Transfer.moves g.R.RowRules.rules g.B.ByteFacts.store c.loop-self.self in
+    let u = state_of g.W.Partial.sets g.W.Transfer.moves g.R.RowRules.rules g.B.ByteFacts.store c.carry_segment-in-Some.new.self in
+    let i = c.loop-self.invariant in
+    let e = c.in_ok-new-in-Some.ensures in
+    let from = c.loop-self.from in
+    let row = c.writing_at-row.result.row in
+    let x = hit_stop s t i.grows c.requires.writings c.loop-self.from c.args.a c.loop-self.k (omega arith) i.from c.in-Some.hit c.writing_at-row.result c.in-Some.ensures.next c.writing_at-row.ensures in
+    let within = x.within in
+    record {
+      grows = Grows_trans s t u i.grows e.grows;
+      drew = Drew_both s t u c.loop-self.learnt c.in_ok-new-in-Some.new (IsCarriedFrom c.args.a 0 from) (IsCarriedFrom c.args.a from row) (IsCarriedFrom c.args.a 0 (row + 1))
+          i.grows e.grows i.drew e.drew (λ p q. x.passed (carried_join s c.args.a 0 from row p q));
+      from = sym x.next;
+      within = omega (arith, within);
+      rows = i.rows;
+    }

@@ -1,5 +1,5 @@
 use Rattle.std.proofs.Common.{◌+◌, ap, refl, sym, subst, List}
-use Rattle.rept_analysis.specs.declared.writing.Writing.{Writing}
+use Rattle.rept_writing.specs.declared.list.Writing.{Writing}
 use Rattle.rept_analysis.specs.State.{State, state_of}
 use Rattle.rept_analysis.specs.Drawing.{AreWritingsBefore}
 use Rattle.rept_analysis.proofs.Listing.{listed_less, listed_more, none_spared}
