@@ -29,18 +29,19 @@ fn traces_are_written(rt: HostRuntime) -> Result<(), Fail> {
 #[test]
 fn nothing_else_is_written(rt: HostRuntime) -> Result<(), Fail> {
     let alloc = rt.alloc();
+    let none: &[u64] = &[];
     for (name, log, reads, writes, stop) in [
-        ("f", LOG, &[], &[], Stop::NoFile),
+        ("f", LOG, none, none, Stop::NoFile),
         (
             "e",
             b"one\n".as_slice(),
-            &[],
-            &[],
+            none,
+            none,
             Stop::Refused(Refusal::NoNumber(1)),
         ),
-        ("e", LOG, [1u64].as_slice(), &[], Stop::InputFault),
-        ("e", LOG, [2u64].as_slice(), &[], Stop::InputFault),
-        ("e", LOG, &[], [1u64].as_slice(), Stop::OutputFault),
+        ("e", LOG, [1].as_slice(), none, Stop::InputFault),
+        ("e", LOG, [2].as_slice(), none, Stop::InputFault),
+        ("e", LOG, none, [1].as_slice(), Stop::OutputFault),
     ] {
         let mut shelf = CalmShelf::new(alloc);
         shelf.put("e", EXE)?;
