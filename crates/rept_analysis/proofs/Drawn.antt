@@ -137,3 +137,7 @@ read_tracked s k a at = let lt = slice_get_within s.known.store.tracked k a at i
 -- nothing is drawn, and P holds
 pub Drew_same : {W : Type 0} (a : State W) (P : State W → Type 0) → P a → Drew a a false P
 Drew_same a P h = record { news = λ e. absurd (false≢true e); unchanged = λ _. refl; closed = λ _. h; uncut = λ u. u }
+
+-- where drawing brought news, nothing is said of what is closed
+pub Drew_loud : {W : Type 0} (a b : State W) (x : Bool) (P Q : State W → Type 0) → x ≡ true → Drew a b x P → Drew a b x Q
+Drew_loud a b x P Q loud d = record { news = d.news; unchanged = d.unchanged; closed = λ e. absurd (true≢false (sym loud ∙ e)); uncut = d.uncut }

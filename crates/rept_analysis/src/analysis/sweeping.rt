@@ -164,7 +164,7 @@ impl<'a, B: ByteFacts, W: Transfer, R: RowRules> Analysis<'a, B, W, R> {
         Ok(learnt)
     }
 
-    /// All rows, back and onward, with the tracked bytes carried after each way.
+    /// All rows, back and onward; and the tracked bytes carried, once the rows tell no more: the rows that may write a byte are fewer then.
     fn draw_through(&mut self) -> Result<bool, Halt>
         requires writings { AreWritings (state_of W.sets W.moves R.rules B.store self.old) }
         requires open { self.old.complete ≡ false }
@@ -174,10 +174,13 @@ impl<'a, B: ByteFacts, W: Transfer, R: RowRules> Analysis<'a, B, W, R> {
         ensures halt { IfErr result (λ h. IsHalt (state_of W.sets W.moves R.rules B.store self.new) h) }
     {
         let back = self.draw_back()?;
-        let first = self.carry_tracked()?;
         let onward = self.draw_onward()?;
-        let second = self.carry_tracked()?;
-        Ok(back | first | onward | second)
+        let told = back | onward;
+        if told {
+            return Ok(told);
+        }
+        let carried = self.carry_tracked()?;
+        Ok(carried)
     }
 
     /// All rules once: last values and bytes, rows and carried bytes, and sets of one value.
