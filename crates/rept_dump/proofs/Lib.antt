@@ -1,2 +1,3 @@
 pub mod NoteLemmas
 pub mod SearchLemmas
+pub mod Stretches

@@ -6,28 +6,28 @@ use Rattle.std.specs.Prelude.{Result, Ok, Err, Some, slice_get, MatchBool, nat_l
 use Rattle.std.specs.List.{filter}
 use Rattle.rept_elf.specs.Segments.{ElfSegment, is_note}
 use Rattle.rept_elf.proofs.SegmentLemmas.{drop-slice_get}
-use Rattle.rept_dump.specs.Notes.{Note, HoldsNote, AreNotesThen, AreNotes, CutsNote, HaveNotes, AreCutAt, IsCutAt, IsInFile, first_note, behind_note, note_header, desc_offset, desc_size}
+use Rattle.rept_dump.specs.Notes.{Note, HoldsNote, AreNotesThen, AreNotes, CutsNote, HaveNotes, AreCutAt, IsCutAt, IsInFile, first_note, after_note, note_header, desc_offset, desc_size}
 use Rattle.rept_dump.specs.Found.{Adds, last_desc, PassesSegment, CutsSegment}
 use Rattle.rept_dump.specs.Registers.{Says, only_registers, is_status, note_segments, status_size}
 use Rattle.rept_dump.specs.declared.fault.CoreFault.{CoreFault}
 use Rattle.rept_dump.specs.declared.fault.CoreFault.TheVariants as fault
 
-pub one_more : (bytes : List ℕ) (notes : List Note) (rest : List ℕ) (note : Note) → AreNotesThen bytes notes rest → HoldsNote rest → first_note rest ≡ note → AreNotesThen bytes (notes ++ note ∷ []) (behind_note rest)
-one_more bytes [] rest note e h n = subst (λ r. HoldsNote r × (first_note r ≡ note) × (behind_note rest ≡ behind_note r)) e (h, n, refl)
-one_more bytes (first ∷ notes) rest note e h n = (e.0, e.1, one_more (behind_note bytes) notes rest note e.2 h n)
+pub one_more : (bytes : List ℕ) (notes : List Note) (rest : List ℕ) (note : Note) → AreNotesThen bytes notes rest → HoldsNote rest → first_note rest ≡ note → AreNotesThen bytes (notes ++ note ∷ []) (after_note rest)
+one_more bytes [] rest note e h n = subst (λ r. HoldsNote r × (first_note r ≡ note) × (after_note rest ≡ after_note r)) e (h, n, refl)
+one_more bytes (first ∷ notes) rest note e h n = (e.0, e.1, one_more (after_note bytes) notes rest note e.2 h n)
 
-pub last_desc-append : (desc : List ℕ) (front behind : List Note) → last_desc desc (front ++ behind) ≡ last_desc (last_desc desc front) behind
-last_desc-append desc [] behind = refl
-last_desc-append desc (note ∷ front) behind = last_desc-append note.desc front behind
+pub last_desc-append : (desc : List ℕ) (front after : List Note) → last_desc desc (front ++ after) ≡ last_desc (last_desc desc front) after
+last_desc-append desc [] after = refl
+last_desc-append desc (note ∷ front) after = last_desc-append note.desc front after
 
 pub Adds-nothing : (count : ℕ) (desc : List ℕ) → Adds count desc count desc []
 Adds-nothing count desc = record { counted = omega arith; last = refl }
 
-pub Adds-then : (count : ℕ) (desc : List ℕ) (count' : ℕ) (desc' : List ℕ) (count'' : ℕ) (desc'' : List ℕ) (front behind : List Note)
-    → Adds count desc count' desc' (filter is_status front) → Adds count' desc' count'' desc'' (filter is_status behind) → Adds count desc count'' desc'' (filter is_status (front ++ behind))
-Adds-then count desc count' desc' count'' desc'' front behind a b = rw filter-append (record {
-  counted = omega (arith, a.counted, b.counted, length-append (filter is_status front) (filter is_status behind));
-  last = b.last ∙ ap (λ d. last_desc d (filter is_status behind)) a.last ∙ sym (last_desc-append desc (filter is_status front) (filter is_status behind));
+pub Adds-then : (count : ℕ) (desc : List ℕ) (count' : ℕ) (desc' : List ℕ) (count'' : ℕ) (desc'' : List ℕ) (front after : List Note)
+    → Adds count desc count' desc' (filter is_status front) → Adds count' desc' count'' desc'' (filter is_status after) → Adds count desc count'' desc'' (filter is_status (front ++ after))
+Adds-then count desc count' desc' count'' desc'' front after a b = rw filter-append (record {
+  counted = omega (arith, a.counted, b.counted, length-append (filter is_status front) (filter is_status after));
+  last = b.last ∙ ap (λ d. last_desc d (filter is_status after)) a.last ∙ sym (last_desc-append desc (filter is_status front) (filter is_status after));
 })
 
 -- the notes of a segment so far
@@ -49,11 +49,11 @@ at_most_one note = either (is_status note)
     either true = omega arith
     either false = omega arith
 
-pub shrinks : (rest rest' : List ℕ) → HoldsNote rest → rest' ≡ behind_note rest → length rest' + 12 ≤ length rest
+pub shrinks : (rest rest' : List ℕ) → HoldsNote rest → rest' ≡ after_note rest → length rest' + 12 ≤ length rest
 shrinks rest rest' h e = rw (e, length-drop) (omega (arith, h.header))
 
 pub one_more_note : (bytes rest rest' : List ℕ) (count : ℕ) (desc : List ℕ) (count' : ℕ) (desc' : List ℕ) (count'' : ℕ) (desc'' : List ℕ) (note : Note)
-    → SoFar bytes rest count desc count' desc' → HoldsNote rest → first_note rest ≡ note → rest' ≡ behind_note rest → Adds count' desc' count'' desc'' (filter is_status (note ∷ [])) → SoFar bytes rest' count desc count'' desc''
+    → SoFar bytes rest count desc count' desc' → HoldsNote rest → first_note rest ≡ note → rest' ≡ after_note rest → Adds count' desc' count'' desc'' (filter is_status (note ∷ [])) → SoFar bytes rest' count desc count'' desc''
 one_more_note bytes rest rest' count desc count' desc' count'' desc'' note s h n e a = record {
   notes = s.notes ++ note ∷ [];
   before = subst (λ r. AreNotesThen bytes (s.notes ++ note ∷ []) r) (sym e) (one_more bytes s.notes rest note s.before h n);
@@ -142,7 +142,7 @@ ends_same bytes [] [] rest rest' h h' bare bare' = (refl, h ∙ sym h')
 ends_same bytes [] (note ∷ notes) rest rest' h h' bare bare' = absurd (bare (subst (λ r. HoldsNote r) (sym h) h'.0))
 ends_same bytes (note ∷ notes) [] rest rest' h h' bare bare' = absurd (bare' (subst (λ r. HoldsNote r) (sym h') h.0))
 ends_same bytes (note ∷ notes) (note' ∷ notes') rest rest' h h' bare bare' =
-    let same = ends_same (behind_note bytes) notes notes' rest rest' h.2 h'.2 bare bare' in
+    let same = ends_same (after_note bytes) notes notes' rest rest' h.2 h'.2 bare bare' in
     (ap (λ n. n ∷ notes) (sym h.1 ∙ h'.1) ∙ ap (λ ns. note' ∷ ns) same.0, same.1)
 
 few_hold_none : (rest : List ℕ) → length rest < note_header → HoldsNote rest → ⊥
@@ -181,13 +181,13 @@ same_cuts size (s ∷ ss) offset offset' (inr a) (inr b) = same_cuts size ss off
 
 pub same_all : (size : ℕ) (ss : List ElfSegment) (notes notes' : List Note) → HaveNotes size ss notes → HaveNotes size ss notes' → notes ≡ notes'
 same_all size [] notes notes' a b = a ∙ sym b
-same_all size (s ∷ ss) notes notes' (front, behind, e, inside, are, have) (front', behind', e', inside', are', have') =
-    e ∙ ap (λ f. f ++ behind) (same_notes s.body front front' are are') ∙ ap (λ b. front' ++ b) (same_all size ss behind behind' have have') ∙ sym e'
+same_all size (s ∷ ss) notes notes' (front, after, e, inside, are, have) (front', after', e', inside', are', have') =
+    e ∙ ap (λ f. f ++ after) (same_notes s.body front front' are are') ∙ ap (λ b. front' ++ b) (same_all size ss after after' have have') ∙ sym e'
 
 pub whole_or_cuts : (size : ℕ) (ss : List ElfSegment) (notes : List Note) (offset : ℕ) → HaveNotes size ss notes → AreCutAt size ss offset → ⊥
 whole_or_cuts size [] notes offset a b = b
-whole_or_cuts size (s ∷ ss) notes offset (front, behind, e, inside, are, have) (inl b) = not_both size s offset front b inside are
-whole_or_cuts size (s ∷ ss) notes offset (front, behind, e, inside, are, have) (inr b) = whole_or_cuts size ss behind offset have b.2
+whole_or_cuts size (s ∷ ss) notes offset (front, after, e, inside, are, have) (inl b) = not_both size s offset front b inside are
+whole_or_cuts size (s ∷ ss) notes offset (front, after, e, inside, are, have) (inr b) = whole_or_cuts size ss after offset have b.2
 
 -- one thing is said of a core file
 pub said_once : (size : ℕ) (ss : List ElfSegment) (said said' : Result (List ℕ) CoreFault) → Says size ss said → Says size ss said' → said ≡ said'

@@ -4,3 +4,4 @@ pub mod Memory
 pub mod Notes
 pub mod Registers
 pub mod Status
+pub mod Stretch

@@ -40,20 +40,20 @@ pub record HoldsNote (bytes : List ℕ) : Type 0 where
   pub header : note_header ≤ length bytes
   pub fits : desc_offset bytes + desc_size bytes ≤ length bytes
 
--- what stands behind the note that begins the bytes
-abbrev pub behind_note : List ℕ → List ℕ
-behind_note bytes = drop (desc_offset bytes + padded (desc_size bytes)) bytes
+-- what stands after the note that begins the bytes
+abbrev pub after_note : List ℕ → List ℕ
+after_note bytes = drop (desc_offset bytes + padded (desc_size bytes)) bytes
 
 -- the bytes are these notes, one after the other, and then the rest
 abbrev pub AreNotesThen : List ℕ → List Note → List ℕ → Type 0
 AreNotesThen bytes [] rest = rest ≡ bytes
-AreNotesThen bytes (note ∷ notes) rest = HoldsNote bytes × (first_note bytes ≡ note) × AreNotesThen (behind_note bytes) notes rest
+AreNotesThen bytes (note ∷ notes) rest = HoldsNote bytes × (first_note bytes ≡ note) × AreNotesThen (after_note bytes) notes rest
 
 -- the bytes are these notes; fewer bytes than a note has at least are none
 abbrev pub AreNotes : List ℕ → List Note → Type 0
 AreNotes bytes notes = (rest : List ℕ) × AreNotesThen bytes notes rest × (length rest < note_header)
 
--- behind some notes one begins, at this place, that the bytes do not hold
+-- after some notes one begins, at this place, that the bytes do not hold
 pub record CutsNote (bytes : List ℕ) (place : ℕ) : Type 0 where
   pub notes : List Note
   pub rest : List ℕ
@@ -70,7 +70,7 @@ IsInFile size s = s.offset + s.filesz ≤ size
 abbrev pub HaveNotes : ℕ → List ElfSegment → List Note → Type 0
 HaveNotes size [] notes = notes ≡ []
 HaveNotes size (s ∷ ss) notes =
-    (front : List Note) × (behind : List Note) × (notes ≡ front ++ behind) × IsInFile size s × AreNotes s.body front × HaveNotes size ss behind
+    (front : List Note) × (after : List Note) × (notes ≡ front ++ after) × IsInFile size s × AreNotes s.body front × HaveNotes size ss after
 
 -- the file does not hold the segment, or the segment a note, which begins at this offset of the file
 abbrev pub IsCutAt : ℕ → ElfSegment → ℕ → Type 0

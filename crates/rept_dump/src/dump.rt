@@ -1,14 +1,19 @@
-ghost use Rattle.std.specs.Prelude.{◌≡◌, ◌≤◌, ℕ, List, Result, length, IfOk};
+//! An executable and the core file of its crash, as one.
+
+ghost use Rattle.std.specs.Prelude.{◌≡◌, ◌≤◌, ◌<◌, ◌&&◌, ℕ, List, Result, Some, None, length, slice_index, IfOk, if◌then◌else◌};
+ghost use Rattle.rept_elf.specs.Header.{word_at};
 ghost use Rattle.rept_elf.specs.Segments.{greatest_end};
-ghost use Rattle.rept_elf.specs.Image.{file_of, segments_of};
-ghost use Rattle.rept_dump.specs.Memory.{byte_at, code_at};
+ghost use Rattle.rept_elf.specs.Image.{file_of, segments_of, segment_of};
+ghost use Rattle.rept_dump.specs.Memory.{byte_at, code_at, allows, holds, bytes_from};
 ghost use Rattle.rept_dump.specs.Registers.{Says, status_size};
+ghost use Rattle.rept_dump.specs.Stretch.{AnswersAlike, sought_code, sought_saved, sought_kept};
 
 use crate::fault::CoreFault;
 use crate::notes::find_registers;
-use crate::search::{Allowed, find_bytes};
+use crate::search::{Allowed, held_bytes};
 use crate::status::{Status, read_status};
-use rept_elf::{Image, word};
+use crate::stretch::{NOWHERE, Stretch, stretch_near};
+use rept_elf::{Image, Segment, word};
 
 /// An executable and the core file of its crash, whose notes are whole and have the registers of one thread.
 #[derive(Clone, Copy)]
@@ -16,7 +21,32 @@ pub struct Dump<'a> {
     exe: Image<'a>,
     core: Image<'a>,
     registers: &'a [u8],
+    image_end: u64,
+    // Where code, saved bytes and bytes of the executable were looked for last.
+    code: Stretch<'a>,
+    saved: Stretch<'a>,
+    kept: Stretch<'a>,
     ghost has_registers: { status_size ≤ length registers.now },
+    ghost ends: { image_end ≡ greatest_end (segments_of exe) },
+    ghost code_answers: { AnswersAlike (sought_code (segments_of exe)) code },
+    ghost saved_answers: { AnswersAlike (sought_saved (segments_of core)) saved },
+    ghost kept_answers: { AnswersAlike (sought_kept (segments_of exe)) kept },
+}
+
+/// The byte at an address, if this segment has it.
+fn byte_in(segment: &Segment<'_>, allowed: Allowed, a: u32) -> Option<u8>
+    ensures { result ≡ (if allows allowed (segment_of segment.now) && holds a 1 (segment_of segment.now) then Some (slice_index (bytes_from a (segment_of segment.now)) 0) else None) }
+{
+    let bytes = held_bytes(segment, allowed, a, 1)?;
+    Some(bytes[0])
+}
+
+/// The word of code at an address, if this segment has all of it.
+fn word_in(segment: &Segment<'_>, a: u32) -> Option<u32>
+    ensures { result ≡ (if allows Allowed.Executable (segment_of segment.now) && holds a 4 (segment_of segment.now) then Some (word_at (bytes_from a (segment_of segment.now)) 0) else None) }
+{
+    let bytes = held_bytes(segment, Allowed::Executable, a, 4)?;
+    Some(word(bytes, 0))
 }
 
 impl<'a> Dump<'a> {
@@ -32,10 +62,15 @@ impl<'a> Dump<'a> {
         ensures core { IfOk result (λ dump. core_of dump ≡ segments_of core.entry) }
     {
         let registers = find_registers(&core)?;
+        let image_end = exe.image_end();
         Ok(Dump {
             exe,
             core,
             registers,
+            image_end,
+            code: NOWHERE,
+            saved: NOWHERE,
+            kept: NOWHERE,
         })
     }
 
@@ -52,11 +87,13 @@ impl<'a> Dump<'a> {
     pub fn byte(&self, a: u32) -> Option<u8>
         ensures { result ≡ byte_at (exe_of self.now) (core_of self.now) a }
     {
-        let bytes = match find_bytes(&self.core, Allowed::All, a, 1) {
-            Some(bytes) => bytes,
-            None => find_bytes(&self.exe, Allowed::ReadOnly, a, 1)?,
-        };
-        Some(bytes[0])
+        match self.saved_near(a).segment {
+            Some(segment) => byte_in(&segment, Allowed::All, a),
+            None => match self.kept_near(a).segment {
+                Some(segment) => byte_in(&segment, Allowed::ReadOnly, a),
+                None => None,
+            },
+        }
     }
 
     /// The word of code at this address: the four bytes in the first `PT_LOAD` segment of the executable with `PF_X` whose
@@ -64,14 +101,63 @@ impl<'a> Dump<'a> {
     pub fn word_of_code(&self, a: u32) -> Option<u32>
         ensures { result ≡ code_at (exe_of self.now) a }
     {
-        let bytes = find_bytes(&self.exe, Allowed::Executable, a, 4)?;
-        Some(word(bytes, 0))
+        match self.code_near(a).segment {
+            Some(segment) => word_in(&segment, a),
+            None => None,
+        }
     }
 
     /// The end of the executable's image: the greatest `vaddr + memsz` of a `PT_LOAD` segment of it, 0 without one.
     pub fn image_end(&self) -> u64
         ensures { result ≡ greatest_end (exe_of self.now) }
     {
-        self.exe.image_end()
+        self.image_end
+    }
+
+    /// The same dump, which finds words of code near this address without a search among all segments.
+    pub fn near_code(&self, a: u32) -> Dump<'a>
+        ensures exe { exe_of result ≡ exe_of self.now }
+        ensures core { core_of result ≡ core_of self.now }
+        ensures registers { registers_of result ≡ registers_of self.now }
+    {
+        let mut dump = *self;
+        dump.code = self.code_near(a);
+        dump
+    }
+
+    /// The same dump, which finds bytes near this address without a search among all segments.
+    pub fn near_byte(&self, a: u32) -> Dump<'a>
+        ensures exe { exe_of result ≡ exe_of self.now }
+        ensures core { core_of result ≡ core_of self.now }
+        ensures registers { registers_of result ≡ registers_of self.now }
+    {
+        let mut dump = *self;
+        dump.saved = self.saved_near(a);
+        dump.kept = self.kept_near(a);
+        dump
+    }
+
+    /// The stretch of code of an address.
+    fn code_near(&self, a: u32) -> Stretch<'a>
+        ensures within { (result.from ≤ a) × (a < result.to) }
+        ensures alike { AnswersAlike (sought_code (exe_of self.now)) result }
+    {
+        stretch_near(self.code, &self.exe, Allowed::Executable, a, 4)
+    }
+
+    /// The stretch of an address among saved bytes.
+    fn saved_near(&self, a: u32) -> Stretch<'a>
+        ensures within { (result.from ≤ a) × (a < result.to) }
+        ensures alike { AnswersAlike (sought_saved (core_of self.now)) result }
+    {
+        stretch_near(self.saved, &self.core, Allowed::All, a, 1)
+    }
+
+    /// The stretch of an address among bytes of the executable that can't be written.
+    fn kept_near(&self, a: u32) -> Stretch<'a>
+        ensures within { (result.from ≤ a) × (a < result.to) }
+        ensures alike { AnswersAlike (sought_kept (exe_of self.now)) result }
+    {
+        stretch_near(self.kept, &self.exe, Allowed::ReadOnly, a, 1)
     }
 }

@@ -1,3 +1,5 @@
+//! Why a core file's notes are refused.
+
 use thiserror::Error;
 
 /// Why a core file's notes are refused. Note segments are gone through in table order, and the notes of each in turn; the

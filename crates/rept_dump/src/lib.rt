@@ -1,5 +1,5 @@
-// What an executable and the core file of its crash say: the registers, the bytes of memory that are known, and the words
-// of code. Nothing is copied.
+//! What an executable and the core file of its crash say: the registers, the bytes of memory that are known, and the words
+//! of code. Nothing is copied.
 #![tactic(auto)]
 
 mod dump;
@@ -7,6 +7,7 @@ mod fault;
 mod notes;
 mod search;
 mod status;
+mod stretch;
 
 pub use dump::Dump;
 pub use fault::CoreFault;

@@ -1,9 +1,11 @@
+//! The notes of a core file.
+
 ghost use Rattle.std.specs.Prelude.{◌≡◌, ◌≤◌, ◌<◌, ◌+◌, ◌^◌, ◌==◌, ℕ, List, [], ◌∷◌, length, drop, MatchOption, IfOk, IfErr};
 ghost use Rattle.std.specs.List.{filter, list_all};
 ghost use Rattle.std.specs.Result.{result_map_both};
 ghost use Rattle.rept_elf.specs.Image.{file_of, segments_of, segment_of};
 ghost use Rattle.rept_dump.specs.Found.{Adds, PassesSegment, CutsSegment};
-ghost use Rattle.rept_dump.specs.Notes.{Note as NoteOf, HoldsNote, AreNotes, CutsNote, HaveNotes, AreCutAt, first_note as note_of, behind_note, desc_offset, desc_size, note_header, padded as padded_size};
+ghost use Rattle.rept_dump.specs.Notes.{Note as NoteOf, HoldsNote, AreNotes, CutsNote, HaveNotes, AreCutAt, first_note as note_of, after_note, desc_offset, desc_size, note_header, padded as padded_size};
 ghost use Rattle.rept_dump.specs.Registers.{Says, status_size, is_core_name, is_status, note_segments, only_registers};
 
 use crate::fault::CoreFault;
@@ -18,13 +20,13 @@ const NT_PRSTATUS: u32 = 1;
 /// The bytes of a register note's descriptor.
 const STATUS_SIZE: usize = 204;
 
-/// A note, and what stands behind it.
+/// A note, and what stands after it.
 #[derive(Clone, Copy)]
 struct Note<'a> {
     kind: u32,
     name: &'a [u8],
     desc: &'a [u8],
-    behind: &'a [u8],
+    after: &'a [u8],
 }
 
 /// The next multiple of 4.
@@ -38,7 +40,7 @@ fn padded(size: u32) -> usize
 fn first_note(bytes: &[u8]) -> Option<Note<'_>>
     requires { note_header ≤ length bytes.now }
     ensures { MatchOption result (length bytes.now < desc_offset bytes.now + desc_size bytes.now)
-        (λ n. HoldsNote bytes.now × (note_of bytes.now ≡ record { kind = n.kind; name = n.name.now; desc = n.desc.now }) × (n.behind.now ≡ behind_note bytes.now)) }
+        (λ n. HoldsNote bytes.now × (note_of bytes.now ≡ record { kind = n.kind; name = n.name.now; desc = n.desc.now }) × (n.after.now ≡ after_note bytes.now)) }
 {
     let name_len = word(bytes, 0);
     let desc_len = word(bytes, 4);
@@ -50,12 +52,12 @@ fn first_note(bytes: &[u8]) -> Option<Note<'_>>
         kind: word(bytes, 8),
         name: part(bytes, NOTE_HEADER, name_len as usize),
         desc: part(bytes, desc_start, desc_len as usize),
-        behind: behind(bytes, desc_start + padded(desc_len)),
+        after: after(bytes, desc_start + padded(desc_len)),
     })
 }
 
 /// The bytes from an offset on.
-fn behind(bytes: &[u8], offset: usize) -> &[u8]
+fn after(bytes: &[u8], offset: usize) -> &[u8]
     ensures { result.now ≡ drop offset bytes.now }
 {
     bytes.get(offset..).unwrap_or(&[])
@@ -68,11 +70,11 @@ fn is_zero(bytes: &[u8]) -> bool
     bytes.iter().all(|b| *b == 0)
 }
 
-/// Whether a name is `CORE` and zero bytes behind it.
+/// Whether a name is `CORE` and zero bytes after it.
 fn is_core(name: &[u8]) -> bool
     ensures { result ≡ is_core_name name.now }
 {
-    name.starts_with(b"CORE") && is_zero(behind(name, 4))
+    name.starts_with(b"CORE") && is_zero(after(name, 4))
 }
 
 /// The register notes so far: how many, and the descriptor of the last.
@@ -113,7 +115,7 @@ fn read_notes<'a>(bytes: &'a [u8], offset: u32, found: Found<'a>) -> Result<Foun
             return Err(CoreFault::NotePastEnd(u64::from(offset) + place as u64));
         };
         now = add_note(now, &note);
-        rest = note.behind;
+        rest = note.after;
     }
     Ok(now)
 }

@@ -1,10 +1,11 @@
-ghost use Rattle.std.specs.Prelude.{◌≡◌, ◌≤◌, ◌-◌, ◌&&◌, length, drop, IfSome, Some, None, if◌then◌else◌};
+//! The first segment that has an address.
+
+ghost use Rattle.std.specs.Prelude.{◌≡◌, ◌≤◌, ◌&&◌, length, IfSome, Some, None, if◌then◌else◌};
 ghost use Rattle.std.specs.Option.{option_map};
-ghost use Rattle.std.specs.List.{find};
-ghost use Rattle.rept_elf.specs.Image.{segments_of, segment_of};
+ghost use Rattle.rept_elf.specs.Image.{segment_of};
 ghost use Rattle.rept_dump.specs.Memory.{allows, holds, bytes_from};
 
-use rept_elf::{Image, PF_W, PF_X, PT_LOAD, Segment};
+use rept_elf::{PF_W, PF_X, PT_LOAD, Segment};
 
 /// The segments among which is looked.
 #[derive(Clone, Copy, Debug, PartialEq, Eq)]
@@ -17,21 +18,8 @@ pub enum Allowed {
     Executable,
 }
 
-/// The bytes from an address on, of the first allowed segment that is part of memory and has so many of them in its file.
-pub fn find_bytes<'a>(image: &Image<'a>, allowed: Allowed, a: u32, count: usize) -> Option<&'a [u8]>
-    ensures bytes { option_map (λ b. b.now) result ≡ option_map (bytes_from a) (find (λ s. allows allowed s && holds a count s) (segments_of image.now)) }
-    ensures enough { IfSome result (λ b. count ≤ length b.now) }
-{
-    for i in 0..image.count() {
-        let segment = image.segment(i);
-        if let Some(bytes) = held_bytes(&segment, allowed, a, count) {
-            return Some(bytes);
-        }
-    }
-    None
-}
-
-fn is_allowed(segment: &Segment<'_>, allowed: Allowed) -> bool
+/// Whether it is looked in this segment.
+pub fn is_allowed(segment: &Segment<'_>, allowed: Allowed) -> bool
     ensures { result ≡ allows allowed (segment_of segment.now) }
 {
     match allowed {
@@ -42,7 +30,12 @@ fn is_allowed(segment: &Segment<'_>, allowed: Allowed) -> bool
 }
 
 /// The segment's bytes from an address on, where it is allowed and part of memory, and its file has so many of them.
-fn held_bytes<'a>(segment: &Segment<'a>, allowed: Allowed, a: u32, count: usize) -> Option<&'a [u8]>
+pub fn held_bytes<'a>(
+    segment: &Segment<'a>,
+    allowed: Allowed,
+    a: u32,
+    count: usize,
+) -> Option<&'a [u8]>
     ensures bytes { option_map (λ b. b.now) result ≡ (if allows allowed (segment_of segment.now) && holds a count (segment_of segment.now) then Some (bytes_from a (segment_of segment.now)) else None) }
     ensures enough { IfSome result (λ b. count ≤ length b.now) }
 {

@@ -1,3 +1,5 @@
+//! The register note of a core file.
+
 ghost use Rattle.std.specs.Prelude.{◌≡◌, ◌≤◌, length};
 ghost use Rattle.rept_dump.specs.Registers.{status_size};
 ghost use Rattle.rept_dump.specs.Status.{IsStatus};
@@ -11,7 +13,7 @@ pub struct Status {
     pub pid: u32,
     /// The signal.
     pub signal: u16,
-    /// The address of the instruction that faulted, or behind the `ecall`.
+    /// The address of the instruction that faulted, or after the `ecall`.
     pub pc: u32,
     /// x0 to x31, of which x0 is 0.
     pub regs: [u32; 32],

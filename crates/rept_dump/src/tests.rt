@@ -1,3 +1,5 @@
+//! Damaged notes, each with its fault, and a real crash.
+
 mod real;
 
 use crate::{CoreFault, Dump};
@@ -68,7 +70,7 @@ fn faults(rt: HostRuntime) -> Result<(), Fail> {
     Ok(())
 }
 
-// A name is the bytes that its size counts, and must be `CORE` with nothing but zeros behind it. The size of the name, and the byte
+// A name is the bytes that its size counts, and must be `CORE` with nothing but zeros after it. The size of the name, and the byte
 // that stands fifth: with a size of 4 it belongs to the descriptor.
 #[test]
 fn names_of_notes(rt: HostRuntime) -> Result<(), Fail> {

@@ -30,26 +30,26 @@ slice_get-segments file i h = slice_get-segments_from file 0 (e_phnum file) i h 
 pub drop-slice_get : {X : Type 0} → (xs : List X) (i : ℕ) (x : X) → slice_get xs i ≡ Some x → drop i xs ≡ x ∷ drop (i + 1) xs
 drop-slice_get xs i x h = at_drop_more (λ ys. ys) xs i x (slice_get_within xs i x h) ∙ ap (λ y. y ∷ drop (i + 1) xs) (get_or_from_slice_get xs i x x h)
 
-first_failure-append_passed : (front behind : List Check) → first_failure front ≡ None → first_failure (front ++ behind) ≡ first_failure behind
-first_failure-append_passed [] behind h = refl
-first_failure-append_passed (c ∷ cs) behind h = either c.passes h (first_failure-append_passed cs behind)
+first_failure-append_passed : (front after : List Check) → first_failure front ≡ None → first_failure (front ++ after) ≡ first_failure after
+first_failure-append_passed [] after h = refl
+first_failure-append_passed (c ∷ cs) after h = either c.passes h (first_failure-append_passed cs after)
   where
-    either : (passes : Bool) → cond passes (first_failure cs) (Some c.fault) ≡ None → (first_failure cs ≡ None → first_failure (cs ++ behind) ≡ first_failure behind) → cond passes (first_failure (cs ++ behind)) (Some c.fault) ≡ first_failure behind
+    either : (passes : Bool) → cond passes (first_failure cs) (Some c.fault) ≡ None → (first_failure cs ≡ None → first_failure (cs ++ after) ≡ first_failure after) → cond passes (first_failure (cs ++ after)) (Some c.fault) ≡ first_failure after
     either true e k = k e
     either false e k = cc
 
-first_failure-append_failed : (front behind : List Check) (f : ElfFault) → first_failure front ≡ Some f → first_failure (front ++ behind) ≡ Some f
-first_failure-append_failed [] behind f h = cc
-first_failure-append_failed (c ∷ cs) behind f h = either c.passes h (first_failure-append_failed cs behind f)
+first_failure-append_failed : (front after : List Check) (f : ElfFault) → first_failure front ≡ Some f → first_failure (front ++ after) ≡ Some f
+first_failure-append_failed [] after f h = cc
+first_failure-append_failed (c ∷ cs) after f h = either c.passes h (first_failure-append_failed cs after f)
   where
-    either : (passes : Bool) → cond passes (first_failure cs) (Some c.fault) ≡ Some f → (first_failure cs ≡ Some f → first_failure (cs ++ behind) ≡ Some f) → cond passes (first_failure (cs ++ behind)) (Some c.fault) ≡ Some f
+    either : (passes : Bool) → cond passes (first_failure cs) (Some c.fault) ≡ Some f → (first_failure cs ≡ Some f → first_failure (cs ++ after) ≡ Some f) → cond passes (first_failure (cs ++ after)) (Some c.fault) ≡ Some f
     either true e k = k e
     either false e k = e
 
-pub checks_passed : (front behind : List Check) → first_failure front ≡ None → first_failure (front ++ behind) ≡ first_failure behind
+pub checks_passed : (front after : List Check) → first_failure front ≡ None → first_failure (front ++ after) ≡ first_failure after
 checks_passed = first_failure-append_passed
 
-pub checks_failed : (front behind : List Check) (f : ElfFault) → first_failure front ≡ Some f → first_failure (front ++ behind) ≡ Some f
+pub checks_failed : (front after : List Check) (f : ElfFault) → first_failure front ≡ Some f → first_failure (front ++ after) ≡ Some f
 checks_failed = first_failure-append_failed
 
 -- what is checked of the segments from an index on

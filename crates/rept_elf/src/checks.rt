@@ -1,3 +1,5 @@
+//! The checks of a file, in their order.
+
 ghost use Rattle.std.specs.Prelude.{◌≡◌, length, OnOk};
 ghost use Rattle.std.specs.Result.{result_err};
 ghost use Rattle.rept_elf.specs.Checks.{header_checks, segment_checks, table_checks, first_failure, wanted_type};

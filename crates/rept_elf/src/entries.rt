@@ -1,3 +1,5 @@
+//! The program headers of a file.
+
 ghost use Rattle.std.specs.Prelude.{◌≡◌, ◌<◌, ◌≤◌, length};
 ghost use Rattle.rept_elf.specs.Header.{HasTable, entry_offset, e_phnum};
 ghost use Rattle.rept_elf.specs.Segments.{segment_from};

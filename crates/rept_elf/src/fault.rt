@@ -1,3 +1,5 @@
+//! The kind of file that is wanted, and why one is refused.
+
 use thiserror::Error;
 
 /// What kind of file is wanted.

@@ -1,3 +1,5 @@
+//! Little-endian fields of a file.
+
 ghost use Rattle.std.specs.Prelude.{◌≡◌, ◌≤◌, ◌+◌, length};
 ghost use Rattle.rept_elf.specs.Header.{half_at, word_at};
 ghost use Rattle.rept_elf.specs.Segments.{part_of};

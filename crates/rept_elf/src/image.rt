@@ -1,3 +1,5 @@
+//! A file whose checks passed, and its segments.
+
 ghost use Rattle.std.specs.Prelude.{◌≡◌, ◌<◌, ◌≤◌, length, slice_get, Some, IfOk};
 ghost use Rattle.std.specs.Result.{result_err};
 ghost use Rattle.rept_elf.specs.Checks.{checks, first_failure};

@@ -1,3 +1,5 @@
+//! A segment of a file, and the bits of its flags.
+
 /// `p_type` of a segment that is part of memory.
 pub const PT_LOAD: u32 = 1;
 

@@ -1,3 +1,5 @@
+//! Damaged headers, each with its fault, and a real executable.
+
 use crate::{ElfFault, Image, PT_LOAD, Want};
 use std::test::Fail;
 

@@ -1,4 +1,4 @@
-// The bytes of the real files, as `real-files/make.sh` makes them.
+//! The bytes of the real files, as `real-files/make.sh` makes them.
 
 /// The executable `crash`.
 pub const EXECUTABLE: &[u8] = b"\
