@@ -11,7 +11,7 @@ use Rattle.rept_path.specs.Code.{look, flow_of, sum, jumps_far, is_branch, branc
 use Rattle.rept_path.specs.Packets.{low_bits, bits, bits_of, reported, waits_after, waiting, begins}
 use Rattle.rept_path.specs.Moves.{Lead, Place, after, along, bits_fit}
 use Rattle.rept_path.specs.Legs.{PhaseLeg}
-use Rattle.rept_path.specs.Route.{Phase, lead_of, phases_of, mark_after, RunningLeg, LegBy, met_by, Leg, place, marked, admits}
+use Rattle.rept_path.specs.Route.{Phase, lead_of, with_bits, phases_of, Arrival, mark_after, by_waiting, RunningLeg, WaitingLeg, met_by, Leg, place, marked, admits}
 use Rattle.rept_path.proofs.MoveLemmas.{branch_of}
 use Rattle.rept_encode.specs.Bits.{passed, branch_row, count, bit_list}
 use Rattle.rept_encode.specs.Walkable.{calls, IsStepped}
@@ -76,11 +76,11 @@ pub record Sends (code : List ElfSegment) (packet : Packet) (before : ℕ) (phas
   pub phases : phases_of packet false before ≡ phase ∷ []
   pub begun : begins packet false ≡ false
   pub runs : waits_after packet false ≡ false
-  pub mark : (all : List Bool) (r : ℕ) (p : Place) → mark_after code packet false all r p ≡ false
+  pub mark : (x : Arrival) → mark_after code packet false x ≡ false
 
-pub leg_after : (code : List ElfSegment) (packet : Packet) (earlier : List Packet) (legs : List (List StepRow)) (leg : List StepRow) (waits : Bool) → 0 < length earlier → waiting earlier ≡ waits → LegBy code packet waits (met_by code 0 earlier legs) leg → Leg code 0 packet earlier legs leg
+pub leg_after : (code : List ElfSegment) (packet : Packet) (earlier : List Packet) (legs : List (List StepRow)) (leg : List StepRow) (waits : Bool) → 0 < length earlier → waiting earlier ≡ waits → by_waiting waits (WaitingLeg code packet (met_by code 0 earlier legs) leg) (RunningLeg code packet (met_by code 0 earlier legs) leg) → Leg code packet (record { skipped = 0; packets = earlier; legs = legs }) leg
 leg_after code packet [] legs leg waits some w h = absurd (omega arith)
-leg_after code packet (last ∷ earlier) legs leg waits some w h = subst (λ (b : Bool). LegBy code packet b (met_by code 0 (last ∷ earlier) legs) leg) (sym w) h
+leg_after code packet (last ∷ earlier) legs leg waits some w h = let met = met_by code 0 (last ∷ earlier) legs in subst (λ (b : Bool). by_waiting b (WaitingLeg code packet met leg) (RunningLeg code packet met leg)) (sym w) h
 
 module _ (code : List ElfSegment) (packet : Packet) (packets : List Packet) (legs : List (List StepRow)) (leg : List StepRow) (phase : Phase) (stands : Stands code packets legs) (x : Sends code packet (reported packets) phase) where
   place_next : place code (packet ∷ packets) (leg ∷ legs) ≡ along code (place code packets legs) leg
@@ -97,7 +97,7 @@ module _ (code : List ElfSegment) (packet : Packet) (packets : List Packet) (leg
       let b = x.begun in
       rw (r, b) refl
 
-  pub by_packet : (next : StepRow) (rows : List StepRow) → PhaseLeg code (lead_of (0 + length packets) (bits code packets ++ bits_of code packet) phase) phase.aim (place code packets legs) leg → rows ≡ leg ++ (place code packets legs).rows → (along code (place code packets legs) leg).at ≡ next.at
+  pub by_packet : (next : StepRow) (rows : List StepRow) → PhaseLeg code (lead_of (with_bits code packet (met_by code 0 packets legs)) phase) phase.aim (place code packets legs) leg → rows ≡ leg ++ (place code packets legs).rows → (along code (place code packets legs) leg).at ≡ next.at
       → length (bits code packets ++ bits_of code packet) ≡ (along code (place code packets legs) leg).branches + count next → (branch_row next ≡ true → slice_get (bits code packets ++ bits_of code packet) (along code (place code packets legs) leg).branches ≡ Some (passed next)) → Coded code (packet ∷ packets) [] [] next rows
   unfolding waiting marked
   by_packet next rows taken seen at size bit =
@@ -110,7 +110,7 @@ module _ (code : List ElfSegment) (packet : Packet) (packets : List Packet) (leg
         stands = record {
           route = (leg_after code packet packets legs leg false stands.some w legs_here, stands.route);
           runs = rw w x.runs;
-          plain = rw m (x.mark _ _ _);
+          plain = rw m (x.mark _);
           some = omega arith;
         };
         seen = rw place_next (seen ∙ sym (rows_along code (place code packets legs) leg));
@@ -131,11 +131,11 @@ report_reported zero map report packets = refl
 report_reported (suc count) map report packets = refl
 
 report_sends : (code : List ElfSegment) (n map before : ℕ) (report : Report) → (report.notify || report.updiscon) ≡ true → Sends code (report_packet n map report) before (record { target = Some (sum before report.difference); aim = aims.Report (sum before report.difference) report.notify report.updiscon })
-report_sends code zero map before report h = record { admitted = refl; phases = refl; begun = refl; runs = refl; mark = λ all r p. not_inferred code all r report.notify report.updiscon p h }
-report_sends code (suc n) map before report h = record { admitted = refl; phases = refl; begun = refl; runs = refl; mark = λ all r p. not_inferred code all r report.notify report.updiscon p h }
+report_sends code zero map before report h = record { admitted = refl; phases = refl; begun = refl; runs = refl; mark = λ x. not_inferred code x.bits x.reported report.notify report.updiscon x.place h }
+report_sends code (suc n) map before report h = record { admitted = refl; phases = refl; begun = refl; runs = refl; mark = λ x. not_inferred code x.bits x.reported report.notify report.updiscon x.place h }
 
 map_sends : (code : List ElfSegment) (map before : ℕ) → Sends code (Map map) before (record { target = None; aim = aims.LastBit })
-map_sends code map before = record { admitted = refl; phases = refl; begun = refl; runs = refl; mark = λ all r p. refl }
+map_sends code map before = record { admitted = refl; phases = refl; begun = refl; runs = refl; mark = λ x. refl }
 
 -- The kept rows are walked by a report of the address of the row that they lead to, which is asked for.
 module _ (code : List ElfSegment) (packets : List Packet) (n map : ℕ) (row : StepRow) (kept : List StepRow) (here : StepRow) (rows : List StepRow) (c : Coded code packets (low_bits n map) (row ∷ kept) here rows) (placed : look code here.at ≡ Ok here.instr) where

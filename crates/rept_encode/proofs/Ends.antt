@@ -1,10 +1,9 @@
 -- The first packet, what a call makes of a trace, and the end of the path.
-use Rattle.std.proofs.Common.{◌≡◌, ℕ, ◌+◌, ◌%◌, ◌<◌, ◌==◌, List, [], ◌∷◌, ◌++◌, length, reverse, slice_get, Option, Some, Bool, true, false, cond, Result, Ok, refl, sym, ◌∙◌, ap, subst, arith}
+use Rattle.std.proofs.Common.{◌≡◌, ℕ, ◌+◌, ◌%◌, ◌<◌, ◌==◌, List, [], ◌∷◌, ◌++◌, length, reverse, slice_get, Option, None, Some, Bool, true, false, cond, Result, Ok, refl, sym, ◌∙◌, ap, subst, arith}
 use Rattle.std.proofs.lemmas.List.{append-nil, reverse-append, reverse-reverse}
 use Rattle.std.proofs.lemmas.Bool.Decides.{eqb_tells, nat_tests}
 use Rattle.std.proofs.lemmas.List.Folds.{list_any-append}
 use Rattle.rept_elf.specs.Segments.{ElfSegment}
-use Rattle.rept_isa.specs.declared.instr.Instr.{Instr}
 use Rattle.rept_isa.specs.declared.row.StepRow.{StepRow}
 use Rattle.rept_isa.specs.Numbers.{plus, following}
 use Rattle.rept_trace.specs.declared.packet.Packet.{Packet}
@@ -16,10 +15,10 @@ use Rattle.rept_path.specs.declared.fault.PathFault.{PathFault}
 use Rattle.rept_path.specs.declared.fault.PathFault.TheVariants.{Gap, End}
 use Rattle.rept_path.specs.Code.{look, flow_of, branches}
 use Rattle.rept_path.specs.Packets.{bits, bits_of, reported, waiting}
-use Rattle.rept_path.specs.Moves.{Place, by_bit, ◌>>=◌}
-use Rattle.rept_path.specs.Gap.{row, by_successor, crossing, gap}
-use Rattle.rept_path.specs.Route.{place, marked}
-use Rattle.rept_path.specs.Trace.{starts, loses, Window, IsPath}
+use Rattle.rept_path.specs.Moves.{Place, Stand, by_bit, successor, ◌>>=◌}
+use Rattle.rept_path.specs.Gap.{row, Goal, Edge, by_successor, by_flow, crossing, gap, gap_to_start}
+use Rattle.rept_path.specs.Route.{Met, stand_of, met_by, place, marked}
+use Rattle.rept_path.specs.Trace.{starts, loses, Window, stand_after, IsPath}
 use Rattle.rept_path.proofs.GapLemmas.{gap_ok}
 use Rattle.rept_path.proofs.MoveLemmas.{branch_of}
 use Rattle.rept_encode.specs.Bits.{passed_by, passed, branch_row, bit_list, start_bit}
@@ -53,31 +52,34 @@ at_there : (a b : ℕ) → a ≡ b → (a == b) ≡ true
 at_there a b h = grind (arith, nat_tests)
 
 -- a row crosses to where it leads
-by_next : (code : List ElfSegment) (p : ℕ) (i : Instr) (next : ℕ) (otherwise : PathFault) (s : Result ℕ PathFault) → s ≡ Ok next → (s >>= by_successor code p i next otherwise) ≡ Ok (row p i next false ∷ [])
-by_next code p i next otherwise s h =
-    let f : ℕ → Result (List StepRow) PathFault = by_successor code p i next otherwise in
-    let t : (next == next) ≡ true = at_there next next refl in
-    let one : (s >>= f) ≡ (Ok next >>= f) = ap (λ (x : Result ℕ PathFault). x >>= f) h in
+by_next : (code : List ElfSegment) (e : Edge) (next : Result ℕ PathFault) → next ≡ Ok e.to → (next >>= by_successor code e) ≡ Ok (row e.at e.instr e.to false ∷ [])
+by_next code e next h =
+    let f : ℕ → Result (List StepRow) PathFault = by_successor code e in
+    let t : (e.to == e.to) ≡ true = at_there e.to e.to refl in
+    let one : (next >>= f) ≡ (Ok e.to >>= f) = ap (λ (x : Result ℕ PathFault). x >>= f) h in
     one ∙ rw t refl
 
-pub crosses : (code : List ElfSegment) (n p : ℕ) (i : Instr) (next : ℕ) (otherwise : PathFault) (bit : Option Bool) (flow : Flow) → MayLead flow p next → (branches flow ≡ true → bit ≡ Some (passed_by flow p next)) → crossing code n p i next otherwise bit flow ≡ Ok (row p i next (calls flow) ∷ [])
-crosses code n p i next otherwise bit Plain l b = by_next code p i next otherwise (Ok (following p)) (ap (λ (x : ℕ). Ok x) (sym l))
-crosses code n p i next otherwise bit (Jump imm) l b = by_next code p i next otherwise (Ok (plus p imm)) (ap (λ (x : ℕ). Ok x) (sym l))
-crosses code n p i next otherwise bit (Fixed to) l b = by_next code p i next otherwise (Ok to) (ap (λ (x : ℕ). Ok x) (sym l))
-crosses code n p i next otherwise bit (Branch imm) l b = let e = b refl in by_next code p i next otherwise (by_bit n p imm bit) (rw e (branch_to n p next (plus p imm) imm (next == plus p imm) refl (eqb_tells next (plus p imm)) l))
-crosses code n p i next otherwise bit Far l b = let t : (next % 4 == 0) ≡ true = at_there (next % 4) 0 l in rw t refl
-crosses code n p i next otherwise bit Call l b = let t : (next == following p) ≡ true = at_there next (following p) l in rw t refl
-crosses code n p i next otherwise bit Stop l b = elim l [ ]
+pub crosses : (code : List ElfSegment) (n : ℕ) (e : Edge) (bit : Option Bool) (flow : Flow) → MayLead flow e.at e.to → (branches flow ≡ true → bit ≡ Some (passed_by flow e.at e.to)) → by_flow code e (successor n e.at flow bit None) flow ≡ Ok (row e.at e.instr e.to (calls flow) ∷ [])
+crosses code n e bit Plain l b = by_next code e (Ok (following e.at)) (ap (λ (x : ℕ). Ok x) (sym l))
+crosses code n e bit (Jump imm) l b = by_next code e (Ok (plus e.at imm)) (ap (λ (x : ℕ). Ok x) (sym l))
+crosses code n e bit (Fixed to) l b = by_next code e (Ok to) (ap (λ (x : ℕ). Ok x) (sym l))
+crosses code n e bit (Branch imm) l b = let h = b refl in by_next code e (by_bit n e.at imm bit) (rw h (branch_to n e.at e.to (plus e.at imm) imm (e.to == plus e.at imm) refl (eqb_tells e.to (plus e.at imm)) l))
+crosses code n e bit Far l b = let t : (e.to % 4 == 0) ≡ true = at_there (e.to % 4) 0 l in rw t refl
+crosses code n e bit Call l b = let t : (e.to == following e.at) ≡ true = at_there e.to (following e.at) l in rw t refl
+crosses code n e bit Stop l b = elim l [ ]
 
 -- the gap after a row
-pub gap_row : (code : List ElfSegment) (n : ℕ) (all : List Bool) (p : Place) (otherwise : PathFault) (r : StepRow) → p.at ≡ r.at → look code r.at ≡ Ok r.instr → IsStepped r → (branch_row r ≡ true → slice_get all p.branches ≡ Some (passed r)) → length p.rows < 65536 → gap code n all p r.next otherwise ≡ Ok (r ∷ [])
-gap_row code n all p otherwise r at here s b lt =
-    let lead = s.lead in
-    let called = s.call in
-    let x : crossing code n p.at r.instr r.next otherwise (slice_get all p.branches) (flow_of r.instr) ≡ Ok (row p.at r.instr r.next (calls (flow_of r.instr)) ∷ []) = rw at (crosses code n r.at r.instr r.next otherwise (slice_get all p.branches) (flow_of r.instr) lead b) in
+pub gap_row : (code : List ElfSegment) (s : Stand) (otherwise : PathFault) (r : StepRow) → s.place.at ≡ r.at → look code r.at ≡ Ok r.instr → IsStepped r → (branch_row r ≡ true → slice_get s.bits s.place.branches ≡ Some (passed r)) → length s.place.rows < 65536 → gap code s (record { address = r.next; otherwise = otherwise }) ≡ Ok (r ∷ [])
+gap_row code s otherwise r at here h b lt =
+    let p = s.place in
+    let called = h.call in
+    let lead : MayLead (flow_of r.instr) p.at r.next = rw at h.lead in
+    let bit : branches (flow_of r.instr) ≡ true → slice_get s.bits p.branches ≡ Some (passed_by (flow_of r.instr) p.at r.next) = rw at b in
+    let goal : Goal = record { address = r.next; otherwise = otherwise } in
+    let x : crossing code s goal r.instr ≡ Ok (row p.at r.instr r.next (calls (flow_of r.instr)) ∷ []) = crosses code s.packet (record { at = p.at; instr = r.instr; to = r.next; otherwise = otherwise }) (slice_get s.bits p.branches) (flow_of r.instr) lead bit in
     let same : row p.at r.instr r.next (calls (flow_of r.instr)) ≡ r = rw (at, ← called) refl in
-    let y : crossing code n p.at r.instr r.next otherwise (slice_get all p.branches) (flow_of r.instr) ≡ Ok (r ∷ []) = x ∙ ap (λ (w : StepRow). Ok (w ∷ [])) same in
-    gap_ok code n all p r.next otherwise r.instr (rw at here) (r ∷ []) y (omega arith)
+    let y : crossing code s goal r.instr ≡ Ok (r ∷ []) = x ∙ ap (λ (w : StepRow). Ok (w ∷ [])) same in
+    gap_ok code s goal r.instr (rw at here) (r ∷ []) y (omega arith)
 
 -- A call ends the stretch, and the next one begins after it.
 module _ (code : List ElfSegment) (packets : List Packet) (here next : StepRow) (rows : List StepRow) (c : Coded code packets [] [] here rows) (s : Stepping code here next) (call : calls (flow_of here.instr) ≡ true) (room : length rows < 65536) where
@@ -87,6 +89,9 @@ module _ (code : List ElfSegment) (packets : List Packet) (here next : StepRow) 
   abbrev q : Place
   q = place code (ended ∷ packets) ([] ∷ c.legs)
 
+  abbrev met : Met
+  met = met_by code 0 (ended ∷ packets) ([] ∷ c.legs)
+
   same_place : q ≡ place code packets c.legs
   unfolding place
   same_place = refl
@@ -95,16 +100,15 @@ module _ (code : List ElfSegment) (packets : List Packet) (here next : StepRow) 
   unfolding bits
   same_bits = append-nil (bits code packets)
 
-  gap_call : gap code (0 + length (ended ∷ packets)) (bits code (ended ∷ packets)) q next.at (Gap (0 + length (ended ∷ packets)) q.at next.at) ≡ Ok (here ∷ [])
+  gap_call : gap_to_start code (stand_of met) next.at ≡ Ok (here ∷ [])
   gap_call =
       let at : q.at ≡ here.at = ap (λ (x : Place). x.at) same_place ∙ c.at in
       let seen : rows ≡ (place code packets c.legs).rows = c.seen in
       let short : length q.rows < 65536 = rw same_place (rw seen at room) in
       let e = append-nil (bits code packets) in
       let b : branch_row here ≡ true → slice_get (bits code (ended ∷ packets)) q.branches ≡ Some (passed here) = λ t. rw (same_bits, same_place) (rw e at (c.bit t)) in
-      let n : ℕ = 0 + length (ended ∷ packets) in
-      let g = gap_row code (0 + length (ended ∷ packets)) (bits code (ended ∷ packets)) q (Gap (0 + length (ended ∷ packets)) q.at here.next) here at s.placed s.step b short in
-      subst (λ (a : ℕ). gap code (0 + length (ended ∷ packets)) (bits code (ended ∷ packets)) q a (Gap (0 + length (ended ∷ packets)) q.at a) ≡ Ok (here ∷ [])) s.linked g
+      let g = gap_row code (stand_of met) (Gap met.number q.at here.next) here at s.placed s.step b short in
+      subst (λ (a : ℕ). gap_to_start code (stand_of met) a ≡ Ok (here ∷ [])) s.linked g
 
   pub by_start : Coded code (start_at next ∷ ended ∷ packets) [] [] next (here ∷ rows)
   unfolding bits reported waiting marked place
@@ -143,14 +147,14 @@ begun_on packets packet b keeps =
     subst (λ (xs : List Packet). Begun xs) (sym (reverse-cons packet packets)) one
 
 -- A trace that stands at the last row is one of all rows.
-pub ends : (code : List ElfSegment) (packets : List Packet) (here : StepRow) (rows : List StepRow) → Coded code packets [] [] here rows → look code here.at ≡ Ok here.instr → IsStepped here → length rows < 65536 → Begun (reverse packets) → IsPath code (reverse packets) 0 here.next 0 (reverse (here ∷ rows))
+pub ends : (code : List ElfSegment) (packets : List Packet) (here : StepRow) (rows : List StepRow) → Coded code packets [] [] here rows → look code here.at ≡ Ok here.instr → IsStepped here → length rows < 65536 → Begun (reverse packets) → IsPath (record { code = code; packets = reverse packets; from = 0; pc = here.next }) 0 (reverse (here ∷ rows))
 ends code packets here rows c h s lt b =
     let back : reverse (reverse packets) ≡ packets = reverse-reverse packets in
     let seen : rows ≡ (place code packets c.legs).rows = c.seen in
     let short : length (place code packets c.legs).rows < 65536 = rw seen at lt in
     let e = append-nil (bits code packets) in
     let bit : branch_row here ≡ true → slice_get (bits code packets) (place code packets c.legs).branches ≡ Some (passed here) = λ t. rw e at (c.bit t) in
-    let cross = gap_row code (length (reverse packets)) (bits code packets) (place code packets c.legs) (End (place code packets c.legs).at here.next) here c.at h s bit short in
+    let cross = gap_row code (stand_after code (length (reverse packets)) packets c.legs) (End (place code packets c.legs).at here.next) here c.at h s bit short in
     record {
       window = window (reverse packets) b;
       legs = c.legs;

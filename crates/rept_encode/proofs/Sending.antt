@@ -363,10 +363,10 @@ begun_stood rows s first get even x =
 
 -- The last branch is reported, if the walk hasn't come to it.
 pub sent_base : (rows : List StepRow) (i : ℕ) (old new : Sender) (row : StepRow) → AreSendable rows → Sent rows i old → old.walked < old.base → slice_get rows old.base ≡ Some row → IsReported old old.bits new row.at true old.base → Stood rows old.base new (41 + 22 * i)
-sent_base rows i old new row given s behind get x =
+sent_base rows i old new row given s after get x =
     let step = all_at IsStepped rows old.base row get given.walkable.steps in
     let few = s.few in
-    reported_stood rows old.base (41 + 22 * i) old new old.bits row true s.packets s.text (omega arith) s.begun s.last step.aligned get x (λ code carry to. held s.held (let size = s.size in omega arith) code (s.base code row carry get) (all_at (CarriesCode code) rows old.base row get carry) (s.branch row behind get) to)
+    reported_stood rows old.base (41 + 22 * i) old new old.bits row true s.packets s.text (omega arith) s.begun s.last step.aligned get x (λ code carry to. held s.held (let size = s.size in omega arith) code (s.base code row carry get) (all_at (CarriesCode code) rows old.base row get carry) (s.branch row after get) to)
   where
     held : (kept : List StepRow) → 0 < length kept → (code : List ElfSegment) → Coded code s.packets (waiting_bits old.bits) kept row (reverse (take old.base rows)) → look code row.at ≡ Ok row.instr → branch_row row ≡ true → sum (reported s.packets) x.difference ≡ row.at → Coded code (report_packet old.bits.count old.bits.map (said x.difference true) ∷ s.packets) [] [] row (reverse (take old.base rows))
     held [] some code c placed branch to = absurd (omega arith)
@@ -418,7 +418,7 @@ stood_tells rows n most s last given t get size = record {
       let p = ends code t.packets last (reverse (take n rows)) c (all_at (CarriesCode code) rows n last get carry) step (room_at rows n last get given.few) t.begun in
       let all : reverse (last ∷ reverse (take n rows)) ≡ rows = ap (reverse {A = StepRow}) (sym (rows_more rows n last get)) ∙ reverse-reverse (take (n + 1) rows) ∙ rw size (take-length rows) in
       let there : last.next ≡ pc = end_is rows n last pc get size end in
-      (reverse t.packets, whole, subst (λ (a : ℕ). IsPath code (reverse t.packets) 0 a 0 rows) there (subst (λ (xs : List StepRow). IsPath code (reverse t.packets) 0 last.next 0 xs) all p));
+      (reverse t.packets, whole, subst (λ (a : ℕ). IsPath (record { code = code; packets = reverse t.packets; from = 0; pc = a }) 0 rows) there (subst (λ (xs : List StepRow). IsPath (record { code = code; packets = reverse t.packets; from = 0; pc = last.next }) 0 xs) all p));
 }
 
 pub get_at : (rows : List StepRow) (i : ℕ) (row : StepRow) → row ≡ get_or rows i row → i < length rows → slice_get rows i ≡ Some row

@@ -132,7 +132,7 @@ fit_map code all p = refl
 not_said : (a b c d : Bool) → ((a && b && c) && false && d) ≡ false
 not_said a b c d = rw and-false refl
 
-pub not_inferred : (code : List ElfSegment) (all : List Bool) (r : ℕ) (notify updiscon : Bool) (p : Place) → (notify || updiscon) ≡ true → is_inferred code all r notify updiscon p ≡ false
+pub not_inferred : (code : List ElfSegment) (all : List Bool) (r : ℕ) (notify updiscon : Bool) (p : Place) → (notify || updiscon) ≡ true → is_inferred code all (aims.Report r notify updiscon) p ≡ false
 unfolding is_inferred
 not_inferred code all r true updiscon p h = rw and-false refl
 not_inferred code all r false true p h = rw and-false refl

@@ -1,3 +1,5 @@
+//! Branch bits that wait to be sent.
+
 ghost use Rattle.std.specs.Prelude.{◌≡◌, ◌+◌, ◌^◌, ◌<◌, ◌≤◌, ◌++◌, [], if◌then◌else◌};
 ghost use Rattle.rept_encode.specs.Bits.{bit_list, count};
 ghost use Rattle.rept_encode.specs.State.{AreBits, waiting_bits};

@@ -1,3 +1,5 @@
+//! Which steps are branches, and which way they went.
+
 ghost use Rattle.std.specs.Prelude.{◌≡◌};
 ghost use Rattle.rept_encode.specs.Bits.{passed, branch_row, start_bit};
 

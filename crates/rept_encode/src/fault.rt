@@ -1,3 +1,5 @@
+//! Why steps aren't written as a trace.
+
 use thiserror::Error;
 
 /// Why steps aren't written as a trace.

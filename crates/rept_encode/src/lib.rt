@@ -1,4 +1,4 @@
-// A writer of traces: from the steps of a path to packets that tell it.
+//! A writer of traces: from the steps of a path to packets that tell it.
 #![tactic(auto)]
 
 mod bits;

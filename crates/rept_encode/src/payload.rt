@@ -1,3 +1,5 @@
+//! The payloads of packets, as short as the format allows.
+
 ghost use Rattle.std.specs.Prelude.{◌≡◌, ◌+◌, ◌<◌, ◌≤◌, ◌^◌, ◌*◌, List, ℕ, length, ◌∷◌, [], true, false, IfOk, OnOk, OnErr};
 ghost use Rattle.rept_trace.specs.declared.packet.Packet.{Packet};
 ghost use Rattle.rept_trace.specs.Fits.{FieldsFit};

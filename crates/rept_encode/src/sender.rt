@@ -1,3 +1,5 @@
+//! A trace that is being written, packet by packet.
+
 ghost use Rattle.std.specs.Prelude.{◌≡◌, ℕ, ◌≤◌, ◌*◌, ◌%◌, ◌⊎◌, false, OnOk, IfOk};
 ghost use Rattle.rept_trace.specs.declared.packet.Packet.{Packet};
 ghost use Rattle.rept_trace.specs.declared.packet.Qual.TheVariants.{EndedRep};

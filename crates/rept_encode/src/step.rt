@@ -1,3 +1,5 @@
+//! The steps of a path, by an instruction and its two addresses.
+
 ghost use Rattle.std.specs.Prelude.{◌≡◌, ◌<◌, ◌%◌, ◌↔◌, length, IsTrue, IfSome, IfNone, IfErr, OnOk, OnErr};
 ghost use Rattle.std.specs.List.{All};
 ghost use Rattle.rept_steps.specs.Linked.{EndBefore};

@@ -1,3 +1,5 @@
+//! Traces worked out by hand.
+
 use crate::{EncodeFault, encode, push_step};
 use rept_isa::decode;
 use rept_steps::Steps;

@@ -1,3 +1,5 @@
+//! From steps to a trace.
+
 ghost use Rattle.std.specs.Prelude.{◌≡◌, ◌+◌, ◌-◌, ◌*◌, ◌<◌, ◌^◌, ℕ, length, ◌&&◌, OnOk, IfOk, IfSome, IfNone, IfErr, Err};
 ghost use Rattle.rept_path.specs.Code.{flow_of, jumps_far};
 ghost use Rattle.rept_encode.specs.Walkable.{IsWalkable, IsJumpEnd, IsFirstJumpEnd};

@@ -15,19 +15,20 @@ use Rattle.rept_trace.specs.Packets.{rest_of, number_of}
 use Rattle.rept_trace.specs.Stream.{Hold, FailsAfter}
 use Rattle.rept_path.specs.declared.aim.Aim.{Aim}
 use Rattle.rept_path.specs.declared.fault.PathFault.{PathFault}
-use Rattle.rept_path.specs.declared.fault.PathFault.TheVariants.{BranchesLeft, NoStart, Gap, End}
+use Rattle.rept_path.specs.declared.fault.PathFault.TheVariants.{BranchesLeft, NoStart}
 use Rattle.rept_path.specs.declared.fault.PathFault.TheVariants as faults
 use Rattle.rept_path.specs.Code.{look}
-use Rattle.rept_path.specs.Packets.{bits, bits_of, waiting}
-use Rattle.rept_path.specs.Gap.{gap}
-use Rattle.rept_path.specs.Moves.{Lead, Place, along, next_of, IsMove, stops, misfits, unused, position, ◌>>=◌}
+use Rattle.rept_path.specs.Packets.{waiting}
+use Rattle.rept_path.specs.Gap.{gap_to_start, gap_to_end}
+use Rattle.rept_path.specs.Moves.{Lead, Place, Stand, along, next_of, IsMove, stops, misfits, unused, position, ◌>>=◌}
 use Rattle.rept_path.specs.Legs.{Passes, Reaches, Blocked, PhaseLeg, PhaseFault}
-use Rattle.rept_path.specs.Route.{Phase, PhaseLegs, PhasesFault, lead_of, phases_of, admits, Met, met_by, RunningLeg, RunningFault, WaitingLeg, WaitingFault, FirstLeg, FirstFault, LegBy, FaultBy, Leg, Fault, Route, place}
-use Rattle.rept_path.specs.Trace.{starts, loses, IsWindow, IsPath, StopsAt, IsRefused}
+use Rattle.rept_path.specs.Route.{Phase, PhaseLegs, PhasesFault, lead_of, further, with_bits, phases_of, admits, Met, met_by, stand_of, RunningLeg, RunningFault, WaitingLeg, WaitingFault, FirstLeg, FirstFault, Leg, Fault, Route}
+use Rattle.rept_path.specs.Trace.{starts, loses, IsWindow, stand_after, IsPath, StopsAt, IsRefused}
 use Rattle.rept_path.specs.Traced.{pc_of, IsPathOf, IsRefusedBy}
 use Rattle.rept_path.proofs.MoveLemmas.{made, few_before}
 use Rattle.rept_path.proofs.Whole.{get_drop}
 use Rattle.rept_path.proofs.Windows.{starts_within, lost, found, still, still_none, passed}
+use Rattle.rept_path.proofs.Waiting.{LegIn, FaultIn}
 
 result_of : {A : Type 0} (r : Result A PathFault) → ((x : A) × (r ≡ Ok x)) ⊎ ((e : PathFault) × (r ≡ Err e))
 result_of (Ok x) = inl (x, refl)
@@ -78,10 +79,10 @@ module _ (code : List ElfSegment) (lead : Lead) (aim : Aim) (past : Place) where
   ]
 
 module _ (code : List ElfSegment) where
-  all_phases : (k : ℕ) (all : List Bool) (phases : List Phase) (past : Place) → ((leg : List StepRow) × PhaseLegs code k all phases past leg) ⊎ ((e : PathFault) × PhasesFault code k all phases past e)
-  all_phases k all [] past = inl ([], refl)
-  all_phases k all (phase ∷ phases) past = elim (one_phase code (lead_of k all phase) phase.aim past) [
-    | inl l ↦ elim (all_phases k all phases (along code past l.0)) [
+  all_phases : (s : Stand) (phases : List Phase) → ((leg : List StepRow) × PhaseLegs code s phases leg) ⊎ ((e : PathFault) × PhasesFault code s phases e)
+  all_phases s [] = inl ([], refl)
+  all_phases s (phase ∷ phases) = elim (one_phase code (lead_of s phase) phase.aim s.place) [
+    | inl l ↦ elim (all_phases (further code s l.0) phases) [
       | inl r ↦ inl (r.0 ++ l.0, (l.0, r.0, refl, l.1, r.1))
       | inr f ↦ inr (f.0, inr (l.0, l.1, f.1))
     ]
@@ -97,7 +98,7 @@ module _ (code : List ElfSegment) where
   of_first (Support enabled status) s = cc
 
   of_waiting : (packet : Packet) (met : Met) → ((leg : List StepRow) × WaitingLeg code packet met leg) ⊎ ((e : PathFault) × WaitingFault code packet met e)
-  of_waiting (Start branch privilege a) met = elim (result_of (gap code met.number met.bits met.place a (Gap met.number met.place.at a))) [
+  of_waiting (Start branch privilege a) met = elim (result_of (gap_to_start code (stand_of met) a)) [
     | inl g ↦ elim (position_of code a) [ inl p ↦ inl (g.0, (g.1, p)) | inr f ↦ inr (f.0, inr (g, f.1)) ]
     | inr f ↦ inr (f.0, inl f.1)
   ]
@@ -109,19 +110,19 @@ module _ (code : List ElfSegment) where
 
   of_running : (packet : Packet) (met : Met) → ((leg : List StepRow) × RunningLeg code packet met leg) ⊎ ((e : PathFault) × RunningFault code packet met e)
   of_running packet met = elim (result_of (admits code packet)) [
-    | inl a ↦ elim (all_phases met.number (met.bits ++ bits_of code packet) (phases_of packet met.marked met.reported) met.place) [
+    | inl a ↦ elim (all_phases (with_bits code packet met) (phases_of packet met.marked met.reported)) [
       | inl l ↦ inl (l.0, record { admitted = a; legs = l.1 })
       | inr f ↦ inr (f.0, inr (a, f.1))
     ]
     | inr f ↦ inr (f.0, inl f.1)
   ]
 
-  of_one : (packet : Packet) (waits : Bool) (met : Met) → ((leg : List StepRow) × LegBy code packet waits met leg) ⊎ ((e : PathFault) × FaultBy code packet waits met e)
+  of_one : (packet : Packet) (waits : Bool) (met : Met) → ((leg : List StepRow) × LegIn code packet waits met leg) ⊎ ((e : PathFault) × FaultIn code packet waits met e)
   of_one packet true met = of_waiting packet met
   of_one packet false met = of_running packet met
 
   module _ (skipped : ℕ) where
-    leg_of : (packet : Packet) (earlier : List Packet) (legs : List (List StepRow)) → (earlier ≡ [] → starts (Some packet) ≡ true) → ((leg : List StepRow) × Leg code skipped packet earlier legs leg) ⊎ ((e : PathFault) × Fault code skipped packet earlier legs e)
+    leg_of : (packet : Packet) (earlier : List Packet) (legs : List (List StepRow)) → (earlier ≡ [] → starts (Some packet) ≡ true) → ((leg : List StepRow) × Leg code packet (record { skipped = skipped; packets = earlier; legs = legs }) leg) ⊎ ((e : PathFault) × Fault code packet (record { skipped = skipped; packets = earlier; legs = legs }) e)
     leg_of packet [] legs s = of_first packet (s refl)
     leg_of packet (last ∷ earlier) legs s = of_one packet (waiting (last ∷ earlier)) (met_by code skipped (last ∷ earlier) legs)
 
@@ -168,16 +169,16 @@ module _ (from : ℕ) where
 
 module _ (code : List ElfSegment) (packets : List Packet) (from pc : ℕ) where
   abbrev IsDecided : Type 0
-  IsDecided = ((skipped : ℕ) × (rows : List StepRow) × IsPath code packets from pc skipped rows) ⊎ ((e : PathFault) × IsRefused code packets from pc e)
+  IsDecided = ((skipped : ℕ) × (rows : List StepRow) × IsPath (record { code = code; packets = packets; from = from; pc = pc }) skipped rows) ⊎ ((e : PathFault) × IsRefused (record { code = code; packets = packets; from = from; pc = pc }) e)
 
   in_window : (begin : Option ℕ) → IsWindow packets from begin → IsDecided
   in_window None w = inr (NoStart (length packets), inl (w, refl))
   in_window (Some skipped) w = elim (route_of code skipped (drop skipped packets) (rw (get_drop packets skipped) w.may.start)) [
     | inl r ↦
         let turned = reverse (drop skipped packets) in
-        let p = place code turned r.0 in
-        elim (result_of (gap code (length packets) (bits code turned) p pc (End p.at pc))) [
-          | inl g ↦ inl (skipped, reverse (g.0 ++ p.rows), record { window = w; legs = r.0; route = r.1; last = g.0; end = g.1; order = refl })
+        let last = stand_after code (length packets) turned r.0 in
+        elim (result_of (gap_to_end code last pc)) [
+          | inl g ↦ inl (skipped, reverse (g.0 ++ last.place.rows), record { window = w; legs = r.0; route = r.1; last = g.0; end = g.1; order = refl })
           | inr f ↦ inr (f.0, inr (skipped, w, inr (record { legs = r.0; route = r.1; end = f.1 })))
         ]
     | inr f ↦ inr (f.0, inr (skipped, w, inl f.1))

@@ -11,15 +11,16 @@ use Rattle.rept_isa.specs.declared.instr.Instr.{Instr}
 use Rattle.rept_steps.specs.Linked.{EndBefore}
 use Rattle.rept_path.specs.declared.aim.Aim.TheVariants as aims
 use Rattle.rept_path.specs.declared.fault.PathFault.{PathFault}
-use Rattle.rept_path.specs.declared.fault.PathFault.TheVariants.{OutOfMemory, Gap}
+use Rattle.rept_path.specs.declared.fault.PathFault.TheVariants.{OutOfMemory}
 use Rattle.rept_path.specs.Code.{look}
-use Rattle.rept_path.specs.Gap.{gap}
+use Rattle.rept_path.specs.Gap.{gap_to_start}
 use Rattle.rept_path.specs.Legs.{PhaseFault}
 use Rattle.rept_path.specs.declared.walk.Walk.{Walk}
 use Rattle.rept_path.specs.Packets.{bits_of, bits_before, reported_after, waits_after}
 use Rattle.rept_path.specs.Moves.{Place, along, position, ◌>>=◌}
-use Rattle.rept_path.specs.Route.{phases_of, first_phase, PhaseLegs, Met, LegBy, FaultBy, WaitingFault, RunningFault, mark_after, place_after, admits}
-use Rattle.rept_path.specs.State.{here, met, Counts, lead, Walked, WalkedAll, Followed}
+use Rattle.rept_path.specs.Route.{phases_of, first_phase, PhaseLegs, Met, WaitingFault, RunningFault, mark_after, place_after, admits}
+use Rattle.rept_path.specs.State.{here, standing, arrival, met, Counts, lead, Walked, WalkedAll, Followed}
+use Rattle.rept_path.proofs.Waiting.{LegIn, FaultIn}
 
 -- a phase alone
 pub alone : (code : List ElfSegment) (k : ℕ) (target : Option ℕ) (aim : Aim) (old new : Walk) → Walked code (lead old k target) aim old new → WalkedAll code k (record { target = target; aim = aim } ∷ []) old new
@@ -29,18 +30,18 @@ alone code k target aim old new w = record { leg = w.leg; goes = (w.leg, [], ref
 pub stays : (code : List ElfSegment) (k privilege : ℕ) (w : Walk) → Counts w → length w.bits.items ≤ w.used + 1 → Followed code k (Context privilege) w w
 stays code k privilege w counts rests = record { leg = []; goes = go w.waiting; seen = refl; counts = counts; bits = sym (append-nil w.bits.items); reported = refl; waiting = refl; marked = refl; rests = rests }
   where
-    go : (b : Bool) → LegBy code (Context privilege) b (met k w) []
+    go : (b : Bool) → LegIn code (Context privilege) b (met k w) []
     go true = refl
     go false = record { admitted = (0, refl); legs = refl }
 
 -- The packet's bits were added, and its phases were walked.
 pub walked : (code : List ElfSegment) (k : ℕ) (packet : Packet) (old mid last new : Walk) → old.waiting ≡ false → ((a : ℕ) × (admits code packet ≡ Ok a)) → here mid ≡ here old → mid.bits.items ≡ old.bits.items ++ bits_of code packet → mid.reported ≡ reported_after packet old.reported → mid.waiting ≡ old.waiting
     → WalkedAll code k (phases_of packet old.inferred old.reported) mid last → here new ≡ here last → new.bits.items ≡ last.bits.items → new.reported ≡ last.reported → new.waiting ≡ last.waiting → Counts new
-    → new.inferred ≡ mark_after code packet old.inferred new.bits.items new.reported (here new) → length new.bits.items ≤ new.used + 1 → waits_after packet false ≡ false → ((b : Bool) → bits_before packet false old.bits.items ≡ old.bits.items) → ((leg : List StepRow) → place_after code packet false (here old) leg ≡ along code (here old) leg) → Followed code k packet old new
+    → new.inferred ≡ mark_after code packet old.inferred (arrival new) → length new.bits.items ≤ new.used + 1 → waits_after packet false ≡ false → ((b : Bool) → bits_before packet false old.bits.items ≡ old.bits.items) → ((leg : List StepRow) → place_after code packet false (here old) leg ≡ along code (here old) leg) → Followed code k packet old new
 walked code k packet old mid last new runs admitted there all report wait w at bits rep waits counts mark rests keeps whole places =
     record {
       leg = w.leg;
-      goes = subst (λ (b : Bool). LegBy code packet b (met k old) w.leg) (sym runs) (record { admitted = admitted; legs = rw (← all, ← there) w.goes });
+      goes = subst (λ (b : Bool). LegIn code packet b (met k old) w.leg) (sym runs) (record { admitted = admitted; legs = rw (← all, ← there) w.goes });
       seen = subst (λ (b : Bool). here new ≡ place_after code packet b (here old) w.leg) (sym runs) (at ∙ w.seen ∙ ap (λ (p : Place). along code p w.leg) there ∙ sym (places w.leg));
       counts = counts;
       bits = subst (λ (b : Bool). new.bits.items ≡ bits_before packet b old.bits.items ++ bits_of code packet) (sym runs) (bits ∙ w.kept.bits ∙ all ∙ ap (λ (xs : List Bool). xs ++ bits_of code packet) (sym (whole false)));
@@ -51,13 +52,13 @@ walked code k packet old mid last new runs admitted there all report wait w at b
     }
 
 -- A packet that is not first, as this one.
-pub as_waiting : (code : List ElfSegment) (packet p : Packet) (waits : Bool) (before : Met) (e : PathFault) → packet ≡ p → waits ≡ true → (e ≡ OutOfMemory) ⊎ WaitingFault code p before e → (e ≡ OutOfMemory) ⊎ FaultBy code packet waits before e
+pub as_waiting : (code : List ElfSegment) (packet p : Packet) (waits : Bool) (before : Met) (e : PathFault) → packet ≡ p → waits ≡ true → (e ≡ OutOfMemory) ⊎ WaitingFault code p before e → (e ≡ OutOfMemory) ⊎ FaultIn code packet waits before e
 as_waiting code packet p waits before e same is h = rw (same, is) h
 
-pub as_running : (code : List ElfSegment) (packet p : Packet) (waits : Bool) (before : Met) (e : PathFault) → packet ≡ p → waits ≡ false → (e ≡ OutOfMemory) ⊎ RunningFault code p before e → (e ≡ OutOfMemory) ⊎ FaultBy code packet waits before e
+pub as_running : (code : List ElfSegment) (packet p : Packet) (waits : Bool) (before : Met) (e : PathFault) → packet ≡ p → waits ≡ false → (e ≡ OutOfMemory) ⊎ RunningFault code p before e → (e ≡ OutOfMemory) ⊎ FaultIn code packet waits before e
 as_running code packet p waits before e same is h = rw (same, is) h
 
-pub as_support : (code : List ElfSegment) (packet p : Packet) (waits : Bool) (before : Met) (e : PathFault) → packet ≡ p → (e ≡ OutOfMemory) ⊎ FaultBy code p waits before e → (e ≡ OutOfMemory) ⊎ FaultBy code packet waits before e
+pub as_support : (code : List ElfSegment) (packet p : Packet) (waits : Bool) (before : Met) (e : PathFault) → packet ≡ p → (e ≡ OutOfMemory) ⊎ FaultIn code p waits before e → (e ≡ OutOfMemory) ⊎ FaultIn code packet waits before e
 as_support code packet p waits before e same h = rw same h
 
 -- The moves after a start packet in a stretch are stopped by a fault.
@@ -72,7 +73,7 @@ same_position code a at h = go (look code a) h where
   go (Err e) h = cc
 
 -- A stretch begins.
-pub started : (code : List ElfSegment) (k : ℕ) (branch : Bool) (privilege a at : ℕ) (old new : Walk) (leg : List StepRow) → old.waiting ≡ true → gap code k old.bits.items (here old) a (Gap k old.at a) ≡ Ok leg → position code a ≡ Ok at → reverse new.steps ≡ leg ++ reverse old.steps
+pub started : (code : List ElfSegment) (k : ℕ) (branch : Bool) (privilege a at : ℕ) (old new : Walk) (leg : List StepRow) → old.waiting ≡ true → gap_to_start code (standing k old) a ≡ Ok leg → position code a ≡ Ok at → reverse new.steps ≡ leg ++ reverse old.steps
     → new.at ≡ at → new.used ≡ 0 → new.bits.items ≡ bits_of code (Start branch privilege at) → length new.bits.items ≤ 1 → new.reported ≡ at → new.inferred ≡ false → new.waiting ≡ false → length new.steps ≤ 65536 → EndBefore new.steps a
     → Followed code k (Start branch privilege a) old new
 started code k branch privilege a at old new leg waits crosses admitted seen stands used bits size report plain runs few ends =
@@ -80,7 +81,7 @@ started code k branch privilege a at old new leg waits crosses admitted seen sta
     let there = stands ∙ same in
     record {
       leg = leg;
-      goes = subst (λ (b : Bool). LegBy code (Start branch privilege a) b (met k old) leg) (sym waits) (crosses, (rw same at admitted));
+      goes = subst (λ (b : Bool). LegIn code (Start branch privilege a) b (met k old) leg) (sym waits) (crosses, (rw same at admitted));
       seen = subst (λ (b : Bool). here new ≡ place_after code (Start branch privilege a) b (here old) leg) (sym waits) (cc);
       counts = record { enough = rw used (omega arith); few = few; spare = rw used (omega arith); linked = rw there ends };
       bits = subst (λ (b : Bool). new.bits.items ≡ bits_before (Start branch privilege a) b old.bits.items ++ bits_of code (Start branch privilege a)) (sym waits) (rw same at bits);
@@ -94,14 +95,14 @@ started code k branch privilege a at old new leg waits crosses admitted seen sta
 pub no_change : (code : List ElfSegment) (k : ℕ) (enabled : Bool) (w : Walk) → Counts w → length w.bits.items ≤ w.used + 1 → Followed code k (Support enabled NoChange) w w
 no_change code k enabled w counts rests = record { leg = []; goes = go w.waiting; seen = refl; counts = counts; bits = sym (append-nil w.bits.items); reported = refl; waiting = refl; marked = refl; rests = rests }
   where
-    go : (b : Bool) → LegBy code (Support enabled NoChange) b (met k w) []
+    go : (b : Bool) → LegIn code (Support enabled NoChange) b (met k w) []
     go true = refl
     go false = record { admitted = (0, refl); legs = refl }
 
 pub lost : (code : List ElfSegment) (k : ℕ) (enabled : Bool) (w : Walk) → Counts w → length w.bits.items ≤ w.used + 1 → Followed code k (Support enabled TraceLost) w w
 lost code k enabled w counts rests = record { leg = []; goes = go w.waiting; seen = refl; counts = counts; bits = sym (append-nil w.bits.items); reported = refl; waiting = refl; marked = refl; rests = rests }
   where
-    go : (b : Bool) → LegBy code (Support enabled TraceLost) b (met k w) []
+    go : (b : Bool) → LegIn code (Support enabled TraceLost) b (met k w) []
     go true = refl
     go false = record { admitted = (0, refl); legs = refl }
 
@@ -111,7 +112,7 @@ stopped w = record { at = w.at; steps = w.steps; bits = w.bits; used = w.used; r
 pub reported_end : (code : List ElfSegment) (k : ℕ) (enabled : Bool) (w : Walk) → Counts w → length w.bits.items ≤ w.used + 1 → Followed code k (Support enabled EndedRep) w (stopped w)
 reported_end code k enabled w counts rests = record { leg = []; goes = go w.waiting; seen = refl; counts = record { enough = counts.enough; few = counts.few; spare = counts.spare; linked = counts.linked }; bits = sym (append-nil w.bits.items); reported = refl; waiting = refl; marked = refl; rests = rests }
   where
-    go : (b : Bool) → LegBy code (Support enabled EndedRep) b (met k w) []
+    go : (b : Bool) → LegIn code (Support enabled EndedRep) b (met k w) []
     go true = refl
     go false = record { admitted = (0, refl); legs = refl }
 
@@ -122,7 +123,7 @@ not_reported_end code k enabled old mid runs rests w =
     let size = ap (length {A = Bool}) w.kept.bits in
     record {
       leg = w.leg;
-      goes = subst (λ (b : Bool). LegBy code (Support enabled EndedNtr) b (met k old) w.leg) (sym runs) (record { admitted = (0, refl); legs = subst (λ (xs : List Bool). PhaseLegs code k xs (first_phase old.inferred old.reported) (here old) w.leg) none w.goes });
+      goes = subst (λ (b : Bool). LegIn code (Support enabled EndedNtr) b (met k old) w.leg) (sym runs) (record { admitted = (0, refl); legs = subst (λ (xs : List Bool). PhaseLegs code (record { packet = k; bits = xs; place = here old }) (first_phase old.inferred old.reported) w.leg) none w.goes });
       seen = w.seen;
       counts = record { enough = w.counts.enough; few = w.counts.few; spare = w.counts.spare; linked = w.counts.linked };
       bits = w.kept.bits ∙ none;

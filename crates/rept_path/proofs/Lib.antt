@@ -15,5 +15,6 @@ pub mod Phases
 pub mod StopLemmas
 pub mod Surveying
 pub mod Unique
+pub mod Waiting
 pub mod Windows
 pub mod Whole

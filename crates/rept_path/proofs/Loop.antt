@@ -1,5 +1,6 @@
 -- What the loop over moves keeps.
-use Rattle.std.proofs.Common.{◌≡◌, ℕ, ◌+◌, ◌≤◌, ◌==◌, refl, ◌&&◌, ◌||◌, not, cond, length, arith, List, [], ◌∷◌, Bool, true, false, Option, Err, ◌∙◌, ap, ◌⊎◌, inl, inr}
+use Rattle.std.proofs.lemmas.List.{length-reverse}
+use Rattle.std.proofs.Common.{◌≡◌, ℕ, suc, ◌+◌, ◌-◌, ◌<◌, ◌≤◌, reverse, ◌==◌, refl, ◌&&◌, ◌||◌, not, cond, length, arith, List, [], ◌∷◌, Bool, true, false, Option, Err, ◌∙◌, ap, subst, ◌⊎◌, inl, inr}
 use Rattle.rept_elf.specs.Segments.{ElfSegment}
 use Rattle.std.proofs.lemmas.Bool.Decides.{nat_tests}
 use Rattle.rept_path.specs.declared.aim.Aim.{Aim}
@@ -77,6 +78,30 @@ module _ (code : List ElfSegment) (packet : ℕ) (target : Option ℕ) (aim : Ai
   pub blocked_or : (e : PathFault) → stops code mid.bits.items aim (here mid) ≡ false → (e ≡ OutOfMemory) ⊎ (next_of code (lead mid packet target) (here mid) ≡ Err e) → (e ≡ OutOfMemory) ⊎ PhaseFault code (lead old packet target) aim (here old) e
   blocked_or e stays h = elim h [ inl m ↦ inl m | inr b ↦ inr (is_blocked e stays b) ]
 
+-- The same where the facts of a step speak of code that is the same, as that of a dump near a position.
+module _ (code near : List ElfSegment) (same : near ≡ code) (packet : ℕ) (target : Option ℕ) (aim : Aim) (old mid : Walk) where
+  pub came_first_near : Moved near (lead old packet target) old mid → Coming code (lead old packet target) aim old mid
+  came_first_near m = came_first code (lead old packet target) aim old mid (subst (λ (c : List ElfSegment). Moved c (lead old packet target) old mid) same m)
+
+  module _ (came : Coming code (lead old packet target) aim old mid) where
+    stops_there : (b : Bool) → stops near mid.bits.items aim (here mid) ≡ b → stops code mid.bits.items aim (here mid) ≡ b
+    stops_there b h = subst (λ (c : List ElfSegment). stops c mid.bits.items aim (here mid) ≡ b) same h
+
+    misfits_there : (b : Bool) → misfits near mid.bits.items aim (here mid) ≡ b → misfits code mid.bits.items aim (here mid) ≡ b
+    misfits_there b h = subst (λ (c : List ElfSegment). misfits c mid.bits.items aim (here mid) ≡ b) same h
+
+    pub goes_on_near : (new : Walk) → stops near mid.bits.items aim (here mid) ≡ false → Moved near (lead mid packet target) mid new → Coming code (lead old packet target) aim old new
+    goes_on_near new stays m = goes_on code packet target aim old mid came new (stops_there false stays) (subst (λ (c : List ElfSegment). Moved c (lead mid packet target) mid new) same m)
+
+    pub arrives_near : stops near mid.bits.items aim (here mid) ≡ true → misfits near mid.bits.items aim (here mid) ≡ false → Walked code (lead old packet target) aim old mid
+    arrives_near stopped fits = arrives code packet target aim old mid came (stops_there true stopped) (misfits_there false fits)
+
+    pub has_left_near : (n : ℕ) → stops near mid.bits.items aim (here mid) ≡ true → misfits near mid.bits.items aim (here mid) ≡ true → n ≡ unused mid.bits.items (here mid) → PhaseFault code (lead old packet target) aim (here old) (BranchesLeft packet n)
+    has_left_near n stopped left is = has_left code packet target aim old mid came n (stops_there true stopped) (misfits_there true left) is
+
+    pub blocked_near : (e : PathFault) → stops near mid.bits.items aim (here mid) ≡ false → (e ≡ OutOfMemory) ⊎ (next_of near (lead mid packet target) (here mid) ≡ Err e) → (e ≡ OutOfMemory) ⊎ PhaseFault code (lead old packet target) aim (here old) e
+    blocked_near e stays h = blocked_or code packet target aim old mid came e (stops_there false stays) (subst (λ (c : List ElfSegment). (e ≡ OutOfMemory) ⊎ (next_of c (lead mid packet target) (here mid) ≡ Err e)) same h)
+
 -- Where the bits fit, one is left at most.
 fit_few : (code : List ElfSegment) (bits : List Bool) (p : Place) → bits_fit code bits p ≡ true → length bits ≤ p.branches + 1
 unfolding bits_fit
@@ -108,3 +133,10 @@ rests_at code Jumped w s m f = cc
 rests_at code (Start a) w s m f = fit_few code w.bits.items (here w) (jump_fits (by_jump (here w).rows) (w.at == a) (bits_fit code w.bits.items (here w)) s m)
 rests_at code (Report a notify updiscon) w s m f = fit_few code w.bits.items (here w) (report_fits (by_jump (here w).rows) (w.at == a) (bits_fit code w.bits.items (here w)) (notify || not updiscon) s m)
 rests_at code LastBit w s m f = fit_few code w.bits.items (here w) (second (is_branch code w.at) (bits_fit code w.bits.items (here w)) s)
+
+-- After a move fewer steps are left.
+pub one_step_less : (code : List ElfSegment) (how : Lead) (old new : Walk) → Moved code how old new → 65536 - length new.steps < 65536 - length old.steps
+one_step_less code how old new m =
+    let e : length (reverse new.steps) ≡ suc (length (reverse old.steps)) = ap (λ (p : Place). length p.rows) m.seen in
+    let few = m.counts.few in
+    omega (arith, e, few, length-reverse old.steps, length-reverse new.steps)

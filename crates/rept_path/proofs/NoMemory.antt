@@ -1,10 +1,10 @@
--- The definitions refuse no path for want of memory.
-use Rattle.std.proofs.Common.{◌≡◌, ◌≢◌, ℕ, ◌+◌, ◌%◌, ◌==◌, nat_le, List, [], ◌∷◌, ◌++◌, length, reverse, drop, slice_get, Bool, true, false, cond, ◌&&◌, Option, Some, None, Result, Ok, Err, refl, subst, inl, inr}
+-- The definitions refuse no path where memory runs out.
+use Rattle.std.proofs.Common.{◌≡◌, ◌≢◌, ℕ, ◌+◌, ◌%◌, ◌==◌, nat_le, List, [], ◌∷◌, length, reverse, drop, slice_get, Bool, true, false, cond, ◌&&◌, Option, Some, None, Result, Ok, Err, refl, subst, inl, inr}
 use Rattle.rept_elf.specs.Segments.{ElfSegment}
 use Rattle.rept_isa.specs.declared.row.StepRow.{StepRow}
 use Rattle.rept_isa.specs.declared.instr.Instr.{Instr}
 use Rattle.rept_isa.specs.declared.instr.Instr.TheVariants.{Ecall}
-use Rattle.rept_isa.specs.Numbers.{plus, following}
+use Rattle.rept_isa.specs.Numbers.{following}
 use Rattle.rept_dump.specs.declared.dump.Dump.{Dump}
 use Rattle.rept_dump.specs.Dump.{exe_of}
 use Rattle.rept_dump.specs.Memory.{code_at}
@@ -17,13 +17,14 @@ use Rattle.rept_path.specs.declared.flow.Flow.TheVariants.{Plain, Branch, Jump, 
 use Rattle.rept_path.specs.declared.fault.PathFault.{PathFault}
 use Rattle.rept_path.specs.declared.fault.PathFault.TheVariants.{TooLong, Gap, End, Unaligned, OutOfMemory}
 use Rattle.rept_path.specs.Code.{instruction, by_instruction, by_word, look, flow_of, is_call}
-use Rattle.rept_path.specs.Gap.{row, by_successor, crossing, gap}
+use Rattle.rept_path.specs.Gap.{row, Goal, Edge, by_successor, by_flow, crossing, gap}
 use Rattle.rept_path.specs.Legs.{PhaseFault}
-use Rattle.rept_path.specs.Moves.{Lead, Place, along, by_bit, successor, position, next_of, ◌>>=◌}
-use Rattle.rept_path.specs.Packets.{bits, bits_of, waiting}
-use Rattle.rept_path.specs.Route.{Phase, PhasesFault, lead_of, phases_of, Met, met_by, admits, FirstFault, WaitingFault, RunningFault, FaultBy, Fault, place}
-use Rattle.rept_path.specs.Trace.{IsRefused}
+use Rattle.rept_path.specs.Moves.{Lead, Place, Stand, along, successor, position, next_of, ◌>>=◌}
+use Rattle.rept_path.specs.Packets.{waiting}
+use Rattle.rept_path.specs.Route.{Phase, PhasesFault, lead_of, further, with_bits, phases_of, Met, met_by, stand_of, admits, FirstFault, WaitingFault, RunningFault, Fault}
+use Rattle.rept_path.specs.Trace.{IsRefused, stand_after}
 use Rattle.rept_path.specs.Traced.{pc_of, IsRefusedBy}
+use Rattle.rept_path.proofs.Waiting.{FaultIn}
 
 -- each fault of a result is another
 abbrev Others : {A : Type 0} → Result A PathFault → Type 0
@@ -86,41 +87,40 @@ module _ (code : List ElfSegment) where
       (λ i. others_bind (from i) onward (others_bit how.packet p.at (slice_get how.bits p.branches) how.target (flow_of i))
       (λ a. others_cond (nat_le 65536 (length p.rows)) (Err (TooLong how.packet)) (position code a) (others_long how.packet) (others_position a)))
 
-  module _ (k p : ℕ) (i : Instr) (a : ℕ) (otherwise : PathFault) (other : otherwise ≢ OutOfMemory) where
-    others_successor : (n : ℕ) → Others (by_successor code p i a otherwise n)
+  module _ (edge : Edge) (other : edge.otherwise ≢ OutOfMemory) where
+    others_successor : (n : ℕ) → Others (by_successor code edge n)
     others_successor n =
-        others_cond (n == a) _ _ (others_ok (row p i n false ∷ []))
-        (others_cond (is_call (look code n) && a == following n) _ _ (others_ok (row n Ecall a true ∷ row p i n false ∷ [])) (others_err otherwise other))
+        others_cond (n == edge.to) _ _ (others_ok (row edge.at edge.instr n false ∷ []))
+        (others_cond (is_call (look code n) && edge.to == following n) _ _ (others_ok (row n Ecall edge.to true ∷ row edge.at edge.instr n false ∷ [])) (others_err edge.otherwise other))
 
-    others_by_bit : (imm : _) (bit : Option Bool) → Others (by_bit k p imm bit)
-    others_by_bit imm bit = others_bit k p bit None (Branch imm)
+    others_flow : (next : Result ℕ PathFault) → Others next → (flow : Flow) → Others (by_flow code edge next flow)
+    others_flow next h Call = others_cond (edge.to == following edge.at) _ _ (others_ok (row edge.at edge.instr edge.to true ∷ [])) (others_err edge.otherwise other)
+    others_flow next h Far = others_cond (edge.to % 4 == 0) _ _ (others_ok (row edge.at edge.instr edge.to false ∷ [])) (others_err edge.otherwise other)
+    others_flow next h Stop = others_err edge.otherwise other
+    others_flow next h Plain = others_bind next (by_successor code edge) h others_successor
+    others_flow next h (Jump imm) = others_bind next (by_successor code edge) h others_successor
+    others_flow next h (Fixed to) = others_bind next (by_successor code edge) h others_successor
+    others_flow next h (Branch imm) = others_bind next (by_successor code edge) h others_successor
 
-    others_crossing : (bit : Option Bool) (flow : Flow) → Others (crossing code k p i a otherwise bit flow)
-    others_crossing bit Call = others_cond (a == following p) _ _ (others_ok (row p i a true ∷ [])) (others_err otherwise other)
-    others_crossing bit Far = others_cond (a % 4 == 0) _ _ (others_ok (row p i a false ∷ [])) (others_err otherwise other)
-    others_crossing bit Stop = others_err otherwise other
-    others_crossing bit Plain = others_successor (following p)
-    others_crossing bit (Jump imm) = others_successor (plus p imm)
-    others_crossing bit (Fixed to) = others_successor to
-    others_crossing bit (Branch imm) = others_bind (by_bit k p imm bit) (by_successor code p i a otherwise) (others_by_bit imm bit) others_successor
-
-  others_gap : (k : ℕ) (all : List Bool) (p : Place) (a : ℕ) (otherwise : PathFault) → otherwise ≢ OutOfMemory → Others (gap code k all p a otherwise)
+  others_gap : (s : Stand) (goal : Goal) → goal.otherwise ≢ OutOfMemory → Others (gap code s goal)
   unfolding gap
-  others_gap k all p a otherwise other =
-      let room : List StepRow → Result (List StepRow) PathFault = λ rows. cond (nat_le (length p.rows + length rows) 65536) (Ok rows) (Err (TooLong k)) in
-      let cross : Instr → Result (List StepRow) PathFault = λ i. crossing code k p.at i a otherwise (slice_get all p.branches) (flow_of i) in
+  others_gap s goal other =
+      let p = s.place in
+      let room : List StepRow → Result (List StepRow) PathFault = λ rows. cond (nat_le (length p.rows + length rows) 65536) (Ok rows) (Err (TooLong s.packet)) in
+      let bit = slice_get s.bits p.branches in
+      let cross : Instr → Result (List StepRow) PathFault = λ i. crossing code s goal i in
       others_bind (look code p.at) (λ i. cross i >>= room) (others_look p.at)
-      (λ i. others_bind (cross i) room (others_crossing k p.at i a otherwise other (slice_get all p.branches) (flow_of i))
-      (λ rows. others_cond (nat_le (length p.rows + length rows) 65536) (Ok rows) (Err (TooLong k)) (others_ok rows) (others_long k)))
+      (λ i. others_bind (cross i) room (others_flow (record { at = p.at; instr = i; to = goal.address; otherwise = goal.otherwise }) other (successor s.packet p.at (flow_of i) bit None) (others_bit s.packet p.at bit None (flow_of i)) (flow_of i))
+      (λ rows. others_cond (nat_le (length p.rows + length rows) 65536) (Ok rows) (Err (TooLong s.packet)) (others_ok rows) (others_long s.packet)))
 
   phase_other : (how : Lead) (aim : Aim) (past : Place) (e : PathFault) → PhaseFault code how aim past e → e ≢ OutOfMemory
   phase_other how aim past e (inl blocked) = others_next how (along code past blocked.leg) e blocked.blocked.1
   phase_other how aim past e (inr misfit) = λ m. let is = misfit.fault in cc
 
-  phases_other : (k : ℕ) (all : List Bool) (phases : List Phase) (past : Place) (e : PathFault) → PhasesFault code k all phases past e → e ≢ OutOfMemory
-  phases_other k all [] past e f = elim f [ ]
-  phases_other k all (phase ∷ phases) past e (inl f) = phase_other (lead_of k all phase) phase.aim past e f
-  phases_other k all (phase ∷ phases) past e (inr (first, leg, f)) = phases_other k all phases (along code past first) e f
+  phases_other : (s : Stand) (phases : List Phase) (e : PathFault) → PhasesFault code s phases e → e ≢ OutOfMemory
+  phases_other s [] e f = elim f [ ]
+  phases_other s (phase ∷ phases) e (inl f) = phase_other (lead_of s phase) phase.aim s.place e f
+  phases_other s (phase ∷ phases) e (inr (first, leg, f)) = phases_other (further code s first) phases e f
 
   admits_other : (packet : Packet) → Others (admits code packet)
   admits_other (Start branch privilege a) = others_position a
@@ -132,13 +132,13 @@ module _ (code : List ElfSegment) where
 
   running_other : (packet : Packet) (met : Met) (e : PathFault) → RunningFault code packet met e → e ≢ OutOfMemory
   running_other packet met e (inl f) = admits_other packet e f
-  running_other packet met e (inr (admitted, f)) = phases_other met.number (met.bits ++ bits_of code packet) (phases_of packet met.marked met.reported) met.place e f
+  running_other packet met e (inr (admitted, f)) = phases_other (with_bits code packet met) (phases_of packet met.marked met.reported) e f
 
   gap_other : (k last a : ℕ) → Gap k last a ≢ OutOfMemory
   gap_other k last a = λ m. cc
 
   waiting_other : (packet : Packet) (met : Met) (e : PathFault) → WaitingFault code packet met e → e ≢ OutOfMemory
-  waiting_other (Start branch privilege a) met e (inl f) = others_gap met.number met.bits met.place a (Gap met.number met.place.at a) (gap_other met.number met.place.at a) e f
+  waiting_other (Start branch privilege a) met e (inl f) = others_gap (stand_of met) (record { address = a; otherwise = Gap met.number met.place.at a }) (gap_other met.number met.place.at a) e f
   waiting_other (Start branch privilege a) met e (inr (closed, f)) = others_position a e f
   waiting_other (Address report) met e f = λ m. cc
   waiting_other (MapAddress count map report) met e f = λ m. cc
@@ -146,7 +146,7 @@ module _ (code : List ElfSegment) where
   waiting_other (Context privilege) met e f = elim f [ ]
   waiting_other (Support enabled status) met e f = elim f [ ]
 
-  by_other : (packet : Packet) (waits : Bool) (met : Met) (e : PathFault) → FaultBy code packet waits met e → e ≢ OutOfMemory
+  by_other : (packet : Packet) (waits : Bool) (met : Met) (e : PathFault) → FaultIn code packet waits met e → e ≢ OutOfMemory
   by_other packet true met e f = waiting_other packet met e f
   by_other packet false met e f = running_other packet met e f
 
@@ -158,16 +158,16 @@ module _ (code : List ElfSegment) where
   first_other (Context privilege) e f = elim f [ ]
   first_other (Support enabled status) e f = elim f [ ]
 
-  fault_other : (skipped : ℕ) (packet : Packet) (earlier : List Packet) (legs : List (List StepRow)) (e : PathFault) → Fault code skipped packet earlier legs e → e ≢ OutOfMemory
+  fault_other : (skipped : ℕ) (packet : Packet) (earlier : List Packet) (legs : List (List StepRow)) (e : PathFault) → Fault code packet (record { skipped = skipped; packets = earlier; legs = legs }) e → e ≢ OutOfMemory
   fault_other skipped packet [] legs e f = first_other packet e f
   fault_other skipped packet (last ∷ earlier) legs e f = by_other packet (waiting (last ∷ earlier)) (met_by code skipped (last ∷ earlier) legs) e f
 
-  refused_other : (packets : List Packet) (from pc : ℕ) (e : PathFault) → IsRefused code packets from pc e → e ≢ OutOfMemory
+  refused_other : (packets : List Packet) (from pc : ℕ) (e : PathFault) → IsRefused (record { code = code; packets = packets; from = from; pc = pc }) e → e ≢ OutOfMemory
   refused_other packets from pc e (inl (none, is)) = λ m. cc
   refused_other packets from pc e (inr (skipped, window, inl s)) = fault_other skipped s.packet s.earlier s.legs e s.fault
   refused_other packets from pc e (inr (skipped, window, inr s)) =
-      let p = place code (reverse (drop skipped packets)) s.legs in
-      others_gap (length packets) (bits code (reverse (drop skipped packets))) p pc (End p.at pc) (λ m. cc) e s.end
+      let last = stand_after code (length packets) (reverse (drop skipped packets)) s.legs in
+      others_gap last (record { address = pc; otherwise = End last.place.at pc }) (λ m. cc) e s.end
 
 pub refused_otherwise : (packets : Packets) (dump : Dump) (from : ℕ) (e : PathFault) → IsRefusedBy packets dump from e → e ≢ OutOfMemory
 refused_otherwise packets dump from e (inl (list, refused, fails, is)) = λ m. cc

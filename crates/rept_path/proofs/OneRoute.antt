@@ -4,14 +4,14 @@ use Rattle.std.proofs.lemmas.List.{reverse-append, reverse-reverse}
 use Rattle.rept_elf.specs.Segments.{ElfSegment}
 use Rattle.rept_isa.specs.declared.row.StepRow.{StepRow}
 use Rattle.rept_path.specs.declared.fault.PathFault.{PathFault}
-use Rattle.rept_path.specs.declared.fault.PathFault.TheVariants.{End}
 use Rattle.rept_trace.specs.declared.packet.Packet.{Packet}
 use Rattle.rept_trace.specs.declared.packet.Packet.TheVariants.{Start, Context, Support, Address, Map, MapAddress}
-use Rattle.rept_path.specs.Packets.{bits, bits_of, waiting}
-use Rattle.rept_path.specs.Gap.{gap}
-use Rattle.rept_path.specs.Route.{phases_of, Met, met_by, WaitingLeg, WaitingFault, LegBy, FaultBy, FirstLeg, FirstFault, Leg, Fault, Route, place}
-use Rattle.rept_path.specs.Trace.{Window, IsPath, StopsAt, StopsAtEnd, IsRefused}
+use Rattle.rept_path.specs.Packets.{waiting}
+use Rattle.rept_path.specs.Gap.{gap_to_end}
+use Rattle.rept_path.specs.Route.{phases_of, with_bits, Met, met_by, WaitingLeg, WaitingFault, FirstLeg, FirstFault, Leg, Fault, Route}
+use Rattle.rept_path.specs.Trace.{Window, stand_after, Run, newest_first, last_stand, IsPath, StopsAt, StopsAtEnd, IsRefused}
 use Rattle.rept_path.proofs.Unique.{one_legs, legs_or_fault, one_of_faults}
+use Rattle.rept_path.proofs.Waiting.{LegIn, FaultIn}
 
 -- a result is one
 same_ok : {A : Type 0} {r : Result A PathFault} {x y : A} → r ≡ Ok x → r ≡ Ok y → x ≡ y
@@ -74,37 +74,37 @@ one_waiting_fault code (Map map) met d e x y = x ∙ sym y
 one_waiting_fault code (Context privilege) met d e x y = elim x [ ]
 one_waiting_fault code (Support enabled status) met d e x y = elim x [ ]
 
-one_by : (code : List ElfSegment) (packet : Packet) (waits : Bool) (met : Met) (a b : List StepRow) → LegBy code packet waits met a → LegBy code packet waits met b → a ≡ b
+one_by : (code : List ElfSegment) (packet : Packet) (waits : Bool) (met : Met) (a b : List StepRow) → LegIn code packet waits met a → LegIn code packet waits met b → a ≡ b
 one_by code packet true met a b x y = one_waiting code packet met a b x y
-one_by code packet false met a b x y = one_legs code met.number (met.bits ++ bits_of code packet) (phases_of packet met.marked met.reported) met.place a b x.legs y.legs
+one_by code packet false met a b x y = one_legs code (phases_of packet met.marked met.reported) (with_bits code packet met) a b x.legs y.legs
 
-by_or_fault : (code : List ElfSegment) (packet : Packet) (waits : Bool) (met : Met) (a : List StepRow) (e : PathFault) → LegBy code packet waits met a → FaultBy code packet waits met e → ⊥
+by_or_fault : (code : List ElfSegment) (packet : Packet) (waits : Bool) (met : Met) (a : List StepRow) (e : PathFault) → LegIn code packet waits met a → FaultIn code packet waits met e → ⊥
 by_or_fault code packet true met a e x y = waiting_or_fault code packet met a e x y
 by_or_fault code packet false met a e x y = elim y [
   | inl h ↦ not_both x.admitted.1 h
-  | inr h ↦ legs_or_fault code met.number (met.bits ++ bits_of code packet) (phases_of packet met.marked met.reported) met.place a e x.legs h.1
+  | inr h ↦ legs_or_fault code (phases_of packet met.marked met.reported) (with_bits code packet met) a e x.legs h.1
 ]
 
-one_fault_by : (code : List ElfSegment) (packet : Packet) (waits : Bool) (met : Met) (d e : PathFault) → FaultBy code packet waits met d → FaultBy code packet waits met e → d ≡ e
+one_fault_by : (code : List ElfSegment) (packet : Packet) (waits : Bool) (met : Met) (d e : PathFault) → FaultIn code packet waits met d → FaultIn code packet waits met e → d ≡ e
 one_fault_by code packet true met d e x y = one_waiting_fault code packet met d e x y
 one_fault_by code packet false met d e x y = elim x [
   | inl f ↦ elim y [ inl g ↦ same_err f g | inr g ↦ absurd (not_both g.0.1 f) ]
   | inr f ↦ elim y [
     | inl g ↦ absurd (not_both f.0.1 g)
-    | inr g ↦ one_of_faults code met.number (met.bits ++ bits_of code packet) (phases_of packet met.marked met.reported) met.place d e f.1 g.1
+    | inr g ↦ one_of_faults code (phases_of packet met.marked met.reported) (with_bits code packet met) d e f.1 g.1
   ]
 ]
 
 module _ (code : List ElfSegment) (skipped : ℕ) where
-  one_leg : (packet : Packet) (earlier : List Packet) (legs : List (List StepRow)) (a b : List StepRow) → Leg code skipped packet earlier legs a → Leg code skipped packet earlier legs b → a ≡ b
+  one_leg : (packet : Packet) (earlier : List Packet) (legs : List (List StepRow)) (a b : List StepRow) → Leg code packet (record { skipped = skipped; packets = earlier; legs = legs }) a → Leg code packet (record { skipped = skipped; packets = earlier; legs = legs }) b → a ≡ b
   one_leg packet [] legs a b x y = one_first code packet a b x y
   one_leg packet (last ∷ earlier) legs a b x y = one_by code packet (waiting (last ∷ earlier)) (met_by code skipped (last ∷ earlier) legs) a b x y
 
-  leg_or_fault : (packet : Packet) (earlier : List Packet) (legs : List (List StepRow)) (a : List StepRow) (e : PathFault) → Leg code skipped packet earlier legs a → Fault code skipped packet earlier legs e → ⊥
+  leg_or_fault : (packet : Packet) (earlier : List Packet) (legs : List (List StepRow)) (a : List StepRow) (e : PathFault) → Leg code packet (record { skipped = skipped; packets = earlier; legs = legs }) a → Fault code packet (record { skipped = skipped; packets = earlier; legs = legs }) e → ⊥
   leg_or_fault packet [] legs a e x y = first_or_fault code packet a e x y
   leg_or_fault packet (last ∷ earlier) legs a e x y = by_or_fault code packet (waiting (last ∷ earlier)) (met_by code skipped (last ∷ earlier) legs) a e x y
 
-  one_fault : (packet : Packet) (earlier : List Packet) (legs : List (List StepRow)) (d e : PathFault) → Fault code skipped packet earlier legs d → Fault code skipped packet earlier legs e → d ≡ e
+  one_fault : (packet : Packet) (earlier : List Packet) (legs : List (List StepRow)) (d e : PathFault) → Fault code packet (record { skipped = skipped; packets = earlier; legs = legs }) d → Fault code packet (record { skipped = skipped; packets = earlier; legs = legs }) e → d ≡ e
   one_fault packet [] legs d e x y = one_first_fault code packet d e x y
   one_fault packet (last ∷ earlier) legs d e x y = one_fault_by code packet (waiting (last ∷ earlier)) (met_by code skipped (last ∷ earlier) legs) d e x y
 
@@ -116,23 +116,23 @@ module _ (code : List ElfSegment) (skipped : ℕ) where
   one_route (packet ∷ earlier) (p ∷ a) [] x y = elim y [ ]
   one_route (packet ∷ earlier) (p ∷ a) (q ∷ b) x y =
       let s : a ≡ b = one_route earlier a b x.1 y.1 in
-      let h : Leg code skipped packet earlier b p = rw s at x.0 in
+      let h : Leg code packet (record { skipped = skipped; packets = earlier; legs = b }) p = rw s at x.0 in
       let t : p ≡ q = one_leg packet earlier b p q h y.0 in
       cc
 
   -- a route has a leg for each of its packets
-  pub leg_within : (newer : List Packet) (packet : Packet) (earlier : List Packet) (legs : List (List StepRow)) → Route code skipped (newer ++ packet ∷ earlier) legs → (leg : List StepRow) × (rest : List (List StepRow)) × Leg code skipped packet earlier rest leg × Route code skipped earlier rest
+  pub leg_within : (newer : List Packet) (packet : Packet) (earlier : List Packet) (legs : List (List StepRow)) → Route code skipped (newer ++ packet ∷ earlier) legs → (leg : List StepRow) × (rest : List (List StepRow)) × Leg code packet (record { skipped = skipped; packets = earlier; legs = rest }) leg × Route code skipped earlier rest
   leg_within [] packet earlier [] x = elim x [ ]
   leg_within [] packet earlier (leg ∷ legs) x = (leg, legs, x.0, x.1)
   leg_within (p ∷ newer) packet earlier [] x = elim x [ ]
   leg_within (p ∷ newer) packet earlier (leg ∷ legs) x = leg_within newer packet earlier legs x.1
 
   -- where a packet has no leg, there is no route of all
-  no_route : (newer : List Packet) (packet : Packet) (earlier : List Packet) (all legs : List (List StepRow)) (e : PathFault) → Route code skipped (newer ++ packet ∷ earlier) all → Route code skipped earlier legs → Fault code skipped packet earlier legs e → ⊥
+  no_route : (newer : List Packet) (packet : Packet) (earlier : List Packet) (all legs : List (List StepRow)) (e : PathFault) → Route code skipped (newer ++ packet ∷ earlier) all → Route code skipped earlier legs → Fault code packet (record { skipped = skipped; packets = earlier; legs = legs }) e → ⊥
   no_route newer packet earlier all legs e x y f =
       let w = leg_within newer packet earlier all x in
       let s : w.1 ≡ legs = one_route earlier w.1 legs w.3 y in
-      let h : Leg code skipped packet earlier legs w.0 = rw s at w.2 in
+      let h : Leg code packet (record { skipped = skipped; packets = earlier; legs = legs }) w.0 = rw s at w.2 in
       leg_or_fault packet earlier legs w.0 e h f
 
   -- two cuts of a list are one, or one is within the other
@@ -160,7 +160,7 @@ module _ (code : List ElfSegment) (skipped : ℕ) where
     | inl i ↦
         let r : Route code skipped g.earlier f.legs = rw i.0 at f.route in
         let l : f.legs ≡ g.legs = one_route g.earlier f.legs g.legs r g.route in
-        let h : Fault code skipped g.packet g.earlier g.legs d = rw (i.0, i.1, l) at f.fault in
+        let h : Fault code g.packet (record { skipped = skipped; packets = g.earlier; legs = g.legs }) d = rw (i.0, i.1, l) at f.fault in
         one_fault g.packet g.earlier g.legs d e h g.fault
     | inr (inl i) ↦
         let r : Route code skipped (i.0 ++ f.packet ∷ f.earlier) g.legs = rw i.1 at g.route in
@@ -173,48 +173,51 @@ module _ (code : List ElfSegment) (skipped : ℕ) where
   pub one_stop : (window : List Packet) (d e : PathFault) → StopsAt code skipped window d → StopsAt code skipped window e → d ≡ e
   one_stop window d e f g = one_of_stops window d e f g (cuts (reverse f.later) f.packet f.earlier (reverse g.later) g.packet g.earlier (sym (turned window f.earlier f.packet f.later f.cut) ∙ turned window g.earlier g.packet g.later g.cut))
 
-  pub one_end : (count : ℕ) (window : List Packet) (pc : ℕ) (d e : PathFault) → StopsAtEnd code count skipped window pc d → StopsAtEnd code count skipped window pc e → d ≡ e
-  one_end count window pc d e f g =
-      let s : f.legs ≡ g.legs = one_route (reverse window) f.legs g.legs f.route g.route in
-      let h : gap code count (bits code (reverse window)) (place code (reverse window) g.legs) pc (End (place code (reverse window) g.legs).at pc) ≡ Err d = rw s at f.end in
-      same_err h g.end
-
 pub one_window : (packets : List Packet) (from a b : ℕ) → Window packets from a → Window packets from b → a ≡ b
 one_window packets from a b x y = let p : a ≤ b = x.first b y.may in let q : b ≤ a = y.first a x.may in omega arith
 
 module _ (code : List ElfSegment) (packets : List Packet) (from pc : ℕ) where
-  pub one_path : (i j : ℕ) (a b : List StepRow) → IsPath code packets from pc i a → IsPath code packets from pc j b → (i ≡ j) × (a ≡ b)
+  abbrev run : Run
+  run = record { code = code; packets = packets; from = from; pc = pc }
+
+  one_end : (skipped : ℕ) (d e : PathFault) → StopsAtEnd run skipped d → StopsAtEnd run skipped e → d ≡ e
+  one_end skipped d e f g =
+      let s : f.legs ≡ g.legs = one_route code skipped (newest_first run skipped) f.legs g.legs f.route g.route in
+      let h : gap_to_end code (last_stand run skipped g.legs) pc ≡ Err d = rw s at f.end in
+      same_err h g.end
+
+  pub one_path : (i j : ℕ) (a b : List StepRow) → IsPath run i a → IsPath run j b → (i ≡ j) × (a ≡ b)
   one_path i j a b x y =
       let w : i ≡ j = one_window packets from i j x.window y.window in
-      let z = subst (λ (n : ℕ). IsPath code packets from pc n a) w x in
+      let z = subst (λ (n : ℕ). IsPath run n a) w x in
       let s : z.legs ≡ y.legs = one_route code j (reverse (drop j packets)) z.legs y.legs z.route y.route in
-      let e : gap code (length packets) (bits code (reverse (drop j packets))) (place code (reverse (drop j packets)) y.legs) pc (End (place code (reverse (drop j packets)) y.legs).at pc) ≡ Ok z.last = rw s at z.end in
+      let e : gap_to_end code (stand_after code (length packets) (reverse (drop j packets)) y.legs) pc ≡ Ok z.last = rw s at z.end in
       let l : z.last ≡ y.last = same_ok e y.end in
       (w, z.order ∙ rw (s, l) refl ∙ sym y.order)
 
-  refusal_at : (skipped j : ℕ) (e : PathFault) → skipped ≡ j → StopsAt code skipped (drop skipped packets) e ⊎ StopsAtEnd code (length packets) skipped (drop skipped packets) pc e → StopsAt code j (drop j packets) e ⊎ StopsAtEnd code (length packets) j (drop j packets) pc e
-  refusal_at skipped j e w h = subst (λ (n : ℕ). StopsAt code n (drop n packets) e ⊎ StopsAtEnd code (length packets) n (drop n packets) pc e) w h
+  refusal_at : (skipped j : ℕ) (e : PathFault) → skipped ≡ j → StopsAt code skipped (drop skipped packets) e ⊎ StopsAtEnd run skipped e → StopsAt code j (drop j packets) e ⊎ StopsAtEnd run j e
+  refusal_at skipped j e w h = subst (λ (n : ℕ). StopsAt code n (drop n packets) e ⊎ StopsAtEnd run n e) w h
 
-  pub path_or_refusal : (j : ℕ) (path : List StepRow) (e : PathFault) → IsPath code packets from pc j path → IsRefused code packets from pc e → ⊥
+  pub path_or_refusal : (j : ℕ) (path : List StepRow) (e : PathFault) → IsPath run j path → IsRefused run e → ⊥
   path_or_refusal j path e x y = elim y [
     | inl h ↦ h.0 j x.window.may
     | inr h ↦ elim (refusal_at h.0 j e (one_window packets from h.0 j h.1 x.window) h.2) [
       | inl s ↦ route_or_stop code j (drop j packets) x.legs e x.route s
       | inr s ↦
           let l : s.legs ≡ x.legs = one_route code j (reverse (drop j packets)) s.legs x.legs s.route x.route in
-          let g : gap code (length packets) (bits code (reverse (drop j packets))) (place code (reverse (drop j packets)) x.legs) pc (End (place code (reverse (drop j packets)) x.legs).at pc) ≡ Err e = rw l at s.end in
+          let g : gap_to_end code (stand_after code (length packets) (reverse (drop j packets)) x.legs) pc ≡ Err e = rw l at s.end in
           not_both x.end g
     ]
   ]
 
-  pub one_refusal : (d e : PathFault) → IsRefused code packets from pc d → IsRefused code packets from pc e → d ≡ e
+  pub one_refusal : (d e : PathFault) → IsRefused run d → IsRefused run e → d ≡ e
   one_refusal d e x y = elim x [
     | inl f ↦ elim y [ inl g ↦ f.1 ∙ sym g.1 | inr g ↦ absurd (f.0 g.0 g.1.may) ]
     | inr f ↦ elim y [
       | inl g ↦ absurd (g.0 f.0 f.1.may)
       | inr g ↦ elim (refusal_at f.0 g.0 d (one_window packets from f.0 g.0 f.1 g.1) f.2) [
         | inl s ↦ elim g.2 [ inl t ↦ one_stop code g.0 (drop g.0 packets) d e s t | inr t ↦ absurd (route_or_stop code g.0 (drop g.0 packets) t.legs d t.route s) ]
-        | inr s ↦ elim g.2 [ inl t ↦ absurd (route_or_stop code g.0 (drop g.0 packets) s.legs e s.route t) | inr t ↦ one_end code g.0 (length packets) (drop g.0 packets) pc d e s t ]
+        | inr s ↦ elim g.2 [ inl t ↦ absurd (route_or_stop code g.0 (drop g.0 packets) s.legs e s.route t) | inr t ↦ one_end g.0 d e s t ]
       ]
     ]
   ]

@@ -18,7 +18,7 @@ module _ (packets : Packets) (dump : Dump) (from : ℕ) where
   pub one_path_of : (i j : ℕ) (a b : List StepRow) → IsPathOf packets dump from i a → IsPathOf packets dump from j b → (i ≡ j) × (a ≡ b)
   one_path_of i j a b x y =
       let s = one_list (rest_of packets) x.0 y.0 x.1 y.1 in
-      let z = subst (λ (l : List Packet). IsPath (exe_of dump) l from (pc_of dump) i a) s x.2 in
+      let z = subst (λ (l : List Packet). IsPath (record { code = exe_of dump; packets = l; from = from; pc = pc_of dump }) i a) s x.2 in
       one_path (exe_of dump) y.0 from (pc_of dump) i j a b z y.2
 
   pub path_or_refusal_of : (i : ℕ) (a : List StepRow) (e : PathFault) → IsPathOf packets dump from i a → IsRefusedBy packets dump from e → ⊥
@@ -26,7 +26,7 @@ module _ (packets : Packets) (dump : Dump) (from : ℕ) where
     | inl f ↦ not_both (number_of packets) (rest_of packets) x.0 f.0 f.1 x.1 f.2
     | inr f ↦
         let s = one_list (rest_of packets) x.0 f.0 x.1 f.1 in
-        let z = subst (λ (l : List Packet). IsPath (exe_of dump) l from (pc_of dump) i a) s x.2 in
+        let z = subst (λ (l : List Packet). IsPath (record { code = exe_of dump; packets = l; from = from; pc = pc_of dump }) i a) s x.2 in
         path_or_refusal (exe_of dump) f.0 from (pc_of dump) i a e z f.2
   ]
 
@@ -40,7 +40,7 @@ module _ (packets : Packets) (dump : Dump) (from : ℕ) where
       | inl g ↦ absurd (not_both (number_of packets) (rest_of packets) f.0 g.0 g.1 f.1 g.2)
       | inr g ↦
           let s = one_list (rest_of packets) f.0 g.0 f.1 g.1 in
-          let z = subst (λ (l : List Packet). IsRefused (exe_of dump) l from (pc_of dump) d) s f.2 in
+          let z = subst (λ (l : List Packet). IsRefused (record { code = exe_of dump; packets = l; from = from; pc = pc_of dump }) d) s f.2 in
           one_refusal (exe_of dump) g.0 from (pc_of dump) d e z g.2
     ]
   ]

@@ -16,7 +16,7 @@ use Rattle.rept_trace.specs.declared.packet.Packet.TheVariants.{Start}
 use Rattle.rept_path.specs.declared.walk.Walk.{Walk}
 use Rattle.rept_path.specs.Packets.{bits, bits_of, reported, reported_after, waiting, waits_after}
 use Rattle.rept_path.specs.Moves.{position}
-use Rattle.rept_path.specs.Route.{Leg, LegBy, Fault, FaultBy, FirstFault, met_by, marked, place}
+use Rattle.rept_path.specs.Route.{Met, Leg, LegBy, Fault, FaultBy, FirstFault, met_by, marked, place}
 use Rattle.rept_path.specs.State.{here, met, Followed, Stands}
 use Rattle.rept_path.specs.Trace.{StopsAt}
 
@@ -38,17 +38,17 @@ begun code skipped branch privilege a at w admitted stands none all size used re
     }
 
 -- a packet that is not the first has its leg
-pub leg_after : (code : List ElfSegment) (skipped : ℕ) (packet : Packet) (earlier : List Packet) (legs : List (List StepRow)) (leg : List StepRow) → 0 < length earlier → LegBy code packet (waiting earlier) (met_by code skipped earlier legs) leg → Leg code skipped packet earlier legs leg
+pub leg_after : (code : List ElfSegment) (skipped : ℕ) (packet : Packet) (earlier : List Packet) (legs : List (List StepRow)) (leg : List StepRow) → 0 < length earlier → LegBy code packet (met_by code skipped earlier legs) leg → Leg code packet (record { skipped = skipped; packets = earlier; legs = legs }) leg
 leg_after code skipped packet [] legs leg some h = absurd (omega arith)
 leg_after code skipped packet (last ∷ earlier) legs leg some h = h
 
-fault_after : (code : List ElfSegment) (skipped : ℕ) (packet : Packet) (earlier : List Packet) (legs : List (List StepRow)) (e : PathFault) → 0 < length earlier → FaultBy code packet (waiting earlier) (met_by code skipped earlier legs) e → Fault code skipped packet earlier legs e
+fault_after : (code : List ElfSegment) (skipped : ℕ) (packet : Packet) (earlier : List Packet) (legs : List (List StepRow)) (e : PathFault) → 0 < length earlier → FaultBy code packet (met_by code skipped earlier legs) e → Fault code packet (record { skipped = skipped; packets = earlier; legs = legs }) e
 fault_after code skipped packet [] legs e some h = absurd (omega arith)
 fault_after code skipped packet (last ∷ earlier) legs e some h = h
 
 module _ (code : List ElfSegment) (skipped k : ℕ) (packet : Packet) (earlier : List Packet) (legs : List (List StepRow)) (old : Walk) (some : 0 < length earlier) (number : k ≡ skipped + length earlier) (s : Stands code skipped earlier legs old) where
   same_met : met k old ≡ met_by code skipped earlier legs
-  same_met = let a = s.seen in let b = s.bits in let c = s.reported in let d = s.marked in cc
+  same_met = let a = s.seen in let b = s.bits in let c = s.reported in let d = s.marked in let w = s.waiting in cc
 
   pub stands_on : (new : Walk) → (f : Followed code k packet old new) → Stands code skipped (packet ∷ earlier) (f.leg ∷ legs) new
   unfolding bits reported marked waiting place
@@ -56,7 +56,7 @@ module _ (code : List ElfSegment) (skipped k : ℕ) (packet : Packet) (earlier :
       let all : new.bits.items ≡ bits code (packet ∷ earlier) = rw (← s.bits, ← s.waiting) f.bits in
       let report : new.reported ≡ reported (packet ∷ earlier) = f.reported ∙ ap (λ (r : ℕ). reported_after packet r) s.reported in
       let seen : here new ≡ place code (packet ∷ earlier) (f.leg ∷ legs) = rw (← s.seen, ← s.waiting) f.seen in
-      let leg : LegBy code packet (waiting earlier) (met_by code skipped earlier legs) f.leg = rw (← s.waiting, ← same_met) f.goes in
+      let leg : LegBy code packet (met_by code skipped earlier legs) f.leg = subst (λ (m : Met). LegBy code packet m f.leg) same_met f.goes in
       record {
         route = (leg_after code skipped packet earlier legs f.leg some leg, s.route);
         seen = seen;
@@ -68,8 +68,8 @@ module _ (code : List ElfSegment) (skipped k : ℕ) (packet : Packet) (earlier :
         rests = f.rests;
       }
 
-  pub faults : (e : PathFault) → FaultBy code packet old.waiting (met k old) e → Fault code skipped packet earlier legs e
-  faults e f = fault_after code skipped packet earlier legs e some (rw (← s.waiting, ← same_met) f)
+  pub faults : (e : PathFault) → FaultBy code packet (met k old) e → Fault code packet (record { skipped = skipped; packets = earlier; legs = legs }) e
+  faults e f = fault_after code skipped packet earlier legs e some (subst (λ (m : Met). FaultBy code packet m e) same_met f)
 
 -- A walk over the packets of a window: those that it went over, newest first, and those that the bytes still hold.
 pub record Going (code : List ElfSegment) (skipped : ℕ) (window : List Packet) (number : ℕ) (rest : List ℕ) (w : Walk) : Type 0 where
@@ -123,7 +123,7 @@ module _ (code : List ElfSegment) (skipped : ℕ) (window : List Packet) (number
         some = omega arith;
       }
 
-  pub stops_or : (k n : ℕ) (after : List ℕ) (packet : Packet) (e : PathFault) → Answers k rest (Ok (Some packet)) n after → (e ≡ OutOfMemory) ⊎ FaultBy code packet w.waiting (met number w) e → (e ≡ OutOfMemory) ⊎ StopsAt code skipped window e
+  pub stops_or : (k n : ℕ) (after : List ℕ) (packet : Packet) (e : PathFault) → Answers k rest (Ok (Some packet)) n after → (e ≡ OutOfMemory) ⊎ FaultBy code packet (met number w) e → (e ≡ OutOfMemory) ⊎ StopsAt code skipped window e
   stops_or k n after packet e a h =
       let t = taken k n rest after packet g.more g.hold a in
       elim h [

@@ -1,5 +1,5 @@
 -- Facts about paths: there is a row, each row has the instruction that stands at its address and leads to the one after it.
-use Rattle.std.proofs.Common.{◌≡◌, ℕ, ◌+◌, ◌<◌, ◌==◌, nat_le, List, [], ◌∷◌, ◌++◌, length, reverse, drop, slice_get, Bool, true, false, cond, ◌&&◌, Option, Result, Ok, Err, refl, sym, ◌∙◌, ap, subst, arith, length-append}
+use Rattle.std.proofs.Common.{◌≡◌, ℕ, ◌+◌, ◌<◌, ◌==◌, nat_le, List, [], ◌∷◌, ◌++◌, length, reverse, drop, slice_get, Bool, true, false, cond, ◌&&◌, None, Result, Ok, Err, refl, sym, ◌∙◌, ap, subst, arith, length-append}
 use Rattle.std.proofs.lemmas.Bool.{eqb-true}
 use Rattle.std.proofs.lemmas.List.{reverse-append, length-reverse}
 use Rattle.std.proofs.lemmas.List.Elements.{All-nil, All-cons, All-head, All-tail, All-append, All-push, All-same}
@@ -7,7 +7,7 @@ use Rattle.rept_elf.specs.Segments.{ElfSegment}
 use Rattle.rept_isa.specs.declared.row.StepRow.{StepRow}
 use Rattle.rept_isa.specs.declared.instr.Instr.{Instr}
 use Rattle.rept_isa.specs.declared.instr.Instr.TheVariants as instrs
-use Rattle.rept_isa.specs.Numbers.{plus, following}
+use Rattle.rept_isa.specs.Numbers.{following}
 use Rattle.rept_steps.specs.Linked.{AreLinked, EndBefore}
 use Rattle.rept_dump.specs.declared.dump.Dump.{Dump}
 use Rattle.rept_dump.specs.Dump.{exe_of}
@@ -20,16 +20,17 @@ use Rattle.rept_path.specs.declared.flow.Flow.TheVariants.{Plain, Branch, Jump, 
 use Rattle.rept_path.specs.declared.fault.PathFault.{PathFault}
 use Rattle.rept_path.specs.declared.fault.PathFault.TheVariants.{TooLong, Gap, End}
 use Rattle.rept_path.specs.Code.{look, flow_of, is_call}
-use Rattle.rept_path.specs.Gap.{row, by_successor, crossing, gap}
+use Rattle.rept_path.specs.Gap.{row, Goal, Edge, by_successor, by_flow, crossing, gap}
 use Rattle.rept_path.specs.Legs.{Passes, Reaches}
-use Rattle.rept_path.specs.Moves.{Lead, Place, along, by_bit, IsMove, ◌>>=◌}
-use Rattle.rept_path.specs.Packets.{bits, bits_of, reported_after, begins, waiting}
-use Rattle.rept_path.specs.Route.{Phase, PhaseLegs, lead_of, phases_of, Met, met_by, FirstLeg, WaitingLeg, LegBy, Leg, Route, place, place_after}
+use Rattle.rept_path.specs.Moves.{Lead, Place, Stand, along, successor, IsMove, ◌>>=◌}
+use Rattle.rept_path.specs.Packets.{reported_after, begins, waiting}
+use Rattle.rept_path.specs.Route.{Phase, PhaseLegs, lead_of, further, with_bits, phases_of, Met, met_by, stand_of, FirstLeg, WaitingLeg, Leg, Route, place, place_after}
 use Rattle.rept_path.specs.Rows.{CarriesCode, CarryCode}
-use Rattle.rept_path.specs.Trace.{IsPath}
+use Rattle.rept_path.specs.Trace.{IsPath, stand_after}
 use Rattle.rept_path.specs.Traced.{pc_of, IsPathOf}
 use Rattle.rept_path.proofs.MoveLemmas.{bind_ok}
 use Rattle.rept_path.proofs.Phases.{along-append}
+use Rattle.rept_path.proofs.Waiting.{LegIn}
 
 -- the rows after a leg
 pub rows_along : (code : List ElfSegment) (p : Place) (leg : List StepRow) → (along code p leg).rows ≡ leg ++ p.rows
@@ -106,34 +107,38 @@ module _ (code : List ElfSegment) where
   one_or_two false true false p a r s e rows h at next more mid end is = absurd (cc)
   one_or_two false false d p a r s e rows h at next more mid end is = absurd (cc)
 
-  successor_rows : (p : ℕ) (i : Instr) (a : ℕ) (e : PathFault) (n : ℕ) (rows : List StepRow) → look code p ≡ Ok i → by_successor code p i a e n ≡ Ok rows → Crosses p a rows
-  successor_rows p i a e n rows there is = one_or_two (n == a) (is_call (look code n)) (a == following n) p a (row p i n false) (row n instrs.Ecall a true) e rows there refl (eqb-true n a) (called (look code n)) refl refl is
+  successor_rows : (e : Edge) (n : ℕ) (rows : List StepRow) → look code e.at ≡ Ok e.instr → by_successor code e n ≡ Ok rows → Crosses e.at e.to rows
+  successor_rows e n rows there is = one_or_two (n == e.to) (is_call (look code n)) (e.to == following n) e.at e.to (row e.at e.instr n false) (row n instrs.Ecall e.to true) e.otherwise rows there refl (eqb-true n e.to) (called (look code n)) refl refl is
 
-  crossing_rows : (k p : ℕ) (i : Instr) (a : ℕ) (e : PathFault) (bit : Option Bool) (flow : Flow) (rows : List StepRow) → look code p ≡ Ok i → crossing code k p i a e bit flow ≡ Ok rows → Crosses p a rows
-  crossing_rows k p i a e bit Call rows there is = one_row _ p a (row p i a true) e rows there refl (λ _. refl) is
-  crossing_rows k p i a e bit Far rows there is = one_row _ p a (row p i a false) e rows there refl (λ _. refl) is
-  crossing_rows k p i a e bit Stop rows there is = absurd (cc)
-  crossing_rows k p i a e bit Plain rows there is = successor_rows p i a e (following p) rows there is
-  crossing_rows k p i a e bit (Jump imm) rows there is = successor_rows p i a e (plus p imm) rows there is
-  crossing_rows k p i a e bit (Fixed to) rows there is = successor_rows p i a e to rows there is
-  crossing_rows k p i a e bit (Branch imm) rows there is =
-      let b = bind_ok (by_bit k p imm bit) (by_successor code p i a e) rows is in
-      successor_rows p i a e b.0 rows there b.2
+  next_rows : (e : Edge) (next : Result ℕ PathFault) (rows : List StepRow) → look code e.at ≡ Ok e.instr → (next >>= by_successor code e) ≡ Ok rows → Crosses e.at e.to rows
+  next_rows e next rows there is = let b = bind_ok next (by_successor code e) rows is in successor_rows e b.0 rows there b.2
+
+  flow_rows : (e : Edge) (next : Result ℕ PathFault) (flow : Flow) (rows : List StepRow) → look code e.at ≡ Ok e.instr → by_flow code e next flow ≡ Ok rows → Crosses e.at e.to rows
+  flow_rows e next Call rows there is = one_row _ e.at e.to (row e.at e.instr e.to true) e.otherwise rows there refl (λ _. refl) is
+  flow_rows e next Far rows there is = one_row _ e.at e.to (row e.at e.instr e.to false) e.otherwise rows there refl (λ _. refl) is
+  flow_rows e next Stop rows there is = absurd (cc)
+  flow_rows e next Plain rows there is = next_rows e next rows there is
+  flow_rows e next (Jump imm) rows there is = next_rows e next rows there is
+  flow_rows e next (Fixed to) rows there is = next_rows e next rows there is
+  flow_rows e next (Branch imm) rows there is = next_rows e next rows there is
 
   kept : (b : Bool) (k p a : ℕ) (xs rows : List StepRow) → Crosses p a xs → cond b (Ok xs) (Err (TooLong k)) ≡ Ok rows → Crosses p a rows
   kept true k p a xs rows h is = let same : xs ≡ rows = cc in subst (λ (ys : List StepRow). Crosses p a ys) same h
   kept false k p a xs rows h is = absurd (cc)
 
-  module _ (k : ℕ) (bits : List Bool) (p : Place) (a : ℕ) (e : PathFault) where
-    gap_rows : (rows : List StepRow) → gap code k bits p a e ≡ Ok rows → Crosses p.at a rows
+  module _ (s : Stand) (goal : Goal) where
+    gap_rows : (rows : List StepRow) → gap code s goal ≡ Ok rows → Crosses s.place.at goal.address rows
     unfolding gap
     gap_rows rows is =
-        let f : List StepRow → Result (List StepRow) PathFault = λ xs. cond (nat_le (length p.rows + length xs) 65536) (Ok xs) (Err (TooLong k)) in
-        let cross : Instr → Result (List StepRow) PathFault = λ i. crossing code k p.at i a e (slice_get bits p.branches) (flow_of i) in
+        let p = s.place in
+        let f : List StepRow → Result (List StepRow) PathFault = λ xs. cond (nat_le (length p.rows + length xs) 65536) (Ok xs) (Err (TooLong s.packet)) in
+        let cross : Instr → Result (List StepRow) PathFault = λ i. crossing code s goal i in
         let g : Instr → Result (List StepRow) PathFault = λ i. cross i >>= f in
         let b = bind_ok (look code p.at) g rows is in
         let c = bind_ok (cross b.0) f rows b.2 in
-        kept (nat_le (length p.rows + length c.0) 65536) k p.at a c.0 rows (crossing_rows k p.at b.0 a e (slice_get bits p.branches) (flow_of b.0) c.0 b.1 c.1) c.2
+        let edge : Edge = record { at = p.at; instr = b.0; to = goal.address; otherwise = goal.otherwise } in
+        let rows_there = flow_rows edge (successor s.packet p.at (flow_of b.0) (slice_get s.bits p.branches) None) (flow_of b.0) c.0 b.1 c.1 in
+        kept (nat_le (length p.rows + length c.0) 65536) s.packet p.at goal.address c.0 rows rows_there c.2
 
   moved : (lead : Lead) (p : Place) (r : StepRow) → IsMove code lead p r → CarriesCode code r
   moved lead p r m = rw m.at m.instr
@@ -149,10 +154,10 @@ module _ (code : List ElfSegment) where
   none : (rows : List StepRow) → rows ≡ [] → CarryCode code rows
   none rows is = All-same (CarriesCode code) rows [] is (All-nil (CarriesCode code))
 
-  of_phases : (k : ℕ) (all : List Bool) (phases : List Phase) (past : Place) (leg : List StepRow) → PhaseLegs code k all phases past leg → CarryCode code leg
-  of_phases k all [] past leg x = none leg x
-  of_phases k all (phase ∷ phases) past leg (first, rest, is, x, xs) =
-      All-same (CarriesCode code) leg (rest ++ first) is (All-append (CarriesCode code) rest first (of_phases k all phases (along code past first) rest xs) (reached (lead_of k all phase) phase.aim past first x.reaches))
+  of_phases : (s : Stand) (phases : List Phase) (leg : List StepRow) → PhaseLegs code s phases leg → CarryCode code leg
+  of_phases s [] leg x = none leg x
+  of_phases s (phase ∷ phases) leg (first, rest, is, x, xs) =
+      All-same (CarriesCode code) leg (rest ++ first) is (All-append (CarriesCode code) rest first (of_phases (further code s first) phases rest xs) (reached (lead_of s phase) phase.aim s.place first x.reaches))
 
   of_first : (packet : Packet) (leg : List StepRow) → FirstLeg code packet leg → CarryCode code leg
   of_first (Start branch privilege a) leg x = none leg x.1
@@ -163,19 +168,19 @@ module _ (code : List ElfSegment) where
   of_first (Support enabled status) leg x = elim x [ ]
 
   of_waiting : (packet : Packet) (met : Met) (leg : List StepRow) → WaitingLeg code packet met leg → CarryCode code leg
-  of_waiting (Start branch privilege a) met leg x = let g = gap_rows met.number met.bits met.place a (Gap met.number met.place.at a) leg x.0 in g.carry
+  of_waiting (Start branch privilege a) met leg x = let g = gap_rows (stand_of met) (record { address = a; otherwise = Gap met.number met.place.at a }) leg x.0 in g.carry
   of_waiting (Address report) met leg x = elim x [ ]
   of_waiting (MapAddress count map report) met leg x = elim x [ ]
   of_waiting (Map map) met leg x = elim x [ ]
   of_waiting (Context privilege) met leg x = none leg x
   of_waiting (Support enabled status) met leg x = none leg x
 
-  of_packet : (packet : Packet) (waits : Bool) (met : Met) (leg : List StepRow) → LegBy code packet waits met leg → CarryCode code leg
+  of_packet : (packet : Packet) (waits : Bool) (met : Met) (leg : List StepRow) → LegIn code packet waits met leg → CarryCode code leg
   of_packet packet true met leg x = of_waiting packet met leg x
-  of_packet packet false met leg x = of_phases met.number (met.bits ++ bits_of code packet) (phases_of packet met.marked met.reported) met.place leg x.legs
+  of_packet packet false met leg x = of_phases (with_bits code packet met) (phases_of packet met.marked met.reported) leg x.legs
 
   module _ (skipped : ℕ) where
-    of_leg : (packet : Packet) (earlier : List Packet) (legs : List (List StepRow)) (leg : List StepRow) → Leg code skipped packet earlier legs leg → CarryCode code leg
+    of_leg : (packet : Packet) (earlier : List Packet) (legs : List (List StepRow)) (leg : List StepRow) → Leg code packet (record { skipped = skipped; packets = earlier; legs = legs }) leg → CarryCode code leg
     of_leg packet [] legs leg x = of_first packet leg x
     of_leg packet (last ∷ earlier) legs leg x = of_packet packet (waiting (last ∷ earlier)) (met_by code skipped (last ∷ earlier) legs) leg x
 
@@ -202,11 +207,11 @@ module _ (code : List ElfSegment) where
   reach_on_chain lead aim past [] h x = elim x [ ]
   reach_on_chain lead aim past (r ∷ leg) h x = move_on_chain lead past r leg x.1 (passes_on_chain lead aim past leg h x.0)
 
-  phases_on_chain : (k : ℕ) (all : List Bool) (phases : List Phase) (past : Place) (leg : List StepRow) → OnChain past → PhaseLegs code k all phases past leg → OnChain (along code past leg)
-  phases_on_chain k all [] past leg h x = rw x h
-  phases_on_chain k all (phase ∷ phases) past leg h (first, rest, is, x, xs) =
-      let there : along code past leg ≡ along code (along code past first) rest = ap (λ (ys : List StepRow). along code past ys) is ∙ along-append code past rest first in
-      rw there (phases_on_chain k all phases (along code past first) rest (reach_on_chain (lead_of k all phase) phase.aim past first h x.reaches) xs)
+  phases_on_chain : (s : Stand) (phases : List Phase) (leg : List StepRow) → OnChain s.place → PhaseLegs code s phases leg → OnChain (along code s.place leg)
+  phases_on_chain s [] leg h x = rw x h
+  phases_on_chain s (phase ∷ phases) leg h (first, rest, is, x, xs) =
+      let there : along code s.place leg ≡ along code (along code s.place first) rest = ap (λ (ys : List StepRow). along code s.place ys) is ∙ along-append code s.place rest first in
+      rw there (phases_on_chain (further code s first) phases rest (reach_on_chain (lead_of s phase) phase.aim s.place first h x.reaches) xs)
 
   running_place : (packet : Packet) (p : Place) (leg : List StepRow) → place_after code packet false p leg ≡ along code p leg
   running_place (Start branch privilege a) p leg = refl
@@ -217,16 +222,16 @@ module _ (code : List ElfSegment) where
   running_place (Support enabled status) p leg = refl
 
   waiting_on_chain : (packet : Packet) (met : Met) (leg : List StepRow) → OnChain met.place → WaitingLeg code packet met leg → OnChain (place_after code packet true met.place leg)
-  waiting_on_chain (Start branch privilege a) met leg h x = let g = gap_rows met.number met.bits met.place a (Gap met.number met.place.at a) leg x.0 in g.leads met.place.rows h
+  waiting_on_chain (Start branch privilege a) met leg h x = let g = gap_rows (stand_of met) (record { address = a; otherwise = Gap met.number met.place.at a }) leg x.0 in g.leads met.place.rows h
   waiting_on_chain (Address report) met leg h x = elim x [ ]
   waiting_on_chain (MapAddress count map report) met leg h x = elim x [ ]
   waiting_on_chain (Map map) met leg h x = elim x [ ]
   waiting_on_chain (Context privilege) met leg h x = rw x h
   waiting_on_chain (Support enabled status) met leg h x = rw x h
 
-  packet_on_chain : (packet : Packet) (waits : Bool) (met : Met) (leg : List StepRow) → OnChain met.place → LegBy code packet waits met leg → OnChain (place_after code packet waits met.place leg)
+  packet_on_chain : (packet : Packet) (waits : Bool) (met : Met) (leg : List StepRow) → OnChain met.place → LegIn code packet waits met leg → OnChain (place_after code packet waits met.place leg)
   packet_on_chain packet true met leg h x = waiting_on_chain packet met leg h x
-  packet_on_chain packet false met leg h x = rw (running_place packet met.place leg) (phases_on_chain met.number (met.bits ++ bits_of code packet) (phases_of packet met.marked met.reported) met.place leg h x.legs)
+  packet_on_chain packet false met leg h x = rw (running_place packet met.place leg) (phases_on_chain (with_bits code packet met) (phases_of packet met.marked met.reported) leg h x.legs)
 
   first_on_chain : (packet : Packet) (leg : List StepRow) (p : Place) → p.rows ≡ [] → FirstLeg code packet leg → OnChain (place_after code packet true p leg)
   first_on_chain (Start branch privilege a) leg p none x = rw (x.1, none) tt
@@ -248,9 +253,9 @@ module _ (code : List ElfSegment) where
   turned [] h = h
   turned (r ∷ rows) h = All-same (CarriesCode code) (reverse (r ∷ rows)) (reverse rows ++ r ∷ []) (reverse-append (r ∷ []) rows) (All-push (CarriesCode code) (reverse rows) r (turned rows (All-tail (CarriesCode code) r rows h)) (All-head (CarriesCode code) r rows h))
 
-  module _ (packets : List Packet) (from pc skipped : ℕ) (path : List StepRow) (is : IsPath code packets from pc skipped path) where
+  module _ (packets : List Packet) (from pc skipped : ℕ) (path : List StepRow) (is : IsPath (record { code = code; packets = packets; from = from; pc = pc }) skipped path) where
     crossed : Crosses (place code (reverse (drop skipped packets)) is.legs).at pc is.last
-    crossed = let window = reverse (drop skipped packets) in let p = place code window is.legs in gap_rows (length packets) (bits code window) p pc (End p.at pc) is.last is.end
+    crossed = let last = stand_after code (length packets) (reverse (drop skipped packets)) is.legs in gap_rows last (record { address = pc; otherwise = End last.place.at pc }) is.last is.end
 
     -- A path has a row.
     pub path_some : 0 < length path

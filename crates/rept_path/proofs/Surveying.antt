@@ -32,7 +32,7 @@ none_starts i h = cc
 pub nothing_seen : (first : ℕ) (bytes : List ℕ) (from : ℕ) → Seen first bytes from 0 first bytes None
 nothing_seen first bytes from = record { done = []; counted = refl; hold = λ tail h. h; fails = λ tail fault h. h; few = omega arith; window = λ i m. none_starts i m.start; there = λ tail h. tt }
 
--- one packet more is behind the window's beginning
+-- one packet more is after the window's beginning
 still_there : (rest after : List ℕ) (done : List Packet) (packet : Packet) (begin : Option Begin) → Begins rest packet after → WillBeThere rest done begin → WillBeThere after (done ++ packet ∷ []) begin
 still_there rest after done packet begin b w = λ tail h. rw (append_assoc done (packet ∷ []) tail) (w (packet ∷ tail) (after, b, h))
 

@@ -8,9 +8,9 @@ use Rattle.rept_path.specs.declared.fault.PathFault.{PathFault}
 use Rattle.rept_path.specs.declared.fault.PathFault.TheVariants.{BranchesLeft}
 use Rattle.rept_isa.specs.declared.instr.Instr.{Instr}
 use Rattle.rept_path.specs.Code.{look}
-use Rattle.rept_path.specs.Moves.{Lead, Place, along, next_of, IsMove, stops, misfits, unused}
+use Rattle.rept_path.specs.Moves.{Lead, Place, Stand, along, next_of, IsMove, stops, misfits, unused}
 use Rattle.rept_path.specs.Legs.{Passes, Reaches, Blocked, PhaseLeg, PhaseFault}
-use Rattle.rept_path.specs.Route.{Phase, PhaseLegs, PhasesFault, lead_of}
+use Rattle.rept_path.specs.Route.{Phase, PhaseLegs, PhasesFault, lead_of, further}
 
 one_move : (code : List ElfSegment) (lead : Lead) (p : Place) (r s : StepRow) → IsMove code lead p r → IsMove code lead p s → r ≡ s
 one_move code lead p r s x y =
@@ -125,37 +125,37 @@ module _ (code : List ElfSegment) (lead : Lead) (aim : Aim) (past : Place) where
     ]
   ]
 
-module _ (code : List ElfSegment) (k : ℕ) (all : List Bool) where
-  pub one_legs : (phases : List Phase) (past : Place) (a b : List StepRow) → PhaseLegs code k all phases past a → PhaseLegs code k all phases past b → a ≡ b
-  one_legs [] past a b x y = x ∙ sym y
-  one_legs (phase ∷ phases) past a b (f, r, x, p, xs) (g, s, y, q, ys) =
-      let first : f ≡ g = one_leg code (lead_of k all phase) phase.aim past f g p q in
-      let h : PhaseLegs code k all phases (along code past g) r = rw first at xs in
-      let rest : r ≡ s = one_legs phases (along code past g) r s h ys in
+module _ (code : List ElfSegment) where
+  pub one_legs : (phases : List Phase) (s : Stand) (a b : List StepRow) → PhaseLegs code s phases a → PhaseLegs code s phases b → a ≡ b
+  one_legs [] s a b x y = x ∙ sym y
+  one_legs (phase ∷ phases) s a b (f, r, x, p, xs) (g, u, y, q, ys) =
+      let first : f ≡ g = one_leg code (lead_of s phase) phase.aim s.place f g p q in
+      let h : PhaseLegs code (further code s g) phases r = rw first at xs in
+      let rest : r ≡ u = one_legs phases (further code s g) r u h ys in
       cc
 
-  pub legs_or_fault : (phases : List Phase) (past : Place) (a : List StepRow) (e : PathFault) → PhaseLegs code k all phases past a → PhasesFault code k all phases past e → ⊥
-  legs_or_fault [] past a e x y = y
-  legs_or_fault (phase ∷ phases) past a e (f, r, x, p, xs) y = elim y [
-    | inl g ↦ leg_or_fault code (lead_of k all phase) phase.aim past f e p g
+  pub legs_or_fault : (phases : List Phase) (s : Stand) (a : List StepRow) (e : PathFault) → PhaseLegs code s phases a → PhasesFault code s phases e → ⊥
+  legs_or_fault [] s a e x y = y
+  legs_or_fault (phase ∷ phases) s a e (f, r, x, p, xs) y = elim y [
+    | inl g ↦ leg_or_fault code (lead_of s phase) phase.aim s.place f e p g
     | inr g ↦
-        let first : f ≡ g.0 = one_leg code (lead_of k all phase) phase.aim past f g.0 p g.1 in
-        let h : PhaseLegs code k all phases (along code past g.0) r = rw first at xs in
-        legs_or_fault phases (along code past g.0) r e h g.2
+        let first : f ≡ g.0 = one_leg code (lead_of s phase) phase.aim s.place f g.0 p g.1 in
+        let h : PhaseLegs code (further code s g.0) phases r = rw first at xs in
+        legs_or_fault phases (further code s g.0) r e h g.2
   ]
 
-  pub one_of_faults : (phases : List Phase) (past : Place) (d e : PathFault) → PhasesFault code k all phases past d → PhasesFault code k all phases past e → d ≡ e
-  one_of_faults [] past d e x y = elim x [ ]
-  one_of_faults (phase ∷ phases) past d e x y = elim x [
+  pub one_of_faults : (phases : List Phase) (s : Stand) (d e : PathFault) → PhasesFault code s phases d → PhasesFault code s phases e → d ≡ e
+  one_of_faults [] s d e x y = elim x [ ]
+  one_of_faults (phase ∷ phases) s d e x y = elim x [
     | inl f ↦ elim y [
-      | inl g ↦ one_fault code (lead_of k all phase) phase.aim past d e f g
-      | inr g ↦ absurd (leg_or_fault code (lead_of k all phase) phase.aim past g.0 d g.1 f)
+      | inl g ↦ one_fault code (lead_of s phase) phase.aim s.place d e f g
+      | inr g ↦ absurd (leg_or_fault code (lead_of s phase) phase.aim s.place g.0 d g.1 f)
     ]
     | inr f ↦ elim y [
-      | inl g ↦ absurd (leg_or_fault code (lead_of k all phase) phase.aim past f.0 e f.1 g)
+      | inl g ↦ absurd (leg_or_fault code (lead_of s phase) phase.aim s.place f.0 e f.1 g)
       | inr g ↦
-          let first : f.0 ≡ g.0 = one_leg code (lead_of k all phase) phase.aim past f.0 g.0 f.1 g.1 in
-          let h : PhasesFault code k all phases (along code past g.0) d = rw first at f.2 in
-          one_of_faults phases (along code past g.0) d e h g.2
+          let first : f.0 ≡ g.0 = one_leg code (lead_of s phase) phase.aim s.place f.0 g.0 f.1 g.1 in
+          let h : PhasesFault code (further code s g.0) phases d = rw first at f.2 in
+          one_of_faults phases (further code s g.0) d e h g.2
     ]
   ]

@@ -37,6 +37,12 @@ pub record Lead : Type 0 where
   pub target : Option ℕ
   pub bits : List Bool
 
+-- where a walk stands: the number of the packet that comes, all branch bits of the stretch, and the place
+pub record Stand : Type 0 where
+  pub packet : ℕ
+  pub bits : List Bool
+  pub place : Place
+
 abbrev pub by_bit : ℕ → ℕ → ℤ → Option Bool → Result ℕ PathFault
 by_bit k p imm None = Err (NoBranchBit k p)
 by_bit k p imm (Some false) = Ok (plus p imm)
@@ -107,5 +113,8 @@ misfits code bits aim p = wants_fit aim && by_jump p.rows && not (bits_fit code 
 
 -- whether the place is a stop only since it is at the reported address and `updiscon` says nothing, so that the program may come
 -- there again (`inferred_address` in the reference decoder)
-unfoldable pub is_inferred : List ElfSegment → List Bool → ℕ → Bool → Bool → Place → Bool
-is_inferred code bits a notify updiscon p = p.at == a && bits_fit code bits p && not updiscon && not notify && not (by_jump p.rows)
+unfoldable pub is_inferred : List ElfSegment → List Bool → Aim → Place → Bool
+is_inferred code bits Jumped p = false
+is_inferred code bits (Start a) p = false
+is_inferred code bits (Report a notify updiscon) p = p.at == a && bits_fit code bits p && not updiscon && not notify && not (by_jump p.rows)
+is_inferred code bits LastBit p = false

@@ -3,7 +3,7 @@
 use Rattle.std.specs.Prelude.{◌≡◌, ℕ, ◌+◌, List, [], ◌∷◌, ◌++◌, length, Option, Some, None, Result, Ok, Err, Bool, true, false, ◌⊎◌, if◌then◌else◌}
 use Rattle.rept_elf.specs.Segments.{ElfSegment}
 use Rattle.rept_path.specs.declared.fault.PathFault.{PathFault}
-use Rattle.rept_path.specs.declared.fault.PathFault.TheVariants.{NoStart, Gap}
+use Rattle.rept_path.specs.declared.fault.PathFault.TheVariants.{NoStart}
 use Rattle.rept_path.specs.declared.aim.Aim.{Aim}
 use Rattle.rept_path.specs.declared.aim.Aim.TheVariants as aims
 use Rattle.rept_isa.specs.declared.row.StepRow.{StepRow}
@@ -12,27 +12,32 @@ use Rattle.rept_trace.specs.declared.packet.Packet.{Packet}
 use Rattle.rept_trace.specs.declared.packet.Packet.TheVariants.{Start, Context, Support, Address, Map, MapAddress}
 use Rattle.rept_path.specs.Code.{sum}
 use Rattle.rept_path.specs.Packets.{bits, bits_of, reported, reported_after, waiting, begins}
-use Rattle.rept_path.specs.Moves.{Lead, Place, along, position, is_inferred}
+use Rattle.rept_path.specs.Moves.{Lead, Place, Stand, along, position, is_inferred}
 use Rattle.rept_path.specs.Legs.{PhaseLeg, PhaseFault}
-use Rattle.rept_path.specs.Gap.{gap}
+use Rattle.rept_path.specs.Gap.{gap_to_start}
 
 -- a part of what a packet makes the walk do: where an uninferable jump goes, and where the moves stop
 pub record Phase : Type 0 where
   pub target : Option ℕ
   pub aim : Aim
 
-abbrev pub lead_of : ℕ → List Bool → Phase → Lead
-lead_of k all phase = record { packet = k; target = phase.target; bits = all }
+-- what leads its moves, where the walk stands so
+abbrev pub lead_of : Stand → Phase → Lead
+lead_of s phase = record { packet = s.packet; target = phase.target; bits = s.bits }
+
+-- the same packet and bits, after a leg
+abbrev pub further : List ElfSegment → Stand → List StepRow → Stand
+further code s leg = record { packet = s.packet; bits = s.bits; place = along code s.place leg }
 
 -- The leg is made of those of the phases, each from where the one before it stopped.
-abbrev pub PhaseLegs : List ElfSegment → ℕ → List Bool → List Phase → Place → List StepRow → Type 0
-PhaseLegs code k all [] past leg = leg ≡ []
-PhaseLegs code k all (phase ∷ phases) past leg = (first : List StepRow) × (rest : List StepRow) × (leg ≡ rest ++ first) × PhaseLeg code (lead_of k all phase) phase.aim past first × PhaseLegs code k all phases (along code past first) rest
+abbrev pub PhaseLegs : List ElfSegment → Stand → List Phase → List StepRow → Type 0
+PhaseLegs code s [] leg = leg ≡ []
+PhaseLegs code s (phase ∷ phases) leg = (first : List StepRow) × (rest : List StepRow) × (leg ≡ rest ++ first) × PhaseLeg code (lead_of s phase) phase.aim s.place first × PhaseLegs code (further code s first) phases rest
 
 -- One of the phases has no leg, and this is why.
-abbrev pub PhasesFault : List ElfSegment → ℕ → List Bool → List Phase → Place → PathFault → Type 0
-PhasesFault code k all [] past e = ⊥
-PhasesFault code k all (phase ∷ phases) past e = PhaseFault code (lead_of k all phase) phase.aim past e ⊎ ((first : List StepRow) × PhaseLeg code (lead_of k all phase) phase.aim past first × PhasesFault code k all phases (along code past first) e)
+abbrev pub PhasesFault : List ElfSegment → Stand → List Phase → PathFault → Type 0
+PhasesFault code s [] e = ⊥
+PhasesFault code s (phase ∷ phases) e = PhaseFault code (lead_of s phase) phase.aim s.place e ⊎ ((first : List StepRow) × PhaseLeg code (lead_of s phase) phase.aim s.place first × PhasesFault code (further code s first) phases e)
 
 -- Where the last stop was inferred, the program had come to the reported address and went on to the next uninferable jump, which
 -- led there again.
@@ -51,14 +56,20 @@ phases_of (Support enabled EndedRep) marked before = []
 phases_of (Support enabled TraceLost) marked before = []
 phases_of (Support enabled EndedNtr) marked before = first_phase marked before
 
--- the mark after a packet, from the one before it, the bits, the reported address and the place
-abbrev pub mark_after : List ElfSegment → Packet → Bool → List Bool → ℕ → Place → Bool
-mark_after code (Start branch privilege a) marked all r p = false
-mark_after code (Address report) marked all r p = is_inferred code all r report.notify report.updiscon p
-mark_after code (MapAddress count map report) marked all r p = is_inferred code all r report.notify report.updiscon p
-mark_after code (Map map) marked all r p = false
-mark_after code (Context privilege) marked all r p = marked
-mark_after code (Support enabled status) marked all r p = marked
+-- where a packet and its leg bring the walk: all branch bits of the stretch, the reported address and the place
+pub record Arrival : Type 0 where
+  pub bits : List Bool
+  pub reported : ℕ
+  pub place : Place
+
+-- the mark after a packet, from the one before it
+abbrev pub mark_after : List ElfSegment → Packet → Bool → Arrival → Bool
+mark_after code (Start branch privilege a) marked x = false
+mark_after code (Address report) marked x = is_inferred code x.bits (aims.Report x.reported report.notify report.updiscon) x.place
+mark_after code (MapAddress count map report) marked x = is_inferred code x.bits (aims.Report x.reported report.notify report.updiscon) x.place
+mark_after code (Map map) marked x = false
+mark_after code (Context privilege) marked x = marked
+mark_after code (Support enabled status) marked x = marked
 
 -- the place after a packet and its leg
 abbrev pub place_after : List ElfSegment → Packet → Bool → Place → List StepRow → Place
@@ -73,15 +84,23 @@ place code (packet ∷ earlier) (leg ∷ legs) = place_after code packet (waitin
 unfoldable pub marked : List ElfSegment → List Packet → List (List StepRow) → Bool
 marked code [] legs = false
 marked code (packet ∷ earlier) [] = false
-marked code (packet ∷ earlier) (leg ∷ legs) = mark_after code packet (marked code earlier legs) (bits code (packet ∷ earlier)) (reported (packet ∷ earlier)) (place code (packet ∷ earlier) (leg ∷ legs))
+marked code (packet ∷ earlier) (leg ∷ legs) = mark_after code packet (marked code earlier legs) (record { bits = bits code (packet ∷ earlier); reported = reported (packet ∷ earlier); place = place code (packet ∷ earlier) (leg ∷ legs) })
 
--- what a packet is met by: all that the packets before it and their legs leave
+-- what a packet is met by: all that the packets before it and their legs leave, and whether the trace waits for a start packet
 pub record Met : Type 0 where
   pub number : ℕ
   pub bits : List Bool
   pub reported : ℕ
   pub marked : Bool
+  pub waits : Bool
   pub place : Place
+
+-- where the packet meets the walk, and with the packet's own bits
+abbrev pub stand_of : Met → Stand
+stand_of met = record { packet = met.number; bits = met.bits; place = met.place }
+
+abbrev pub with_bits : List ElfSegment → Packet → Met → Stand
+with_bits code packet met = record { packet = met.number; bits = met.bits ++ bits_of code packet; place = met.place }
 
 -- the address of a start packet must be a position
 abbrev pub admits : List ElfSegment → Packet → Result ℕ PathFault
@@ -95,14 +114,14 @@ admits code (Support enabled status) = Ok 0
 -- A packet while the trace runs has this leg.
 pub record RunningLeg (code : List ElfSegment) (packet : Packet) (met : Met) (leg : List StepRow) : Type 0 where
   pub admitted : (a : ℕ) × (admits code packet ≡ Ok a)
-  pub legs : PhaseLegs code met.number (met.bits ++ bits_of code packet) (phases_of packet met.marked met.reported) met.place leg
+  pub legs : PhaseLegs code (with_bits code packet met) (phases_of packet met.marked met.reported) leg
 
 abbrev pub RunningFault : List ElfSegment → Packet → Met → PathFault → Type 0
-RunningFault code packet met e = (admits code packet ≡ Err e) ⊎ (((a : ℕ) × (admits code packet ≡ Ok a)) × PhasesFault code met.number (met.bits ++ bits_of code packet) (phases_of packet met.marked met.reported) met.place e)
+RunningFault code packet met e = (admits code packet ≡ Err e) ⊎ (((a : ℕ) × (admits code packet ≡ Ok a)) × PhasesFault code (with_bits code packet met) (phases_of packet met.marked met.reported) e)
 
 -- A packet while the trace waits has this leg: a start packet that of the gap, the others none.
 abbrev pub WaitingLeg : List ElfSegment → Packet → Met → List StepRow → Type 0
-WaitingLeg code (Start branch privilege a) met leg = (gap code met.number met.bits met.place a (Gap met.number met.place.at a) ≡ Ok leg) × (position code a ≡ Ok a)
+WaitingLeg code (Start branch privilege a) met leg = (gap_to_start code (stand_of met) a ≡ Ok leg) × (position code a ≡ Ok a)
 WaitingLeg code (Address report) met leg = ⊥
 WaitingLeg code (MapAddress count map report) met leg = ⊥
 WaitingLeg code (Map map) met leg = ⊥
@@ -110,7 +129,7 @@ WaitingLeg code (Context privilege) met leg = leg ≡ []
 WaitingLeg code (Support enabled status) met leg = leg ≡ []
 
 abbrev pub WaitingFault : List ElfSegment → Packet → Met → PathFault → Type 0
-WaitingFault code (Start branch privilege a) met e = (gap code met.number met.bits met.place a (Gap met.number met.place.at a) ≡ Err e) ⊎ (((rows : List StepRow) × (gap code met.number met.bits met.place a (Gap met.number met.place.at a) ≡ Ok rows)) × (position code a ≡ Err e))
+WaitingFault code (Start branch privilege a) met e = (gap_to_start code (stand_of met) a ≡ Err e) ⊎ (((rows : List StepRow) × (gap_to_start code (stand_of met) a ≡ Ok rows)) × (position code a ≡ Err e))
 WaitingFault code (Address report) met e = e ≡ NoStart met.number
 WaitingFault code (MapAddress count map report) met e = e ≡ NoStart met.number
 WaitingFault code (Map map) met e = e ≡ NoStart met.number
@@ -134,31 +153,46 @@ FirstFault code (Map map) e = ⊥
 FirstFault code (Context privilege) e = ⊥
 FirstFault code (Support enabled status) e = ⊥
 
-abbrev pub LegBy : List ElfSegment → Packet → Bool → Met → List StepRow → Type 0
-LegBy code packet true met leg = WaitingLeg code packet met leg
-LegBy code packet false met leg = RunningLeg code packet met leg
+-- the first where the trace waits, and the second where it runs
+abbrev pub by_waiting : Bool → Type 0 → Type 0 → Type 0
+by_waiting true A B = A
+by_waiting false A B = B
 
-abbrev pub FaultBy : List ElfSegment → Packet → Bool → Met → PathFault → Type 0
-FaultBy code packet true met e = WaitingFault code packet met e
-FaultBy code packet false met e = RunningFault code packet met e
+abbrev pub LegBy : List ElfSegment → Packet → Met → List StepRow → Type 0
+LegBy code packet met leg = by_waiting met.waits (WaitingLeg code packet met leg) (RunningLeg code packet met leg)
+
+abbrev pub FaultBy : List ElfSegment → Packet → Met → PathFault → Type 0
+FaultBy code packet met e = by_waiting met.waits (WaitingFault code packet met e) (RunningFault code packet met e)
 
 -- what packets and their legs leave, where so many packets were skipped
 abbrev pub met_by : List ElfSegment → ℕ → List Packet → List (List StepRow) → Met
-met_by code skipped packets legs = record { number = skipped + length packets; bits = bits code packets; reported = reported packets; marked = marked code packets legs; place = place code packets legs }
+met_by code skipped packets legs = record { number = skipped + length packets; bits = bits code packets; reported = reported packets; marked = marked code packets legs; waits = waiting packets; place = place code packets legs }
+
+-- the packets of the window before a packet, and their legs, where so many packets were skipped
+pub record Earlier : Type 0 where
+  pub skipped : ℕ
+  pub packets : List Packet
+  pub legs : List (List StepRow)
+
+abbrev pub met_after : List ElfSegment → Earlier → Met
+met_after code before = met_by code before.skipped before.packets before.legs
+
+-- the first where no packet is earlier, and else the second
+abbrev pub by_first : List Packet → Type 0 → Type 0 → Type 0
+by_first [] A B = A
+by_first (last ∷ earlier) A B = B
 
 -- The packet has this leg, after these packets and their legs.
-abbrev pub Leg : List ElfSegment → ℕ → Packet → List Packet → List (List StepRow) → List StepRow → Type 0
-Leg code skipped packet [] legs leg = FirstLeg code packet leg
-Leg code skipped packet (last ∷ earlier) legs leg = LegBy code packet (waiting (last ∷ earlier)) (met_by code skipped (last ∷ earlier) legs) leg
+abbrev pub Leg : List ElfSegment → Packet → Earlier → List StepRow → Type 0
+Leg code packet before leg = by_first before.packets (FirstLeg code packet leg) (LegBy code packet (met_after code before) leg)
 
 -- The packet has no leg, and this is why.
-abbrev pub Fault : List ElfSegment → ℕ → Packet → List Packet → List (List StepRow) → PathFault → Type 0
-Fault code skipped packet [] legs e = FirstFault code packet e
-Fault code skipped packet (last ∷ earlier) legs e = FaultBy code packet (waiting (last ∷ earlier)) (met_by code skipped (last ∷ earlier) legs) e
+abbrev pub Fault : List ElfSegment → Packet → Earlier → PathFault → Type 0
+Fault code packet before e = by_first before.packets (FirstFault code packet e) (FaultBy code packet (met_after code before) e)
 
 -- Each packet has its leg.
 abbrev pub Route : List ElfSegment → ℕ → List Packet → List (List StepRow) → Type 0
 Route code skipped [] [] = Unit {0}
 Route code skipped [] (leg ∷ legs) = ⊥
 Route code skipped (packet ∷ earlier) [] = ⊥
-Route code skipped (packet ∷ earlier) (leg ∷ legs) = Leg code skipped packet earlier legs leg × Route code skipped earlier legs
+Route code skipped (packet ∷ earlier) (leg ∷ legs) = Leg code packet (record { skipped = skipped; packets = earlier; legs = legs }) leg × Route code skipped earlier legs

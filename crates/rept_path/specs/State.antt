@@ -3,20 +3,23 @@ use Rattle.std.specs.Prelude.{◌≡◌, ℕ, ◌+◌, ◌≤◌, List, [], ◌�
 use Rattle.rept_elf.specs.Segments.{ElfSegment}
 use Rattle.rept_path.specs.declared.aim.Aim.{Aim}
 use Rattle.rept_path.specs.declared.aim.Aim.TheVariants.{Jumped, Start, Report, LastBit}
-use Rattle.rept_path.specs.declared.fault.PathFault.{PathFault}
 use Rattle.rept_steps.specs.Linked.{EndBefore}
-use Rattle.rept_path.specs.Gap.{gap}
+use Rattle.rept_path.specs.Gap.{Goal, gap}
 use Rattle.rept_isa.specs.declared.row.StepRow.{StepRow}
 use Rattle.rept_trace.specs.declared.packet.Packet.{Packet}
 use Rattle.rept_path.specs.declared.walk.Walk.{Walk}
 use Rattle.rept_path.specs.Packets.{bits, bits_of, bits_before, reported, reported_after, waiting, waits_after}
-use Rattle.rept_path.specs.Moves.{Lead, Place, along, IsMove}
+use Rattle.rept_path.specs.Moves.{Lead, Place, Stand, along, IsMove}
 use Rattle.rept_path.specs.Legs.{PhaseLeg}
-use Rattle.rept_path.specs.Route.{Phase, PhaseLegs, Met, LegBy, mark_after, Route, place, place_after, marked}
+use Rattle.rept_path.specs.Route.{Phase, PhaseLegs, Met, LegBy, Arrival, mark_after, Route, place, place_after, marked}
 
 -- where it stands
 abbrev pub here : Walk → Place
 here w = record { at = w.at; rows = reverse w.steps; branches = w.used }
+
+-- where it stands before a packet
+abbrev pub standing : ℕ → Walk → Stand
+standing k w = record { packet = k; bits = w.bits.items; place = here w }
 
 -- bits were there for its branches, and it is not too long
 pub record Counts (w : Walk) : Type 0 where
@@ -57,7 +60,7 @@ pub record Walked (code : List ElfSegment) (how : Lead) (aim : Aim) (old new : W
 -- phases were walked
 pub record WalkedAll (code : List ElfSegment) (k : ℕ) (phases : List Phase) (old new : Walk) : Type 0 where
   pub leg : List StepRow
-  pub goes : PhaseLegs code k old.bits.items phases (here old) leg
+  pub goes : PhaseLegs code (standing k old) phases leg
   pub seen : here new ≡ along code (here old) leg
   pub counts : Counts new
   pub kept : Keeps old new
@@ -65,18 +68,22 @@ pub record WalkedAll (code : List ElfSegment) (k : ℕ) (phases : List Phase) (o
 
 -- what a packet is met by
 abbrev pub met : ℕ → Walk → Met
-met k w = record { number = k; bits = w.bits.items; reported = w.reported; marked = w.inferred; place = here w }
+met k w = record { number = k; bits = w.bits.items; reported = w.reported; marked = w.inferred; waits = w.waiting; place = here w }
+
+-- where it has arrived
+abbrev pub arrival : Walk → Arrival
+arrival w = record { bits = w.bits.items; reported = w.reported; place = here w }
 
 -- a packet was followed
 pub record Followed (code : List ElfSegment) (k : ℕ) (packet : Packet) (old new : Walk) : Type 0 where
   pub leg : List StepRow
-  pub goes : LegBy code packet old.waiting (met k old) leg
+  pub goes : LegBy code packet (met k old) leg
   pub seen : here new ≡ place_after code packet old.waiting (here old) leg
   pub counts : Counts new
   pub bits : new.bits.items ≡ bits_before packet old.waiting old.bits.items ++ bits_of code packet
   pub reported : new.reported ≡ reported_after packet old.reported
   pub waiting : new.waiting ≡ waits_after packet old.waiting
-  pub marked : new.inferred ≡ mark_after code packet old.inferred new.bits.items new.reported (here new)
+  pub marked : new.inferred ≡ mark_after code packet old.inferred (arrival new)
   pub rests : length new.bits.items ≤ new.used + 1
 
 -- the walk stands at the end of a route
@@ -91,12 +98,12 @@ pub record Stands (code : List ElfSegment) (skipped : ℕ) (packets : List Packe
   pub rests : length w.bits.items ≤ w.used + 1
 
 -- the rows of a gap were added
-pub record Crossed (code : List ElfSegment) (k a : ℕ) (otherwise : PathFault) (old new : Walk) : Type 0 where
+pub record Crossed (code : List ElfSegment) (k : ℕ) (goal : Goal) (old new : Walk) : Type 0 where
   pub rows : List StepRow
-  pub crosses : gap code k old.bits.items (here old) a otherwise ≡ Ok rows
+  pub crosses : gap code (standing k old) goal ≡ Ok rows
   pub seen : reverse new.steps ≡ rows ++ reverse old.steps
   pub few : length new.steps ≤ 65536
-  pub linked : EndBefore new.steps a
+  pub linked : EndBefore new.steps goal.address
 
 -- whether the bits fit where moves with this aim end
 abbrev pub ends_fit : Aim → Bool

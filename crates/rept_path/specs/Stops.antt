@@ -1,6 +1,6 @@
 -- A path by index: a window's packets one after another, and the index in the path at which each one stops. Lists of packets and
 -- rows are oldest first here.
-use Rattle.std.specs.Prelude.{◌≡◌, ℕ, ◌+◌, ◌<◌, ◌≤◌, List, [], ◌∷◌, ◌++◌, length, reverse, drop, Ok, Bool, true, false}
+use Rattle.std.specs.Prelude.{◌≡◌, ℕ, ◌+◌, ◌<◌, ◌≤◌, List, [], ◌∷◌, ◌++◌, length, reverse, drop, Ok, true, false}
 use Rattle.std.specs.List.{between}
 use Rattle.rept_elf.specs.Segments.{ElfSegment}
 use Rattle.rept_isa.specs.declared.row.StepRow.{StepRow}
@@ -10,59 +10,88 @@ use Rattle.rept_trace.specs.declared.packet.Packet.{Packet}
 use Rattle.rept_trace.specs.declared.packets.Packets.{Packets}
 use Rattle.rept_trace.specs.Packets.{rest_of}
 use Rattle.rept_trace.specs.Stream.{Hold}
-use Rattle.rept_path.specs.declared.fault.PathFault.TheVariants.{End}
 use Rattle.rept_path.specs.Packets.{bits_of, bits_before, reported_after, waits_after}
-use Rattle.rept_path.specs.Moves.{Place, along, misfits}
+use Rattle.rept_path.specs.Moves.{Stand, misfits}
 use Rattle.rept_path.specs.Index.{LeastStop}
-use Rattle.rept_path.specs.Route.{Phase, lead_of, phases_of, Met, admits, mark_after, place_after, WaitingLeg, FirstLeg}
-use Rattle.rept_path.specs.Gap.{gap}
-use Rattle.rept_path.specs.Trace.{Window}
+use Rattle.rept_path.specs.Route.{Phase, lead_of, further, with_bits, phases_of, Met, stand_of, admits, mark_after, place_after, by_waiting, WaitingLeg, FirstLeg}
+use Rattle.rept_path.specs.Gap.{gap_to_end}
+use Rattle.rept_path.specs.Trace.{Window, Run}
 use Rattle.rept_path.specs.Traced.{pc_of}
 
--- the place at index j, where it is `past` at index i
-abbrev pub onward : List ElfSegment → Place → List StepRow → ℕ → ℕ → Place
-onward code past path i j = along code past (reverse (between i j path))
+-- a section of a path: the rows between two of its indices
+pub record Section : Type 0 where
+  pub path : List StepRow
+  pub from : ℕ
+  pub to : ℕ
 
--- Each phase goes on to its least stop, and the last one's stop is j.
-abbrev pub PhaseStops : List ElfSegment → ℕ → List Bool → List Phase → Place → List StepRow → ℕ → ℕ → Type 0
-PhaseStops code k all [] past path i j = i ≡ j
-PhaseStops code k all (phase ∷ phases) past path i j =
-    (stop : ℕ) × (i < stop) × (stop ≤ j) × LeastStop code (lead_of k all phase) phase.aim past (between i stop path)
-    × (misfits code all phase.aim (onward code past path i stop) ≡ false) × PhaseStops code k all phases (onward code past path i stop) path stop j
+abbrev pub rows_in : Section → List StepRow
+rows_in part = between part.from part.to part.path
 
--- A packet at index i stops at index j: its phases do, while the trace runs, and else the rows between are those of the gap.
-abbrev pub PacketStops : List ElfSegment → Packet → Bool → Met → List StepRow → ℕ → ℕ → Type 0
-PacketStops code packet true met path i j = WaitingLeg code packet met (reverse (between i j path))
-PacketStops code packet false met path i j = ((a : ℕ) × (admits code packet ≡ Ok a)) × PhaseStops code met.number (met.bits ++ bits_of code packet) (phases_of packet met.marked met.reported) met.place path i j
+-- a section's parts before and after an index in it
+abbrev pub up_to : Section → ℕ → Section
+up_to part stop = record { path = part.path; from = part.from; to = stop }
 
--- what a packet leaves to the one after it
-abbrev pub left_by : List ElfSegment → Packet → Bool → Met → List StepRow → Met
-left_by code packet waits met rows =
-    let all = bits_before packet waits met.bits ++ bits_of code packet in
+abbrev pub beyond : Section → ℕ → Section
+beyond part stop = record { path = part.path; from = stop; to = part.to }
+
+-- where the walk stands at the end of a section, from where it stands at its beginning
+abbrev pub onward : List ElfSegment → Stand → Section → Stand
+onward code s part = further code s (reverse (rows_in part))
+
+-- Each phase goes on to its least stop, and the last one's stop is the end of the section.
+abbrev pub PhaseStops : List ElfSegment → Stand → List Phase → Section → Type 0
+PhaseStops code s [] part = part.from ≡ part.to
+PhaseStops code s (phase ∷ phases) part =
+    (stop : ℕ) × (part.from < stop) × (stop ≤ part.to) × LeastStop code (lead_of s phase) phase.aim s.place (rows_in (up_to part stop))
+    × (misfits code s.bits phase.aim (onward code s (up_to part stop)).place ≡ false) × PhaseStops code (onward code s (up_to part stop)) phases (beyond part stop)
+
+-- A packet's section: its phases end there, while the trace runs, and else its rows are those of the gap.
+abbrev pub PacketStops : List ElfSegment → Packet → Met → Section → Type 0
+PacketStops code packet met part =
+    by_waiting met.waits (WaitingLeg code packet met (reverse (rows_in part)))
+    (((a : ℕ) × (admits code packet ≡ Ok a)) × PhaseStops code (with_bits code packet met) (phases_of packet met.marked met.reported) part)
+
+-- what a packet and its rows leave to the one after it
+abbrev pub left_by : List ElfSegment → Packet → Met → List StepRow → Met
+left_by code packet met rows =
+    let all = bits_before packet met.waits met.bits ++ bits_of code packet in
     let r = reported_after packet met.reported in
-    let p = place_after code packet waits met.place (reverse rows) in
-    record { number = met.number + 1; bits = all; reported = r; marked = mark_after code packet met.marked all r p; place = p }
+    let p = place_after code packet met.waits met.place (reverse rows) in
+    record { number = met.number + 1; bits = all; reported = r; marked = mark_after code packet met.marked (record { bits = all; reported = r; place = p }); waits = waits_after packet met.waits; place = p }
 
 -- what the first packet is met by
 abbrev pub nothing : ℕ → Met
-nothing skipped = record { number = skipped; bits = []; reported = 0; marked = false; place = record { at = 0; rows = []; branches = 0 } }
+nothing skipped = record { number = skipped; bits = []; reported = 0; marked = false; waits = true; place = record { at = 0; rows = []; branches = 0 } }
+
+-- an index in a path, and what the next packet is met by there
+pub record Spot : Type 0 where
+  pub path : List StepRow
+  pub index : ℕ
+  pub met : Met
+
+-- the section from there to a later index, and what the packet of that section leaves
+abbrev pub section_to : Spot → ℕ → Section
+section_to spot j = record { path = spot.path; from = spot.index; to = j }
+
+abbrev pub spot_after : List ElfSegment → Packet → Spot → ℕ → Spot
+spot_after code packet spot j = record { path = spot.path; index = j; met = left_by code packet spot.met (rows_in (section_to spot j)) }
 
 -- Each packet has one stop, at or after that of the packet before it. The rows from the last stop on lead to the end.
-abbrev pub StopsFrom : List ElfSegment → ℕ → List Packet → Bool → Met → List StepRow → ℕ → List ℕ → Type 0
-StopsFrom code pc [] waits met path i [] = gap code met.number met.bits met.place pc (End met.place.at pc) ≡ Ok (reverse (drop i path))
-StopsFrom code pc [] waits met path i (j ∷ stops) = ⊥
-StopsFrom code pc (packet ∷ later) waits met path i [] = ⊥
-StopsFrom code pc (packet ∷ later) waits met path i (j ∷ stops) = (i ≤ j) × (j ≤ length path) × PacketStops code packet waits met path i j × StopsFrom code pc later (waits_after packet waits) (left_by code packet waits met (between i j path)) path j stops
+abbrev pub StopsFrom : Run → List Packet → Spot → List ℕ → Type 0
+StopsFrom run [] spot [] = gap_to_end run.code (stand_of spot.met) run.pc ≡ Ok (reverse (drop spot.index spot.path))
+StopsFrom run [] spot (j ∷ stops) = ⊥
+StopsFrom run (packet ∷ later) spot [] = ⊥
+StopsFrom run (packet ∷ later) spot (j ∷ stops) = (spot.index ≤ j) × (j ≤ length spot.path) × PacketStops run.code packet spot.met (section_to spot j) × StopsFrom run later (spot_after run.code packet spot j) stops
 
 -- The first packet of the window is at index 0, and the later ones have these stops.
-pub record StopIndices (code : List ElfSegment) (packets : List Packet) (from pc skipped : ℕ) (path : List StepRow) (stops : List ℕ) : Type 0 where
-  pub window : Window packets from skipped
+pub record StopIndices (run : Run) (skipped : ℕ) (path : List StepRow) (stops : List ℕ) : Type 0 where
+  pub window : Window run.packets run.from skipped
   pub first : Packet
   pub later : List Packet
-  pub cut : drop skipped packets ≡ first ∷ later
-  pub start : FirstLeg code first []
-  pub each : StopsFrom code pc later (waits_after first true) (left_by code first true (nothing skipped) []) path 0 stops
+  pub cut : drop skipped run.packets ≡ first ∷ later
+  pub start : FirstLeg run.code first []
+  pub each : StopsFrom run later (record { path = path; index = 0; met = left_by run.code first (nothing skipped) [] }) stops
 
 -- The packets that are left have such stops on this path, over the program of a dump and to its program counter.
 abbrev pub HaveStops : Packets → Dump → ℕ → ℕ → List StepRow → Type 0
-HaveStops packets dump from skipped path = (list : List Packet) × (stops : List ℕ) × Hold (rest_of packets) list × StopIndices (exe_of dump) list from (pc_of dump) skipped path stops
+HaveStops packets dump from skipped path = (list : List Packet) × (stops : List ℕ) × Hold (rest_of packets) list × StopIndices (record { code = exe_of dump; packets = list; from = from; pc = pc_of dump }) skipped path stops

@@ -3,14 +3,15 @@ use Rattle.std.specs.Prelude.{◌≡◌, ◌≤◌, ℕ, Bool, true, false, List
 use Rattle.std.specs.List.{list_any}
 use Rattle.rept_elf.specs.Segments.{ElfSegment}
 use Rattle.rept_path.specs.declared.fault.PathFault.{PathFault}
-use Rattle.rept_path.specs.declared.fault.PathFault.TheVariants.{NoStart, End}
+use Rattle.rept_path.specs.declared.fault.PathFault.TheVariants.{NoStart}
 use Rattle.rept_isa.specs.declared.row.StepRow.{StepRow}
 use Rattle.rept_trace.specs.declared.packet.Qual.TheVariants.{TraceLost}
 use Rattle.rept_trace.specs.declared.packet.Packet.{Packet}
 use Rattle.rept_trace.specs.declared.packet.Packet.TheVariants.{Start, Support}
 use Rattle.rept_path.specs.Packets.{bits}
+use Rattle.rept_path.specs.Moves.{Stand}
 use Rattle.rept_path.specs.Route.{Route, Fault, place}
-use Rattle.rept_path.specs.Gap.{gap}
+use Rattle.rept_path.specs.Gap.{gap_to_end}
 
 abbrev pub starts : Option Packet → Bool
 starts (Some (Start branch privilege a)) = true
@@ -36,14 +37,33 @@ abbrev pub IsWindow : List Packet → ℕ → Option ℕ → Type 0
 IsWindow packets from None = (i : ℕ) → MayBegin packets from i → ⊥
 IsWindow packets from (Some skipped) = Window packets from skipped
 
+-- where packets and their legs leave the walk, before what has this number
+abbrev pub stand_after : List ElfSegment → ℕ → List Packet → List (List StepRow) → Stand
+stand_after code count packets legs = record { packet = count; bits = bits code packets; place = place code packets legs }
+
+-- a traced run: the program, the packets, the number from which on the window may begin, and the program counter at the end
+pub record Run : Type 0 where
+  pub code : List ElfSegment
+  pub packets : List Packet
+  pub from : ℕ
+  pub pc : ℕ
+
+-- the packets of its window, newest first
+abbrev pub newest_first : Run → ℕ → List Packet
+newest_first run skipped = reverse (drop skipped run.packets)
+
+-- where a route of the window leaves the walk, before the end, whose number is the count of all packets
+abbrev pub last_stand : Run → ℕ → List (List StepRow) → Stand
+last_stand run skipped legs = stand_after run.code (length run.packets) (newest_first run skipped) legs
+
 -- A route of the window, and the rows of the gap to the end.
-pub record IsPath (code : List ElfSegment) (packets : List Packet) (from pc skipped : ℕ) (path : List StepRow) : Type 0 where
-  pub window : Window packets from skipped
+pub record IsPath (run : Run) (skipped : ℕ) (path : List StepRow) : Type 0 where
+  pub window : Window run.packets run.from skipped
   pub legs : List (List StepRow)
-  pub route : Route code skipped (reverse (drop skipped packets)) legs
+  pub route : Route run.code skipped (newest_first run skipped) legs
   pub last : List StepRow
-  pub end : let p = place code (reverse (drop skipped packets)) legs in gap code (length packets) (bits code (reverse (drop skipped packets))) p pc (End p.at pc) ≡ Ok last
-  pub order : path ≡ reverse (last ++ (place code (reverse (drop skipped packets)) legs).rows)
+  pub end : gap_to_end run.code (last_stand run skipped legs) run.pc ≡ Ok last
+  pub order : path ≡ reverse (last ++ (place run.code (newest_first run skipped) legs).rows)
 
 -- Up to a packet of the window there is a route. The packet has no leg, by this fault.
 pub record StopsAt (code : List ElfSegment) (skipped : ℕ) (window : List Packet) (e : PathFault) : Type 0 where
@@ -53,15 +73,15 @@ pub record StopsAt (code : List ElfSegment) (skipped : ℕ) (window : List Packe
   pub cut : window ≡ reverse earlier ++ packet ∷ later
   pub legs : List (List StepRow)
   pub route : Route code skipped earlier legs
-  pub fault : Fault code skipped packet earlier legs e
+  pub fault : Fault code packet (record { skipped = skipped; packets = earlier; legs = legs }) e
 
 -- There is a route of the window, and no way from it to the end.
-pub record StopsAtEnd (code : List ElfSegment) (count skipped : ℕ) (window : List Packet) (pc : ℕ) (e : PathFault) : Type 0 where
+pub record StopsAtEnd (run : Run) (skipped : ℕ) (e : PathFault) : Type 0 where
   pub legs : List (List StepRow)
-  pub route : Route code skipped (reverse window) legs
-  pub end : let p = place code (reverse window) legs in gap code count (bits code (reverse window)) p pc (End p.at pc) ≡ Err e
+  pub route : Route run.code skipped (newest_first run skipped) legs
+  pub end : gap_to_end run.code (last_stand run skipped legs) run.pc ≡ Err e
 
-abbrev pub IsRefused : List ElfSegment → List Packet → ℕ → ℕ → PathFault → Type 0
-IsRefused code packets from pc e =
-    (IsWindow packets from None × (e ≡ NoStart (length packets)))
-    ⊎ ((skipped : ℕ) × Window packets from skipped × (StopsAt code skipped (drop skipped packets) e ⊎ StopsAtEnd code (length packets) skipped (drop skipped packets) pc e))
+abbrev pub IsRefused : Run → PathFault → Type 0
+IsRefused run e =
+    (IsWindow run.packets run.from None × (e ≡ NoStart (length run.packets)))
+    ⊎ ((skipped : ℕ) × Window run.packets run.from skipped × (StopsAt run.code skipped (drop skipped run.packets) e ⊎ StopsAtEnd run skipped e))

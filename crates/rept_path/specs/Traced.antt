@@ -20,13 +20,13 @@ pc_of dump = word_at (registers_of dump) 72
 
 -- The bytes hold whole packets, and this is their path over a program to an address.
 abbrev pub IsTraced : List ElfSegment → List ℕ → ℕ → ℕ → ℕ → List StepRow → Type 0
-IsTraced code bytes from pc skipped path = (list : List Packet) × Hold bytes list × IsPath code list from pc skipped path
+IsTraced code bytes from pc skipped path = (list : List Packet) × Hold bytes list × IsPath (record { code = code; packets = list; from = from; pc = pc }) skipped path
 
 -- A packet is refused, of which the first has this number. Or all are whole, and they have no path to the address.
 abbrev pub IsUntraced : List ElfSegment → ℕ → List ℕ → ℕ → ℕ → PathFault → Type 0
 IsUntraced code number bytes from pc e =
     ((list : List Packet) × (refused : TraceFault) × FailsAfter number bytes list refused × (e ≡ fault.Packet refused))
-    ⊎ ((list : List Packet) × Hold bytes list × IsRefused code list from pc e)
+    ⊎ ((list : List Packet) × Hold bytes list × IsRefused (record { code = code; packets = list; from = from; pc = pc }) e)
 
 -- the same of the packets that are left, the program of a dump and its program counter
 abbrev pub IsPathOf : Packets → Dump → ℕ → ℕ → List StepRow → Type 0

@@ -1,3 +1,5 @@
+//! Where the moves of a packet stop.
+
 /// Where the moves of a packet stop.
 #[derive(Clone, Copy, Debug, PartialEq, Eq)]
 pub enum Aim {

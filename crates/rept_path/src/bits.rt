@@ -1,3 +1,5 @@
+//! The branch bits of a stretch.
+
 ghost use Rattle.std.specs.Prelude.{◌≡◌, ◌++◌, ◌+◌, ◌≤◌, ℕ, length, OnOk};
 ghost use Rattle.rept_dump.specs.Dump.{exe_of};
 ghost use Rattle.rept_path.specs.Packets.{low_bits, bits_of};

@@ -1,3 +1,5 @@
+//! Why a trace has no path.
+
 use rept_trace::TraceFault;
 use std::alloc::{AllocError, AllocFailed};
 use thiserror::Error;
@@ -33,7 +35,7 @@ pub enum PathFault {
     /// The path doesn't go on from its last address, the first number, to the dump's program counter, the second.
     #[error("the path ends at {0:#010x} and not before {1:#010x}")]
     End(u32, u32),
-    /// On the way of this packet, or behind the last of so many packets, there are more than 65,536 steps.
+    /// On the way of this packet, or after the last of so many packets, there are more than 65,536 steps.
     #[error("more than 65536 steps at packet {0}")]
     TooLong(u32),
     /// A packet is refused.

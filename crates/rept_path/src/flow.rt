@@ -1,10 +1,12 @@
+//! Where an instruction leads.
+
 use rept_isa::Instr;
 use rept_isa::number::word;
 
 /// Where an instruction leads (RISC-V unprivileged manual, chapter 2.5).
 #[derive(Clone, Copy, Debug, PartialEq, Eq)]
 pub enum Flow {
-    /// To the instruction behind it.
+    /// To the instruction after it.
     Plain,
     /// As far as that, where it is taken.
     Branch(i32),
@@ -14,7 +16,7 @@ pub enum Flow {
     Fixed(u32),
     /// To an address that its word doesn't tell.
     Far,
-    /// Out of the program, which it calls to go on behind it.
+    /// Out of the program, which it calls to go on after it.
     Call,
     /// Out of the program.
     Stop,

@@ -6,7 +6,6 @@ ghost use Rattle.rept_dump.specs.declared.dump.Dump.{Dump};
 ghost use Rattle.rept_isa.specs.declared.instr.Instr.{Instr};
 ghost use Rattle.rept_isa.specs.declared.row.StepRow.{StepRow};
 ghost use Rattle.rept_isa.specs.Words.{IsWord};
-ghost use Rattle.rept_trace.specs.declared.packet.Packet.{Packet};
 ghost use Rattle.rept_trace.specs.declared.packets.Packets.{Packets};
 ghost use Rattle.rept_path.specs.declared.aim.Aim.{Aim};
 ghost use Rattle.rept_path.specs.declared.fault.PathFault.{PathFault};
@@ -15,7 +14,7 @@ ghost use Rattle.rept_path.specs.Moves.{Lead, Place};
 ghost use Rattle.rept_path.specs.Legs.{Reaches};
 ghost use Rattle.rept_path.specs.Index.{LeastStop};
 ghost use Rattle.rept_path.specs.Stops.{StopIndices};
-ghost use Rattle.rept_path.specs.Trace.{IsPath};
+ghost use Rattle.rept_path.specs.Trace.{Run, IsPath};
 ghost use Rattle.rept_path.specs.Traced.{IsPathOf, IsRefusedBy};
 
 /// A leg ends at the least later index at which the walk stops, and only such a leg is one.
@@ -26,8 +25,8 @@ pub fn least_stop()
 
 /// In a path each packet of the window has its stop index, and only such rows are a path.
 pub fn stop_indices()
-    ensures path { (code : List ElfSegment) (packets : List Packet) (from : ℕ) (pc : ℕ) (skipped : ℕ) (path : List StepRow) → IsPath code packets from pc skipped path → (stops : List ℕ) × StopIndices code packets from pc skipped path stops }
-    ensures only { (code : List ElfSegment) (packets : List Packet) (from : ℕ) (pc : ℕ) (skipped : ℕ) (path : List StepRow) (stops : List ℕ) → StopIndices code packets from pc skipped path stops → IsPath code packets from pc skipped path }
+    ensures path { (run : Run) (skipped : ℕ) (path : List StepRow) → IsPath run skipped path → (stops : List ℕ) × StopIndices run skipped path stops }
+    ensures only { (run : Run) (skipped : ℕ) (path : List StepRow) (stops : List ℕ) → StopIndices run skipped path stops → IsPath run skipped path }
 {}
 
 /// A trace has at most one path over a program, or one refusal, and never both.

@@ -1,4 +1,4 @@
-// The path of a program, rebuilt from its instruction trace.
+//! The path of a program, rebuilt from its instruction trace.
 #![tactic(auto)]
 
 pub mod aim;

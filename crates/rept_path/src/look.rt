@@ -1,3 +1,5 @@
+//! The instruction at an address.
+
 ghost use Rattle.std.specs.Prelude.{◌≡◌};
 ghost use Rattle.rept_dump.specs.Dump.{exe_of};
 ghost use Rattle.rept_path.specs.Code.{instruction, look, is_branch, is_call};

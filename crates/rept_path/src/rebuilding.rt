@@ -1,3 +1,5 @@
+//! From a trace and a dump to the path.
+
 ghost use Rattle.std.specs.Prelude.{◌≡◌, ◌≢◌, ◌⊎◌, ◌<◌, ◌+◌, ◌^◌, ◌∷◌, [], List, ℕ, length, reverse, IfOk, IfErr, IfSome, IfNone, MatchResult, Ok, Some, None, true};
 ghost use Rattle.rept_isa.specs.declared.row.StepRow.{StepRow};
 ghost use Rattle.rept_dump.specs.Dump.{exe_of, registers_of};
@@ -91,8 +93,10 @@ fn walk_over(alloc: Global, dump: &Dump<'_>, begin: Begin<'_>) -> Result<Walk, P
     let mut walk = begin_walk(alloc, dump, begin.number, begin.first)?;
     let mut rest = begin.later;
     let mut number = begin.number + 1;
+    let mut near = *dump;
     while let Some(packet) = next_packet(&mut rest) {
-        walk.follow(dump, number, packet)?;
+        near = near.near_code(walk.at);
+        walk.follow(&near, number, packet)?;
         number += 1;
     }
     Ok(walk)
@@ -134,7 +138,7 @@ fn rebuild_once(
 }
 
 /// The path that a trace tells of the program of a dump: the steps from the first start packet whose number is `from` or more
-/// and behind which no packets were lost, to the dump's program counter (Efficient Trace for RISC-V 2.0, reference decoder;
+/// and after which no packets were lost, to the dump's program counter (Efficient Trace for RISC-V 2.0, reference decoder;
 /// `docs/PATH.md` explains the rules). `packets` is as `Packets::open` gave it, of fewer than 2^32 bytes. A `Packet` fault comes
 /// before any other; else the fault is the one that comes first along the trace. `OutOfMemory` alone may come at any time. The
 /// memory that is taken grows with the steps, and not with the packets.

@@ -1,3 +1,5 @@
+//! Traces that were worked out by hand.
+
 mod cases;
 mod refusals;
 mod sent;
@@ -10,6 +12,7 @@ use refusals::{LONG, REFUSALS, WINDOWS};
 use rept_dump::Dump;
 use rept_elf::{Image, Want};
 use rept_isa::{Instr, StepRow, decode};
+use rept_sample::{core_file, executable};
 use rept_trace::Packets;
 use sent::{Sent, push_sent};
 use std::alloc::{AllocError, Global};
@@ -17,44 +20,6 @@ use std::process::Abort;
 use std::test::Fail;
 use stops::{MAPS, PHASES, STOPS};
 use stretches::{ENDS, JOINS, STARTS, WAITING};
-
-/// An executable of one code segment at an address, by the ELF specification.
-fn executable(alloc: Global, base: u32, code: &[u32]) -> Result<Vec<u8>, AllocError> {
-    let Ok(count) = u32::try_from(code.len()) else {
-        return Err(AllocError);
-    };
-    let size = count.wrapping_mul(4).to_le_bytes();
-    let mut file = Vec::from_slice(
-        alloc,
-        b"\x7fELF\x01\x01\x01\0\0\0\0\0\0\0\0\0\x02\0\xf3\0\x01\0\0\0\0\0\x01\0\x34\0\0\0\0\0\0\0\0\0\0\0\x34\0\x20\0\x01\0\0\0\0\0\0\0",
-    )?;
-    file.extend_from_slice(b"\x01\0\0\0\x54\0\0\0")?;
-    file.extend_from_slice(&base.to_le_bytes())?;
-    file.extend_from_slice(&base.to_le_bytes())?;
-    file.extend_from_slice(&size)?;
-    file.extend_from_slice(&size)?;
-    file.extend_from_slice(b"\x05\0\0\0\x04\0\0\0")?;
-    for word in code {
-        file.extend_from_slice(&word.to_le_bytes())?;
-    }
-    Ok(file)
-}
-
-/// A core file of one status note, whose registers but for the program counter are 0.
-fn core_file(alloc: Global, pc: u32) -> Result<Vec<u8>, AllocError> {
-    let mut file = Vec::from_slice(
-        alloc,
-        b"\x7fELF\x01\x01\x01\0\0\0\0\0\0\0\0\0\x04\0\xf3\0\x01\0\0\0\0\0\0\0\x34\0\0\0\0\0\0\0\0\0\0\0\x34\0\x20\0\x01\0\0\0\0\0\0\0",
-    )?;
-    file.extend_from_slice(
-        b"\x04\0\0\0\x54\0\0\0\0\0\0\0\0\0\0\0\xe0\0\0\0\0\0\0\0\0\0\0\0\0\0\0\0",
-    )?;
-    file.extend_from_slice(b"\x05\0\0\0\xcc\0\0\0\x01\0\0\0CORE\0\0\0\0")?;
-    file.extend_from_slice(&[0; 72])?;
-    file.extend_from_slice(&pc.to_le_bytes())?;
-    file.extend_from_slice(&[0; 128])?;
-    Ok(file)
-}
 
 /// The skipped packets and the steps of a path, or why there is none.
 type Outcome = Result<(u32, Vec<StepRow>), PathFault>;
@@ -64,7 +29,7 @@ fn outcome(alloc: Global, exe: &[u8], trace: &[u8], pc: u32, from: u32) -> Resul
     if trace.len() >= 0x1_0000_0000 {
         return Ok(Err(PathFault::OutOfMemory));
     }
-    let core = core_file(alloc, pc)?;
+    let core = core_file(alloc, pc, [0, 0, 0])?;
     let dump = Dump::read(
         Image::read(exe, Want::Exec)?,
         Image::read(core.as_slice(), Want::Core)?,
@@ -117,7 +82,7 @@ fn wanted(
     match wanted {
         Wanted::Refusal(fault) => return Ok(Err(fault)),
         Wanted::Rows(rows) => addresses.extend_from_slice(rows)?,
-        Wanted::Behind(count, rows) => {
+        Wanted::After(count, rows) => {
             skipped = count;
             addresses.extend_from_slice(rows)?;
         }

@@ -1,12 +1,14 @@
-ghost use Rattle.std.specs.Prelude.{◌≡◌, ◌⊎◌, ◌+◌, ◌≤◌, ◌<◌, ◌++◌, ◌∷◌, [], List, ℕ, Bool, length, slice_get, OnOk, IfOk, IfErr, MatchResult, Ok, Err, true, false};
+//! The moves of a path, packet by packet.
+
+ghost use Rattle.std.specs.Prelude.{◌≡◌, ◌⊎◌, ◌+◌, ◌≤◌, ◌<◌, ◌++◌, ◌∷◌, [], List, ℕ, Bool, length, slice_get, OnOk, IfOk, IfErr, MatchResult, None, Ok, Err, true, false};
 ghost use Rattle.rept_dump.specs.Dump.{exe_of};
 ghost use Rattle.rept_path.specs.declared.fault.PathFault.TheVariants.{OutOfMemory};
 ghost use Rattle.rept_path.specs.Code.{look, flow_of};
 ghost use Rattle.rept_path.specs.Moves.{successor, next_of, by_jump, unused, bits_fit, stops, misfits, is_inferred};
 ghost use Rattle.rept_path.specs.Legs.{PhaseFault};
-ghost use Rattle.rept_path.specs.Gap.{by_successor, crossing, gap};
+ghost use Rattle.rept_path.specs.Gap.{by_successor, by_flow, gap};
 ghost use Rattle.rept_path.specs.Route.{first_phase, PhasesFault, RunningFault, WaitingFault, FaultBy};
-ghost use Rattle.rept_path.specs.State.{here, Counts, lead, met, Moved, Walked, WalkedAll, Followed, Crossed, ends_fit};
+ghost use Rattle.rept_path.specs.State.{here, standing, Counts, lead, met, Moved, Walked, WalkedAll, Followed, Crossed, ends_fit};
 ghost use Rattle.rept_path.specs.Crossed.{rows_of, LeadAcross};
 
 use crate::aim::Aim;
@@ -74,7 +76,7 @@ fn rows_by_successor(
     otherwise: PathFault,
     next: u32,
 ) -> Result<(StepRow, Option<StepRow>), PathFault>
-    ensures rows { MatchResult result (λ x. by_successor (exe_of dump.now) at instr to otherwise next ≡ Ok (rows_of x.0 x.1)) (λ e. by_successor (exe_of dump.now) at instr to otherwise next ≡ Err e) }
+    ensures rows { MatchResult result (λ x. by_successor (exe_of dump.now) (record { at = at; instr = instr; to = to; otherwise = otherwise }) next ≡ Ok (rows_of x.0 x.1)) (λ e. by_successor (exe_of dump.now) (record { at = at; instr = instr; to = to; otherwise = otherwise }) next ≡ Err e) }
     ensures across { IfOk result (λ x. LeadAcross at to x.0 x.1) }
 {
     let first = StepRow {
@@ -109,7 +111,7 @@ fn rows_across(
     otherwise: PathFault,
     bit: Option<bool>,
 ) -> Result<(StepRow, Option<StepRow>), PathFault>
-    ensures rows { MatchResult result (λ x. crossing (exe_of dump.now) packet at instr to otherwise bit (flow_of instr) ≡ Ok (rows_of x.0 x.1)) (λ e. crossing (exe_of dump.now) packet at instr to otherwise bit (flow_of instr) ≡ Err e) }
+    ensures rows { MatchResult result (λ x. by_flow (exe_of dump.now) (record { at = at; instr = instr; to = to; otherwise = otherwise }) (successor packet at (flow_of instr) bit None) (flow_of instr) ≡ Ok (rows_of x.0 x.1)) (λ e. by_flow (exe_of dump.now) (record { at = at; instr = instr; to = to; otherwise = otherwise }) (successor packet at (flow_of instr) bit None) (flow_of instr) ≡ Err e) }
     ensures across { IfOk result (λ x. LeadAcross at to x.0 x.1) }
 {
     let flow = flow_of(&instr);
@@ -234,7 +236,7 @@ impl Walk {
     #[tactic(auto, unfolding(crate::specs::Moves::is_inferred))]
     fn infers(&self, dump: &Dump<'_>, report: Report) -> bool
         requires { Counts self.now }
-        ensures { result ≡ is_inferred (exe_of dump.now) self.now.bits.items self.now.reported report.notify report.updiscon (here self.now) }
+        ensures { result ≡ is_inferred (exe_of dump.now) self.now.bits.items (Aim.Report self.now.reported report.notify report.updiscon) (here self.now) }
     {
         self.at == self.reported
             && self.fits(dump)
@@ -274,6 +276,23 @@ impl Walk {
         Ok(())
     }
 
+    /// One move, after which the dump is near the last position. An `Err` ends the walk.
+    fn step(
+        &mut self,
+        near: &mut Dump<'_>,
+        packet: u32,
+        target: Option<u32>,
+    ) -> Result<(), PathFault>
+        requires { Counts self.old }
+        ensures same { exe_of near.new ≡ exe_of near.old }
+        ensures ok { OnOk result (Moved (exe_of near.old) (lead self.old packet target) self.old self.new) }
+        ensures err { IfErr result (λ e. (e ≡ OutOfMemory) ⊎ (next_of (exe_of near.old) (lead self.old packet target) (here self.old) ≡ Err e)) }
+    {
+        self.move_on(near, packet, target)?;
+        *near = near.near_code(self.at);
+        Ok(())
+    }
+
     /// Moves to the first stop. An `Err` ends the walk.
     fn go(
         &mut self,
@@ -287,11 +306,12 @@ impl Walk {
         ensures err { IfErr result (λ e. (e ≡ OutOfMemory) ⊎ PhaseFault (exe_of dump.now) (lead self.old packet target) aim (here self.old) e) }
         ensures rests { OnOk result (ends_fit aim ≡ true → length self.new.bits.items ≤ self.new.used + 1) }
     {
-        self.move_on(dump, packet, target)?;
-        while !self.stops(dump, aim) {
-            self.move_on(dump, packet, target)?;
+        let mut near = dump.near_code(self.at);
+        self.step(&mut near, packet, target)?;
+        while !self.stops(&near, aim) {
+            self.step(&mut near, packet, target)?;
         }
-        if self.misfits(dump, aim) {
+        if self.misfits(&near, aim) {
             return Err(PathFault::BranchesLeft(packet, self.unused() as u32));
         }
         Ok(())
@@ -309,7 +329,7 @@ impl Walk {
     ) -> Result<(), PathFault>
         requires { Counts self.old }
         ensures ok { OnOk result (WalkedAll (exe_of dump.now) packet (first_phase self.old.inferred before ++ record { target = target; aim = aim } ∷ []) self.old self.new) }
-        ensures err { IfErr result (λ e. (e ≡ OutOfMemory) ⊎ PhasesFault (exe_of dump.now) packet self.old.bits.items (first_phase self.old.inferred before ++ record { target = target; aim = aim } ∷ []) (here self.old) e) }
+        ensures err { IfErr result (λ e. (e ≡ OutOfMemory) ⊎ PhasesFault (exe_of dump.now) (standing packet self.old) (first_phase self.old.inferred before ++ record { target = target; aim = aim } ∷ []) e) }
         ensures rests { OnOk result (ends_fit aim ≡ true → length self.new.bits.items ≤ self.new.used + 1) }
     {
         if self.inferred {
@@ -327,9 +347,9 @@ impl Walk {
         otherwise: PathFault,
     ) -> Result<(), PathFault>
         requires { Counts self.old }
-        ensures ok { OnOk result (Crossed (exe_of dump.now) packet to otherwise self.old self.new) }
+        ensures ok { OnOk result (Crossed (exe_of dump.now) packet (record { address = to; otherwise = otherwise }) self.old self.new) }
         ensures rest { self.new ≡ record self.old { steps = self.new.steps } }
-        ensures err { IfErr result (λ e. (e ≡ OutOfMemory) ⊎ (gap (exe_of dump.now) packet self.old.bits.items (here self.old) to otherwise ≡ Err e)) }
+        ensures err { IfErr result (λ e. (e ≡ OutOfMemory) ⊎ (gap (exe_of dump.now) (standing packet self.old) (record { address = to; otherwise = otherwise }) ≡ Err e)) }
     {
         let instr = match look(dump, self.at) {
             Ok(instr) => instr,
@@ -369,7 +389,7 @@ impl Walk {
         requires counts { Counts self.old }
         requires rests { length self.old.bits.items ≤ self.old.used + 1 }
         ensures ok { OnOk result (Followed (exe_of dump.now) number packet self.old self.new) }
-        ensures err { IfErr result (λ e. (e ≡ OutOfMemory) ⊎ FaultBy (exe_of dump.now) packet self.old.waiting (met number self.old) e) }
+        ensures err { IfErr result (λ e. (e ≡ OutOfMemory) ⊎ FaultBy (exe_of dump.now) packet (met number self.old) e) }
     {
         match packet {
             Packet::Start {
@@ -504,7 +524,7 @@ impl Walk {
         requires counts { Counts self.old }
         requires rests { length self.old.bits.items ≤ self.old.used + 1 }
         ensures ok { OnOk result ((enabled : Bool) → Followed (exe_of dump.now) number (Packet.Support enabled status) self.old self.new) }
-        ensures err { IfErr result (λ e. (enabled : Bool) → (e ≡ OutOfMemory) ⊎ FaultBy (exe_of dump.now) (Packet.Support enabled status) self.old.waiting (met number self.old) e) }
+        ensures err { IfErr result (λ e. (enabled : Bool) → (e ≡ OutOfMemory) ⊎ FaultBy (exe_of dump.now) (Packet.Support enabled status) (met number self.old) e) }
     {
         match status {
             Qual::NoChange => Ok(()),
@@ -528,7 +548,7 @@ impl Walk {
     fn finish(&mut self, dump: &Dump<'_>, number: u32) -> Result<(), PathFault>
         requires { Counts self.old }
         ensures ok { OnOk result (WalkedAll (exe_of dump.now) number (first_phase self.old.inferred self.old.reported) self.old self.new) }
-        ensures err { IfErr result (λ e. (e ≡ OutOfMemory) ⊎ PhasesFault (exe_of dump.now) number self.old.bits.items (first_phase self.old.inferred self.old.reported) (here self.old) e) }
+        ensures err { IfErr result (λ e. (e ≡ OutOfMemory) ⊎ PhasesFault (exe_of dump.now) (standing number self.old) (first_phase self.old.inferred self.old.reported) e) }
     {
         if !self.inferred {
             return Ok(());

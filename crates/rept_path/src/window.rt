@@ -1,3 +1,5 @@
+//! The packet with which a path begins.
+
 ghost use Rattle.std.specs.Prelude.{◌≡◌, ◌⊎◌, ◌<◌, ◌^◌, ◌∷◌, ◌++◌, [], List, ℕ, length, Some, IfOk, IfErr, IfSome};
 ghost use Rattle.rept_trace.specs.declared.packet.Packet.{Packet};
 ghost use Rattle.rept_trace.specs.Packets.{rest_of, number_of};
@@ -7,7 +9,7 @@ ghost use Rattle.rept_path.specs.Survey.{number_in, Surveys};
 
 use rept_trace::{Packet, Packets, Qual, TraceFault};
 
-/// The first packet of a window, its number, and the packets behind it.
+/// The first packet of a window, its number, and the packets after it.
 #[derive(Clone, Copy)]
 pub struct Begin<'a> {
     pub number: u32,
@@ -42,7 +44,7 @@ fn is_loss(packet: Packet) -> bool
     )
 }
 
-/// Where the window begins after one packet more, with the packets behind it.
+/// Where the window begins after one packet more, with the packets after it.
 fn begin_after<'a>(
     packet: Packet,
     number: u32,

@@ -1,5 +1,5 @@
-// Small programs, and what must come of traces over them. The outcomes were worked out by hand from the rules of the path, and
-// compared with those of a second program that follows the same rules.
+//! Small programs, and what must come of traces over them. The outcomes were worked out by hand from the rules of the path, and
+//! compared with those of a second program that follows the same rules.
 
 use super::sent::Sent;
 use crate::PathFault;
@@ -9,8 +9,8 @@ use crate::PathFault;
 pub enum Wanted {
     /// A path of the steps at these addresses, with no packet skipped.
     Rows(&'static [u32]),
-    /// A path of the steps at these addresses, behind so many skipped packets.
-    Behind(u32, &'static [u32]),
+    /// A path of the steps at these addresses, after so many skipped packets.
+    After(u32, &'static [u32]),
     /// A path with no packet skipped: some steps, a loop that is gone through so many times, and some steps more.
     Rounds(&'static [u32], u32, &'static [u32], &'static [u32]),
     Refusal(PathFault),

@@ -1,6 +1,6 @@
-// Traces without a path, packets that are skipped, and long paths.
+//! Traces without a path, packets that are skipped, and long paths.
 
-use super::cases::Wanted::{Behind, Refusal, Rounds};
+use super::cases::Wanted::{After, Refusal, Rounds};
 use super::cases::{
     CALL, Case, HALF_WAY, JUMP, LATE_LOOP, LATE_LOOP_AND_CALL, LOOP, LOOP_AND_CALL, LongCase,
     NO_INSTRUCTION, STANDSTILL, THREE, WINDING, Window,
@@ -104,7 +104,7 @@ pub const REFUSALS: &[Case] = &[
     },
 ];
 
-/// Where the path begins. The program is `THREE`, and the program counter is behind it.
+/// Where the path begins. The program is `THREE`, and the program counter is after it.
 pub const WINDOWS: &[Window] = &[
     Window {
         name: "no packet",
@@ -122,16 +122,16 @@ pub const WINDOWS: &[Window] = &[
         name: "the trace was lost",
         sent: &[Start(0x10000), Address(4), Lost, Start(0x10008), EndedRep],
         from: 0,
-        wanted: Behind(3, &[0x10008]),
+        wanted: After(3, &[0x10008]),
     },
     Window {
         name: "the trace was lost twice",
         sent: &[Start(0x10000), Lost, Start(0x10004), Lost, Start(0x10008)],
         from: 0,
-        wanted: Behind(4, &[0x10008]),
+        wanted: After(4, &[0x10008]),
     },
     Window {
-        name: "the trace was lost behind the last start packet",
+        name: "the trace was lost after the last start packet",
         sent: &[Start(0x10000), Address(4), Lost, Address(4)],
         from: 0,
         wanted: Refusal(PathFault::NoStart(4)),
@@ -140,13 +140,13 @@ pub const WINDOWS: &[Window] = &[
         name: "a first start packet is asked for",
         sent: &[Start(0x10000), Address(4), Start(0x10008), EndedRep],
         from: 1,
-        wanted: Behind(2, &[0x10008]),
+        wanted: After(2, &[0x10008]),
     },
     Window {
         name: "it may be the one that is asked for",
         sent: &[Start(0x10000), Address(4), Start(0x10008), EndedRep],
         from: 2,
-        wanted: Behind(2, &[0x10008]),
+        wanted: After(2, &[0x10008]),
     },
     Window {
         name: "it stands before the number that is asked for",
@@ -158,19 +158,19 @@ pub const WINDOWS: &[Window] = &[
         name: "a loss and a number",
         sent: &[Start(0x10000), Lost, Start(0x10004), Start(0x10008)],
         from: 1,
-        wanted: Behind(2, &[0x10004, 0x10008]),
+        wanted: After(2, &[0x10004, 0x10008]),
     },
     Window {
-        name: "a number behind a loss",
+        name: "a number after a loss",
         sent: &[Start(0x10000), Lost, Start(0x10004), Start(0x10008)],
         from: 3,
-        wanted: Behind(3, &[0x10008]),
+        wanted: After(3, &[0x10008]),
     },
     Window {
         name: "packets before the first start packet",
         sent: &[Address(4), Context(0), Start(0x10008)],
         from: 0,
-        wanted: Behind(2, &[0x10008]),
+        wanted: After(2, &[0x10008]),
     },
     Window {
         name: "skipped packets are counted in refusals",
@@ -212,13 +212,13 @@ pub const WINDOWS: &[Window] = &[
         name: "empty packets are not counted",
         sent: &[Bytes(b"\x00\x01\x0b\x00\x00\x03\x93\x00\x20\x00\x01\x06")],
         from: 0,
-        wanted: Behind(1, &[0x10004, 0x10008]),
+        wanted: After(1, &[0x10004, 0x10008]),
     },
     Window {
         name: "short packets and a loss",
         sent: &[Bytes(b"\x03\x13\x00\x20\x01\x06\x02\x8f\x00\x03\x13\x01\x20\x01\x4f")],
         from: 0,
-        wanted: Behind(3, &[0x10008]),
+        wanted: After(3, &[0x10008]),
     },
 ];
 
@@ -251,7 +251,7 @@ pub const LONG: &[LongCase] = &[
     // The branch at 10008 isn't taken, and leads to 1000c, where no call stands. That the gap doesn't close is found before the want
     // of room.
     LongCase {
-        name: "an end that isn't reached behind the most steps",
+        name: "an end that isn't reached after the most steps",
         code: LATE_LOOP,
         maps: 1057,
         sent: &[Branches(1, 1, 8), EndedRep],
@@ -259,7 +259,7 @@ pub const LONG: &[LongCase] = &[
         wanted: Refusal(PathFault::End(0x10008, 0x10010)),
     },
     LongCase {
-        name: "a gap that isn't closed behind the most steps",
+        name: "a gap that isn't closed after the most steps",
         code: LATE_LOOP,
         maps: 1057,
         sent: &[Branches(1, 1, 8), EndedRep, Start(0x10004)],
@@ -299,7 +299,7 @@ pub const LONG: &[LongCase] = &[
         wanted: Refusal(PathFault::TooLong(1060)),
     },
     LongCase {
-        name: "a branch without a bit behind the most steps",
+        name: "a branch without a bit after the most steps",
         code: LATE_LOOP,
         maps: 1057,
         sent: &[Address(0)],
@@ -307,7 +307,7 @@ pub const LONG: &[LongCase] = &[
         wanted: Refusal(PathFault::NoBranchBit(1058, 0x10008)),
     },
     LongCase {
-        name: "a branch with its bit behind the most steps",
+        name: "a branch with its bit after the most steps",
         code: LATE_LOOP,
         maps: 1057,
         sent: &[Branches(1, 1, 0)],

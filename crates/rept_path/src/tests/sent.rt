@@ -1,3 +1,5 @@
+//! Packets as bytes.
+
 use std::alloc::{AllocError, Global};
 
 /// A packet, by the values of its fields.

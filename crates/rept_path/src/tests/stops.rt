@@ -1,4 +1,4 @@
-// Where the moves of a packet stop, ways that go on from there, and maps.
+//! Where the moves of a packet stop, ways that go on from there, and maps.
 
 use super::cases::Wanted::{Refusal, Rounds, Rows};
 use super::cases::{AGAIN, Case, JUMP_ALONE, LOOP, LOOP_AND_JUMP, ROUND, THREE, WINDING};
@@ -8,7 +8,7 @@ use crate::PathFault;
 /// Where the moves of a packet stop.
 pub const STOPS: &[Case] = &[
     Case {
-        name: "an address behind plain steps",
+        name: "an address after plain steps",
         code: THREE,
         sent: &[Start(0x10000), Address(8), EndedRep],
         pc: 0x1000c,
@@ -99,28 +99,28 @@ pub const STOPS: &[Case] = &[
         wanted: Rows(&[0x10010, 0x10014]),
     },
     Case {
-        name: "behind a notification there is no first phase",
+        name: "after a notification there is no first phase",
         code: WINDING,
         sent: &[Start(0x10010), AddressNotifyUpdiscon(4), Address(4)],
         pc: 0x1001c,
         wanted: Rows(&[0x10010, 0x10014, 0x10018]),
     },
     Case {
-        name: "behind a plain notification there is none either",
+        name: "after a plain notification there is none either",
         code: WINDING,
         sent: &[Start(0x10010), AddressNotify(4), Address(4)],
         pc: 0x1001c,
         wanted: Rows(&[0x10010, 0x10014, 0x10018]),
     },
     Case {
-        name: "behind an inferred address there is one",
+        name: "after an inferred address there is one",
         code: WINDING,
         sent: &[Start(0x10010), Address(4), Address(4)],
         pc: 0x1001c,
         wanted: Rows(&[0x10010, 0x10014, 0x10014, 0x10018]),
     },
     Case {
-        name: "behind a jump to the reported address there is none",
+        name: "after a jump to the reported address there is none",
         code: WINDING,
         sent: &[Start(0x10010), Address(0), Address(8)],
         pc: 0x1001c,
@@ -201,7 +201,7 @@ pub const PHASES: &[Case] = &[
         wanted: Rows(&[0x10000, 0x10004, 0x10008, 0x10004, 0x10008, 0x10004]),
     },
     Case {
-        name: "an inferred address at which the trace ends behind the jump",
+        name: "an inferred address at which the trace ends after the jump",
         code: AGAIN,
         sent: &[Start(0x10000), Address(4), EndedNtr],
         pc: 0x10008,
@@ -215,7 +215,7 @@ pub const PHASES: &[Case] = &[
         wanted: Rows(&[0x10000, 0x10004]),
     },
     Case {
-        name: "the trace ends behind an address that isn't inferred",
+        name: "the trace ends after an address that isn't inferred",
         code: WINDING,
         sent: &[Start(0x10010), AddressNotify(4), EndedNtr],
         pc: 0x10018,
@@ -238,7 +238,7 @@ pub const PHASES: &[Case] = &[
         ]),
     },
     Case {
-        name: "bits wait behind the jump of a first phase",
+        name: "bits wait after the jump of a first phase",
         code: WINDING,
         sent: &[
             Start(0x10000),
@@ -287,7 +287,7 @@ pub const PHASES: &[Case] = &[
         wanted: Rows(&[0x10010, 0x10014, 0x10018, 0x1001c]),
     },
     Case {
-        name: "a map takes the mark off behind the jump",
+        name: "a map takes the mark off after the jump",
         code: WINDING,
         sent: &[Start(0x10000), Branches(2, 2, 0x10), Map(0)],
         pc: 0,
@@ -302,7 +302,7 @@ pub const PHASES: &[Case] = &[
         pc: 0x10008,
         wanted: Rows(&[0x10000, 0x10004, 0x10008, 0x10004, 0x10008, 0x10004]),
     },
-    // The same, and the trace ends behind the jump.
+    // The same, and the trace ends after the jump.
     Case {
         name: "no change leaves the mark on",
         code: AGAIN,
@@ -310,7 +310,7 @@ pub const PHASES: &[Case] = &[
         pc: 0x10008,
         wanted: Rows(&[0x10000, 0x10004, 0x10008, 0x10004]),
     },
-    // 10000 is inferred behind the first round. The map's lowest bit, 1, leads the first phase out of the loop to the jump, which
+    // 10000 is inferred after the first round. The map's lowest bit, 1, leads the first phase out of the loop to the jump, which
     // goes to 10000; 29 rounds use the bits that are 0, and at 10004 the last one is left. The mark is off, so the end of the trace
     // makes no move, and that bit leads on to the program counter.
     Case {

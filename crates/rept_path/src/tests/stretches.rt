@@ -1,4 +1,4 @@
-// Start packets in a stretch, steps between stretches, and packets outside.
+//! Start packets in a stretch, steps between stretches, and packets outside.
 
 use super::cases::Wanted::{Refusal, Rounds, Rows};
 use super::cases::{
@@ -156,7 +156,7 @@ pub const JOINS: &[Case] = &[
         pc: 0x10024,
         wanted: Rows(&[0x10018, 0x1001c, 0x10020]),
     },
-    // The branch is taken to the call at 1000c, and the next stretch begins behind that.
+    // The branch is taken to the call at 1000c, and the next stretch begins after that.
     Case {
         name: "a branch that is taken, and a call",
         code: CALLS_BEHIND_A_BRANCH,
@@ -208,7 +208,7 @@ pub const JOINS: &[Case] = &[
     },
     // A call stands at 1001c, but the jump itself may lead to 10020, and that is the first case that fits.
     Case {
-        name: "an uninferable jump to the address behind a call",
+        name: "an uninferable jump to the address after a call",
         code: WINDING,
         sent: &[Start(0x10014), EndedRep, Start(0x10020)],
         pc: 0x10024,
@@ -273,7 +273,7 @@ pub const JOINS: &[Case] = &[
         wanted: Rows(&[0x10000]),
     },
     Case {
-        name: "a call leads behind it alone",
+        name: "a call leads after it alone",
         code: WINDING,
         sent: &[Start(0x1001c)],
         pc: 0x1001c,
@@ -308,14 +308,14 @@ pub const JOINS: &[Case] = &[
         wanted: Refusal(PathFault::Gap(2, 0x10000, 0x20000)),
     },
     Case {
-        name: "the address is checked behind the gap",
+        name: "the address is checked after the gap",
         code: WINDING,
         sent: &[Start(0x10014), EndedRep, Start(0x20000)],
         pc: 0x1000c,
         wanted: Refusal(PathFault::NotCode(0x20000)),
     },
     Case {
-        name: "a word that is no instruction behind the gap",
+        name: "a word that is no instruction after the gap",
         code: WINDING,
         sent: &[Start(0x10014), EndedRep, Start(0x10034)],
         pc: 0x1000c,
@@ -329,7 +329,7 @@ pub const JOINS: &[Case] = &[
         wanted: Rows(&[0x10004, 0x1000c]),
     },
     Case {
-        name: "a map's last bit is gone behind the gap",
+        name: "a map's last bit is gone after the gap",
         code: LOOP,
         sent: &[
             Start(0x10000),
@@ -367,14 +367,14 @@ pub const ENDS: &[Case] = &[
         wanted: Refusal(PathFault::NotCode(0)),
     },
     Case {
-        name: "a call behind which address 0 stands",
+        name: "a call after which address 0 stands",
         code: LAST_CALL,
         sent: &[Start(0xfffffffc)],
         pc: 0,
         wanted: Rows(&[0xfffffffc]),
     },
     Case {
-        name: "a plain step and a call behind which address 0 stands",
+        name: "a plain step and a call after which address 0 stands",
         code: LAST_CALL,
         sent: &[Start(0xfffffff8)],
         pc: 0,

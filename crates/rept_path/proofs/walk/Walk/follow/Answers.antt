@@ -16,16 +16,16 @@ pub returns-then-self-clause-ok : goal.returns-then-self-clause-ok
 returns-then-self-clause-ok c = on_ok_weaker c.start.result (λ h. subst (λ (p : Packet). Followed (exe_of c.args.dump.now) c.args.number p c.args.self.now c.start.new.self) (sym c.in-Start.is) (h c.in-Start.privilege)) c.start.ensures.ok
 
 pub returns-then-self-clause-err : goal.returns-then-self-clause-err
-returns-then-self-clause-err c = IfErr-weaker c.start.result _ (λ e. (e ≡ OutOfMemory) ⊎ FaultBy (exe_of c.args.dump.now) c.args.packet c.args.self.now.waiting (met c.args.number c.args.self.now) e) (λ e h. as_waiting (exe_of c.args.dump.now) c.args.packet (Start c.in-Start.branch c.in-Start.privilege c.in-Start.address) c.args.self.now.waiting (met c.args.number c.args.self.now) e c.in-Start.is c.if-self.true (h c.in-Start.privilege)) c.start.ensures.err
+returns-then-self-clause-err c = IfErr-weaker c.start.result _ (λ e. (e ≡ OutOfMemory) ⊎ FaultBy (exe_of c.args.dump.now) c.args.packet (met c.args.number c.args.self.now) e) (λ e h. as_waiting (exe_of c.args.dump.now) c.args.packet (Start c.in-Start.branch c.in-Start.privilege c.in-Start.address) c.args.self.now.waiting (met c.args.number c.args.self.now) e c.in-Start.is c.if-self.true (h c.in-Start.privilege)) c.start.ensures.err
 
 pub returns-else-self-clause-ok : goal.returns-else-self-clause-ok
 returns-else-self-clause-ok c = on_ok_weaker c.restart.result (λ h. subst (λ (p : Packet). Followed (exe_of c.args.dump.now) c.args.number p c.args.self.now c.restart.new.self) (sym c.in-Start.is) (h c.in-Start.privilege)) c.restart.ensures.ok
 
 pub returns-else-self-clause-err : goal.returns-else-self-clause-err
-returns-else-self-clause-err c = IfErr-weaker c.restart.result _ (λ e. (e ≡ OutOfMemory) ⊎ FaultBy (exe_of c.args.dump.now) c.args.packet c.args.self.now.waiting (met c.args.number c.args.self.now) e) (λ e h. as_running (exe_of c.args.dump.now) c.args.packet (Start c.in-Start.branch c.in-Start.privilege c.in-Start.address) c.args.self.now.waiting (met c.args.number c.args.self.now) e c.in-Start.is c.if-self.false (h c.in-Start.privilege)) c.restart.ensures.err
+returns-else-self-clause-err c = IfErr-weaker c.restart.result _ (λ e. (e ≡ OutOfMemory) ⊎ FaultBy (exe_of c.args.dump.now) c.args.packet (met c.args.number c.args.self.now) e) (λ e h. as_running (exe_of c.args.dump.now) c.args.packet (Start c.in-Start.branch c.in-Start.privilege c.in-Start.address) c.args.self.now.waiting (met c.args.number c.args.self.now) e c.in-Start.is c.if-self.false (h c.in-Start.privilege)) c.restart.ensures.err
 
 pub returns-in-Support-clause-ok : goal.returns-in-Support-clause-ok
 returns-in-Support-clause-ok c = on_ok_weaker c.support.result (λ h. subst (λ (p : Packet). Followed (exe_of c.args.dump.now) c.args.number p c.args.self.now c.support.new.self) (sym c.in-Support.is) (h c.in-Support.enabled)) c.support.ensures.ok
 
 pub returns-in-Support-clause-err : goal.returns-in-Support-clause-err
-returns-in-Support-clause-err c = IfErr-weaker c.support.result _ (λ e. (e ≡ OutOfMemory) ⊎ FaultBy (exe_of c.args.dump.now) c.args.packet c.args.self.now.waiting (met c.args.number c.args.self.now) e) (λ e h. as_support (exe_of c.args.dump.now) c.args.packet (Support c.in-Support.enabled c.in-Support.status) c.args.self.now.waiting (met c.args.number c.args.self.now) e c.in-Support.is (h c.in-Support.enabled)) c.support.ensures.err
+returns-in-Support-clause-err c = IfErr-weaker c.support.result _ (λ e. (e ≡ OutOfMemory) ⊎ FaultBy (exe_of c.args.dump.now) c.args.packet (met c.args.number c.args.self.now) e) (λ e h. as_support (exe_of c.args.dump.now) c.args.packet (Support c.in-Support.enabled c.in-Support.status) c.args.self.now.waiting (met c.args.number c.args.self.now) e c.in-Support.is (h c.in-Support.enabled)) c.support.ensures.err
