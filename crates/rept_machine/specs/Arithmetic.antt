@@ -72,7 +72,7 @@ branch_holds Bge a b = not (below_signed a b)
 branch_holds Bltu a b = nat_lt a b
 branch_holds Bgeu a b = not (nat_lt a b)
 
--- the address so many bytes behind another, modulo 2 ^ 32
+-- the address so many bytes after another, modulo 2 ^ 32
 abbrev pub beside : ℕ → ℕ → ℕ
 beside base k = (base + k) % 2 ^ 32
 

@@ -5,5 +5,6 @@ pub mod Choices
 pub mod Entries
 pub mod Execution
 pub mod Machine
+pub mod Runs
 pub mod State
 pub mod Step

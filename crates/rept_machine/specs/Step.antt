@@ -28,7 +28,7 @@ pub record Computes (rd value address next : ℕ) (s t : State) : Type 0 where
   pub memory : SameMemory s t
   pub onward : next ≡ following address
 
--- a jump writes the address of the instruction behind it
+-- a jump writes the address of the instruction after it
 pub record Jumps (rd target address next : ℕ) (s t : State) : Type 0 where
   pub link : Sets rd (following address) s t
   pub memory : SameMemory s t

@@ -1,4 +1,5 @@
-// What the operations compute (RISC-V unprivileged manual 20191213, chapters 2.4, 2.5 and 7).
+//! What the operations compute (RISC-V unprivileged manual 20191213, chapters 2.4, 2.5 and 7).
+
 ghost use Rattle.std.specs.Prelude.{◌≡◌, ◌*◌, ◌*ℤ◌, ◌+◌, ◌-◌, ◌/◌, ◌%◌, ◌^◌, ◌==◌, ◌<◌, pos, IsTrue, ◌↔◌, if◌then◌else◌, int_div, int_rem, FitsSigned};
 ghost use mir.Syntax.{w32};
 ghost use Rattle.std.specs.Int.{int_shr};

@@ -1,3 +1,5 @@
+//! What each instruction does.
+
 ghost use Rattle.std.specs.Prelude.{◌≡◌, ◌<◌, ◌^◌, ℕ, IfOk, OnOk, OnErr, slice_index};
 ghost use Rattle.rept_machine.specs.Step.{HasEffect, Computes, Jumps, Calls, far_target};
 ghost use Rattle.rept_machine.specs.Choices.{Picks, IsRunnable, WritesMemory};
@@ -75,7 +77,7 @@ fn put(registers: &mut [u32; 32], rd: Reg, value: u32, at: u32) -> u32
     following(at)
 }
 
-/// Writes the address behind this one and answers the target.
+/// Writes the address after this one and answers the target.
 fn jump(registers: &mut [u32; 32], rd: Reg, target: u32, at: u32) -> u32
     ensures words { (r : ℕ) → slice_index registers.new r < 2 ^ 32 }
     ensures kept { slice_index registers.new 0 ≡ slice_index registers.old 0 }

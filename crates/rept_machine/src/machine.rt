@@ -1,4 +1,6 @@
-ghost use Rattle.std.specs.Prelude.{◌≡◌, ◌+◌, ◌*◌, ◌%◌, ◌^◌, ◌<◌, ◌≤◌, ◌==◌, ◌↔◌, ℕ, IfOk, OnErr, IfErr, Some, None, Err, IsTrue, length, slice_index, if◌then◌else◌};
+//! The machine that executes code step by step.
+
+ghost use Rattle.std.specs.Prelude.{◌≡◌, ◌+◌, ◌*◌, ◌%◌, ◌^◌, ◌<◌, ◌≤◌, ◌==◌, ◌↔◌, ℕ, List, IfOk, OnOk, OnErr, IfErr, Some, None, Err, IsTrue, length, slice_index, if◌then◌else◌};
 ghost use Rattle.rept_machine.specs.State.{IsState};
 ghost use Rattle.rept_machine.specs.Step.{IsStep};
 ghost use Rattle.rept_machine.specs.Choices.{Picks};
@@ -38,6 +40,9 @@ pub struct Machine<'a> {
 
 impl<'a> Machine<'a> {
     ghost use Rattle.rept_machine.specs.Machine.{state_of, pc_of, code_of, base_of, next_word, word_of_code, IsNext, IsUnchanged, IsNotRunnable, Halts};
+    ghost use Rattle.rept_machine.specs.Runs.{IsRun};
+    ghost use Rattle.rept_machine.specs.declared.machine.Machine.{Machine};
+    ghost use Rattle.rept_isa.specs.declared.row.StepRow.{StepRow};
 
     /// A machine whose word i of code stands at `base + 4 * i`. Its registers are `regs`, but x0 is 0, and its memory is
     /// all 0.
@@ -94,6 +99,20 @@ impl<'a> Machine<'a> {
             next,
             call,
         })
+    }
+
+    /// Makes so many steps, unless the machine halts before. The steps that it makes are an execution of the path of their rows, whatever
+    /// of the last registers and bytes a dump has.
+    pub fn run(&mut self, count: u32) -> Result<(), Halt>
+        ensures ran { OnOk result ((rows : List StepRow) × (length rows ≡ count) × IsRun self.old self.new rows) }
+        ensures halted { IfErr result (λ halt. (rows : List StepRow) × (mid : Machine) × (length rows < count) × IsRun self.old mid rows × Halts mid halt × IsUnchanged mid self.new) }
+    {
+        for _ in 0..count {
+            if let Err(halt) = self.step() {
+                return Err(halt);
+            }
+        }
+        Ok(())
     }
 
     fn word_at(&self, address: u32) -> Option<u32>

@@ -1,4 +1,5 @@
-// A sparse memory of bytes.
+//! A sparse memory of bytes.
+
 ghost use Rattle.std.specs.Prelude.{◌≡◌, ◌<◌, ◌^◌, ℕ, true, OnOk};
 ghost use Rattle.rept_machine.specs.Arithmetic.{loaded, half_at, word_at, extended};
 ghost use Rattle.rept_machine.specs.Entries.{AreBytes};

@@ -1,4 +1,5 @@
-// The integer registers, by number.
+//! The integer registers, by number.
+
 ghost use Rattle.std.specs.Prelude.{◌≡◌, ◌<◌, ◌^◌, ℕ, slice_index};
 ghost use Rattle.rept_machine.specs.Bytes.{written};
 

@@ -1,3 +1,5 @@
+//! Stores into memory.
+
 ghost use Rattle.std.specs.Prelude.{◌≡◌, ◌<◌, ◌≤◌, ◌^◌, OnOk, OnErr};
 ghost use Rattle.rept_machine.specs.Arithmetic.{store_width, byte_of};
 ghost use Rattle.rept_machine.specs.Bytes.{SameBytes, HaveEntries, BytesWritten};

@@ -1,3 +1,5 @@
+//! The edges of each instruction.
+
 mod accesses;
 mod branches;
 mod operations;
@@ -196,11 +198,13 @@ fn a_machine_halts_where_nothing_can_run(rt: HostRuntime) -> Result<(), Fail> {
 
 #[test]
 fn a_machine_halts_past_its_code(rt: HostRuntime) -> Result<(), Fail> {
-    // addi x5,x0,5
-    let code = [0x0050_0293];
+    // addi x5,x5,5, twice
+    let code = [0x0052_8293, 0x0052_8293];
     let mut machine = Machine::new(rt.alloc(), &code, START, START, [0; 32]);
-    assert!(rt; machine.step().is_ok());
-    assert_eq!(rt; halt_of(&mut machine), Some(Halt::NotCode(0x10004)));
-    assert_eq!(rt; (machine.pc(), machine.byte(0x10000)), (0x10004, 0));
+    assert!(rt; machine.run(2).is_ok());
+    assert!(rt; machine.run(1).is_err());
+    assert_eq!(rt; halt_of(&mut machine), Some(Halt::NotCode(0x10008)));
+    assert_eq!(rt; (machine.pc(), machine.byte(0x10000)), (0x10008, 0));
+    assert_eq!(rt; value(&rt, &machine, 5), 10);
     Ok(())
 }

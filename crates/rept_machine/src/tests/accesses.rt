@@ -1,6 +1,6 @@
-// Results of real instructions, by qemu-riscv32 7.2 of Debian over a program made with GNU Binutils 2.40:
-//   riscv64-unknown-elf-as -march=rv32im -mabi=ilp32, riscv64-unknown-elf-ld -m elf32lriscv, qemu-riscv32
-// For each row the program loads the registers, runs the instruction and stores x5.
+//! Results of real instructions, by qemu-riscv32 7.2 of Debian over a program made with GNU Binutils 2.40:
+//!   riscv64-unknown-elf-as -march=rv32im -mabi=ilp32, riscv64-unknown-elf-ld -m elf32lriscv, qemu-riscv32
+//! For each row the program loads the registers, runs the instruction and stores x5.
 
 /// A store of x7 over zeros, a load into x5, the results for each edge in x7, and the two texts. x6 is the base.
 pub type Row = (u32, u32, [u32; 5], &'static str, &'static str);

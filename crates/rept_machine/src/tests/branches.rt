@@ -1,6 +1,6 @@
-// Results of real instructions, by qemu-riscv32 7.2 of Debian over a program made with GNU Binutils 2.40:
-//   riscv64-unknown-elf-as -march=rv32im -mabi=ilp32, riscv64-unknown-elf-ld -m elf32lriscv, qemu-riscv32
-// For each row the program loads the registers, runs the instruction and stores x5.
+//! Results of real instructions, by qemu-riscv32 7.2 of Debian over a program made with GNU Binutils 2.40:
+//!   riscv64-unknown-elf-as -march=rv32im -mabi=ilp32, riscv64-unknown-elf-ld -m elf32lriscv, qemu-riscv32
+//! For each row the program loads the registers, runs the instruction and stores x5.
 
 /// A branch by 8, the value of x7, whether it is taken for each edge in x6, and the text.
 pub type Row = (u32, u32, [bool; 5], &'static str);

@@ -1,6 +1,6 @@
-// Results of real instructions, by qemu-riscv32 7.2 of Debian over a program made with GNU Binutils 2.40:
-//   riscv64-unknown-elf-as -march=rv32im -mabi=ilp32, riscv64-unknown-elf-ld -m elf32lriscv, qemu-riscv32
-// For each row the program loads the registers, runs the instruction and stores x5.
+//! Results of real instructions, by qemu-riscv32 7.2 of Debian over a program made with GNU Binutils 2.40:
+//!   riscv64-unknown-elf-as -march=rv32im -mabi=ilp32, riscv64-unknown-elf-ld -m elf32lriscv, qemu-riscv32
+//! For each row the program loads the registers, runs the instruction and stores x5.
 
 /// The values of x6: 0, 1, -1, the least and the greatest number.
 pub const EDGES: [u32; 5] = [0, 1, 0xffff_ffff, 0x8000_0000, 0x7fff_ffff];
