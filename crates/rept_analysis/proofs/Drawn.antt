@@ -1,5 +1,5 @@
 -- Drawings one after another.
-use Rattle.std.proofs.Common.{◌≡◌, ◌≢◌, ℕ, ◌+◌, ◌<◌, ◌≤◌, Bool, true, false, ◌||◌, List, length, Option, Some, None, inl, inr, refl, sym, ap, subst, ◌∙◌, arith, Contains}
+use Rattle.std.proofs.Common.{◌≡◌, ◌≢◌, ℕ, ◌+◌, ◌-◌, ◌<◌, ◌≤◌, Bool, true, false, ◌||◌, List, length, Option, Some, None, inl, inr, refl, sym, ap, subst, ◌∙◌, arith, Contains}
 use Rattle.std.proofs.lemmas.Bool.{cases_lt, or_parts, false≢true, true≢false}
 use Rattle.std.proofs.Common.{slice_get}
 use Rattle.rept_isa.specs.declared.row.StepRow.{StepRow}
@@ -8,7 +8,7 @@ use Rattle.rept_analysis.specs.State.{State, all_known}
 use Rattle.std.proofs.lemmas.Option.{slice_get-get_or, slice_get_within}
 use Rattle.rept_view.specs.declared.drawn.Drawn.{Drawn}
 use Rattle.rept_report.proofs.Told.{same_some}
-use Rattle.rept_analysis.specs.Drawing.{Knows, IsTracked, Grows, HasNews, Drew, IsFollowing, IsClash, fact_at, KnowsDrawn, DrawnBelow, IsConclusion, AreConclusions, IsUncut}
+use Rattle.rept_analysis.specs.Drawing.{Knows, IsTracked, Grows, HasNews, Drew, IsFollowing, IsClash, fact_at, KnowsDrawn, DrawnBelow, IsConclusion, AreConclusions, IsUncut, IsRowClosed}
 use Rattle.rept_analysis.specs.Drawing.HasNews.{fact, address, anew}
 
 pub Grows_itself : {W : Type 0} (a : State W) → Grows a a
@@ -141,3 +141,12 @@ Drew_same a P h = record { news = λ e. absurd (false≢true e); unchanged = λ 
 -- where drawing brought news, nothing is said of what is closed
 pub Drew_loud : {W : Type 0} (a b : State W) (x : Bool) (P Q : State W → Type 0) → x ≡ true → Drew a b x P → Drew a b x Q
 Drew_loud a b x P Q loud d = record { news = d.news; unchanged = d.unchanged; closed = λ e. absurd (true≢false (sym loud ∙ e)); uncut = d.uncut }
+
+-- what held from k on, and holds at the one before k, holds from there on
+pub one_before : (C : ℕ → Type 0) (k n : ℕ) → ((s : ℕ) → k ≤ s → s < n → C s) → C (k - 1) → (s : ℕ) → k - 1 ≤ s → s < n → C s
+one_before C k n above here s low high =
+    elim (cases_lt s k) [ inl lt ↦ let e : k - 1 ≡ s = omega (arith, low, lt) in subst C e here | inr le ↦ above s le high ]
+
+-- all that rows from one on let one conclude is known
+abbrev pub RowsClosedFrom : {W : Type 0} → ℕ → State W → Type 0
+RowsClosedFrom n s = (i : ℕ) → n ≤ i → i < length s.setting.rows → IsRowClosed i s

@@ -1,4 +1,4 @@
--- Each fact that an analysis answers at the end has a reason, and bytes are found in the fronts of its log.
+-- Each fact that an analysis answers at the end has a reason, and bytes are found in the prefixes of its log.
 use Rattle.std.proofs.Common.{◌≡◌, ℕ, ◌<◌, ◌≤◌, ◌^◌, Bool, List, length, Some, sym, ap, subst, ◌∙◌}
 use Rattle.rept_reason.specs.declared.fact.Fact.{Fact}
 use Rattle.rept_reason.specs.declared.fact.Cell.TheVariants.{Byte}
@@ -14,7 +14,7 @@ use Rattle.rept_report.proofs.Explained.{reason_exists}
 use Rattle.rept_report.proofs.Standing.{stands_up, stands_at}
 use Rattle.rept_analysis.specs.State.{State}
 use Rattle.rept_analysis.specs.Kept.{is_among, answers, IsFinished, IsKept}
-use Rattle.rept_analysis.proofs.Learning.{behind}
+use Rattle.rept_analysis.proofs.Learning.{trace_known}
 use Rattle.rept_analysis.proofs.Reported.{settled_closed}
 
 module _ {W : Type 0} (s : State W) (laws : HasLaws s.setting) (kept : IsKept s) (finished : IsFinished s) where
@@ -24,7 +24,7 @@ module _ {W : Type 0} (s : State W) (laws : HasLaws s.setting) (kept : IsKept s)
   -- an analysis that has ended, as the laws of reports speak of it
   pub has_ended : HasEnded s.setting kept.traced.entries tracked
   has_ended =
-      let same = sym (behind s kept) in
+      let same = sym (trace_known s kept) in
       record {
         trace = kept.traced.trace;
         quiet = subst (IsQuiet s.setting) same finished.settled.quiet;
@@ -33,7 +33,7 @@ module _ {W : Type 0} (s : State W) (laws : HasLaws s.setting) (kept : IsKept s)
 
   -- what is answered, as they do
   pub ends_with : known_at_end s.setting kept.traced.entries tracked ≡ answers s
-  ends_with = ap (λ (K : Knowledge). with_implied s.setting K tracked) (behind s kept)
+  ends_with = ap (λ (K : Knowledge). with_implied s.setting K tracked) (trace_known s kept)
 
   -- what is answered has a reason
   pub known_reason : (f : Fact) → answers s f.point f.cell ≡ Some f.value → (why : Because) × IsReason s.setting s.known.log f why
@@ -41,7 +41,7 @@ module _ {W : Type 0} (s : State W) (laws : HasLaws s.setting) (kept : IsKept s)
       let known : known_at_end s.setting kept.traced.entries tracked f.point f.cell ≡ Some f.value = ap (λ (K : Knowledge). K f.point f.cell) ends_with ∙ e in
       subst (λ (fs : List Fact). (why : Because) × IsReason s.setting fs f why) kept.traced.logged (reason_exists s.setting laws kept.traced.entries has_ended.trace has_ended.quiet tracked has_ended.closed f known)
 
-  -- a byte stands in a front of the log exactly where it is found there
+  -- a byte stands in a prefix of the log exactly where it is found there
   pub front_found : (t p a v : ℕ) → p ≤ length s.setting.rows → StandsIn s.setting (oldest t s.known.log) (fact_of p (Byte a) v) → byte_at s.setting (oldest t s.known.log) p a ≡ Some v
   front_found t p a v early h =
       let log = kept.traced.logged in
@@ -50,7 +50,7 @@ module _ {W : Type 0} (s : State W) (laws : HasLaws s.setting) (kept : IsKept s)
   pub front_stands : (t p a v : ℕ) → p ≤ length s.setting.rows → a < 2 ^ 32 → byte_at s.setting (oldest t s.known.log) p a ≡ Some v → StandsIn s.setting (oldest t s.known.log) (fact_of p (Byte a) v)
   front_stands t p a v early small e = found_stands s.setting (oldest t s.known.log) a small p v early e
 
-  -- and then in each longer front
+  -- and then in each longer prefix
   pub front_more : (t u : ℕ) (f : Fact) → t ≤ u → StandsIn s.setting (oldest t s.known.log) f → StandsIn s.setting (oldest u s.known.log) f
   front_more t u f le h =
       let log = kept.traced.logged in

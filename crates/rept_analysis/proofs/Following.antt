@@ -22,7 +22,7 @@ use Rattle.rept_view.specs.declared.drawn.When.{When}
 use Rattle.rept_view.specs.declared.drawn.When.TheVariants.{Before, After}
 use Rattle.rept_view.specs.declared.drawn.Drawn.{Drawn}
 use Rattle.rept_view.specs.Seen.{Seen, seen_cell}
-use Rattle.rept_view.specs.Rules.{offset_of, IsRowCell, Rules}
+use Rattle.rept_view.specs.Rules.{offset_of, IsRowByte, IsRowCell, Rules}
 use Rattle.rept_log.specs.Around.{around, around_lawful}
 use Rattle.rept_report.specs.Setting.{Setting, HasLaws, way_of}
 use Rattle.rept_report.specs.Views.{point_of, all_words, bounds, register_range, known_or, seen_at, registers_at, Carries}
@@ -33,13 +33,15 @@ use Rattle.rept_report.specs.Conflicts.{IsQuiet}
 use Rattle.rept_report.specs.Log.{oldest, OnceEach}
 use Rattle.rept_report.proofs.Told.{same_some, none_some}
 use Rattle.rept_report.proofs.Places.{oldest_less}
-use Rattle.rept_report.proofs.ViewLaws.{known_fact, seen_at_lawful}
+use Rattle.rept_report.proofs.ViewLaws.{known_fact, known_more, seen_at_lawful}
 use Rattle.rept_report.proofs.Monotony.{quiet_less, spared_more, single_value_more, Concludes_more}
 use Rattle.rept_analysis.specs.Cells.{bytes_from, bytes_known, base_known}
 use Rattle.rept_log.specs.Known.{Known as LogKnown}
 use Rattle.rept_analysis.specs.State.{State, all_known}
 use Rattle.rept_analysis.specs.Moments.{filled_range, moment}
-use Rattle.rept_analysis.specs.Drawing.{Knows, IsTracked, Grows, IsFollowing, IsBrought, fact_at, IsLearntAt, IsKeptAt, LastKnown, IsFitted, IsAccess, IsCarriedAt, AreTrackedFrom, IsRowTracked, IsConclusion, IsBroughtTo, KeptBelow, DrawnKnown, IsRowDrawn, IsRowClosed, LastByteKnown, SingleKnown}
+use Rattle.rept_analysis.specs.Room.{IsDrawnByte, IsOwnByte}
+use Rattle.rept_analysis.proofs.Reserve.{drawn_byte_more, own_byte_more}
+use Rattle.rept_analysis.specs.Drawing.{Knows, IsTracked, Grows, IsFollowing, IsBrought, fact_at, IsLearntAt, IsKeptAt, LastKnown, IsFitted, IsAccess, IsCarriedAt, AreTrackedFrom, IsRowTracked, IsConclusion, IsBroughtTo, KeptBelow, DrawnKnown, IsRowDrawn, IsRowClosed, LastByteKnown, SingleKnown, AreRowAddresses}
 
 pub flat_known : (x : Option ℕ) (v : ℕ) → flat x ≡ Known v → x ≡ Some v
 flat_known None v e = cc
@@ -69,6 +71,16 @@ module _ {W : Type 0} (s : State W) (i : ℕ) (row : StepRow) (found : slice_get
 
 pub kept_at : {W : Type 0} (s : State W) (i r : ℕ) (x : Flat) → x ≡ flat (register_known (told s.known.log) i r) → 0 < r → IsLearntAt (i + 1) r x s → ((v : ℕ) → 0 < r → Knows (i + 1) (Register r) v s → Knows i (Register r) v s) → IsKeptAt i r s
 kept_at s i r x read named on off = record { onward = λ v h. on v (told_known s i r v x read h named) named; back = λ v h. off v named h }
+
+-- so it has where the same is known before and after
+pub kept_equal : {W : Type 0} (s : State W) (i r : ℕ) (x y : Flat) → x ≡ flat (register_known (told s.known.log) i r) → y ≡ flat (register_known (told s.known.log) (i + 1) r) → x ≡ y → 0 < r → IsKeptAt i r s
+kept_equal s i r x y before after same named = record { onward = λ v h. known_told s (i + 1) r v y after (sym same ∙ told_known s i r v x before h named) named; back = λ v h. known_told s i r v x before (same ∙ told_known s (i + 1) r v y after h named) named }
+
+-- what is known of a register is known later
+pub read_after : {W : Type 0} (s t : State W) (p r v : ℕ) (x : Flat) → Grows s t → x ≡ flat (register_known (told s.known.log) p r) → x ≡ Known v → x ≡ flat (register_known (told t.known.log) p r)
+read_after s t p r v x g read is =
+    let known : register_known (told s.known.log) p r ≡ Some v = flat_known (register_known (told s.known.log) p r) v (sym read ∙ is) in
+    read ∙ ap flat (known ∙ sym (known_more (told s.known.log) (told t.known.log) (λ q k w e. g.more q (Register k) w e) p r v known))
 
 pub back_known : {W : Type 0} (s : State W) (i r : ℕ) (x : Flat) → x ≡ flat (register_known (told s.known.log) (i + 1) r) → IsLearntAt i r x s → (v : ℕ) → 0 < r → Knows (i + 1) (Register r) v s → Knows i (Register r) v s
 back_known s i r x read learnt v named h = learnt v (told_known s (i + 1) r v x read h named) named
@@ -127,6 +139,9 @@ module _ {W : Type 0} (s : State W) (laws : HasLaws s.setting) (words : HasWords
   point_early Before = omega (arith, inside)
   point_early After = omega (arith, inside)
 
+  drawn_here : (d : Drawn) (a : ℕ) → Contains (s.setting.rules.draw row (around s.known i)) d → d.cell ≡ Byte a → IsRowByte s.setting.rules row (around s.known i) a → IsDrawnByte s.setting s.known.log i d a
+  drawn_here d a h is own = record { row = row; found = found; view = around s.known i; lawful = around_lawful s.known i log_words; drawn = h; cell = is; base_register = own.base_register; base = own.base; read = own.read; seen = own.base_known; known = own.base_known }
+
   pub drawn_conclusion : IsRowTracked row i s → (d : Drawn) → Contains (s.setting.rules.draw row (around s.known i)) d → IsConclusion i d s
   drawn_conclusion tracked d h =
       let own = laws.rules.own row (around s.known i) d (around_lawful s.known i log_words) h in
@@ -135,10 +150,11 @@ module _ {W : Type 0} (s : State W) (laws : HasLaws s.setting) (words : HasWords
         fits = own.2;
         follows = λ small quiet. record { early = point_early d.when; cell = own.1; word = word_fits d.cell d.value small; by = drawn i row d found (drawn_seen d h) refl refl refl };
         tracked = λ a is. tracked a (subst (λ (c : Cell). IsRowCell s.setting.rules row (around s.known i) d.when c) is own.0);
+        byte = λ a is. drawn_here d a h is (subst (λ (c : Cell). IsRowCell s.setting.rules row (around s.known i) d.when c) is own.0);
       }
 
 pub conclusion_more : {W : Type 0} (s t : State W) → HasLaws s.setting → Grows s t → HasWords (all_known t) → (i : ℕ) (d : Drawn) → IsConclusion i d s → IsConclusion i d t
-conclusion_more s t laws g words i d h = record { cell = h.cell; fits = h.fits; follows = λ small. follows_more s t laws g words _ (h.follows small); tracked = λ a is. g.tracked a (h.tracked a is) }
+conclusion_more s t laws g words i d h = record { cell = h.cell; fits = h.fits; follows = λ small. follows_more s t laws g words _ (h.follows small); tracked = λ a is. g.tracked a (h.tracked a is); byte = λ a is. subst (λ (S : Setting _). IsDrawnByte S t.known.log i d a) (sym g.setting) (drawn_byte_more s.setting s.known.log t.known.log (λ p r v e. g.more p (Register r) v e) i d a (h.byte a is)) }
 
 -- the sets of a moment are the ranges
 module _ {W : Type 0} (s : State W) (i : ℕ) (inside : i < length s.setting.rows) (fitted : IsFitted s) where
@@ -247,3 +263,15 @@ row_bytes rules row k i r base start count n x reads read is from few counted =
     let known : register_known (told k.log) i r ≡ Some base = flat_known (register_known (told k.log) i r) base (sym read ∙ is) in
     let there : base_known (first_read row.instr) (around k i) ≡ Some base = rw reads known in
     rw there (rw (← from, ← few) counted)
+
+-- the bytes that a row's rules look at, from its address on
+pub row_addresses : {W : Type 0} (s : State W) (i : ℕ) (row : StepRow) (r base start count : ℕ) (x : Flat) → slice_get s.setting.rows i ≡ Some row → first_read row.instr ≡ Some r → x ≡ flat (register_known (told s.known.log) i r) → x ≡ Known base → start ≡ plus base (offset_of row.instr) → count ≡ min (s.setting.rules.places row) 4 → AreRowAddresses start count s
+row_addresses s i row r base start count x found reads read is from few k lt =
+    let known : register_known (told s.known.log) i r ≡ Some base = flat_known (register_known (told s.known.log) i r) base (sym read ∙ is) in
+    (i, k, record { row = row; found = found; base_register = r; base = base; read = reads; known = known; below_places = omega (arith, lt, few); below_four = omega (arith, lt, few); address = ap (λ (z : ℕ). beside z k) from })
+
+-- they stay so where no less is known
+pub addresses_after : {W : Type 0} (s t : State W) (start count : ℕ) → Grows s t → AreRowAddresses start count s → AreRowAddresses start count t
+addresses_after s t start count g h k lt =
+    let a = h k lt in
+    (a.0, a.1, subst (λ (S : Setting _). IsOwnByte S t.known.log a.0 a.1 (beside start k)) (sym g.setting) (own_byte_more s.setting s.known.log t.known.log (λ p r v e. g.more p (Register r) v e) a.0 a.1 (beside start k) a.2))

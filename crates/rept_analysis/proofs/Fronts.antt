@@ -134,7 +134,7 @@ pub filled_ok : {W : Type 0} (S : Setting W) (K : Knowledge) → IsQuiet S K →
 filled_ok S K quiet (Ok x) h = refl
 filled_ok S K quiet (Err e) h = absurd (quiet.full e.point e.reg h.early h.in_file h.empty)
 
--- the front of a log, with the sets that are filled from it
+-- the prefix of a log, with the sets that are filled from it
 pub front_is : {W : Type 0} (s : State W) → IsKept s → (t : ℕ) (spans : View W) → AreSetsOf s.setting (oldest t s.known.log) spans → IsFront (record { setting = s.setting; facts = oldest t s.known.log }) s.known.last spans
 front_is s kept t spans sets = record {
   few = kept.few;
@@ -219,7 +219,7 @@ module _ {W : Type 0} (s : State W) (laws : HasLaws s.setting) (kept : IsKept s)
       let same : h.fact ≡ f = fact_is h.fact f h.point (h.cell ∙ sym cell) (same_some (sym h.tells ∙ told_it)) in
       other (h.at ∙ ap (λ (x : Fact). Some x) same)
 
-  -- whether a byte's fact stands in a front, by the byte that is found there
+  -- whether a byte's fact stands in a prefix, by the byte that is found there
   pub found_stands : (t : ℕ) (f : Fact) (a : ℕ) → f.cell ≡ Byte a → f.point ≤ length s.setting.rows → a < 2 ^ 32 → (v : ℕ) → standing s.setting (oldest t s.known.log) f.point (Byte a) ≡ Some v → (IsTrue (eqb v f.value) → StandsIn s.setting (oldest t s.known.log) f) × (StandsIn s.setting (oldest t s.known.log) f → IsTrue (eqb v f.value))
   found_stands t f a cell early small v e = (
     λ same. stands_there t f a cell early small (e ∙ ap Some (eqb-true v f.value same)),
@@ -280,4 +280,5 @@ module _ {W : Type 0} (s : State W) (kept : IsKept s) (n : ℕ) where
     room = kept.room;
     rows = kept.rows;
     drawn = passes_more s (with_draws s n) refl (λ p c v e. e) refl kept.drawn;
+    roomy = kept.roomy;
   }

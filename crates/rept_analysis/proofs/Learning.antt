@@ -9,6 +9,7 @@ use Rattle.rept_reason.specs.declared.fact.Fact.{Fact}
 use Rattle.rept_reason.specs.declared.fact.Cell.{Cell}
 use Rattle.rept_reason.specs.declared.fact.Cell.TheVariants.{Register, Byte}
 use Rattle.rept_reason.specs.Facts.{Knowledge, IsCell, told, speaks}
+use Rattle.rept_report.specs.Setting.{HasLaws}
 use Rattle.rept_report.specs.Conclusions.{IsWordOf, HasWords}
 use Rattle.rept_report.specs.Log.{oldest, OnceEach, Entry, facts_of, add_if, logged_of, IsByte, IsLearnt, IsTrace}
 use Rattle.rept_report.specs.declared.conflict.ConflictKind.{ConflictKind}
@@ -17,14 +18,17 @@ use Rattle.rept_report.proofs.Places.{oldest_new}
 use Rattle.rept_report.proofs.Traces.{trace_words, words_of}
 use Rattle.rept_log.specs.declared.answer.Answer.{Answer}
 use Rattle.rept_log.specs.declared.answer.Answer.TheVariants.{Old, New, Clash}
-use Rattle.rept_log.specs.Known.{Known, knows, with_entry, IsNew, register_fact_of, LearnsRegister, AddsByte, LearnsByte, TracksMore, TracksByte}
+use Rattle.rept_log.specs.Known.{Known, knows, with_entry, IsNew, register_fact_of, LearnsRegister, AddsByte, LearnsByte, HasNoRoom, TracksMore, TracksByte}
 use Rattle.rept_analysis.specs.State.{State, all_known}
-use Rattle.rept_analysis.specs.Drawing.{fact_at, IsTracked, Grows, IsFollowing, IsBrought}
+use Rattle.rept_analysis.specs.Drawing.{fact_at, IsTracked, Grows, IsFollowing, IsBrought, IsRowAddress, HasPlace}
+use Rattle.rept_analysis.specs.Sums.{sum_to}
+use Rattle.rept_analysis.specs.Room.{places_at, HasRoom}
 use Rattle.rept_analysis.specs.Drawing.HasNews.{fact, address}
 use Rattle.rept_analysis.specs.Kept.{IsKept}
 use Rattle.rept_analysis.specs.declared.pass.Pass.{Pass}
 use Rattle.rept_analysis.specs.declared.pass.Pass.TheVariants.{Never}
 use Rattle.rept_analysis.proofs.Passing.{passes_more, never_pass}
+use Rattle.rept_analysis.proofs.Reserve.{room_like, room_drawn, room_last, room_to_draw, room_to_read, room_tracked, room_to_track, room_new}
 use Rattle.rept_analysis.specs.Told.{IsTold, TellsRegister, TellsByte, Tracks}
 
 abbrev pub with_known : {W : Type 0} → State W → Known → State W
@@ -56,11 +60,11 @@ kept_same s k e kept = subst (λ (x : State _). IsKept x) (sym (same_known s k e
 
 module _ {W : Type 0} (s : State W) (kept : IsKept s) where
   -- the facts that were learnt are what is known
-  pub behind : told (facts_of kept.traced.entries) ≡ all_known s
-  behind = fun_ext (λ p. fun_ext (λ c. kept.traced.agree p c))
+  pub trace_known : told (facts_of kept.traced.entries) ≡ all_known s
+  trace_known = fun_ext (λ p. fun_ext (λ c. kept.traced.agree p c))
 
   pub known_words : HasWords (all_known s)
-  known_words = subst HasWords behind (words_of (facts_of kept.traced.entries) (trace_words s.setting kept.traced.entries kept.traced.trace))
+  known_words = subst HasWords trace_known (words_of (facts_of kept.traced.entries) (trace_words s.setting kept.traced.entries kept.traced.trace))
 
 -- a fact that was learnt, and what is known with it
 pub record IsNext {W : Type 0} (s : State W) (kept : IsKept s) (f : Fact) (keep : Bool) (k : Known) : Type 0 where
@@ -76,6 +80,7 @@ pub record IsNext {W : Type 0} (s : State W) (kept : IsKept s) (f : Fact) (keep 
   pub once : OnceEach k.log
   pub tracked : k.store.tracked ≡ s.known.store.tracked
   pub listed : (p a v : ℕ) → knows k p (Byte a) ≡ Some v → Contains s.known.store.tracked a
+  pub roomy : ((p : ℕ) (c : Cell) (v : ℕ) → all_known s p c ≡ Some v → knows k p c ≡ Some v) → s.work.joins ≡ true → HasRoom s.setting k
   pub agree : (p : ℕ) (c : Cell) → told (f ∷ facts_of kept.traced.entries) p c ≡ knows k p c
 
 module _ {W : Type 0} (s : State W) (kept : IsKept s) (f : Fact) (keep : Bool) (k : Known) (n : IsNext s kept f keep k) where
@@ -86,7 +91,7 @@ module _ {W : Type 0} (s : State W) (kept : IsKept s) (f : Fact) (keep : Bool) (
   es = kept.traced.entries
 
   next_learnt : IsLearnt s.setting (told (facts_of es)) learnt
-  next_learnt = subst (λ (K : Knowledge). IsLearnt s.setting K learnt) (sym (behind s kept)) (record {
+  next_learnt = subst (λ (K : Knowledge). IsLearnt s.setting K learnt) (sym (trace_known s kept)) (record {
     cell = n.cell;
     word = n.word;
     new = n.new;
@@ -136,6 +141,7 @@ module _ {W : Type 0} (s : State W) (kept : IsKept s) (f : Fact) (keep : Bool) (
         room = kept.room;
         rows = kept.rows;
         drawn = passes_more s (with_known s k) refl more refl kept.drawn;
+        roomy = n.roomy more;
       }
 
   next_words : HasWords (knows k)
@@ -186,6 +192,7 @@ module _ {W : Type 0} (s : State W) (kept : IsKept s) (p r v : ℕ) (early : p �
     once = once;
     tracked = refl;
     listed = λ q a w e. kept.listed q a w e;
+    roomy = λ more j. room_like s.setting s.known (with_entry s.known (register_fact_of p r v)) more (omega arith) (omega arith) refl refl (kept.roomy j);
     agree = register_agrees;
   }
 
@@ -238,8 +245,8 @@ module _ {W : Type 0} (s : State W) (kept : IsKept s) (joins : Bool) (p a v : �
           | inr elsewhere ↦ kept.listed q b w (sym (kept.traced.agree q (Byte b)) ∙ sym (told_old f (facts_of kept.traced.entries) q (Byte b) elsewhere) ∙ byte_agrees q (Byte b) ∙ e)
         ]
 
-    byte_next : OnceEach k.log → IsNext s kept f keep k
-    byte_next once = record {
+    byte_next : OnceEach k.log → (((q : ℕ) (c : Cell) (w : ℕ) → all_known s q c ≡ Some w → knows k q c ≡ Some w) → s.work.joins ≡ true → HasRoom s.setting k) → IsNext s kept f keep k
+    byte_next once roomy = record {
       early = early;
       cell = small;
       word = tt;
@@ -252,17 +259,35 @@ module _ {W : Type 0} (s : State W) (kept : IsKept s) (joins : Bool) (p a v : �
       once = once;
       tracked = adds.store.tracked;
       listed = byte_listed;
+      roomy = roomy;
       agree = byte_agrees;
     }
 
-  pub told_byte : (k : Known) → OnceEach k.log → (r : Result Answer AllocError) → LearnsByte joins s.known k f a keep r → IsKept (with_known s k) × TellsByte s (with_known s k) p a v r
-  told_byte k once (Err e) (same, h) = (kept_same s k same kept, same_known s k same)
-  told_byte k once (Ok Old) (same, known) = (kept_same s k same kept, (same_known s k same, known))
-  told_byte k once (Ok (Clash w)) (same, known, differs) = (kept_same s k same kept, (same_known s k same, known, differs))
-  told_byte k once (Ok New) adds = let n = byte_next k adds once in (next_kept s kept f keep k n, next_told s kept f keep k n)
+    -- it is new
+    pub new_byte : OnceEach k.log → (((q : ℕ) (c : Cell) (w : ℕ) → all_known s q c ≡ Some w → knows k q c ≡ Some w) → s.work.joins ≡ true → HasRoom s.setting k) → IsKept (with_known s k) × IsTold s (with_known s k) p (Byte a) v
+    new_byte once roomy = let n = byte_next once roomy in (next_kept s kept f keep k n, next_told s kept f keep k n)
+
+-- a byte for which there is room
+module _ {W : Type 0} (s : State W) (laws : HasLaws s.setting) (kept : IsKept s) (joins : Bool) (p a v : ℕ) (early : p ≤ length s.setting.rows) (small : a < 2 ^ 32) (tracked : IsTracked a s) (open_ : s.complete ≡ false) (follows : IsFollowing s (fact_at p (Byte a) v)) where
+  abbrev g : Fact
+  g = fact_at p (Byte a) v
+
+  byte_room : (keep : Bool) → HasPlace keep p a s → (k : Known) → AddsByte joins s.known k g a keep → ((q : ℕ) (c : Cell) (w : ℕ) → all_known s q c ≡ Some w → knows k q c ≡ Some w) → s.work.joins ≡ true → HasRoom s.setting k
+  byte_room true place k adds more j = room_drawn s.setting laws s.known k more joins p a v place adds (kept.roomy j)
+  byte_room false place k adds more j = room_last s.setting s.known k more joins p a v place tracked adds (kept.roomy j)
+
+  byte_full : (keep : Bool) → HasPlace keep p a s → HasNoRoom s.known p a keep → s.work.joins ≡ false
+  byte_full true place full = false_from_ne_true s.work.joins (λ j. room_to_draw s.setting laws s.known (kept.roomy j) p a place full)
+  byte_full false place full = false_from_ne_true s.work.joins (λ j. room_to_read s.setting s.known (kept.roomy j) p a place tracked full)
+
+  pub told_byte : (keep : Bool) → (keep ≡ false → IsBrought s g) → HasPlace keep p a s → (k : Known) → OnceEach k.log → (r : Result Answer AllocError) → LearnsByte joins s.known k g a keep r → IsKept (with_known s k) × TellsByte s (with_known s k) p a v r
+  told_byte keep brought place k once (Err e) (same, full) = (kept_same s k same kept, (same_known s k same, byte_full keep place full))
+  told_byte keep brought place k once (Ok Old) (same, known) = (kept_same s k same kept, (same_known s k same, known))
+  told_byte keep brought place k once (Ok (Clash w)) (same, known, differs) = (kept_same s k same kept, (same_known s k same, known, differs))
+  told_byte keep brought place k once (Ok New) adds = new_byte s kept joins p a v early small tracked open_ follows keep brought k adds once (byte_room keep place k adds)
 
 -- one more address is tracked
-module _ {W : Type 0} (s : State W) (kept : IsKept s) (joins : Bool) (a : ℕ) (small : a < 2 ^ 32) (open_ : s.complete ≡ false) where
+module _ {W : Type 0} (s : State W) (kept : IsKept s) (a : ℕ) (small : a < 2 ^ 32) (open_ : s.complete ≡ false) (row : IsRowAddress a s) where
   module _ (k : Known) (h : TracksMore s.known k a) where
     same_knows : (p : ℕ) (c : Cell) → all_known s p c ≡ knows k p c
     same_knows p (Register r) = rw h.log refl
@@ -288,6 +313,7 @@ module _ {W : Type 0} (s : State W) (kept : IsKept s) (joins : Bool) (a : ℕ) (
       room = kept.room;
       rows = kept.rows;
       drawn = passes_more s (with_known s k) refl (λ p c v e. sym (same_knows p c) ∙ e) refl kept.drawn;
+      roomy = λ j. room_tracked s.setting s.known (kept.roomy j) row.0 row.1 a row.2 h.was_not k h;
     }
 
     track_grows : Grows s (with_known s k)
@@ -313,14 +339,17 @@ module _ {W : Type 0} (s : State W) (kept : IsKept s) (joins : Bool) (a : ℕ) (
     now_tracked : Contains k.store.tracked a
     now_tracked = rw h.tracked (Contains-push s.known.store.tracked a)
 
-  pub tracked_byte : (k : Known) (r : Result Bool AllocError) → TracksByte joins s.known k a r → IsKept (with_known s k) × Tracks s (with_known s k) a r
-  tracked_byte k (Err e) (same, h, full) = (kept_same s k same kept, same_known s k same)
+  never_full : (IsTracked a s → ⊥) → (s.work.joins ≡ true → s.known.store.places ≤ length s.known.store.tracked) → s.work.joins ≡ false
+  never_full was_not full = false_from_ne_true s.work.joins (λ j. let free = room_to_track s.setting s.known (kept.roomy j) row.0 row.1 a row.2 was_not in let none = full j in omega (arith, free, none))
+
+  pub tracked_byte : (k : Known) (r : Result Bool AllocError) → TracksByte s.work.joins s.known k a r → IsKept (with_known s k) × Tracks s (with_known s k) a r
+  tracked_byte k (Err e) (same, was_not, full) = (kept_same s k same kept, (same_known s k same, never_full was_not full))
   tracked_byte k (Ok false) (same, there) = (kept_same s k same kept, (same_known s k same, there))
   tracked_byte k (Ok true) h = (track_kept k h, (track_grows k h, address a small h.was_not (now_tracked k h), now_tracked k h, h.log, h.fact, refl))
 
 -- a new analysis
-pub fresh_kept : {W : Type 0} (s : State W) (joins : Bool) (bytes : ℕ) → length s.setting.rows ≤ 65536 → length s.setting.last ≡ 32 → IsNew joins s.known (length s.setting.rows) bytes → s.spans.points ≡ length s.setting.rows + 1 → s.filled ≡ 0 → s.shown ≡ 0 → s.complete ≡ false → s.conflict ≡ None → length s.setting.rows ≤ s.work.room → length s.work.drawn ≡ length s.setting.rows → ((i : ℕ) (x : Pass) → slice_get s.work.drawn i ≡ Some x → x ≡ Never) → IsKept s
-fresh_kept s joins bytes few registers new sized filled shown open_ calm_ room rows never = record {
+pub fresh_kept : {W : Type 0} (s : State W) (bytes : ℕ) → bytes ≡ sum_to (places_at s.setting) (length s.setting.rows) → length s.setting.rows ≤ 65536 → length s.setting.last ≡ 32 → IsNew s.work.joins s.known (length s.setting.rows) bytes → s.spans.points ≡ length s.setting.rows + 1 → s.filled ≡ 0 → s.shown ≡ 0 → s.complete ≡ false → s.conflict ≡ None → length s.setting.rows ≤ s.work.room → length s.work.drawn ≡ length s.setting.rows → ((i : ℕ) (x : Pass) → slice_get s.work.drawn i ≡ Some x → x ≡ Never) → IsKept s
+fresh_kept s bytes sum few registers new sized filled shown open_ calm_ room rows never = record {
   few = few;
   registers = registers;
   last_is = new.last_is;
@@ -336,6 +365,7 @@ fresh_kept s joins bytes few registers new sized filled shown open_ calm_ room r
   room = room;
   rows = rows;
   drawn = λ i row x at is. never_pass s row i x (never i x is);
+  roomy = λ j. let places = new.made.places j in let spare = new.made.spare j in room_new s.setting s.known bytes sum new.made.tracked new.left (omega (arith, places)) (omega (arith, spare));
 }
   where
     differs : {kind : ConflictKind} → None ≡ Some kind → ⊥

@@ -11,6 +11,7 @@ pub mod Measure
 pub mod Passing
 pub mod Refining
 pub mod Reported
+pub mod Reserve
 pub mod Stopping
 pub mod Spreading
 pub mod Explaining

@@ -60,8 +60,8 @@ pub never_pass : {W : Type 0} (s : State W) (row : StepRow) (i : ℕ) (x : Pass)
 never_pass s row i x e = subst (λ (y : Pass). IsPass row i y s) (sym e) tt
 
 -- other work
-pub kept_work : {W : Type 0} (s : State W) → IsKept s → s.complete ≡ false → (w : Work) → length s.setting.rows ≤ w.room → length w.drawn ≡ length s.setting.rows → ((i : ℕ) (row : StepRow) (pass : Pass) → slice_get s.setting.rows i ≡ Some row → slice_get w.drawn i ≡ Some pass → IsPass row i pass s) → IsKept (with_work s w)
-kept_work s kept open_ w room rows passes = record {
+pub kept_work : {W : Type 0} (s : State W) → IsKept s → s.complete ≡ false → (w : Work) → length s.setting.rows ≤ w.room → length w.drawn ≡ length s.setting.rows → ((i : ℕ) (row : StepRow) (pass : Pass) → slice_get s.setting.rows i ≡ Some row → slice_get w.drawn i ≡ Some pass → IsPass row i pass s) → w.joins ≡ s.work.joins → IsKept (with_work s w)
+kept_work s kept open_ w room rows passes joins = record {
   few = kept.few;
   registers = kept.registers;
   last_is = kept.last_is;
@@ -77,6 +77,7 @@ kept_work s kept open_ w room rows passes = record {
   room = room;
   rows = rows;
   drawn = λ i row pass at is. pass_more s (with_work s w) refl (λ p c v e. e) row i pass (passes i row pass at is);
+  roomy = λ j. kept.roomy (sym joins ∙ j);
 }
 
 pub same_pass : {x y : Pass} → Some x ≡ Some y → x ≡ y
@@ -94,10 +95,10 @@ put_passes s kept i p inside here j row pass at is =
     ]
 
 pub kept_put : {W : Type 0} (s : State W) → IsKept s → s.complete ≡ false → (i : ℕ) (p : Pass) → i < length s.setting.rows → ((row : StepRow) → slice_get s.setting.rows i ≡ Some row → IsPass row i p s) → IsKept (with_drawn s (set s.work.drawn i p))
-kept_put s kept open_ i p inside here = kept_work s kept open_ (record { writing = s.work.writing; room = s.work.room; draws = s.work.draws; drawn = set s.work.drawn i p }) kept.room (length-set s.work.drawn i p ∙ kept.rows) (put_passes s kept i p inside here)
+kept_put s kept open_ i p inside here = kept_work s kept open_ (record { joins = s.work.joins; writing = s.work.writing; room = s.work.room; draws = s.work.draws; drawn = set s.work.drawn i p }) kept.room (length-set s.work.drawn i p ∙ kept.rows) (put_passes s kept i p inside here) refl
 
 pub kept_draws : {W : Type 0} (s : State W) → IsKept s → s.complete ≡ false → (n : ℕ) → IsKept (with_draws s n)
-kept_draws s kept open_ n = kept_work s kept open_ (record { writing = s.work.writing; room = s.work.room; draws = n; drawn = s.work.drawn }) kept.room kept.rows kept.drawn
+kept_draws s kept open_ n = kept_work s kept open_ (record { joins = s.work.joins; writing = s.work.writing; room = s.work.room; draws = n; drawn = s.work.drawn }) kept.room kept.rows kept.drawn refl
 
 -- where no more cells are known than when the row's rules were drawn, all that they let one conclude is known
 module _ {W : Type 0} (s : State W) (laws : HasLaws s.setting) (words : HasWords (all_known s)) (i k : ℕ) (row : StepRow) (d : IsDrawnWith row i k s) where
@@ -150,12 +151,12 @@ module _ {W : Type 0} (s b : State W) (n i : ℕ) (p q : Pass) (once : n ≤ s.w
       ]
 
 -- another list of rows that may write, with as much room
-pub kept_writing : {W : Type 0} (s : State W) → IsKept s → s.complete ≡ false → (listed : Listed) → listed.room ≡ s.work.room → IsKept (with_work s (record { writing = listed.list; room = listed.room; draws = s.work.draws; drawn = s.work.drawn }))
-kept_writing s kept open_ listed room = let old = kept.room in kept_work s kept open_ (record { writing = listed.list; room = listed.room; draws = s.work.draws; drawn = s.work.drawn }) (omega (arith, room, old)) kept.rows kept.drawn
+pub kept_writing : {W : Type 0} (s : State W) → IsKept s → s.complete ≡ false → (listed : Listed) → listed.room ≡ s.work.room → IsKept (with_work s (record { joins = s.work.joins; writing = listed.list; room = listed.room; draws = s.work.draws; drawn = s.work.drawn }))
+kept_writing s kept open_ listed room = let old = kept.room in kept_work s kept open_ (record { joins = s.work.joins; writing = listed.list; room = listed.room; draws = s.work.draws; drawn = s.work.drawn }) (omega (arith, room, old)) kept.rows kept.drawn refl
 
 -- no row's rules were drawn
 pub kept_never : {W : Type 0} (s : State W) → IsKept s → s.complete ≡ false → (passes : List Pass) → length passes ≡ length s.work.drawn → ((i : ℕ) (x : Pass) → slice_get passes i ≡ Some x → x ≡ Never) → IsKept (with_drawn s passes)
-kept_never s kept open_ passes long never = kept_work s kept open_ (record { writing = s.work.writing; room = s.work.room; draws = s.work.draws; drawn = passes }) kept.room (long ∙ kept.rows) (λ i row x at is. never_pass s row i x (never i x is))
+kept_never s kept open_ passes long never = kept_work s kept open_ (record { joins = s.work.joins; writing = s.work.writing; room = s.work.room; draws = s.work.draws; drawn = passes }) kept.room (long ∙ kept.rows) (λ i row x at is. never_pass s row i x (never i x is)) refl
 
 pub never_uncut : (passes : List Pass) → ((i : ℕ) (x : Pass) → slice_get passes i ≡ Some x → x ≡ Never) → (i : ℕ) → slice_get passes i ≡ Some Cut → ⊥
 never_uncut passes never i is = differs (never i Cut is)
@@ -210,9 +211,9 @@ drawn_with s b n i cells row items words grows is_cells is_items known = record 
 }
 
 -- a halt is one whatever the work
-pub halt_work : {W : Type 0} (s : State W) (w : Work) (h : Halt) → IsHalt s h → IsHalt (with_work s w) h
-halt_work s w (Clash p c known value) h = record { is_known = h.is_known; differs = h.differs; follows = h.follows }
-halt_work s w OutOfMemory h = tt
+pub halt_work : {W : Type 0} (s : State W) (w : Work) (h : Halt) → w.joins ≡ s.work.joins → IsHalt s h → IsHalt (with_work s w) h
+halt_work s w (Clash p c known value) joins h = record { is_known = h.is_known; differs = h.differs; follows = h.follows }
+halt_work s w OutOfMemory joins h = joins ∙ h
 
 -- with other sets
 pub kept_filled : {W : Type 0} (s : State W) → IsKept s → s.complete ≡ false → (spans : View W) (filled : ℕ) → spans.points ≡ length s.setting.rows + 1 → filled ≤ length s.known.log → IsKept (record { setting = s.setting; known = s.known; spans = spans; filled = filled; shown = s.shown; complete = s.complete; conflict = s.conflict; work = s.work })
@@ -232,6 +233,7 @@ kept_filled s kept open_ spans filled sized within = record {
   room = kept.room;
   rows = kept.rows;
   drawn = passes_more s (record { setting = s.setting; known = s.known; spans = spans; filled = filled; shown = s.shown; complete = s.complete; conflict = s.conflict; work = s.work }) refl (λ p c v e. e) refl kept.drawn;
+  roomy = kept.roomy;
 }
 
 -- a row's rules are drawn anew
@@ -272,8 +274,8 @@ module _ {W : Type 0} (s a b : State W) (laws : HasLaws s.setting) (kept : IsKep
       same_row : {x y : StepRow} → Some x ≡ Some y → x ≡ y
       same_row e = cc
 
-pub halt_after : {W : Type 0} (s t : State W) (w : Work) (h : Halt) → t ≡ with_work s w → IsHalt s h → IsHalt t h
-halt_after s t w h is halt = subst (λ (x : State _). IsHalt x h) (sym is) (halt_work s w h halt)
+pub halt_after : {W : Type 0} (s t : State W) (w : Work) (h : Halt) → t ≡ with_work s w → w.joins ≡ s.work.joins → IsHalt s h → IsHalt t h
+halt_after s t w h is joins halt = subst (λ (x : State _). IsHalt x h) (sym is) (halt_work s w h joins halt)
 
 -- one more is `Never`
 pub never_more : (xs : List Pass) (i : ℕ) → i < length xs → ((j : ℕ) (x : Pass) → j < i → slice_get xs j ≡ Some x → x ≡ Never) → (j : ℕ) (x : Pass) → j < i + 1 → slice_get (set xs i Never) j ≡ Some x → x ≡ Never

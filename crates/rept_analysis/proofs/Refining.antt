@@ -4,10 +4,10 @@ use Rattle.rept_reason.specs.declared.fact.Cell.TheVariants.{Register}
 use Rattle.rept_report.proofs.Told.{same_some}
 use Rattle.rept_analysis.proofs.Stopping.{answered}
 use Rattle.std.proofs.Common.{◌≡◌, ◌≤◌, length, arith, inl, inr, ℕ, true, Some, None, Result, Ok, Err, refl, subst, ◌∙◌}
-use Rattle.std.specs.Prelude.{⊤, OnOk}
+use Rattle.std.specs.Prelude.{⊤, OnOk, IsOk, ◌⊎◌}
 use Rattle.rept_report.specs.declared.conflict.ConflictKind.{ConflictKind}
 use Rattle.rept_report.specs.Setting.{Setting, HasLaws}
-use Rattle.rept_report.specs.Closure.{IsConsistent, IsReport}
+use Rattle.rept_report.specs.Closure.{ClosureHas, IsConsistent, IsReport}
 use Rattle.rept_report.specs.Soundness.{AlwaysHolds, IsSound, HasNoExecution}
 use Rattle.rept_report.proofs.Soundness.{closure_sound, conflict_sound, report_sound}
 use Rattle.rept_analysis.specs.declared.stop.Stop.{Stop}
@@ -48,6 +48,26 @@ module _ {W : Type 0} (old new : State W) where
 
   pub impossible_of : HasLaws old.setting → (r : Result ⊤ Stop) (kind : ConflictKind) → Outcome old new r → r ≡ Err (Conflict kind) → HasNoExecution old.setting
   impossible_of laws r kind h e = conflict_sound old.setting laws kind (stopped_of r kind h e).has
+
+  -- where memory can't run out, it ends with a report or a conflict
+  pub ended_or_stopped : (r : Result ⊤ Stop) → Outcome old new r → (r ≡ Err OutOfMemory → ⊥) → IsOk r ⊎ ((kind : ConflictKind) × (r ≡ Err (Conflict kind)))
+  ended_or_stopped (Ok u) h never = inl refl
+  ended_or_stopped (Err (Conflict kind)) h never = inr (kind, refl)
+  ended_or_stopped (Err OutOfMemory) h never = absurd (never refl)
+
+  -- so it is Ok where the closure has no conflict
+  pub exact_of : (r : Result ⊤ Stop) → Outcome old new r → (r ≡ Err OutOfMemory → ⊥) → IsConsistent old.setting → IsOk r
+  exact_of r h never consistent =
+      elim (ended_or_stopped r h never) [
+        | inl ok ↦ ok
+        | inr stopped ↦ absurd (consistent stopped.0 (stopped_of r stopped.0 h stopped.1).has)
+      ]
+
+  -- and names one where it has any
+  pub refused_of : (r : Result ⊤ Stop) → Outcome old new r → (r ≡ Err OutOfMemory → ⊥) → (kind : ConflictKind) → ClosureHas old.setting kind → (named : ConflictKind) × (r ≡ Err (Conflict named))
+  refused_of (Ok u) h never kind has = absurd (consistent_of (Ok u) h kind has)
+  refused_of (Err (Conflict named)) h never kind has = (named, refl)
+  refused_of (Err OutOfMemory) h never kind has = absurd (never refl)
 
 module _ {W : Type 0} (s : State W) (kept : IsKept s) where
   pub stopped_again : (kind : ConflictKind) → s.conflict ≡ Some kind → IsStopped s s kind

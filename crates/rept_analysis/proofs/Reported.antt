@@ -23,7 +23,7 @@ use Rattle.rept_report.proofs.Implied.{trace_report}
 use Rattle.rept_analysis.specs.State.{State, all_known}
 use Rattle.rept_analysis.specs.Drawing.{IsTracked, IsSettled, IsRowDrawn}
 use Rattle.rept_analysis.specs.Kept.{is_among, answers, IsKept}
-use Rattle.rept_analysis.proofs.Learning.{behind, known_words}
+use Rattle.rept_analysis.proofs.Learning.{trace_known, known_words}
 use Rattle.rept_analysis.proofs.Following.{seen_drawn}
 
 pub among_contains : (xs : List ℕ) (a : ℕ) → is_among xs a ≡ true → Contains xs a
@@ -107,7 +107,7 @@ module _ {W : Type 0} (s : State W) (laws : HasLaws s.setting) (kept : IsKept s)
 
   pub settled_report : IsReport S (answers s)
   settled_report =
-      let same = behind s kept in
+      let same = trace_known s kept in
       let quiet = subst (λ (J : Knowledge). IsQuiet S J) (sym same) settled.quiet in
       let closed = subst (λ (J : Knowledge). IsClosed S J (is_among s.known.store.tracked)) (sym same) settled_closed in
       subst (λ (J : Knowledge). IsReport S (with_implied S J (is_among s.known.store.tracked))) same (trace_report S laws kept.traced.entries kept.traced.trace quiet (is_among s.known.store.tracked) closed)

@@ -22,7 +22,6 @@ use Rattle.rept_alias.specs.Accesses.{call_hits}
 use Rattle.rept_versions.specs.declared.facts.Stretch.{Stretch}
 use Rattle.rept_versions.specs.Facts.{Told, Store, Between, Spreads, Carries as StoreCarries, Nexts}
 use Rattle.rept_log.proofs.Stores.{stays_same}
-use Rattle.rept_log.specs.declared.answer.Answer.TheVariants.{New}
 use Rattle.rept_log.specs.Known.{Known, knows, AddsByte, SameLog}
 use Rattle.rept_analysis.specs.State.{State, all_known}
 use Rattle.rept_analysis.specs.Drawing.{fact_at, Knows, IsTracked, Grows, IsBrought, IsSparedAt, IsSparedBetween, IsSpreadTo, IsCarriedFrom, IsCarriedAt, IsAccess}
@@ -32,11 +31,13 @@ use Rattle.rept_analysis.specs.Kept.{IsKept}
 use Rattle.rept_analysis.proofs.Drawn.{Grows_itself, Grows_trans}
 use Rattle.rept_analysis.proofs.Following.{brought_follows, hit_carried}
 use Rattle.rept_analysis.proofs.Passing.{passes_more}
-use Rattle.rept_analysis.proofs.Learning.{with_known, same_known, kept_same, known_words, told_byte}
+use Rattle.rept_analysis.proofs.Learning.{with_known, same_known, kept_same, known_words, new_byte}
+use Rattle.rept_analysis.proofs.Reserve.{room_like}
+use Rattle.rept_analysis.specs.Room.{HasRoom}
 
 -- the same log, facts and addresses
-pub kept_like : {W : Type 0} (s : State W) (k k' : Known) → k'.last ≡ k.last → k'.log ≡ k.log → k'.store.fact ≡ k.store.fact → k'.store.tracked ≡ k.store.tracked → s.complete ≡ false → IsKept (with_known s k) → IsKept (with_known s k')
-kept_like s k k' last log facts tracked open_ kept = record {
+pub kept_like : {W : Type 0} (s : State W) (k k' : Known) → k'.last ≡ k.last → k'.log ≡ k.log → k'.store.fact ≡ k.store.fact → k'.store.tracked ≡ k.store.tracked → s.complete ≡ false → (s.work.joins ≡ true → HasRoom s.setting k') → IsKept (with_known s k) → IsKept (with_known s k')
+kept_like s k k' last log facts tracked open_ roomy kept = record {
   few = kept.few;
   registers = kept.registers;
   last_is = last ∙ kept.last_is;
@@ -52,6 +53,7 @@ kept_like s k k' last log facts tracked open_ kept = record {
   room = kept.room;
   rows = kept.rows;
   drawn = passes_more (with_known s k) (with_known s k') refl (λ p c v e. sym (same p c) ∙ e) refl kept.drawn;
+  roomy = roomy;
 }
   where
     same : (p : ℕ) (c : Cell) → knows k p c ≡ knows k' p c
@@ -153,7 +155,7 @@ module _ {W : Type 0} (s : State W) (laws : HasLaws s.setting) (kept : IsKept s)
     step : (t : State W) → IsKept t → Grows s t → (p : ℕ) → p ≤ length s.setting.rows → t.known.store.fact p a ≡ None → IsBrought t (fact_at p (Byte a) v) → IsKept (with_known t (with_fact t.known p)) × Grows t (with_known t (with_fact t.known p))
     step t kept_t g p le none brought =
         let early_t : p ≤ length t.setting.rows = rw g.rows le in
-        let both = told_byte t kept_t true p a v early_t small (g.tracked a tracked) (g.complete ∙ open_) (brought_follows t p a v early_t small brought) false (λ _. brought) (with_fact t.known p) kept_t.once (Ok New) (adds t.known p none) in
+        let both = new_byte t kept_t true p a v early_t small (g.tracked a tracked) (g.complete ∙ open_) (brought_follows t p a v early_t small brought) false (λ _. brought) (with_fact t.known p) (adds t.known p none) kept_t.once (λ more j. room_like t.setting t.known (with_fact t.known p) more (omega arith) (omega arith) refl refl (kept_t.roomy j)) in
         (both.0, both.1.grows)
 
     chain_kept : (d : ℕ) → d ≤ D → IsKept (chain pt d) × Grows s (chain pt d) × Knows (pt d) (Byte a) v (chain pt d)
@@ -180,14 +182,15 @@ module _ {W : Type 0} (s : State W) (laws : HasLaws s.setting) (kept : IsKept s)
         ]
 
     -- a store that has these facts
-    pub chain_done : (k : Known) → k.last ≡ s.known.last → k.log ≡ s.known.log → k.store.tracked ≡ s.known.store.tracked → ((q b : ℕ) → k.store.fact q b ≡ (chain pt D).known.store.fact q b) → IsKept (with_known s k) × Grows s (with_known s k)
-    chain_done k last log same_tracked same =
+    pub chain_done : (k : Known) → k.last ≡ s.known.last → k.log ≡ s.known.log → k.left ≡ s.known.left → k.store.tracked ≡ s.known.store.tracked → k.store.places ≡ s.known.store.places → (s.work.joins ≡ true → s.known.store.spare ≤ k.store.spare) → ((q b : ℕ) → k.store.fact q b ≡ (chain pt D).known.store.fact q b) → IsKept (with_known s k) × Grows s (with_known s k)
+    chain_done k last log left same_tracked places spare same =
         let t = chain_kept D (omega arith) in
         let at : IsKept (with_known s (chain pt D).known) = subst (λ (x : State W). IsKept x) (chain_is pt D) t.0 in
         let g : Grows s (with_known s (chain pt D).known) = subst (λ (x : State W). Grows s x) (chain_is pt D) t.1 in
         let facts : k.store.fact ≡ (chain pt D).known.store.fact = fun_ext (λ (q : ℕ). fun_ext (λ (b : ℕ). same q b)) in
-        let k_log = log ∙ sym (chain_log pt D) in (
-          kept_like s (chain pt D).known k (last ∙ sym (chain_last pt D)) k_log facts (same_tracked ∙ sym (chain_tracked pt D)) open_ at,
+        let k_log = log ∙ sym (chain_log pt D) in
+        let roomy : s.work.joins ≡ true → HasRoom s.setting k = λ j. room_like s.setting s.known k (λ p c w e. more_of p c w (g.more p c w e) facts k_log) (spare j) (omega (arith, left)) same_tracked places (kept.roomy j) in (
+          kept_like s (chain pt D).known k (last ∙ sym (chain_last pt D)) k_log facts (same_tracked ∙ sym (chain_tracked pt D)) open_ roomy at,
           record {
             setting = refl;
             rows = refl;
@@ -213,7 +216,7 @@ module _ {W : Type 0} (s : State W) (laws : HasLaws s.setting) (kept : IsKept s)
         more_of p (Byte b) w e facts k_log = rw facts e
 
   -- a store in which the value was spread from a point to another one
-  module _ (joins : Bool) (k : Known) (from to : ℕ) (last : k.last ≡ s.known.last) (log : k.log ≡ s.known.log) (from_early : from ≤ length s.setting.rows) (to_early : to ≤ length s.setting.rows) (known : Knows from (Byte a) v s) (spared : IsSparedBetween from to a s) (spreads : Spreads joins s.known.store k.store a from to v) where
+  module _ (k : Known) (from to : ℕ) (last : k.last ≡ s.known.last) (log : k.log ≡ s.known.log) (left : k.left ≡ s.known.left) (from_early : from ≤ length s.setting.rows) (to_early : to ≤ length s.setting.rows) (known : Knows from (Byte a) v s) (spared : IsSparedBetween from to a s) (spreads : Spreads s.work.joins s.known.store k.store a from to v) where
     start_up : s.known.store.fact (from + 0) a ≡ Some v
     start_up = let e : from ≡ from + 0 = omega arith in subst (λ (p : ℕ). s.known.store.fact p a ≡ Some v) e known
 
@@ -221,7 +224,7 @@ module _ {W : Type 0} (s : State W) (laws : HasLaws s.setting) (kept : IsKept s)
     start_down = let e : from ≡ from - 0 = omega arith in subst (λ (p : ℕ). s.known.store.fact p a ≡ Some v) e known
 
     up : from ≤ to → IsKept (with_known s k) × Grows s (with_known s k)
-    up le = chain_done (λ d. from + d) (to - from) (λ d h. omega (arith, h, to_early, le)) (λ d w h e. spreads.free (from + d) w (inl (omega arith, omega (arith, h, le))) e) start_up reach k last log spreads.tracked same
+    up le = chain_done (λ d. from + d) (to - from) (λ d h. omega (arith, h, to_early, le)) (λ d w h e. spreads.free (from + d) w (inl (omega arith, omega (arith, h, le))) e) start_up reach k last log left spreads.tracked spreads.places spreads.spare same
       where
         reach : (d : ℕ) → d < to - from → (t : State W) → HasLaws t.setting → IsKept t → Grows s t → Knows (from + d) (Byte a) v t → IsBrought t (fact_at (from + suc d) (Byte a) v)
         reach d lt t laws_t kept_t g h =
@@ -248,7 +251,7 @@ module _ {W : Type 0} (s : State W) (laws : HasLaws s.setting) (kept : IsKept s)
             ]
 
     down : to ≤ from → IsKept (with_known s k) × Grows s (with_known s k)
-    down le = chain_done (λ d. from - d) (from - to) (λ d h. omega (arith, from_early)) (λ d w h e. spreads.free (from - d) w (inr (omega (arith, h, le), omega arith)) e) start_down reach k last log spreads.tracked same
+    down le = chain_done (λ d. from - d) (from - to) (λ d h. omega (arith, from_early)) (λ d w h e. spreads.free (from - d) w (inr (omega (arith, h, le), omega arith)) e) start_down reach k last log left spreads.tracked spreads.places spreads.spare same
       where
         reach : (d : ℕ) → d < from - to → (t : State W) → HasLaws t.setting → IsKept t → Grows s t → Knows (from - d) (Byte a) v t → IsBrought t (fact_at (from - suc d) (Byte a) v)
         reach d lt t laws_t kept_t g h =
@@ -282,7 +285,7 @@ module _ {W : Type 0} (s : State W) (laws : HasLaws s.setting) (kept : IsKept s)
         ]
 
 -- what a store's answer to `carry` comes to
-module _ {W : Type 0} (s : State W) (laws : HasLaws s.setting) (kept : IsKept s) (open_ : s.complete ≡ false) (joins : Bool) (a from to v : ℕ) (small : a < 2 ^ 32) (from_early : from ≤ length s.setting.rows) (to_early : to ≤ length s.setting.rows) (known : Knows from (Byte a) v s) (spared : IsSparedBetween from to a s) where
+module _ {W : Type 0} (s : State W) (laws : HasLaws s.setting) (kept : IsKept s) (open_ : s.complete ≡ false) (a from to v : ℕ) (small : a < 2 ^ 32) (from_early : from ≤ length s.setting.rows) (to_early : to ≤ length s.setting.rows) (known : Knows from (Byte a) v s) (spared : IsSparedBetween from to a s) where
   tracked : IsTracked a s
   tracked = kept.listed from a v known
 
@@ -296,8 +299,8 @@ module _ {W : Type 0} (s : State W) (laws : HasLaws s.setting) (kept : IsKept s)
   within before (inr y) i (inl x) = let p = x.0 in let q = x.1 in let z = y.1 in absurd (omega (arith, p, q, z))
   within before (inr y) i (inr x) = let p = x.0 in let q = x.1 in let z = y.0 in spared i (inr (omega (arith, p, z), q))
 
-  spread : (k : Known) → SameLog s.known k → (before : ℕ) → Between from to before → Spreads joins s.known.store k.store a from before v → IsKept (with_known s k) × Grows s (with_known s k)
-  spread k log before at h = spread_kept s laws kept open_ a v small tracked joins k from before log.last log.log from_early (between_early before at) known (within before at) h
+  spread : (k : Known) → SameLog s.known k → (before : ℕ) → Between from to before → Spreads s.work.joins s.known.store k.store a from before v → IsKept (with_known s k) × Grows s (with_known s k)
+  spread k log before at h = spread_kept s laws kept open_ a v small tracked k from before log.last log.log log.left from_early (between_early before at) known (within before at) h
 
   up_spared : (before stop : ℕ) → before + 1 ≡ stop → Between from to before → Between from to stop → IsSparedAt before a s
   up_spared before stop next (inl y) (inl x) = let p = y.0 in let q = x.1 in spared before (inl (p, omega (arith, next, q)))
@@ -318,12 +321,12 @@ module _ {W : Type 0} (s : State W) (laws : HasLaws s.setting) (kept : IsKept s)
       ∙ ap (λ (x : Store). record { last = s.known.last; log = s.known.log; store = x; left = k.left }) store
       ∙ ap (λ (x : ℕ). record { last = s.known.last; log = s.known.log; store = s.known.store; left = x }) log.left
 
-  pub sent : (k : Known) → SameLog s.known k → (r : Result Carried AllocError) → StoreCarries joins s.known.store k.store a from to v r → IsKept (with_known s k) × Sends s (with_known s k) a from to v r
+  pub sent : (k : Known) → SameLog s.known k → (r : Result Carried AllocError) → StoreCarries s.work.joins s.known.store k.store a from to v r → IsKept (with_known s k) × Sends s (with_known s k) a from to v r
   sent k log (Ok Same) (stays, h) =
       let same = same_known_is k log (stays_same s.known.store k.store stays) in
       (kept_same s k same kept, (same_known s k same, λ q between. sym (stays.fact q a) ∙ h.here q between))
   sent k log (Ok More) h =
-      let both = spread_kept s laws kept open_ a v small tracked joins k from to log.last log.log from_early to_early known spared h.0 in
+      let both = spread_kept s laws kept open_ a v small tracked k from to log.last log.log log.left from_early to_early known spared h.0 in
       let q = h.1.0 in
       (both.0, (both.1, fact q (Byte a) v (between_early q h.1.1) small h.1.2 (h.0.here q h.1.1), refl))
   sent k log (Ok (Stop stop k_known found)) (value, stops) =
@@ -344,7 +347,7 @@ module _ {W : Type 0} (s : State W) (laws : HasLaws s.setting) (kept : IsKept s)
       next_brought k kept_t g before stop (inr next) at within_ h =
           let early = between_early before at in
           down_brought (with_known s k) laws kept_t stop a v (omega (arith, next, early)) small (spared_after s (with_known s k) stop a g (down_spared before stop next at within_)) (subst (λ (p : ℕ). k.store.fact p a ≡ Some v) (sym next) h)
-  sent k log (Err e) h = let both = spread k log h.reaches.before h.reaches.toward h.reaches.spreads in (both.0, both.1)
+  sent k log (Err e) h = let both = spread k log h.reaches.before h.reaches.toward h.reaches.spreads in (both.0, (both.1, h.plain))
 
 -- a segment in which no row may write the byte
 pub segment_spread : {W : Type 0} (s : State W) (a from to at v : ℕ) → from ≤ at → at ≤ to → IsSpreadTo a at to v s → IsSpreadTo a at from v s → IsCarriedFrom a from to s
@@ -394,6 +397,18 @@ next_value s a from at stretch h is =
 
 pub next_at : (from to at first : ℕ) → from ≤ to → first ≤ to → at ≡ max first from → (from ≤ at) × (at ≤ to)
 next_at from to at first le reach is = (omega (arith, is), omega (arith, is, reach, le))
+
+-- one stretch has all points of a segment
+pub segment_covered : {W : Type 0} (s : State W) (a from to : ℕ) (stretch : Stretch) → Nexts s.known.store.fact a from (Some stretch) → (stretch.first ≤ from) × (to ≤ stretch.last) → IsCarriedFrom a from to s
+segment_covered s a from to stretch h covers i le lt =
+    let low = covers.0 in
+    let high = covers.1 in
+    let here = h.run.value i (omega (arith, low, le)) (omega (arith, high, lt)) in
+    let after = h.run.value (i + 1) (omega (arith, low, le)) (omega (arith, high, lt)) in
+    record {
+      onward = λ w spared e. after ∙ ap Some (same_some (sym here ∙ e));
+      back = λ w spared e. here ∙ ap Some (same_some (sym after ∙ e));
+    }
 
 pub spared_up : {W : Type 0} (s : State W) (from to at a : ℕ) → from ≤ at → at ≤ to → IsSparedBetween from to a s → IsSparedBetween at to a s
 spared_up s from to at a low high h i (inl x) = let p = x.0 in h i (inl (omega (arith, p, low), x.1))

@@ -23,7 +23,7 @@ use Rattle.rept_analysis.specs.Drawing.{IsClash, IsSettled, IsRowDrawn}
 use Rattle.rept_analysis.specs.Kept.{register_answer, IsKept}
 use Rattle.rept_analysis.specs.Refined.{clash_kind}
 use Rattle.rept_analysis.proofs.Passing.{passes_more}
-use Rattle.rept_analysis.proofs.Learning.{behind}
+use Rattle.rept_analysis.proofs.Learning.{trace_known}
 use Rattle.rept_analysis.proofs.Reported.{settled_report}
 
 logged_in : (es : List Entry) (f : Fact) → In (logged_of es) f → In (facts_of es) f
@@ -40,14 +40,14 @@ module _ {W : Type 0} (s : State W) (laws : HasLaws s.setting) (kept : IsKept s)
   pub quiet_before : (t u : ℕ) → u ≤ t → IsQuiet s.setting (told (oldest t s.known.log)) → IsQuiet s.setting (told (oldest u s.known.log))
   quiet_before t u le quiet = quiet_less s.setting laws (told (oldest u s.known.log)) (told (oldest t s.known.log)) (λ p r v e. oldest_more u t s.known.log kept.once le p (Register r) v e) quiet
 
-  -- what the least loud front shows is a conflict of the closure
+  -- what the least loud prefix shows is a conflict of the closure
   pub shown_conflict : (t : ℕ) → ((u : ℕ) → u < t → IsQuiet s.setting (told (oldest u s.known.log))) → (kind : ConflictKind) → Shows s.setting (told (oldest t s.known.log)) kind → ClosureHas s.setting kind
   shown_conflict t quiet kind shows = least_conflict s.setting laws kept.traced.entries kept.traced.trace t (λ u below. rw kept.traced.logged (quiet u below)) kind (rw kept.traced.logged shows)
 
   -- so is a clash on a quiet log
   pub clash_conflict : (p : ℕ) (c : Cell) (known value : ℕ) → IsQuiet s.setting (all_known s) → IsClash s p c known value → ClosureHas s.setting (clash_kind p c known value)
   clash_conflict p c known value quiet clash =
-      let same = behind s kept in
+      let same = trace_known s kept in
       let calm = subst (λ (K : Knowledge). IsQuiet s.setting K) (sym same) quiet in
       let follows = subst (λ (K : Knowledge). Concludes s.setting K (record { point = p; cell = c; value = value })) (sym same) (clash.follows quiet) in
       let both = clash_closure s.setting laws kept.traced.entries kept.traced.trace calm (record { point = p; cell = c; value = value }) known follows (kept.traced.agree p c ∙ clash.is_known) in
@@ -91,6 +91,7 @@ module _ {W : Type 0} (s : State W) (laws : HasLaws s.setting) (kept : IsKept s)
     room = kept.room;
     rows = kept.rows;
     drawn = passes_more s (stopped_at limit kind) refl (λ p c v e. e) refl kept.drawn;
+    roomy = kept.roomy;
   }
     where
       some_kind : {x y : ConflictKind} → Some x ≡ Some y → x ≡ y
@@ -117,6 +118,7 @@ module _ {W : Type 0} (s : State W) (laws : HasLaws s.setting) (kept : IsKept s)
     room = kept.room;
     rows = kept.rows;
     drawn = passes_more s (shown_to limit) refl (λ p c v e. e) refl kept.drawn;
+    roomy = kept.roomy;
   }
 
   abbrev finished_at : State W
@@ -151,4 +153,5 @@ module _ {W : Type 0} (s : State W) (laws : HasLaws s.setting) (kept : IsKept s)
     room = kept.room;
     rows = kept.rows;
     drawn = passes_more s finished_at refl (λ p c v e. e) refl kept.drawn;
+    roomy = kept.roomy;
   }

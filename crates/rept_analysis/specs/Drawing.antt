@@ -1,5 +1,5 @@
 -- What drawing conclusions does to an analysis. This project's own.
-use Rattle.std.specs.Prelude.{◌≡◌, ◌≢◌, ℕ, zero, suc, ◌+◌, ◌<◌, ◌≤◌, ◌^◌, ◌⊎◌, ⊤, Bool, true, false, List, length, Some, None, Contains, slice_get}
+use Rattle.std.specs.Prelude.{◌≡◌, ◌≢◌, ℕ, zero, suc, ◌+◌, ◌<◌, ◌≤◌, ◌^◌, ◌⊎◌, Bool, true, false, List, length, Some, None, Contains, slice_get}
 use Rattle.rept_isa.specs.declared.row.StepRow.{StepRow}
 use Rattle.rept_isa.specs.Operands.{written_by}
 use Rattle.rept_versions.specs.Facts.{Between}
@@ -26,6 +26,7 @@ use Rattle.rept_analysis.specs.declared.halt.Halt.TheVariants.{Clash, OutOfMemor
 use Rattle.rept_writing.specs.declared.list.Writing.{Writing}
 use Rattle.rept_analysis.specs.declared.pass.Pass.TheVariants.{Cut}
 use Rattle.rept_analysis.specs.Work.{left, row_past}
+use Rattle.rept_analysis.specs.Room.{IsDrawnByte, IsDrawnAt, IsOwnByte}
 use Rattle.rept_analysis.specs.State.{State, all_known}
 
 abbrev pub fact_at : ℕ → Cell → ℕ → Fact
@@ -88,9 +89,10 @@ pub record IsClash {W : Type 0} (s : State W) (p : ℕ) (c : Cell) (known value 
   pub differs : known ≢ value
   pub follows : IsFollowing s (fact_at p c value)
 
+-- Why a conclusion wasn't learnt is so: memory runs out only where not all was taken at first.
 abbrev pub IsHalt : {W : Type 0} → State W → Halt → Type 0
 IsHalt s (Clash p c known value) = IsClash s p c known value
-IsHalt s OutOfMemory = ⊤
+IsHalt s OutOfMemory = s.work.joins ≡ false
 
 -- the sets are those of some of the facts
 abbrev pub IsFitted : {W : Type 0} → State W → Type 0
@@ -209,11 +211,18 @@ IsAccess i access s = (a : ℕ) → a < 2 ^ 32 → call_hits access a ≡ may_wr
 abbrev pub AreTrackedFrom : {W : Type 0} → ℕ → ℕ → State W → Type 0
 AreTrackedFrom start n s = (k : ℕ) → k < n → IsTracked (beside start k) s
 
--- the same log and facts on bytes
-pub record SameKnown {W : Type 0} (old new : State W) : Type 0 where
-  pub setting : new.setting ≡ old.setting
-  pub log : new.known.log ≡ old.known.log
-  pub fact : new.known.store.fact ≡ old.known.store.fact
+-- one of the bytes that a row's rules look at, whose base is known
+abbrev pub IsRowAddress : {W : Type 0} → ℕ → State W → Type 0
+IsRowAddress a s = (i : ℕ) × (j : ℕ) × IsOwnByte s.setting s.known.log i j a
+
+-- so are those from an address on
+abbrev pub AreRowAddresses : {W : Type 0} → ℕ → ℕ → State W → Type 0
+AreRowAddresses start n s = (k : ℕ) → k < n → IsRowAddress (beside start k) s
+
+-- There is room for the byte at a point: a row lets one conclude it, and the log keeps it, or the path ends there.
+abbrev pub HasPlace : {W : Type 0} → Bool → ℕ → ℕ → State W → Type 0
+HasPlace true p a s = IsDrawnAt s.setting s.known.log p a
+HasPlace false p a s = p ≡ length s.setting.rows
 
 -- a conclusion that follows, on a cell that can be learnt
 pub record IsConclusion {W : Type 0} (i : ℕ) (d : Drawn) (s : State W) : Type 0 where
@@ -221,6 +230,7 @@ pub record IsConclusion {W : Type 0} (i : ℕ) (d : Drawn) (s : State W) : Type 
   pub fits : Fits d.cell d.value
   pub follows : d.value < 2 ^ 32 → IsFollowing s (fact_at (point_of i d.when) d.cell d.value)
   pub tracked : (a : ℕ) → d.cell ≡ Byte a → IsTracked a s
+  pub byte : (a : ℕ) → d.cell ≡ Byte a → IsDrawnByte s.setting s.known.log i d a
 
 abbrev pub AreConclusions : {W : Type 0} → ℕ → List Drawn → State W → Type 0
 AreConclusions i list s = (k : ℕ) (d : Drawn) → slice_get list k ≡ Some d → IsConclusion i d s

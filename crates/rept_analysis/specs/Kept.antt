@@ -16,6 +16,7 @@ use Rattle.rept_log.specs.Around.{around}
 use Rattle.rept_analysis.specs.declared.pass.Pass.{Pass}
 use Rattle.rept_analysis.specs.declared.pass.Pass.TheVariants.{Never, With, Cut}
 use Rattle.rept_analysis.specs.Cells.{cells_known}
+use Rattle.rept_analysis.specs.Room.{HasRoom}
 use Rattle.rept_analysis.specs.State.{State, all_known}
 use Rattle.rept_analysis.specs.Drawing.{IsTracked, IsSettled, Knows, KnowsDrawn}
 
@@ -75,3 +76,4 @@ pub record IsKept {W : Type 0} (s : State W) : Type 0 where
   pub room : length s.setting.rows ≤ s.work.room
   pub rows : length s.work.drawn ≡ length s.setting.rows
   pub drawn : (i : ℕ) (row : StepRow) (pass : Pass) → slice_get s.setting.rows i ≡ Some row → slice_get s.work.drawn i ≡ Some pass → IsPass row i pass s
+  pub roomy : s.work.joins ≡ true → HasRoom s.setting s.known

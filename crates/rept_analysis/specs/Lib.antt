@@ -1,6 +1,7 @@
 pub mod Moments
 pub mod Sums
 pub mod Work
+pub mod Room
 pub mod Cells
 pub mod State
 pub mod Drawing

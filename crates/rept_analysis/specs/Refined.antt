@@ -12,7 +12,7 @@ use Rattle.rept_analysis.specs.declared.stop.Stop.TheVariants.{Conflict, OutOfMe
 use Rattle.rept_analysis.specs.State.{State}
 use Rattle.rept_analysis.specs.Kept.{register_answer, IsFinished}
 
--- each front of the log that is shorter than this leaves no set empty and no turn wrong
+-- each prefix of the log that is shorter than this leaves no set empty and no turn wrong
 abbrev pub QuietBelow : {W : Type 0} → State W → ℕ → Type 0
 QuietBelow s t = (u : ℕ) → u < t → IsQuiet s.setting (told (oldest u s.known.log))
 

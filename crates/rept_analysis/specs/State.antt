@@ -68,15 +68,15 @@ with_work s w = record { setting = s.setting; known = s.known; spans = s.spans; 
 
 -- the same with another list of rows that may write
 abbrev pub with_writing : {W : Type 0} → State W → List Writing → State W
-with_writing s list = with_work s (record { writing = list; room = s.work.room; draws = s.work.draws; drawn = s.work.drawn })
+with_writing s list = with_work s (record { joins = s.work.joins; writing = list; room = s.work.room; draws = s.work.draws; drawn = s.work.drawn })
 
 -- the same, where rules were drawn so often
 abbrev pub with_draws : {W : Type 0} → State W → ℕ → State W
-with_draws s n = with_work s (record { writing = s.work.writing; room = s.work.room; draws = n; drawn = s.work.drawn })
+with_draws s n = with_work s (record { joins = s.work.joins; writing = s.work.writing; room = s.work.room; draws = n; drawn = s.work.drawn })
 
 -- the same, where they were drawn so far
 abbrev pub with_drawn : {W : Type 0} → State W → List Pass → State W
-with_drawn s passes = with_work s (record { writing = s.work.writing; room = s.work.room; draws = s.work.draws; drawn = passes })
+with_drawn s passes = with_work s (record { joins = s.work.joins; writing = s.work.writing; room = s.work.room; draws = s.work.draws; drawn = passes })
 
 -- the same but for how often rules were drawn
 abbrev pub but_draws : {W : Type 0} → State W → State W

@@ -27,17 +27,17 @@ TellsRegister old new p r v answer = Tells old new p (Register r) v answer
 
 abbrev pub TellsByte : {W : Type 0} → State W → State W → ℕ → ℕ → ℕ → Result Answer AllocError → Type 0
 TellsByte old new p a v (Ok answer) = Tells old new p (Byte a) v answer
-TellsByte old new p a v (Err e) = new ≡ old
+TellsByte old new p a v (Err e) = (new ≡ old) × (new.work.joins ≡ false)
 
 -- the address is tracked now
 abbrev pub Tracks : {W : Type 0} → State W → State W → ℕ → Result Bool AllocError → Type 0
 Tracks old new a (Ok true) = Grows old new × HasNews old new × IsTracked a new × (new.known.log ≡ old.known.log) × (new.known.store.fact ≡ old.known.store.fact) × (new.work ≡ old.work)
 Tracks old new a (Ok false) = (new ≡ old) × IsTracked a old
-Tracks old new a (Err e) = new ≡ old
+Tracks old new a (Err e) = (new ≡ old) × (new.work.joins ≡ false)
 
 -- what carrying a byte's value from a point to another one does, by the answer
 abbrev pub Sends : {W : Type 0} → State W → State W → ℕ → ℕ → ℕ → ℕ → Result Carried AllocError → Type 0
 Sends old new a from to v (Ok Same) = (new ≡ old) × IsSpreadTo a from to v old
 Sends old new a from to v (Ok More) = Grows old new × HasNews old new × (new.work ≡ old.work)
 Sends old new a from to v (Ok (Stop p known found)) = Grows old new × IsClash new p (Byte a) found v × (known ≡ v)
-Sends old new a from to v (Err e) = Grows old new
+Sends old new a from to v (Err e) = Grows old new × (new.work.joins ≡ false)

@@ -1,19 +1,22 @@
--- What an analysis keeps of its own work: which rows may write, and how often the rules of each row can be drawn still. This project's own.
-use Rattle.std.specs.Prelude.{ℕ, ◌+◌, ◌-◌, List, Option, Some, None, sum_by}
+-- What an analysis keeps of its own work: which rows may write, how often the rules of each row can be drawn still, and whether it took
+-- all memory at first. This project's own.
+use Rattle.std.specs.Prelude.{ℕ, Bool, ◌+◌, ◌-◌, List, Option, Some, None, sum_by}
 use Rattle.rept_writing.specs.declared.list.Writing.{Writing}
 use Rattle.rept_writing.specs.Hits.{Listed}
 use Rattle.rept_analysis.specs.declared.pass.Pass.{Pass}
 use Rattle.rept_analysis.specs.declared.pass.Pass.TheVariants.{Never, With, Cut}
 
--- The same; how often rules were drawn; and how far those of each row were.
+-- Whether the store of bytes joins what stands side by side, in room that it took at first; the rows that may write; how often rules were
+-- drawn; and how far those of each row were.
 pub record Work : Type 0 where
+  pub joins : Bool
   pub writing : List Writing
   pub room : ℕ
   pub draws : ℕ
   pub drawn : List Pass
 
-abbrev pub work_of : ℕ → Listed → List Pass → Work
-work_of draws listed drawn = record { writing = listed.list; room = listed.room; draws = draws; drawn = drawn }
+abbrev pub work_of : Bool → ℕ → Listed → List Pass → Work
+work_of joins draws listed drawn = record { joins = joins; writing = listed.list; room = listed.room; draws = draws; drawn = drawn }
 
 -- How often a row's rules can be drawn still: once at first, and once for each of its eleven cells that wasn't known when they were.
 abbrev pub left_of : Pass → ℕ

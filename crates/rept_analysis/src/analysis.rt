@@ -1,4 +1,5 @@
-// What follows from a path and the dump in which it ends, learnt step by step.
+//! What follows from a path and the dump in which it ends, learnt step by step.
+
 ghost use Rattle.std.specs.Prelude.{◌≡◌, ◌+◌, ◌*◌, ◌<◌, ◌≤◌, ℕ, length, true, false, IsOk, IfOk, OnOk, Some, None, Ok, Err, slice_get};
 ghost use Rattle.rept_isa.specs.declared.row.StepRow.{StepRow};
 ghost use Rattle.rept_dump.specs.Dump.{exe_of, core_of, registers_of};
@@ -14,6 +15,8 @@ ghost use Rattle.rept_analysis.specs.State.{HasRegisters, setting_of, state_of};
 ghost use Rattle.rept_analysis.specs.Drawing.{fact_at};
 ghost use Rattle.rept_analysis.specs.Kept.{IsKept, register_answer, answers};
 ghost use Rattle.rept_analysis.specs.Refined.{KeepsAnswers};
+ghost use Rattle.rept_analysis.specs.Sums.{sum_to};
+ghost use Rattle.rept_analysis.specs.Room.{places_of};
 ghost use Rattle.rept_report.specs.Closure.{InClosure, ClosureHas, IsConsistent, IsReport};
 ghost use Rattle.rept_report.specs.Soundness.{AlwaysHolds, IsSound, HasNoExecution};
 
@@ -74,9 +77,9 @@ impl<'a, B: ByteFacts, W: Transfer, R: RowRules> Model for Analysis<'a, B, W, R>
 
     ghost Value = { Whole B W R };
 
-    ghost view = { λ a. record { rows = a.rows.now; last = a.last.items; exe = exe_of a.dump.now; core = core_of a.dump.now; known = a.known; spans = a.spans; filled = a.filled; rules = a.rules; shown = a.shown; complete = a.complete; conflict = a.conflict; work = work_of (R.draws a.rules) a.writing a.drawn } };
+    ghost view = { λ a. record { rows = a.rows.now; last = a.last.items; exe = exe_of a.dump.now; core = core_of a.dump.now; known = a.known; spans = a.spans; filled = a.filled; rules = a.rules; shown = a.shown; complete = a.complete; conflict = a.conflict; work = work_of B.JOINS (R.draws a.rules) a.writing a.drawn } };
 
-    ghost invariant = { λ a. IsKept (state_of W.sets W.moves R.rules B.store (record { rows = a.rows.now; last = a.last.items; exe = exe_of a.dump.now; core = core_of a.dump.now; known = a.known; spans = a.spans; filled = a.filled; rules = a.rules; shown = a.shown; complete = a.complete; conflict = a.conflict; work = work_of (R.draws a.rules) a.writing a.drawn })) };
+    ghost invariant = { λ a. IsKept (state_of W.sets W.moves R.rules B.store (record { rows = a.rows.now; last = a.last.items; exe = exe_of a.dump.now; core = core_of a.dump.now; known = a.known; spans = a.spans; filled = a.filled; rules = a.rules; shown = a.shown; complete = a.complete; conflict = a.conflict; work = work_of B.JOINS (R.draws a.rules) a.writing a.drawn })) };
 }
 
 /// The register of a number below 32.
@@ -87,10 +90,11 @@ fn register(number: u8) -> Reg
     Reg::new(number).unwrap()
 }
 
-/// So many bytes of accesses at most.
+/// So many bytes do the rows let one conclude at most.
 fn access_bytes<R: RowRules>(rows: &[StepRow]) -> u32
     requires { length rows.now ≤ 65536 }
-    ensures { result ≤ 524288 }
+    ensures few { result ≤ 524288 }
+    ensures sum { result ≡ sum_to (λ i. places_of R.rules (slice_get rows.now i)) (length rows.now) }
 {
     let mut sum = 0;
     for row in rows {
@@ -225,8 +229,9 @@ impl<'a, B: ByteFacts, W: Transfer, R: RowRules> Analysis<'a, B, W, R> {
 
     /// Learns all that follows from the path and the dump. Ok: what the analysis answers is then the report, exactly the facts of
     /// the closure, which has no conflict; another call changes nothing. `Stop::Conflict`: the closure has this conflict, and
-    /// another call answers the same one. `Stop::OutOfMemory`: memory ran out, and another call goes on. What was answered of
-    /// registers is answered still.
+    /// another call answers the same one. `Stop::OutOfMemory`: memory ran out, and another call goes on; this never comes where the store
+    /// joins bytes that stand side by side, since `prepare` took all memory. So it is then Ok exactly where the closure has no conflict. What
+    /// was answered of registers is answered still.
     pub fn refine(&mut self) -> Result<(), Stop>
         ensures path { (setting_of W.sets W.moves R.rules self.new) ≡ (setting_of W.sets W.moves R.rules self.old) }
         ensures kept { KeepsAnswers (state_of W.sets W.moves R.rules B.store self.old) (state_of W.sets W.moves R.rules B.store self.new) }
@@ -235,6 +240,11 @@ impl<'a, B: ByteFacts, W: Transfer, R: RowRules> Analysis<'a, B, W, R> {
         ensures consistent { OnOk result (IsConsistent (setting_of W.sets W.moves R.rules self.old)) }
         ensures conflict { (kind : ConflictKind) → result ≡ Err (Stop.Conflict kind) → ClosureHas (setting_of W.sets W.moves R.rules self.old) kind }
         ensures recorded { (kind : ConflictKind) → result ≡ Err (Stop.Conflict kind) → self.new.conflict ≡ Some kind }
+
+        // Where the store joins bytes, no memory is taken: it is Ok exactly where the closure has no conflict.
+        ensures joins { B.JOINS ≡ true → result ≡ Err Stop.OutOfMemory → ⊥ }
+        ensures exact { B.JOINS ≡ true → IsConsistent (setting_of W.sets W.moves R.rules self.old) → IsOk result }
+        ensures refused { B.JOINS ≡ true → (kind : ConflictKind) → ClosureHas (setting_of W.sets W.moves R.rules self.old) kind → (named : ConflictKind) × (result ≡ Err (Stop.Conflict named)) }
 
         // Over all executions of the path that end in the dump.
         ensures sound { OnOk result (IsSound (setting_of W.sets W.moves R.rules self.new) (answers (state_of W.sets W.moves R.rules B.store self.new))) }
@@ -273,9 +283,10 @@ impl<'a, B: ByteFacts, W: Transfer, R: RowRules> Analysis<'a, B, W, R> {
         self.known.known_below(self.shown, point, r)
     }
 
-    /// How often rules were drawn is so of the rules that are kept.
+    /// How often rules were drawn is so of the rules that are kept, and whether bytes that stand side by side are joined is so of the store.
     fn counted(&self)
-        ensures { self.now.work.draws ≡ R.draws self.now.rules }
+        ensures draws { self.now.work.draws ≡ R.draws self.now.rules }
+        ensures joins { self.now.work.joins ≡ B.JOINS }
     {
         let _rows = &self.rows;
     }

@@ -1,4 +1,5 @@
-// Why a conclusion wasn't learnt.
+//! Why a conclusion wasn't learnt.
+
 use rept_reason::Cell;
 
 /// Why a conclusion wasn't learnt.

@@ -1,4 +1,4 @@
-// What follows from a path and the dump in which it ends.
+//! What follows from a path and the dump in which it ends.
 #![tactic(auto)]
 
 pub mod analysis;

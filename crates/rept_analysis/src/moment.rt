@@ -1,4 +1,5 @@
-// What the facts at places below a limit, and the sets filled from them, tell of registers around a row.
+//! What the facts at places below a limit, and the sets filled from them, tell of registers around a row.
+
 ghost use Rattle.std.specs.Prelude.{◌≡◌, ◌+◌, ◌<◌, ◌≤◌, ◌^◌, ℕ, Some};
 ghost use Rattle.rept_reason.specs.declared.fact.Cell.TheVariants.{Register};
 ghost use Rattle.rept_reason.specs.Facts.{told};

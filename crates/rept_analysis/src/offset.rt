@@ -1,4 +1,5 @@
-// The offset of a load or store.
+//! The offset of a load or store.
+
 ghost use Rattle.std.specs.Prelude.{◌≡◌};
 ghost use Rattle.rept_isa.specs.Numbers.{plus};
 ghost use Rattle.rept_view.specs.Rules.{offset_of};

@@ -1,4 +1,5 @@
-// How far the rules of each row were drawn.
+//! How far the rules of each row were drawn.
+
 ghost use Rattle.std.specs.Prelude.{◌≡◌, ◌<◌, ℕ, IfOk, Some, length, slice_get, set};
 ghost use Rattle.rept_analysis.specs.declared.pass.Pass.{Pass};
 

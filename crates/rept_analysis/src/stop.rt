@@ -1,4 +1,5 @@
-// Why an analysis has no report.
+//! Why an analysis has no report.
+
 use rept_report::ConflictKind;
 
 /// Why there is no report.

@@ -1,4 +1,5 @@
-// Whether a row went another way than its operands say.
+//! Whether a row went another way than its operands say.
+
 ghost use Rattle.std.specs.Prelude.{◌≡◌};
 ghost use Rattle.rept_machine.specs.Arithmetic.{branch_holds, below_signed};
 ghost use Rattle.rept_report.specs.Conflicts.{is_against, branch_against, jump_against, is_wrong_turn};

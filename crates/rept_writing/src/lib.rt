@@ -1,4 +1,4 @@
-// Rows that may write, found by the address.
+//! Rows that may write, found by the address.
 #![tactic(auto)]
 
 mod list;

@@ -1,10 +1,11 @@
-// The list of rows that may write, with what finds them by address.
+//! The list of rows that may write, with what finds them by address.
+
 ghost use Rattle.std.specs.Prelude.{◌≡◌, ◌+◌, ◌<◌, ◌≤◌, [], ◌∷◌, ◌++◌, IfOk, Some, length, slice_get};
 ghost use Rattle.rept_writing.specs.Hits.{IsNextHit};
 ghost use Rattle.rept_writing.specs.Filed.{sooner};
 
-use crate::narrow::{Hit, file, next_narrow};
-use crate::wide::{next_wide, scan};
+use crate::narrow::{Hit, file, next_narrow, past_narrow};
+use crate::wide::{next_wide, past_wide, scan};
 use rept_alias::CallAccess;
 use std::alloc::{AllocError as OutOfMemory, Global};
 use std::marker::Model;
@@ -120,6 +121,18 @@ impl Writings {
         } else {
             scan(list, k, a)
         }
+    }
+
+    /// The index after the last row with a lower number that may write the address, where the rows stand in order and `index` was
+    /// called; else some index, up to the number of rows.
+    pub fn past_hit(&self, row: u32, a: u32) -> usize
+        ensures { result ≤ length self.now.list }
+    {
+        let list = self.list.as_slice();
+        let k = list.partition_point(|w| w.row < row);
+        let narrow = past_narrow(self.narrow.as_slice(), k, a);
+        let wide = past_wide(list, self.wide.as_slice(), k, a);
+        narrow.max(wide).min(list.len())
     }
 }
 

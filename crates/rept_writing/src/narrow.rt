@@ -1,4 +1,5 @@
-// The addresses of rows that may write few, each by itself.
+//! The addresses of rows that may write few, each by itself.
+
 ghost use Rattle.std.specs.Prelude.{◌≡◌, ◌⊎◌, ◌+◌, ◌<◌, ◌≤◌, [], ◌∷◌, ◌++◌};
 ghost use Rattle.std.specs.Vec.{vec_len, vec_capacity};
 ghost use Rattle.std.specs.List.{Contains};
@@ -100,5 +101,23 @@ pub fn next_narrow(narrow: &[Hit], k: usize, a: u32) -> Option<usize>
                 None
             }
         }
+    }
+}
+
+/// The number after the greatest index below k that is kept with the address, or 0, where they are in order.
+pub fn past_narrow(narrow: &[Hit], k: usize, a: u32) -> usize {
+    let wanted = Hit {
+        address: a,
+        index: k,
+    };
+    let at = narrow.partition_point(|h| *h < wanted);
+    if at == 0 || narrow.len() < at {
+        return 0;
+    }
+    let last = narrow[at - 1];
+    if last.address == a {
+        last.index.saturating_add(1)
+    } else {
+        0
     }
 }

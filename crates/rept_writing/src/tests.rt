@@ -1,3 +1,5 @@
+//! The next row that may write, worked out by hand.
+
 ghost use Rattle.std.specs.Prelude.{◌≡◌, length, IfOk};
 
 use crate::Writings;

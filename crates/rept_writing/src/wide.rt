@@ -1,4 +1,5 @@
-// The rows of many addresses, and the search through all.
+//! The rows of many addresses, and the search through all.
+
 ghost use Rattle.std.specs.Prelude.{◌≡◌, ◌<◌, true, length};
 ghost use Rattle.std.specs.List.{All, Contains};
 ghost use Rattle.std.specs.List.Sorted.{IsNonDecreasing};
@@ -35,4 +36,19 @@ pub fn next_wide(list: &[Writing], wide: &[usize], k: usize, a: u32) -> Option<u
         }
     }
     None
+}
+
+/// The number after the last one of these indices below k whose row may write the address, or 0.
+pub fn past_wide(list: &[Writing], wide: &[usize], k: usize, a: u32) -> usize
+    requires { All (λ j. j < length list.now) wide.now }
+{
+    let end = wide.partition_point(|j| *j < k);
+    for i in (0..end.min(wide.len())).rev() {
+        let j = wide[i];
+        let access = list[j].access;
+        if access.may_hit(a) {
+            return j.saturating_add(1);
+        }
+    }
+    0
 }

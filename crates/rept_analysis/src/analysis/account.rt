@@ -1,4 +1,5 @@
-// What holds of an analysis as a whole.
+//! What holds of an analysis as a whole.
+
 ghost use Rattle.std.specs.Prelude.{◌≡◌, ◌≤◌, ℕ, length, true};
 ghost use Rattle.rept_reason.specs.Facts.{register_known};
 ghost use Rattle.rept_analysis.specs.State.{setting_of, state_of};

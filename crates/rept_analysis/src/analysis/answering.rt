@@ -1,4 +1,5 @@
-// What an analysis answers of ranges, bytes, writers and numbers.
+//! What an analysis answers of ranges, bytes, writers and numbers.
+
 ghost use Rattle.std.specs.Prelude.{◌≡◌, ◌+◌, ◌-◌, ◌<◌, ◌≤◌, ℕ, length, true, false, Some, None, slice_get, is_some};
 ghost use Rattle.rept_reason.specs.declared.fact.Cell.TheVariants.{Byte};
 ghost use Rattle.rept_reason.specs.Facts.{told, register_fact};

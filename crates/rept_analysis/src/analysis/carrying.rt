@@ -1,10 +1,11 @@
-// The carrying of bytes over rows that may not write them.
+//! The carrying of bytes over rows that may not write them.
+
 ghost use Rattle.std.specs.Prelude.{◌≡◌, ◌∷◌, ◌++◌, [], ◌+◌, ◌^◌, ◌<◌, ◌≤◌, ℕ, length, true, false, Some, None, IfOk, IfErr, slice_get, ⊤};
 ghost use Rattle.rept_alias.specs.Accesses.{call_hits};
 ghost use Rattle.rept_reason.specs.declared.fact.Cell.TheVariants.{Byte};
 ghost use Rattle.rept_versions.specs.Facts.{Nexts};
 ghost use Rattle.rept_analysis.specs.State.{state_of, with_writing};
-ghost use Rattle.rept_analysis.specs.Drawing.{Knows, Grows, Drew, IsHalt, IsFitted, IsAccess, AreWritings, AreWritingsBefore, IsSparedAt, IsSparedBetween, IsSpreadTo, IsCarriedFrom, IsCarriedAlong, AllCarried};
+ghost use Rattle.rept_analysis.specs.Drawing.{Knows, IsTracked, past, Grows, Drew, IsHalt, IsFitted, IsAccess, AreWritings, AreWritingsBefore, IsSparedAt, IsSparedBetween, IsSpreadTo, IsCarriedFrom, IsCarriedAlong, AllCarried};
 ghost use Rattle.rept_analysis.specs.Told.{Sends};
 ghost use Rattle.rept_writing.specs.Hits.{IsNextHit};
 
@@ -23,6 +24,13 @@ fn is_none(access: &CallAccess) -> bool
     ensures { result ≡ true → (a : ℕ) → call_hits access.now a ≡ false }
 {
     access.first.is_none() && access.second.is_none()
+}
+
+/// Whether a stretch has each point from one to another one.
+fn has_all(stretch: &Stretch, from: u32, to: u32) -> bool
+    ensures { result ≡ true → (stretch.now.first ≤ from) × (to ≤ stretch.now.last) }
+{
+    stretch.first <= from && to <= stretch.last
 }
 
 impl<'a, B: ByteFacts, W: Transfer, R: RowRules> Analysis<'a, B, W, R> {
@@ -89,6 +97,9 @@ impl<'a, B: ByteFacts, W: Transfer, R: RowRules> Analysis<'a, B, W, R> {
                 if to < stretch.first {
                     return Ok(false);
                 }
+                if has_all(&stretch, from, to) {
+                    return Ok(false);
+                }
                 let at = stretch.first.max(from);
                 let right = self.spread(a, at, to, stretch.value)?;
                 let left = self.spread(a, at, from, stretch.value)?;
@@ -112,6 +123,83 @@ impl<'a, B: ByteFacts, W: Transfer, R: RowRules> Analysis<'a, B, W, R> {
         ensures { slice_get self.now.work.writing k ≡ Some result }
     {
         self.writing.at(k)
+    }
+
+    /// An index in that list, after the last row before a point that may write the byte.
+    fn past_hit(&self, point: u32, a: u32) -> usize
+        ensures { result ≤ length self.now.work.writing }
+    {
+        self.writing.past_hit(point, a)
+    }
+
+    /// The row after the one before an index in that list, or the first one.
+    fn row_past(&self, k: usize) -> u32
+        requires writings { AreWritings (state_of W.sets W.moves R.rules B.store self.now) }
+        requires within { k ≤ length self.now.work.writing }
+        ensures { result ≡ past self.now.work.writing k }
+    {
+        let _count = self.count();
+        if k == 0 {
+            return 0;
+        }
+        let row = self.writing_at(k - 1).row;
+        row + 1
+    }
+
+    /// The value of a byte over the rows around a point that may not write it.
+    pub(super) fn carry_around(&mut self, a: u32, point: u32) -> Result<bool, Halt>
+        requires writings { AreWritings (state_of W.sets W.moves R.rules B.store self.old) }
+        requires open { self.old.complete ≡ false }
+        ensures grows { Grows (state_of W.sets W.moves R.rules B.store self.old) (state_of W.sets W.moves R.rules B.store self.new) }
+        ensures drew { IfOk result (λ learnt. Drew (state_of W.sets W.moves R.rules B.store self.old) (state_of W.sets W.moves R.rules B.store self.new) learnt (λ _. ⊤)) }
+        ensures halt { IfErr result (λ h. IsHalt (state_of W.sets W.moves R.rules B.store self.new) h) }
+    {
+        let k = self.past_hit(point, a);
+        let from = self.row_past(k);
+        match self.next_hit(k, a) {
+            None => {
+                let rows = self.count();
+                let learnt = self.carry_segment(a, from, rows)?;
+                Ok(learnt)
+            }
+            Some(hit) => {
+                let row = self.writing_at(hit).row;
+                let learnt = self.carry_segment(a, from, row)?;
+                Ok(learnt)
+            }
+        }
+    }
+
+    /// So for so many bytes from an address on.
+    pub(super) fn carry_bytes(&mut self, point: u32, start: u32, count: u32) -> Result<bool, Halt>
+        requires writings { AreWritings (state_of W.sets W.moves R.rules B.store self.old) }
+        requires open { self.old.complete ≡ false }
+        ensures grows { Grows (state_of W.sets W.moves R.rules B.store self.old) (state_of W.sets W.moves R.rules B.store self.new) }
+        ensures drew { IfOk result (λ learnt. Drew (state_of W.sets W.moves R.rules B.store self.old) (state_of W.sets W.moves R.rules B.store self.new) learnt (λ _. ⊤)) }
+        ensures halt { IfErr result (λ h. IsHalt (state_of W.sets W.moves R.rules B.store self.new) h) }
+    {
+        let mut learnt = false;
+        for k in 0..count {
+            let a = start.wrapping_add(k);
+            let new = self.carry_around(a, point)?;
+            learnt = learnt | new;
+        }
+        Ok(learnt)
+    }
+
+    /// The byte of the dump at a tracked address, over the last rows that may not write it.
+    pub(super) fn draw_dump(&mut self, a: u32) -> Result<bool, Halt>
+        requires tracked { IsTracked a (state_of W.sets W.moves R.rules B.store self.old) }
+        requires writings { AreWritings (state_of W.sets W.moves R.rules B.store self.old) }
+        requires open { self.old.complete ≡ false }
+        ensures grows { Grows (state_of W.sets W.moves R.rules B.store self.old) (state_of W.sets W.moves R.rules B.store self.new) }
+        ensures drew { IfOk result (λ learnt. Drew (state_of W.sets W.moves R.rules B.store self.old) (state_of W.sets W.moves R.rules B.store self.new) learnt (λ _. ⊤)) }
+        ensures halt { IfErr result (λ h. IsHalt (state_of W.sets W.moves R.rules B.store self.new) h) }
+    {
+        let point = self.count();
+        let told = self.draw_last_byte(a)?;
+        let carried = self.carry_around(a, point)?;
+        Ok(told | carried)
     }
 
     /// The value of a byte over all rows that may not write it.

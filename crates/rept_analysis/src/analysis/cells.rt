@@ -1,4 +1,5 @@
-// How many of a row's registers and bytes are known.
+//! How many of a row's registers and bytes are known.
+
 ghost use Rattle.std.specs.Prelude.{◌≡◌, ◌*◌, ◌<◌, ◌≤◌, length, is_some};
 ghost use Rattle.rept_log.specs.Around.{around};
 ghost use Rattle.rept_log.specs.Known.{known_of};

@@ -1,4 +1,5 @@
-// How much an analysis answers.
+//! How much an analysis answers.
+
 ghost use Rattle.std.specs.Prelude.{◌≡◌, ◌+◌, ◌*◌, ◌<◌, ◌≤◌, ℕ, length, true, is_some, slice_get};
 ghost use Rattle.rept_reason.specs.Facts.{told, register_known, register_fact};
 ghost use Rattle.rept_report.specs.Log.{oldest};

@@ -1,5 +1,6 @@
-// What a row lets one conclude.
-ghost use Rattle.std.specs.Prelude.{◌≡◌, ◌≤◌, set, ◌≢◌, ◌+◌, ◌<◌, ◌↔◌, length, true, false, IsTrue, IfOk, IfErr, Some, None, Ok, Err, slice_get};
+//! What a row lets one conclude.
+
+ghost use Rattle.std.specs.Prelude.{◌≡◌, ◌≤◌, ⊤, set, ◌≢◌, ◌+◌, ◌<◌, ◌↔◌, length, true, false, IsTrue, IfOk, IfErr, Some, None, Ok, Err, slice_get};
 ghost use Rattle.rept_isa.specs.declared.row.StepRow.{StepRow};
 ghost use Rattle.rept_isa.specs.Operands.{written_by};
 ghost use Rattle.rept_reason.specs.declared.fact.Cell.{Cell};
@@ -10,7 +11,7 @@ ghost use Rattle.rept_analysis.specs.declared.pass.Pass.{Pass};
 ghost use Rattle.rept_analysis.specs.Cells.{cells_known};
 ghost use Rattle.rept_analysis.specs.Kept.{IsPass};
 ghost use Rattle.rept_analysis.specs.State.{state_of, with_draws, with_drawn};
-ghost use Rattle.rept_analysis.specs.Drawing.{IsTracked, Grows, Drew, IsHalt, KeptBelow, IsKeptAt, AreTrackedFrom, SameKnown, IsConclusion, AreConclusions, DrawnBelow, IsRowClosed, KnowsDrawn, DrawnKnown, IsRowTracked, IsUncut};
+ghost use Rattle.rept_analysis.specs.Drawing.{IsTracked, Grows, Drew, IsHalt, KeptBelow, IsKeptAt, AreTrackedFrom, IsConclusion, AreConclusions, DrawnBelow, IsRowClosed, KnowsDrawn, DrawnKnown, IsRowTracked, IsUncut, AreWritings, IsRowAddress, AreRowAddresses};
 ghost use Rattle.rept_log.specs.Known.{known_of};
 ghost use Rattle.rept_analysis.specs.Told.{Tracks};
 
@@ -46,6 +47,23 @@ fn is_with(pass: Pass, cells: u32) -> bool
     }
 }
 
+/// Whether the same is known.
+fn is_same(first: Flat, second: Flat) -> bool
+    ensures { IsTrue result ↔ (first ≡ second) }
+{
+    first == second
+}
+
+/// The point around which row i's bytes are carried: after it where it stores, and else before it.
+fn after_store(i: u32, instr: &Instr) -> u32
+    requires { i < 65536 }
+{
+    match *instr {
+        Instr::Store { .. } => i + 1,
+        _ => i,
+    }
+}
+
 impl<'a, B: ByteFacts, W: Transfer, R: RowRules> Analysis<'a, B, W, R> {
     /// The value of a register that row i keeps, onward and back.
     fn carry(&mut self, i: u32, row: &StepRow, r: Reg) -> Result<bool, Halt>
@@ -61,6 +79,10 @@ impl<'a, B: ByteFacts, W: Transfer, R: RowRules> Analysis<'a, B, W, R> {
         }
         let _count = self.count();
         let before = self.known(i, r);
+        let later = self.known(i + 1, r);
+        if is_same(before, later) {
+            return Ok(false);
+        }
         let onward = self.learn_if(i + 1, r, before)?;
         let after = self.known(i + 1, r);
         let back = self.learn_if(i, r, after)?;
@@ -84,17 +106,21 @@ impl<'a, B: ByteFacts, W: Transfer, R: RowRules> Analysis<'a, B, W, R> {
         Ok(learnt)
     }
 
-    /// Tracks an address.
+    /// Tracks an address. Where it wasn't tracked, its byte of the dump is learnt and carried at once.
     fn track_one(&mut self, a: u32) -> Result<bool, Halt>
+        requires row { IsRowAddress a (state_of W.sets W.moves R.rules B.store self.old) }
+        requires writings { AreWritings (state_of W.sets W.moves R.rules B.store self.old) }
         requires open { self.old.complete ≡ false }
         ensures grows { Grows (state_of W.sets W.moves R.rules B.store self.old) (state_of W.sets W.moves R.rules B.store self.new) }
         ensures drew { IfOk result (λ learnt. Drew (state_of W.sets W.moves R.rules B.store self.old) (state_of W.sets W.moves R.rules B.store self.new) learnt (IsTracked a)) }
         ensures halt { IfErr result (λ h. IsHalt (state_of W.sets W.moves R.rules B.store self.new) h) }
         ensures tracked { IfOk result (λ _. IsTracked a (state_of W.sets W.moves R.rules B.store self.new)) }
-        ensures same { SameKnown (state_of W.sets W.moves R.rules B.store self.old) (state_of W.sets W.moves R.rules B.store self.new) }
     {
         match self.track(a) {
-            Ok(true) => Ok(true),
+            Ok(true) => {
+                let _told = self.draw_dump(a)?;
+                Ok(true)
+            }
             Ok(false) => Ok(false),
             Err(_) => Err(Halt::OutOfMemory),
         }
@@ -102,12 +128,13 @@ impl<'a, B: ByteFacts, W: Transfer, R: RowRules> Analysis<'a, B, W, R> {
 
     /// Tracks so many addresses from one on.
     fn track_from(&mut self, start: u32, count: u32) -> Result<bool, Halt>
+        requires row { AreRowAddresses start count (state_of W.sets W.moves R.rules B.store self.old) }
+        requires writings { AreWritings (state_of W.sets W.moves R.rules B.store self.old) }
         requires open { self.old.complete ≡ false }
         ensures grows { Grows (state_of W.sets W.moves R.rules B.store self.old) (state_of W.sets W.moves R.rules B.store self.new) }
         ensures drew { IfOk result (λ learnt. Drew (state_of W.sets W.moves R.rules B.store self.old) (state_of W.sets W.moves R.rules B.store self.new) learnt (AreTrackedFrom start count)) }
         ensures halt { IfErr result (λ h. IsHalt (state_of W.sets W.moves R.rules B.store self.new) h) }
         ensures tracked { IfOk result (λ _. AreTrackedFrom start count (state_of W.sets W.moves R.rules B.store self.new)) }
-        ensures same { SameKnown (state_of W.sets W.moves R.rules B.store self.old) (state_of W.sets W.moves R.rules B.store self.new) }
     {
         let mut learnt = false;
         for k in 0..count {
@@ -122,6 +149,7 @@ impl<'a, B: ByteFacts, W: Transfer, R: RowRules> Analysis<'a, B, W, R> {
     fn track_row(&mut self, i: u32, row: &StepRow) -> Result<bool, Halt>
         requires inside { i < length self.old.rows }
         requires row { slice_get self.old.rows i ≡ Some row.now }
+        requires writings { AreWritings (state_of W.sets W.moves R.rules B.store self.old) }
         requires open { self.old.complete ≡ false }
         ensures grows { Grows (state_of W.sets W.moves R.rules B.store self.old) (state_of W.sets W.moves R.rules B.store self.new) }
         ensures drew { IfOk result (λ learnt. Drew (state_of W.sets W.moves R.rules B.store self.old) (state_of W.sets W.moves R.rules B.store self.new) learnt (IsRowTracked row.now i)) }
@@ -275,9 +303,55 @@ impl<'a, B: ByteFacts, W: Transfer, R: RowRules> Analysis<'a, B, W, R> {
         }
     }
 
+    /// The bytes that row i's rules look at, over the rows around it that may not write them.
+    fn carry_row(&mut self, i: u32, row: &StepRow) -> Result<bool, Halt>
+        requires inside { i < length self.old.rows }
+        requires writings { AreWritings (state_of W.sets W.moves R.rules B.store self.old) }
+        requires open { self.old.complete ≡ false }
+        ensures grows { Grows (state_of W.sets W.moves R.rules B.store self.old) (state_of W.sets W.moves R.rules B.store self.new) }
+        ensures drew { IfOk result (λ learnt. Drew (state_of W.sets W.moves R.rules B.store self.old) (state_of W.sets W.moves R.rules B.store self.new) learnt (λ _. ⊤)) }
+        ensures halt { IfErr result (λ h. IsHalt (state_of W.sets W.moves R.rules B.store self.new) h) }
+    {
+        let (first, _) = reads(&row.instr);
+        let _count = self.count();
+        match first {
+            None => Ok(false),
+            Some(r) => match self.known(i, r) {
+                Flat::Unknown => Ok(false),
+                Flat::Known(base) => {
+                    let point = after_store(i, &row.instr);
+                    let start = address(base, &row.instr);
+                    let learnt = self.carry_bytes(point, start, R::places(row).min(4))?;
+                    Ok(learnt)
+                }
+            },
+        }
+    }
+
+    /// All that row i lets one draw; where its rules were drawn, its bytes are carried at once.
+    fn draw_around(&mut self, i: u32, row: &StepRow) -> Result<bool, Halt>
+        requires inside { i < length self.old.rows }
+        requires row { slice_get self.old.rows i ≡ Some row.now }
+        requires tracked { IsRowTracked row.now i (state_of W.sets W.moves R.rules B.store self.old) }
+        requires writings { AreWritings (state_of W.sets W.moves R.rules B.store self.old) }
+        requires open { self.old.complete ≡ false }
+        requires uncut { IsUncut (state_of W.sets W.moves R.rules B.store self.old) }
+        ensures grows { Grows (state_of W.sets W.moves R.rules B.store self.old) (state_of W.sets W.moves R.rules B.store self.new) }
+        ensures drew { IfOk result (λ learnt. Drew (state_of W.sets W.moves R.rules B.store self.old) (state_of W.sets W.moves R.rules B.store self.new) learnt (DrawnKnown row.now i)) }
+        ensures halt { IfErr result (λ h. IsHalt (state_of W.sets W.moves R.rules B.store self.new) h) }
+    {
+        let drawn = self.draw_drawn(i, row)?;
+        if !drawn {
+            return Ok(false);
+        }
+        let carried = self.carry_row(i, row)?;
+        Ok(drawn | carried)
+    }
+
     /// All that row i lets one conclude.
     pub(super) fn draw_row(&mut self, i: u32) -> Result<bool, Halt>
         requires inside { i < length self.old.rows }
+        requires writings { AreWritings (state_of W.sets W.moves R.rules B.store self.old) }
         requires open { self.old.complete ≡ false }
         requires uncut { IsUncut (state_of W.sets W.moves R.rules B.store self.old) }
         ensures grows { Grows (state_of W.sets W.moves R.rules B.store self.old) (state_of W.sets W.moves R.rules B.store self.new) }
@@ -287,7 +361,7 @@ impl<'a, B: ByteFacts, W: Transfer, R: RowRules> Analysis<'a, B, W, R> {
         let row = self.row(i);
         let registers = self.carry_all(i, &row)?;
         let tracked = self.track_row(i, &row)?;
-        let drawn = self.draw_drawn(i, &row)?;
+        let drawn = self.draw_around(i, &row)?;
         Ok(registers | tracked | drawn)
     }
 }

@@ -1,4 +1,5 @@
-// Fronts of the log of an analysis, and the reasons that rest on them.
+//! Fronts of the log of an analysis, and the reasons that rest on them.
+
 ghost use Rattle.std.specs.Prelude.{◌≡◌, ◌+◌, ◌<◌, ◌≤◌, length, true, IfOk, IfSome, IfNone};
 ghost use Rattle.rept_reason.specs.declared.fact.Cell.TheVariants.{Register, Byte};
 ghost use Rattle.rept_report.specs.Log.{oldest};
@@ -44,7 +45,7 @@ impl<'a, B: ByteFacts, W: Transfer, R: RowRules> Analysis<'a, B, W, R> {
         Ok(spans)
     }
 
-    /// The byte that stands in the front of the log below a limit.
+    /// The byte that stands in the prefix of the log below a limit.
     pub(super) fn byte_below(&self, spans: &Spans<W>, limit: u32, point: u32, a: u32) -> Option<u8>
         requires within { limit ≤ length self.now.known.log }
         requires sets { AreSetsOf (setting_of W.sets W.moves R.rules self.now) (oldest limit self.now.known.log) spans.now }

@@ -1,9 +1,10 @@
-// What learning one fact does to an analysis.
+//! What learning one fact does to an analysis.
+
 ghost use Rattle.std.specs.Prelude.{◌≡◌, ◌<◌, ◌≤◌, ◌^◌, ℕ, length, true, false, IfOk, IfErr, Ok, Err};
 ghost use Rattle.rept_reason.specs.declared.fact.Cell.{Cell};
 ghost use Rattle.rept_reason.specs.declared.fact.Cell.TheVariants.{Register, Byte};
 ghost use Rattle.rept_analysis.specs.State.{state_of};
-ghost use Rattle.rept_analysis.specs.Drawing.{fact_at, Knows, IsTracked, Grows, Drew, IsFollowing, IsBrought, IsHalt, IsLearntAt};
+ghost use Rattle.rept_analysis.specs.Drawing.{fact_at, Knows, IsTracked, Grows, Drew, IsFollowing, IsBrought, IsHalt, IsLearntAt, IsRowAddress, HasPlace};
 ghost use Rattle.rept_analysis.specs.Told.{TellsRegister, TellsByte, Tracks};
 
 use super::Analysis;
@@ -44,6 +45,7 @@ impl<'a, B: ByteFacts, W: Transfer, R: RowRules> Analysis<'a, B, W, R> {
         requires tracked { IsTracked a (state_of W.sets W.moves R.rules B.store self.old) }
         requires follows { IsFollowing (state_of W.sets W.moves R.rules B.store self.old) (fact_at point (Byte a) value) }
         requires brought { keep ≡ false → IsBrought (state_of W.sets W.moves R.rules B.store self.old) (fact_at point (Byte a) value) }
+        requires place { HasPlace keep point a (state_of W.sets W.moves R.rules B.store self.old) }
         requires open { self.old.complete ≡ false }
         ensures { TellsByte (state_of W.sets W.moves R.rules B.store self.old) (state_of W.sets W.moves R.rules B.store self.new) point a value result }
     {
@@ -54,6 +56,7 @@ impl<'a, B: ByteFacts, W: Transfer, R: RowRules> Analysis<'a, B, W, R> {
 
     /// Makes an address one of those that are tracked. Answers whether it wasn't.
     pub(super) fn track(&mut self, a: u32) -> Result<bool, OutOfMemory>
+        requires row { IsRowAddress a (state_of W.sets W.moves R.rules B.store self.old) }
         requires open { self.old.complete ≡ false }
         ensures { Tracks (state_of W.sets W.moves R.rules B.store self.old) (state_of W.sets W.moves R.rules B.store self.new) a result }
     {
@@ -99,6 +102,7 @@ impl<'a, B: ByteFacts, W: Transfer, R: RowRules> Analysis<'a, B, W, R> {
         requires tracked { IsTracked a (state_of W.sets W.moves R.rules B.store self.old) }
         requires follows { IsFollowing (state_of W.sets W.moves R.rules B.store self.old) (fact_at point (Byte a) value) }
         requires brought { keep ≡ false → IsBrought (state_of W.sets W.moves R.rules B.store self.old) (fact_at point (Byte a) value) }
+        requires place { HasPlace keep point a (state_of W.sets W.moves R.rules B.store self.old) }
         requires open { self.old.complete ≡ false }
         ensures grows { Grows (state_of W.sets W.moves R.rules B.store self.old) (state_of W.sets W.moves R.rules B.store self.new) }
         ensures drew { IfOk result (λ learnt. Drew (state_of W.sets W.moves R.rules B.store self.old) (state_of W.sets W.moves R.rules B.store self.new) learnt (Knows point (Byte a) value)) }

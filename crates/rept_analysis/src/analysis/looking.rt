@@ -1,4 +1,5 @@
-// What the facts at places below a limit show: sets that are empty, and wrong turns.
+//! What the facts at places below a limit show: sets that are empty, and wrong turns.
+
 ghost use Rattle.std.specs.Prelude.{◌≡◌, ◌<◌, ◌≤◌, ℕ, length, true, false, IfErr, OnOk, Some, None, Ok, Err, slice_get};
 ghost use Rattle.rept_isa.specs.declared.row.StepRow.{StepRow};
 ghost use Rattle.rept_reason.specs.Facts.{told, operand};

@@ -1,4 +1,5 @@
-// Learning all that follows.
+//! Learning all that follows.
+
 ghost use Rattle.std.specs.Prelude.{◌≡◌, ◌<◌, ◌+◌, ◌*◌, ◌≤◌, length, true, false, IsOk, IfErr, Some, None, Ok, Err};
 ghost use Rattle.rept_reason.specs.Facts.{told};
 ghost use Rattle.rept_report.specs.Conflicts.{IsQuiet};
@@ -92,6 +93,7 @@ impl<'a, B: ByteFacts, W: Transfer, R: RowRules> Analysis<'a, B, W, R> {
         requires open { self.old.complete ≡ false }
         requires calm { self.old.conflict ≡ None }
         ensures outcome { Outcome (state_of W.sets W.moves R.rules B.store self.old) (state_of W.sets W.moves R.rules B.store self.new) result }
+        ensures plain { result ≡ Err Stop.OutOfMemory → B.JOINS ≡ false }
         ensures draws { self.new.work.draws ≤ self.old.work.draws + 12 * length self.old.rows }
     {
         self.restart();
@@ -108,6 +110,7 @@ impl<'a, B: ByteFacts, W: Transfer, R: RowRules> Analysis<'a, B, W, R> {
     /// Learns all that follows. A second call answers as the first did, but where memory ran out it goes on.
     pub(super) fn outcome(&mut self) -> Result<(), Stop>
         ensures outcome { Outcome (state_of W.sets W.moves R.rules B.store self.old) (state_of W.sets W.moves R.rules B.store self.new) result }
+        ensures plain { result ≡ Err Stop.OutOfMemory → B.JOINS ≡ false }
         ensures draws { self.new.work.draws ≤ self.old.work.draws + 12 * length self.old.rows }
         ensures again { (kind : ConflictKind) → self.old.conflict ≡ Some kind → (result ≡ Err (Stop.Conflict kind)) × ((state_of W.sets W.moves R.rules B.store self.new) ≡ (state_of W.sets W.moves R.rules B.store self.old)) }
         ensures settled { self.old.complete ≡ true → self.old.conflict ≡ None → IsOk result × ((state_of W.sets W.moves R.rules B.store self.new) ≡ (state_of W.sets W.moves R.rules B.store self.old)) }

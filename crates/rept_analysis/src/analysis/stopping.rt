@@ -1,4 +1,5 @@
-// What is answered after a conflict, and where memory ran out.
+//! What is answered after a conflict, and where memory ran out.
+
 ghost use Rattle.std.specs.Prelude.{◌≡◌, ◌+◌, ◌<◌, ◌≤◌, length, false, Some};
 ghost use Rattle.rept_reason.specs.declared.fact.Cell.{Cell};
 ghost use Rattle.rept_reason.specs.Facts.{told};
@@ -147,7 +148,9 @@ impl<'a, B: ByteFacts, W: Transfer, R: RowRules> Analysis<'a, B, W, R> {
         requires halt { IsHalt (state_of W.sets W.moves R.rules B.store self.old) halt.now }
         ensures ended { IsHalted (state_of W.sets W.moves R.rules B.store self.old) (state_of W.sets W.moves R.rules B.store self.new) result }
         ensures still { self.new.work.draws ≡ self.old.work.draws }
+        ensures plain { result ≡ Stop.OutOfMemory → B.JOINS ≡ false }
     {
+        self.counted();
         match halt {
             Halt::Clash {
                 point,

@@ -1,5 +1,6 @@
-// All rules once: rows, last values and bytes, and sets of one value.
-ghost use Rattle.std.specs.Prelude.{◌≡◌, ◌+◌, ◌<◌, ◌≤◌, ⊤, length, false, IfOk, IfErr, Some, None, Ok, Err};
+//! All rules once: rows, last values and bytes, and sets of one value.
+
+ghost use Rattle.std.specs.Prelude.{◌≡◌, ◌+◌, ◌<◌, ◌≤◌, length, false, IfOk, IfErr, Some, None, Ok, Err};
 ghost use Rattle.rept_analysis.specs.State.{state_of};
 ghost use Rattle.rept_analysis.specs.Drawing.{IsTracked, Grows, Drew, IsHalt, IsFitted, LastKnown, IsDrawnThrough, AreWritings, IsUncut, RowsClosed, LastByteKnown, LastBytesKnown, SingleKnown, PointSingles, SinglesKnown, IsDrawnAll, LastKnownBelow};
 
@@ -14,10 +15,11 @@ use rept_view::RowRules;
 impl<'a, B: ByteFacts, W: Transfer, R: RowRules> Analysis<'a, B, W, R> {
     /// All rows, from the last to the first.
     fn draw_back(&mut self) -> Result<bool, Halt>
+        requires writings { AreWritings (state_of W.sets W.moves R.rules B.store self.old) }
         requires open { self.old.complete ≡ false }
         requires uncut { IsUncut (state_of W.sets W.moves R.rules B.store self.old) }
         ensures grows { Grows (state_of W.sets W.moves R.rules B.store self.old) (state_of W.sets W.moves R.rules B.store self.new) }
-        ensures drew { IfOk result (λ learnt. Drew (state_of W.sets W.moves R.rules B.store self.old) (state_of W.sets W.moves R.rules B.store self.new) learnt (λ _. ⊤)) }
+        ensures drew { IfOk result (λ learnt. Drew (state_of W.sets W.moves R.rules B.store self.old) (state_of W.sets W.moves R.rules B.store self.new) learnt (RowsClosed)) }
         ensures halt { IfErr result (λ h. IsHalt (state_of W.sets W.moves R.rules B.store self.new) h) }
     {
         let count = self.count();
@@ -31,6 +33,7 @@ impl<'a, B: ByteFacts, W: Transfer, R: RowRules> Analysis<'a, B, W, R> {
 
     /// All rows, from the first to the last.
     fn draw_onward(&mut self) -> Result<bool, Halt>
+        requires writings { AreWritings (state_of W.sets W.moves R.rules B.store self.old) }
         requires open { self.old.complete ≡ false }
         requires uncut { IsUncut (state_of W.sets W.moves R.rules B.store self.old) }
         ensures grows { Grows (state_of W.sets W.moves R.rules B.store self.old) (state_of W.sets W.moves R.rules B.store self.new) }
@@ -75,7 +78,7 @@ impl<'a, B: ByteFacts, W: Transfer, R: RowRules> Analysis<'a, B, W, R> {
     }
 
     /// The byte of the dump at a tracked address.
-    fn draw_last_byte(&mut self, a: u32) -> Result<bool, Halt>
+    pub(super) fn draw_last_byte(&mut self, a: u32) -> Result<bool, Halt>
         requires tracked { IsTracked a (state_of W.sets W.moves R.rules B.store self.old) }
         requires open { self.old.complete ≡ false }
         ensures grows { Grows (state_of W.sets W.moves R.rules B.store self.old) (state_of W.sets W.moves R.rules B.store self.new) }
@@ -164,7 +167,7 @@ impl<'a, B: ByteFacts, W: Transfer, R: RowRules> Analysis<'a, B, W, R> {
         Ok(learnt)
     }
 
-    /// All rows, back and onward; and the tracked bytes carried, once the rows tell no more: the rows that may write a byte are fewer then.
+    /// The tracked bytes carried; and all rows, back and, where that told something, onward.
     fn draw_through(&mut self) -> Result<bool, Halt>
         requires writings { AreWritings (state_of W.sets W.moves R.rules B.store self.old) }
         requires open { self.old.complete ≡ false }
@@ -173,14 +176,13 @@ impl<'a, B: ByteFacts, W: Transfer, R: RowRules> Analysis<'a, B, W, R> {
         ensures drew { IfOk result (λ learnt. Drew (state_of W.sets W.moves R.rules B.store self.old) (state_of W.sets W.moves R.rules B.store self.new) learnt (IsDrawnThrough)) }
         ensures halt { IfErr result (λ h. IsHalt (state_of W.sets W.moves R.rules B.store self.new) h) }
     {
-        let back = self.draw_back()?;
-        let onward = self.draw_onward()?;
-        let told = back | onward;
-        if told {
-            return Ok(told);
-        }
         let carried = self.carry_tracked()?;
-        Ok(carried)
+        let back = self.draw_back()?;
+        if !back {
+            return Ok(carried | back);
+        }
+        let onward = self.draw_onward()?;
+        Ok(carried | back | onward)
     }
 
     /// All rules once: last values and bytes, rows and carried bytes, and sets of one value.

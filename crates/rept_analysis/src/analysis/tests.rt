@@ -1,4 +1,5 @@
-// Small runs, worked out by hand from the rules. Bytes in a list and bytes in spans give the same answers.
+//! Small runs, worked out by hand from the rules. Bytes in a list and bytes in spans give the same answers.
+
 mod reasons;
 
 use super::Analysis;

@@ -1,4 +1,5 @@
-// Reasons of facts.
+//! Reasons of facts.
+
 ghost use Rattle.std.specs.Prelude.{◌≡◌, ◌≢◌, ◌≤◌, ◌<◌, ◌+◌, ◌-◌, ◌↔◌, length, true, false, Some, IfOk, IfSome, IfNone, IsTrue};
 ghost use Rattle.rept_reason.specs.declared.fact.Cell.TheVariants.{Register, Byte};
 ghost use Rattle.rept_report.specs.Log.{entry, place_of, oldest};
@@ -82,7 +83,7 @@ impl<'a, B: ByteFacts, W: Transfer, R: RowRules> Analysis<'a, B, W, R> {
         }
     }
 
-    /// Whether a byte's fact stands in the front of the log below a limit.
+    /// Whether a byte's fact stands in the prefix of the log below a limit.
     fn stands_below(&self, spans: &Spans<W>, limit: u32, fact: &Fact, a: u32) -> bool
         requires within { limit ≤ length self.now.known.log }
         requires sets { AreSetsOf (setting_of W.sets W.moves R.rules self.now) (oldest limit self.now.known.log) spans.now }
@@ -185,7 +186,7 @@ impl<'a, B: ByteFacts, W: Transfer, R: RowRules> Analysis<'a, B, W, R> {
         }
     }
 
-    /// Whether the fact is the last one of the front of the log below a limit.
+    /// Whether the fact is the last one of the prefix of the log below a limit.
     fn is_last(&self, limit: u32, fact: &Fact) -> bool
         requires { limit ≤ length self.now.known.log }
         ensures last { result ≡ true → (0 < limit) × (entry self.now.known.log (limit - 1) ≡ Some fact.now) }
@@ -194,7 +195,7 @@ impl<'a, B: ByteFacts, W: Transfer, R: RowRules> Analysis<'a, B, W, R> {
         limit > 0 && self.is_entry(limit - 1, fact)
     }
 
-    /// The reason of a byte's fact, by the least front in which it stands.
+    /// The reason of a byte's fact, by the least prefix in which it stands.
     fn why_byte(
         &mut self,
         alloc: Global,

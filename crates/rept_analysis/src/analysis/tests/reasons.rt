@@ -1,4 +1,5 @@
-// Reasons, worked out by hand: each of these facts has one reason alone, in whatever order facts are learnt.
+//! Reasons, worked out by hand: each of these facts has one reason alone, in whatever order facts are learnt.
+
 use super::super::Analysis;
 use super::{EXECUTABLE, STORED, core, registers_of, rows_of};
 use rept_dump::Dump;

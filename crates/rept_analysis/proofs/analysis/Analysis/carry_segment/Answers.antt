@@ -1,8 +1,8 @@
 use Rattle.rept_reason.specs.declared.fact.Cell.TheVariants.{Byte}
 use Rattle.rept_analysis.specs.State.{state_of}
 use Rattle.rept_analysis.specs.Drawing.{IsSpreadTo, IsCarriedFrom}
-use Rattle.rept_analysis.proofs.Drawn.{Drew_both, Grows_trans}
-use Rattle.rept_analysis.proofs.Spreading.{next_value, next_at, segment_spread}
+use Rattle.rept_analysis.proofs.Drawn.{Drew_both, Drew_same, Grows_trans}
+use Rattle.rept_analysis.proofs.Spreading.{next_value, next_at, segment_spread, segment_covered}
 use Rattle.rept_analysis.proofs.analysis.Analysis.carry_segment.Goals as goal
 
 pub spread-requires-in-Some-clause-known : goal.spread-requires-in-Some-clause-known
@@ -20,3 +20,6 @@ returns-in_ok-left-in-Some-clause-drew g c =
     Drew_both s (state_of g.W.Partial.sets g.W.Transfer.moves g.R.RowRules.rules g.B.ByteFacts.store c.spread.new.self) _ c.in_ok-right-in-Some.right c.in_ok-left-in-Some.left (IsSpreadTo c.args.a at c.args.to v) (IsSpreadTo c.args.a at c.args.from v) (IsCarriedFrom c.args.a c.args.from c.args.to)
     c.in_ok-right-in-Some.ensures.grows c.in_ok-left-in-Some.ensures.grows c.in_ok-right-in-Some.ensures.drew c.in_ok-left-in-Some.ensures.drew
     (λ p q. segment_spread s c.args.a c.args.from c.args.to at v ordered.0 ordered.1 p q)
+
+pub returns-then-has_all-clause-drew : goal.returns-then-has_all-clause-drew
+returns-then-has_all-clause-drew g c = Drew_same (state_of g.W.Partial.sets g.W.Transfer.moves g.R.RowRules.rules g.B.ByteFacts.store c.args.self.now) (IsCarriedFrom c.args.a c.args.from c.args.to) (segment_covered (state_of g.W.Partial.sets g.W.Transfer.moves g.R.RowRules.rules g.B.ByteFacts.store c.args.self.now) c.args.a c.args.from c.args.to c.in-Some.stretch (rw c.in-Some.is at c.stretch.ensures) (c.has_all.ensures c.if-has_all.true))

@@ -1,3 +1,4 @@
+use Rattle.std.proofs.Common.{refl}
 use Rattle.rept_analysis.specs.State.{state_of, with_draws}
 use Rattle.rept_analysis.specs.Drawing.{DrawnKnown}
 use Rattle.rept_analysis.proofs.Drawn.{list_conclusions}
@@ -26,4 +27,4 @@ pub returns-clause-grows : goal.returns-clause-grows
 returns-clause-grows g c = cut_grows (state_of g.W.Partial.sets g.W.Transfer.moves g.R.RowRules.rules g.B.ByteFacts.store c.args.self.now) (state_of g.W.Partial.sets g.W.Transfer.moves g.R.RowRules.rules g.B.ByteFacts.store c.list_drawn-list.new.self) (state_of g.W.Partial.sets g.W.Transfer.moves g.R.RowRules.rules g.B.ByteFacts.store c.conclude_all.new.self) (record { sets = g.met.W.Partial.lawful; moves = g.met.W.Transfer.covers; rules = g.met.R.RowRules.lawful }) c.held.ensures (known_words (state_of g.W.Partial.sets g.W.Transfer.moves g.R.RowRules.rules g.B.ByteFacts.store c.args.self.now) c.held.ensures) c.args.i c.args.cells c.args.row.now c.requires.inside c.requires.row c.requires.cells c.requires.few c.requires.more c.requires.uncut c.list_drawn-list.ensures.once c.list_drawn-list.ensures.same c.conclude_all.ensures.grows c.conclude_all.ensures.still (state_of g.W.Partial.sets g.W.Transfer.moves g.R.RowRules.rules g.B.ByteFacts.store c.keep_pass-in-Err.new.self) c.keep_pass-in-Err.ensures
 
 pub returns-clause-halt : goal.returns-clause-halt
-returns-clause-halt g c = halt_after (state_of g.W.Partial.sets g.W.Transfer.moves g.R.RowRules.rules g.B.ByteFacts.store c.conclude_all.new.self) (state_of g.W.Partial.sets g.W.Transfer.moves g.R.RowRules.rules g.B.ByteFacts.store c.keep_pass-in-Err.new.self) _ c.in-Err.halt c.keep_pass-in-Err.ensures c.in-Err.ensures.halt
+returns-clause-halt g c = halt_after (state_of g.W.Partial.sets g.W.Transfer.moves g.R.RowRules.rules g.B.ByteFacts.store c.conclude_all.new.self) (state_of g.W.Partial.sets g.W.Transfer.moves g.R.RowRules.rules g.B.ByteFacts.store c.keep_pass-in-Err.new.self) _ c.in-Err.halt c.keep_pass-in-Err.ensures refl c.in-Err.ensures.halt

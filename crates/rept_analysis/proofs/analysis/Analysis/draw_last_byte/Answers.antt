@@ -23,3 +23,6 @@ returns-in_ok-learnt-in-Some-clause-drew g c =
 
 pub returns-in-None-clause-drew : goal.returns-in-None-clause-drew
 returns-in-None-clause-drew g c = Drew_same (state_of g.W.Partial.sets g.W.Transfer.moves g.R.RowRules.rules g.B.ByteFacts.store c.args.self.now) (LastByteKnown c.args.a) (no_last_byte (state_of g.W.Partial.sets g.W.Transfer.moves g.R.RowRules.rules g.B.ByteFacts.store c.args.self.now) c.args.a (sym c.dump_byte.ensures ∙ c.in-None.is))
+
+pub learn_byte-requires-clause-place : goal.learn_byte-requires-clause-place
+learn_byte-requires-clause-place g c = c.count-point.ensures.value

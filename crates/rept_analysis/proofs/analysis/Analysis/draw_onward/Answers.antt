@@ -2,6 +2,7 @@ use Rattle.std.proofs.Common.{◌+◌, ◌≤◌, length, arith}
 use Rattle.rept_analysis.specs.State.{state_of}
 use Rattle.rept_analysis.specs.Drawing.{IsRowClosed, RowsClosedBelow, RowsClosed}
 use Rattle.rept_analysis.proofs.Drawn.{Drew_both, Drew_as, Grows_trans, one_more}
+use Rattle.rept_analysis.proofs.Listing.{writings_after}
 use Rattle.rept_analysis.proofs.analysis.Analysis.draw_onward.Goals as goal
 
 pub returns-in_err-new-clause-grows : goal.returns-in_err-new-clause-grows
@@ -21,3 +22,6 @@ returns-clause-drew g c =
 
 pub draw_row-requires-clause-uncut : goal.draw_row-requires-clause-uncut
 draw_row-requires-clause-uncut g c = c.loop-i.invariant.drew.uncut c.requires.uncut
+
+pub draw_row-requires-clause-writings : goal.draw_row-requires-clause-writings
+draw_row-requires-clause-writings g c = writings_after (state_of g.W.Partial.sets g.W.Transfer.moves g.R.RowRules.rules g.B.ByteFacts.store c.args.self.now) (state_of g.W.Partial.sets g.W.Transfer.moves g.R.RowRules.rules g.B.ByteFacts.store c.loop-i.self) c.loop-i.invariant.grows c.requires.writings

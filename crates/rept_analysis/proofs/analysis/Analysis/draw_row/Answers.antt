@@ -3,19 +3,20 @@ use Rattle.rept_analysis.specs.State.{State, state_of}
 use Rattle.rept_analysis.specs.Drawing.{KeptBelow, IsRowTracked, DrawnKnown, IsRowClosed}
 use Rattle.rept_analysis.proofs.Drawn.{Drew_both, Grows_trans}
 use Rattle.rept_analysis.proofs.Following.{row_closed}
+use Rattle.rept_analysis.proofs.Listing.{writings_after}
 use Rattle.rept_analysis.proofs.analysis.Analysis.draw_row.Goals as goal
 
 pub returns-in_err-tracked-clause-grows : goal.returns-in_err-tracked-clause-grows
 returns-in_err-tracked-clause-grows g c = Grows_trans _ _ _ c.in_ok-registers.ensures.grows c.track_row.ensures.grows
 
-pub draw_drawn-requires-clause-tracked : goal.draw_drawn-requires-clause-tracked
-draw_drawn-requires-clause-tracked g c = c.in_ok-tracked.ensures.tracked
+pub draw_around-requires-clause-tracked : goal.draw_around-requires-clause-tracked
+draw_around-requires-clause-tracked g c = c.in_ok-tracked.ensures.tracked
 
-pub draw_drawn-requires-clause-uncut : goal.draw_drawn-requires-clause-uncut
-draw_drawn-requires-clause-uncut g c = c.in_ok-tracked.ensures.drew.uncut (c.in_ok-registers.ensures.drew.uncut c.requires.uncut)
+pub draw_around-requires-clause-uncut : goal.draw_around-requires-clause-uncut
+draw_around-requires-clause-uncut g c = c.in_ok-tracked.ensures.drew.uncut (c.in_ok-registers.ensures.drew.uncut c.requires.uncut)
 
 pub returns-in_err-drawn-clause-grows : goal.returns-in_err-drawn-clause-grows
-returns-in_err-drawn-clause-grows g c = Grows_trans _ _ _ c.in_ok-registers.ensures.grows (Grows_trans _ _ _ c.in_ok-tracked.ensures.grows c.draw_drawn.ensures.grows)
+returns-in_err-drawn-clause-grows g c = Grows_trans _ _ _ c.in_ok-registers.ensures.grows (Grows_trans _ _ _ c.in_ok-tracked.ensures.grows c.draw_around.ensures.grows)
 
 pub returns-clause-grows : goal.returns-clause-grows
 returns-clause-grows g c = Grows_trans _ _ _ c.in_ok-registers.ensures.grows (Grows_trans _ _ _ c.in_ok-tracked.ensures.grows c.in_ok-drawn.ensures.grows)
@@ -28,8 +29,14 @@ returns-clause-drew g c =
     let a = state_of g.W.Partial.sets g.W.Transfer.moves g.R.RowRules.rules g.B.ByteFacts.store c.args.self.now in
     let b = state_of g.W.Partial.sets g.W.Transfer.moves g.R.RowRules.rules g.B.ByteFacts.store c.carry_all.new.self in
     let d = state_of g.W.Partial.sets g.W.Transfer.moves g.R.RowRules.rules g.B.ByteFacts.store c.track_row.new.self in
-    let e = state_of g.W.Partial.sets g.W.Transfer.moves g.R.RowRules.rules g.B.ByteFacts.store c.draw_drawn.new.self in
+    let e = state_of g.W.Partial.sets g.W.Transfer.moves g.R.RowRules.rules g.B.ByteFacts.store c.draw_around.new.self in
     let g1 = c.in_ok-registers.ensures.grows in
     let g2 = Grows_trans a b d g1 c.in_ok-tracked.ensures.grows in
     let one = Drew_both a b d c.in_ok-registers.registers c.in_ok-tracked.tracked (KeptBelow 32 row i) (IsRowTracked row i) P g1 c.in_ok-tracked.ensures.grows c.in_ok-registers.ensures.drew c.in_ok-tracked.ensures.drew (λ p q. (p, q)) in
     Drew_both a d e (c.in_ok-registers.registers || c.in_ok-tracked.tracked) c.in_ok-drawn.drawn P (DrawnKnown row i) (IsRowClosed i) g2 c.in_ok-drawn.ensures.grows one c.in_ok-drawn.ensures.drew (λ p q. row_closed a i row c.row-row.ensures p.0 p.1 q)
+
+pub track_row-requires-clause-writings : goal.track_row-requires-clause-writings
+track_row-requires-clause-writings g c = writings_after (state_of g.W.Partial.sets g.W.Transfer.moves g.R.RowRules.rules g.B.ByteFacts.store c.args.self.now) (state_of g.W.Partial.sets g.W.Transfer.moves g.R.RowRules.rules g.B.ByteFacts.store c.carry_all.new.self) c.in_ok-registers.ensures.grows c.requires.writings
+
+pub draw_around-requires-clause-writings : goal.draw_around-requires-clause-writings
+draw_around-requires-clause-writings g c = writings_after (state_of g.W.Partial.sets g.W.Transfer.moves g.R.RowRules.rules g.B.ByteFacts.store c.args.self.now) (state_of g.W.Partial.sets g.W.Transfer.moves g.R.RowRules.rules g.B.ByteFacts.store c.track_row.new.self) (Grows_trans _ _ _ c.in_ok-registers.ensures.grows c.in_ok-tracked.ensures.grows) c.requires.writings

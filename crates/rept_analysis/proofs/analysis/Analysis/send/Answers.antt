@@ -14,7 +14,7 @@ invariant_of-self g c =
     let known = subst (λ (x : Whole g.row.B.Denot g.row.W.Denot g.row.R.Denot). Knows c.args.from (Byte c.args.a) c.args.value (state_of g.W.Partial.sets g.W.Transfer.moves g.R.RowRules.rules g.B.ByteFacts.store x)) (sym c.self.view_is) c.requires.known in
     let spared = subst (λ (x : Whole g.row.B.Denot g.row.W.Denot g.row.R.Denot). IsSparedBetween c.args.from c.args.to c.args.a (state_of g.W.Partial.sets g.W.Transfer.moves g.R.RowRules.rules g.B.ByteFacts.store x)) (sym c.self.view_is) c.requires.spared in
     let small : c.args.a < 2 ^ 32 = omega arith in
-    (sent _ (record { sets = g.met.W.Partial.lawful; moves = g.met.W.Transfer.covers; rules = g.met.R.RowRules.lawful }) c.self.invariant open_ g.B.ByteFacts.JOINS c.args.a c.args.from c.args.to c.args.value small from to known spared (known_of g.B.ByteFacts.store c.carry.new.self) c.carry.ensures.log c.carry.result (c.carry.ensures.carries c.args.value known)).0
+    (sent _ (record { sets = g.met.W.Partial.lawful; moves = g.met.W.Transfer.covers; rules = g.met.R.RowRules.lawful }) c.self.invariant open_ c.args.a c.args.from c.args.to c.args.value small from to known spared (known_of g.B.ByteFacts.store c.carry.new.self) c.carry.ensures.log c.carry.result (c.carry.ensures.carries c.args.value known)).0
 
 pub returns : goal.returns
 returns g c =
@@ -24,7 +24,7 @@ returns g c =
     let known = subst (λ (x : Whole g.row.B.Denot g.row.W.Denot g.row.R.Denot). Knows c.args.from (Byte c.args.a) c.args.value (state_of g.W.Partial.sets g.W.Transfer.moves g.R.RowRules.rules g.B.ByteFacts.store x)) (sym c.self.view_is) c.requires.known in
     let spared = subst (λ (x : Whole g.row.B.Denot g.row.W.Denot g.row.R.Denot). IsSparedBetween c.args.from c.args.to c.args.a (state_of g.W.Partial.sets g.W.Transfer.moves g.R.RowRules.rules g.B.ByteFacts.store x)) (sym c.self.view_is) c.requires.spared in
     let small : c.args.a < 2 ^ 32 = omega arith in
-    rw (← c.self.view_is) (sent _ (record { sets = g.met.W.Partial.lawful; moves = g.met.W.Transfer.covers; rules = g.met.R.RowRules.lawful }) c.self.invariant open_ g.B.ByteFacts.JOINS c.args.a c.args.from c.args.to c.args.value small from to known spared (known_of g.B.ByteFacts.store c.carry.new.self) c.carry.ensures.log c.carry.result (c.carry.ensures.carries c.args.value known)).1
+    rw (← c.self.view_is) (sent _ (record { sets = g.met.W.Partial.lawful; moves = g.met.W.Transfer.covers; rules = g.met.R.RowRules.lawful }) c.self.invariant open_ c.args.a c.args.from c.args.to c.args.value small from to known spared (known_of g.B.ByteFacts.store c.carry.new.self) c.carry.ensures.log c.carry.result (c.carry.ensures.carries c.args.value known)).1
 
 pub carry-requires : goal.carry-requires
 carry-requires g c =

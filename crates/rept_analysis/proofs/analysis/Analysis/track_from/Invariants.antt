@@ -1,5 +1,5 @@
 use Rattle.rept_analysis.specs.State.{state_of}
-use Rattle.rept_analysis.specs.Drawing.{Grows, Drew, AreTrackedFrom, SameKnown}
+use Rattle.rept_analysis.specs.Drawing.{Grows, Drew, AreTrackedFrom}
 use Rattle.rept_analysis.proofs.analysis.Analysis.track_from.Given as goal
 
 abbrev pub invariant-loop-k : goal.invariant-loop-k
@@ -9,5 +9,4 @@ invariant-loop-k g l =
       grows : Grows (st l.fn.self) (st l.self);
       drew : Drew (st l.fn.self) (st l.self) l.learnt (AreTrackedFrom l.start l.k);
       tracked : AreTrackedFrom l.start l.k (st l.self);
-      same : SameKnown (st l.fn.self) (st l.self);
     }

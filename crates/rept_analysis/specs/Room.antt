@@ -1,0 +1,99 @@
+-- That the room which an analysis took at first is enough for all bytes that it can learn, where its store joins what stands side by
+-- side: each byte that rows let one conclude is learnt once, as is the byte of the dump at each tracked address, and what is carried
+-- takes none. This project's own.
+use Rattle.std.specs.Prelude.{◌≡◌, ℕ, ◌+◌, ◌<◌, ◌≤◌, Bool, false, min, List, length, Option, Some, None, Contains, slice_get, sum_by, is_none}
+use Rattle.rept_isa.specs.declared.row.StepRow.{StepRow}
+use Rattle.rept_isa.specs.Numbers.{plus}
+use Rattle.rept_isa.specs.Operands.{first_read}
+use Rattle.rept_machine.specs.Arithmetic.{beside}
+use Rattle.rept_reason.specs.declared.fact.Fact.{Fact}
+use Rattle.rept_reason.specs.declared.fact.Cell.TheVariants.{Byte}
+use Rattle.rept_reason.specs.Facts.{told, register_known}
+use Rattle.rept_view.specs.declared.drawn.When.TheVariants.{Before}
+use Rattle.rept_view.specs.declared.drawn.Drawn.{Drawn}
+use Rattle.rept_view.specs.Seen.{Seen, IsLawful}
+use Rattle.rept_view.specs.Rules.{Rules, offset_of}
+use Rattle.rept_report.specs.Setting.{Setting}
+use Rattle.rept_report.specs.Views.{point_of}
+use Rattle.rept_log.specs.Known.{Known}
+use Rattle.rept_analysis.specs.Sums.{one_if, count_true, sum_to}
+
+-- how many byte facts a row lets one conclude at most
+abbrev pub places_of : Rules → Option StepRow → ℕ
+places_of rules None = 0
+places_of rules (Some row) = rules.places row
+
+-- so many has row i
+abbrev pub places_at : {W : Type 0} → Setting W → ℕ → ℕ
+places_at S i = places_of S.rules (slice_get S.rows i)
+
+-- how many bytes its rules look at
+abbrev pub bytes_at : {W : Type 0} → Setting W → ℕ → ℕ
+bytes_at S i = min (places_at S i) 4
+
+-- of all the numbers below `width i`, for each i below n, how many are marked
+abbrev pub marked : (ℕ → ℕ) → (ℕ → ℕ → Bool) → ℕ → ℕ
+marked width marks n = sum_to (λ i. count_true (marks i) (width i)) n
+
+-- at how many tracked addresses no byte is known after the last row
+abbrev pub unread : ℕ → Known → ℕ
+unread last k = sum_by (λ a. one_if (is_none (k.store.fact last a))) k.store.tracked
+
+-- a byte that row i's rules let one conclude, from something that was seen around the row, in which its base was what is known now
+pub record IsDrawnByte {W : Type 0} (S : Setting W) (log : List Fact) (i : ℕ) (d : Drawn) (a : ℕ) : Type 0 where
+  pub row : StepRow
+  pub found : slice_get S.rows i ≡ Some row
+  pub view : Seen
+  pub lawful : IsLawful view
+  pub drawn : Contains (S.rules.draw row view) d
+  pub cell : d.cell ≡ Byte a
+  pub base_register : ℕ
+  pub base : ℕ
+  pub read : first_read row.instr ≡ Some base_register
+  pub seen : view.register Before base_register ≡ Some base
+  pub known : register_known (told log) i base_register ≡ Some base
+
+-- a conclusion on this byte at this point
+pub record IsDrawnAt {W : Type 0} (S : Setting W) (log : List Fact) (p a : ℕ) : Type 0 where
+  pub number : ℕ
+  pub conclusion : Drawn
+  pub point : p ≡ point_of number conclusion.when
+  pub drawn : IsDrawnByte S log number conclusion a
+
+-- the byte of row i's slot j is known
+pub record IsSlotLearnt {W : Type 0} (S : Setting W) (k : Known) (i j : ℕ) : Type 0 where
+  pub conclusion : Drawn
+  pub address : ℕ
+  pub value : ℕ
+  pub slot : conclusion.slot ≡ j
+  pub drawn : IsDrawnByte S k.log i conclusion address
+  pub byte : k.store.fact (point_of i conclusion.when) address ≡ Some value
+
+-- byte j of those that row i's rules look at, whose base is known
+pub record IsOwnByte {W : Type 0} (S : Setting W) (log : List Fact) (i j a : ℕ) : Type 0 where
+  pub row : StepRow
+  pub found : slice_get S.rows i ≡ Some row
+  pub base_register : ℕ
+  pub base : ℕ
+  pub read : first_read row.instr ≡ Some base_register
+  pub known : register_known (told log) i base_register ≡ Some base
+  pub below_places : j < S.rules.places row
+  pub below_four : j < 4
+  pub address : a ≡ beside (plus base (offset_of row.instr)) j
+
+-- it is tracked
+pub record IsByteTracked {W : Type 0} (S : Setting W) (k : Known) (i j : ℕ) : Type 0 where
+  pub address : ℕ
+  pub own : IsOwnByte S k.log i j address
+  pub tracked : Contains k.store.tracked address
+
+-- The room that is left is enough for each slot whose byte isn't known, for each byte of a row that isn't tracked, and for the byte of
+-- the dump at each tracked address at which none is known.
+pub record HasRoom {W : Type 0} (S : Setting W) (k : Known) : Type 0 where
+  pub unlearnt : ℕ → ℕ → Bool
+  pub untracked : ℕ → ℕ → Bool
+  pub spare : marked (places_at S) unlearnt (length S.rows) + marked (bytes_at S) untracked (length S.rows) + unread (length S.rows) k ≤ k.store.spare
+  pub log : marked (places_at S) unlearnt (length S.rows) ≤ k.left
+  pub places : length k.store.tracked + marked (bytes_at S) untracked (length S.rows) ≤ k.store.places
+  pub learnt : (i j : ℕ) → unlearnt i j ≡ false → IsSlotLearnt S k i j
+  pub tracked : (i j : ℕ) → untracked i j ≡ false → IsByteTracked S k i j
