@@ -19,32 +19,32 @@ pub delivers_as : (Goes Wider : List ℕ → Status → Type 0) (out : Move Port
 delivers_as Goes Wider out result wider (inl h) = inl (h.0, wider h.0 result h.1, h.2, h.3)
 delivers_as Goes Wider out result wider (inr h) = inr (h.0, h.1, (h.2.0, h.2.1, wider h.2.0 h.2.1 h.2.2, h.2.3))
 
--- a front of what follows
-pub prefix_behind : (old mid new : Option (List ℕ)) (front whole : List ℕ) → Appends old mid front → AppendsPrefix mid new whole → AppendsPrefix old new (front ++ whole)
-prefix_behind old mid new front whole h p = (
+-- a prefix of what follows
+pub prefix_after : (old mid new : Option (List ℕ)) (front whole : List ℕ) → Appends old mid front → AppendsPrefix mid new whole → AppendsPrefix old new (front ++ whole)
+prefix_after old mid new front whole h p = (
   length front + p.0,
   omega (arith, length-append front whole, p.1),
   subst (Appends old new) (sym (take-append-add front whole p.0)) (Appends-trans old mid new front (take p.0 whole) h p.2),
 )
 
--- a front of a text is one of each longer text
+-- a prefix of a text is one of each longer text
 pub prefix_of_longer : (old new : Option (List ℕ)) (text rest : List ℕ) → AppendsPrefix old new text → AppendsPrefix old new (text ++ rest)
 prefix_of_longer old new text rest p = (p.0, omega (arith, length-append text rest, p.1), subst (Appends old new) (sym (take-append-le p.0 text rest p.1)) p.2)
 
 -- a delivery after a text
-pub delivers_behind : (Goes Whole : List ℕ → Status → Type 0) (old mid new : Port) (front : List ℕ) (result : Status)
+pub delivers_after : (Goes Whole : List ℕ → Status → Type 0) (old mid new : Port) (front : List ℕ) (result : Status)
     → mid.faults ≡ old.faults → Appends old.bytes mid.bytes front → ((text : List ℕ) (s : Status) → Goes text s → Whole (front ++ text) s)
     → Delivers Goes (move mid new) result → Delivers Whole (move old new) result
-delivers_behind Goes Whole old mid new front result calm h wider (inl d) =
+delivers_after Goes Whole old mid new front result calm h wider (inl d) =
     inl (front ++ d.0, wider d.0 result d.1, Appends-trans old.bytes mid.bytes new.bytes front d.0 h d.2, d.3 ∙ calm)
-delivers_behind Goes Whole old mid new front result calm h wider (inr d) =
-    inr (d.0, fault_after old.faults mid.faults new.faults calm d.1, (front ++ d.2.0, d.2.1, wider d.2.0 d.2.1 d.2.2, prefix_behind old.bytes mid.bytes new.bytes front d.2.0 h d.2.3))
+delivers_after Goes Whole old mid new front result calm h wider (inr d) =
+    inr (d.0, fault_after old.faults mid.faults new.faults calm d.1, (front ++ d.2.0, d.2.1, wider d.2.0 d.2.1 d.2.2, prefix_after old.bytes mid.bytes new.bytes front d.2.0 h d.2.3))
 
 -- the output failed after a text
-pub fails_behind : (Whole : List ℕ → Status → Type 0) (old mid new : Port) (front next rest all : List ℕ) (status : Status)
+pub fails_after : (Whole : List ℕ → Status → Type 0) (old mid new : Port) (front next rest all : List ℕ) (status : Status)
     → mid.faults ≡ old.faults → OneFault mid.faults new.faults → Appends old.bytes mid.bytes front → AppendsPrefix mid.bytes new.bytes next → all ≡ front ++ (next ++ rest) → Whole all status → Delivers Whole (move old new) ends.OutputFault
-fails_behind Whole old mid new front next rest all status calm fault h p e goes =
-    inr (refl, fault_after old.faults mid.faults new.faults calm fault, (all, status, goes, rw e (prefix_behind old.bytes mid.bytes new.bytes front (next ++ rest) h (prefix_of_longer mid.bytes new.bytes next rest p))))
+fails_after Whole old mid new front next rest all status calm fault h p e goes =
+    inr (refl, fault_after old.faults mid.faults new.faults calm fault, (all, status, goes, rw e (prefix_after old.bytes mid.bytes new.bytes front (next ++ rest) h (prefix_of_longer mid.bytes new.bytes next rest p))))
 
 -- how a call ends that tells a refusal: with its status, or cut short
 pub ends_told : (r : Refusal) (out : Move Port) (result : Status) → Delivers (Tells r) out result → Yields (status_of r) result

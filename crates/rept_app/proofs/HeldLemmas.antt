@@ -15,7 +15,7 @@ use Rattle.rept_app.specs.declared.refusal.Refusal.{Refusal}
 use Rattle.rept_app.specs.declared.refusal.Refusal.TheVariants as refusal
 use Rattle.rept_app.specs.declared.status.Status.{Status}
 use Rattle.rept_app.specs.declared.status.Status.TheVariants as ends
-use Rattle.rept_app.proofs.DeliveredLemmas.{delivers_behind, prefix_of_longer}
+use Rattle.rept_app.proofs.DeliveredLemmas.{delivers_after, prefix_of_longer}
 
 abbrev pub reading_here : List ℕ → Port → Reading
 reading_here bytes source = record { input = bytes; left = source.bytes }
@@ -53,19 +53,19 @@ module _ (t : Told) (reading : Reading) (old mid : Port) where
   module _ (calm : mid.faults ≡ old.faults) (new : Port) (result : Status) where
     pub cut_off : Serves t reading (move old mid) served.ReadFault → Delivers (Line refusal.InputFault ends.InputFault) (move mid new) result → Delivers (Holds t reading) (move old new) result
     cut_off (inl (front, w, a)) d =
-        delivers_behind (Line refusal.InputFault ends.InputFault) (Holds t reading) old mid new front result calm a
+        delivers_after (Line refusal.InputFault ends.InputFault) (Holds t reading) old mid new front result calm a
         (λ text s goes. subst (Holds t reading (front ++ text)) (sym goes.1) (inr (front, w, ap (λ (x : List ℕ). front ++ x) goes.0))) d
     cut_off (inr (e, rest)) d = let no : ⊥ = cc in absurd no
 
     pub overran : Serves t reading (move old mid) served.TooMuchInput → Delivers (Line refusal.TooMuchInput ends.TooMuchInput) (move mid new) result → Delivers (Holds t reading) (move old new) result
     overran (inl (front, w, a)) d =
-        delivers_behind (Line refusal.TooMuchInput ends.TooMuchInput) (Holds t reading) old mid new front result calm a
+        delivers_after (Line refusal.TooMuchInput ends.TooMuchInput) (Holds t reading) old mid new front result calm a
         (λ text s goes. subst (Holds t reading (front ++ text)) (sym goes.1) (inl (front, w, ap (λ (x : List ℕ). front ++ x) goes.0))) d
     overran (inr (e, rest)) d = let no : ⊥ = cc in absurd no
 
     pub ran_out : Serves t reading (move old mid) served.OutOfMemory → Delivers (Line refusal.OutOfMemory ends.OutOfMemory) (move mid new) result → Delivers (Holds t reading) (move old new) result
     ran_out (inl (front, w, a)) d =
-        delivers_behind (Line refusal.OutOfMemory ends.OutOfMemory) (Holds t reading) old mid new front result calm a
+        delivers_after (Line refusal.OutOfMemory ends.OutOfMemory) (Holds t reading) old mid new front result calm a
         (λ text s goes. subst (Holds t reading (front ++ text)) (sym goes.1) (inr (front, w, ap (λ (x : List ℕ). front ++ x) goes.0))) d
     ran_out (inr (e, rest)) d = let no : ⊥ = cc in absurd no
 

@@ -6,3 +6,5 @@ pub mod ExamineLemmas
 pub mod StudyLemmas
 pub mod ToldLemmas
 pub mod TopLemmas
+pub mod MadeLemmas
+pub mod WordsLemmas

@@ -25,7 +25,6 @@ module _ (old mid new : Shelved) (name : List ℕ) (kind : FileKind) (files : mi
   refuses_before (refusal.TooLarge k) h = (h.0, by_files (λ fs. IsOver fs name (limit_of kind)) h.1)
   refuses_before refusal.OutOfMemory h = tt
   refuses_before refusal.Usage h = absurd h
-  refuses_before refusal.NotBuilt h = absurd h
   refuses_before refusal.TooMuchInput h = absurd h
   refuses_before (refusal.Executable f) h = absurd h
   refuses_before (refusal.CoreImage f) h = absurd h

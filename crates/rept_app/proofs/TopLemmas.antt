@@ -1,5 +1,5 @@
 -- How the top call ends, from how its parts end.
-use Rattle.std.proofs.Common.{◌≡◌, ◌⊎◌, ℕ, ◌+◌, ◌<◌, ◌≤◌, List, length, Bool, true, false, Option, None, Some, MatchOption, IfSome, inl, inr, refl, sym, ap, subst, ◌∙◌, arith, cond, nat_lt, nat_eq}
+use Rattle.std.proofs.Common.{◌≡◌, ◌⊎◌, ℕ, ◌+◌, ◌<◌, ◌≤◌, List, length, Bool, true, false, Option, None, Some, MatchOption, IfSome, Result, Ok, IfOk, OnOk, inl, inr, refl, sym, ap, subst, ◌∙◌, arith, cond, nat_lt, nat_eq}
 use Rattle.std.proofs.lemmas.Bool.Decides.{nat_tests}
 use Rattle.rept_ports.specs.Causes.{Rose, OneFault}
 use Rattle.rept_ports.specs.Port.{Port, Move, move}
@@ -18,12 +18,16 @@ use Rattle.rept_app.specs.Ends.{Stopped, Yields, EndsSession, FaultEnds, PortsEn
 use Rattle.rept_app.specs.Held.{CutOff}
 use Rattle.rept_app.specs.Examine.{Examines, FilesEnd, IsExamined, IsWalkStatus, FilesExclude, FilesHold}
 use Rattle.rept_app.specs.Lines.{status_of}
-use Rattle.rept_app.specs.Loading.{Loading, loading, loading_by, fetched, fetched_all, limit_of, MatchLoading, Fits, FitBefore, name_of, loads_to, ComesTo, LoadRefuses, MeaningStops, LoadingStops, LoadsAll, first_packet}
-use Rattle.rept_app.specs.Loading.Loading.{Refused, Loaded}
-use Rattle.rept_app.specs.Told.{Given, given, Examined, Opening, Writes, Holds, ReportHolds, NoExecution, crash_at, setting_at}
-use Rattle.rept_app.specs.Top.{TopCauses, LacksFile, LoadEnds, LoadsOf, EndsBy, EndsByFiles, Completes}
+use Rattle.rept_app.specs.Loading.{Loading, loading, loading_by, fetched, fetched_all, limit_of, MatchLoading, Fits, FitBefore, name_of, loads_to, ComesTo, LoadRefuses, MeaningStops, LoadingStops, LoadsAll, NamesNone, IsAsked, first_packet}
+use Rattle.rept_app.specs.Loading.Loading.{Refused, Loaded, MadeRun}
+use Rattle.rept_app.specs.MadeRun.{Sums}
+use Rattle.rept_app.specs.Told.{Given, given, Examined, Summed, summary_line, Opening, Writes, Holds, ReportHolds, MadeHolds, AskedHolds, NoExecution, crash_at, setting_at}
+use Rattle.rept_app.specs.Top.{TopCauses, LacksFile, LoadEnds, LoadsOf, EndsBy, EndsByFiles, AskedEnds, Completes}
 use Rattle.rept_words.specs.Words.{Names, Meaning, meaning_of}
 use Rattle.rept_words.specs.Words.Meaning.{Open, Made}
+use Rattle.rept_app.specs.declared.load.Asked.{Asked}
+use Rattle.rept_app.specs.declared.load.Asked.TheVariants as asked
+use Rattle.rept_app.specs.declared.load.CrashFiles.{CrashFiles}
 use Rattle.rept_app.specs.declared.refusal.FileKind.{FileKind}
 use Rattle.rept_app.specs.declared.refusal.FileKind.TheVariants as file
 use Rattle.rept_app.specs.declared.refusal.Refusal.{Refusal}
@@ -46,7 +50,6 @@ why old new name kind (refusal.NoFile k) h = inr (inl (ap refusal.NoFile h.0, h.
 why old new name kind (refusal.TooLarge k) h = inr (inr (inl (ap refusal.TooLarge h.0, h.1)))
 why old new name kind refusal.OutOfMemory h = inr (inr (inr refl))
 why old new name kind refusal.Usage h = absurd h
-why old new name kind refusal.NotBuilt h = absurd h
 why old new name kind refusal.TooMuchInput h = absurd h
 why old new name kind (refusal.Executable f) h = absurd h
 why old new name kind (refusal.CoreImage f) h = absurd h
@@ -93,6 +96,25 @@ module _ (files : Files) (names : Names) (from : ℕ) where
   over kind before large = comes_to kind (refusal.TooLarge kind) before
       (λ next. ap (λ (o : Option (List ℕ)). fetched kind o next) large.1 ∙ ap (λ (b : Bool). cond b (Refused (refusal.TooLarge kind)) (next large.0)) (is_over (limit_of kind) (length large.0) large.2))
 
+-- files are to be loaded
+abbrev pub LoadsFiles : Loading → Type 0
+LoadsFiles (MadeRun seed steps) = ⊥
+LoadsFiles _ = Unit {0}
+
+either_loads : (b : Bool) (r : Refusal) (l : Loading) → LoadsFiles l → LoadsFiles (cond b (Refused r) l)
+either_loads true r l h = tt
+either_loads false r l h = h
+
+one_fetched : (kind : FileKind) (o : Option (List ℕ)) (next : List ℕ → Loading) → ((bytes : List ℕ) → LoadsFiles (next bytes)) → LoadsFiles (fetched kind o next)
+one_fetched kind None next h = tt
+one_fetched kind (Some bytes) next h = either_loads (nat_lt (limit_of kind) (length bytes)) (refusal.TooLarge kind) (next bytes) (h bytes)
+
+all_fetched : (files : Files) (names : Names) (from : ℕ) → LoadsFiles (fetched_all files names from)
+all_fetched files names from =
+    one_fetched file.Exe (files names.exe) (λ exe. fetched file.Core (files names.core) (λ core. fetched file.Trace (files names.trace) (λ trace. Loaded exe core trace from)))
+    (λ exe. one_fetched file.Core (files names.core) (λ core. fetched file.Trace (files names.trace) (λ trace. Loaded exe core trace from))
+    (λ core. one_fetched file.Trace (files names.trace) (λ trace. Loaded exe core trace from) (λ trace. tt)))
+
 abbrev pub opening : List ℕ → List ℕ → List ℕ → ℕ → List ℕ → Path → Opening
 opening exe core trace from note path = record { exe = exe; core = core; trace = trace; from = from; note = note; path = path }
 
@@ -115,7 +137,7 @@ module _ (words : List (List ℕ)) (files : Files) where
 
   words_stop : (old new : Shelved) (r : Refusal) → old.files ≡ Some files → (m : Option Meaning) → meaning_of words ≡ m → MeaningStops m old new r → Stops old new r
   words_stop old new r told None e h = inr (inr (ap (loading_by files) e ∙ ap Refused (sym h.0)))
-  words_stop old new r told (Some (Made seed steps)) e h = inr (inr (ap (loading_by files) e ∙ ap Refused (sym h.0)))
+  words_stop old new r told (Some (Made seed steps)) e h = absurd h
   words_stop old new r told (Some (Open names from)) e (kind, s) =
       names_stop old new names from kind r told e (at_files old.files (λ fs. FitBefore fs names kind) files told s.before) s.loads (why old new (name_of names kind) kind r s.why)
 
@@ -124,13 +146,25 @@ module _ (words : List (List ℕ)) (files : Files) where
   stops old new r told (inr h) = words_stop old new r told (meaning_of words) refl h
 
   abbrev Ends : Status → Loading → Type 0
-  Ends status l = MatchLoading l (λ r. EndsBy (status_of r) status) (λ exe core trace from. FilesEnd exe core trace from status ⊎ (status ≡ ends.LoadFault))
+  Ends status l = MatchLoading l (λ r. EndsBy (status_of r) status) (λ exe core trace from. FilesEnd exe core trace from status ⊎ (status ≡ ends.LoadFault)) (λ seed steps. Yields ends.Ok status)
 
   -- a call that stopped, or that couldn't load a file
-  interrupted : (status : Status) → Yields ends.LoadFault status → (l : Loading) → Ends status l
-  interrupted status h (Refused r) = inr h
-  interrupted status (inl h) (Loaded exe core trace from) = inr h
-  interrupted status (inr h) (Loaded exe core trace from) = inl (stopped_end exe core trace from status h)
+  stopped_at : (status : Status) → Stopped status → (l : Loading) → Ends status l
+  stopped_at status h (Refused r) = inr (inr h)
+  stopped_at status h (Loaded exe core trace from) = inl (stopped_end exe core trace from status h)
+  stopped_at status h (MadeRun seed steps) = inr h
+
+  unloaded_at : (status : Status) → status ≡ ends.LoadFault → (l : Loading) → LoadsFiles l → Ends status l
+  unloaded_at status h (Refused r) some = inr (inl h)
+  unloaded_at status h (Loaded exe core trace from) some = inr h
+  unloaded_at status h (MadeRun seed steps) some = absurd some
+
+  interrupted : (status : Status) → Yields ends.LoadFault status → (l : Loading) → LoadsFiles l → Ends status l
+  interrupted status (inl h) l some = unloaded_at status h l some
+  interrupted status (inr h) l some = stopped_at status h l
+
+  named_loads : (kind : FileKind) → ComesTo words files kind → LoadsFiles (loading words files)
+  named_loads kind (names, from, named, before) = subst LoadsFiles (sym (ap (loading_by files) named)) (all_fetched files names (first_packet from))
 
   by_refusal : (r s : Refusal) (status : Status) → r ≡ s → Yields (status_of r) status → Yields (status_of s) status
   by_refusal r s status e h = subst (λ (x : Refusal). Yields (status_of x) status) e h
@@ -141,17 +175,21 @@ module _ (words : List (List ℕ)) (files : Files) where
 
   -- where no files were loaded
   pub refused_ends : (old new : Shelved) (r : Refusal) (status : Status) → Stops old new r → Yields (status_of r) status → EndsByFiles words files status
-  refused_ends old new r status (inl (kind, e, comes, loads)) so = interrupted status (by_refusal r (refusal.LoadFault kind) status e so) (loading words files)
-  refused_ends old new r status (inr (inl e)) so = interrupted status (inr (memory_stops status (by_refusal r refusal.OutOfMemory status e so))) (loading words files)
+  refused_ends old new r status (inl (kind, e, comes, loads)) so = interrupted status (by_refusal r (refusal.LoadFault kind) status e so) (loading words files) (named_loads kind comes)
+  refused_ends old new r status (inr (inl e)) so = stopped_at status (memory_stops status (by_refusal r refusal.OutOfMemory status e so)) (loading words files)
   refused_ends old new r status (inr (inr h)) (inl e) = subst (Ends status) (sym h) (inl e)
-  refused_ends old new r status (inr (inr h)) (inr s) = interrupted status (inr s) (loading words files)
+  refused_ends old new r status (inr (inr h)) (inr s) = stopped_at status s (loading words files)
+
+  -- of a made run
+  pub made_ends : (seed steps : ℕ) (status : Status) → loading words files ≡ MadeRun seed steps → Yields ends.Ok status → EndsByFiles words files status
+  made_ends seed steps status at so = subst (Ends status) (sym at) so
 
   module _ (shelf : Move Shelved) (source : Move Port) (input text : List ℕ) (status : Status) where
     abbrev Here : Given
     Here = given words files shelf input source
 
     abbrev Whole : Loading → Type 0
-    Whole l = MatchLoading l (λ r. Says r text status) (λ exe core trace from. Examined exe core trace from input text status)
+    Whole l = MatchLoading l (λ r. Says r text status) (λ exe core trace from. Examined exe core trace from input text status) (λ seed steps. Summed seed steps text status)
 
     says_so : (r s : Refusal) → r ≡ s → Says r text status → Says s text status
     says_so r s e h = subst (λ (x : Refusal). Says x text status) e h
@@ -166,7 +204,12 @@ module _ (words : List (List ℕ)) (files : Files) where
     examined_writes exe core trace from at (inl h) = inl (subst Whole (sym at) h)
     examined_writes exe core trace from at (inr (inl h)) = inr (inr (inl h))
     examined_writes exe core trace from at (inr (inr (note, read, (path, a, is, account, cut)))) =
-        inr (inr (inr (opening exe core trace from note path, a, record { loaded = at; read = read; path = is }, account, cut)))
+        inr (inr (inr (inl (opening exe core trace from note path, a, record { loaded = at; read = read; path = is }, account, cut))))
+
+    pub made_writes : (seed steps : ℕ) → loading words files ≡ MadeRun seed steps → meaning_of words ≡ Some (Made seed steps) → Sums seed steps text status → Writes Here text status
+    made_writes seed steps at named (inl h) = inl (subst Whole (sym at) h)
+    made_writes seed steps at named (inr (inl says)) = inr (inr (inl says))
+    made_writes seed steps at named (inr (inr cut)) = inr (inr (inr (inr (seed, steps, named, cut))))
 
   module _ (exe core trace : List ℕ) (from : ℕ) (at : loading words files ≡ Loaded exe core trace from) where
     pub files_hold : (status : Status) → FilesHold exe core trace from status → Holds words files
@@ -208,7 +251,6 @@ cut_ends t reading text ends.Core h = absurd h
 cut_ends t reading text ends.Trace h = absurd h
 cut_ends t reading text ends.OutputFault h = absurd h
 cut_ends t reading text ends.TooMuchInput h = absurd h
-cut_ends t reading text ends.NotBuilt h = absurd h
 
 -- what is written where no count rose
 pub completed : (g : Given) (shelf : Move Shelved) (source sink : Move Port) (status : Status) → TopCauses shelf source sink status → Delivers (Writes g) sink status → Completes g shelf source sink status
@@ -216,8 +258,10 @@ completed g shelf source sink status c (inr h) no_load no_read no_write = absurd
 completed g shelf source sink status c (inl (text, inl h, appended, calm)) no_load no_read no_write = inr (text, h, appended)
 completed g shelf source sink status c (inl (text, inr (inl (kind, comes, loads, says)), appended, calm)) no_load no_read no_write = absurd (no_load (c.load says.ending).rose)
 completed g shelf source sink status c (inl (text, inr (inr (inl says)), appended, calm)) no_load no_read no_write = inl says.ending
-completed g shelf source sink status c (inl (text, inr (inr (inr (o, a, opens, account, cut))), appended, calm)) no_load no_read no_write =
+completed g shelf source sink status c (inl (text, inr (inr (inr (inl (o, a, opens, account, cut)))), appended, calm)) no_load no_read no_write =
     elim (cut_ends (told_of (setting_at o) a) g.reading text status cut) [ inl e ↦ absurd (no_read (c.ports.input e).rose) | inr e ↦ inl e ]
+completed g shelf source sink status c (inl (text, inr (inr (inr (inr (seed, steps, named, (made, is, o, opens, a, account, left, cut))))), appended, calm)) no_load no_read no_write =
+    elim (cut_ends (told_of (setting_at o) a) (record { input = summary_line; left = left }) text status cut) [ inl e ↦ absurd (no_read (c.ports.input e).rose) | inr e ↦ inl e ]
 
 -- a count that rose by at most one stands as it was, or one fault was counted
 counted : (before now : ℕ) → before ≤ now → now ≤ before + 1 → (now ≡ before) ⊎ OneFault before now
@@ -320,9 +364,12 @@ module _ (old new : Shelved) (source : Port) (sink : Move Port) (status : Status
   meaning_causes : (m : Option Meaning) (r : Refusal) → MeaningStops m old new r → Yields (status_of r) status → TopCauses (move old new) (move source source) sink status
   meaning_causes None r h so =
       idle_causes ends.Usage (λ (e : ends.Usage ≡ ends.LoadFault). cc) (λ (e : ends.Usage ≡ ends.NoFile). cc) (λ (e : ends.Usage ≡ ends.TooLarge). cc) (ap (λ (s : Shelved). s.faults) h.1) (by r refusal.Usage h.0 so)
-  meaning_causes (Some (Made seed steps)) r h so =
-      idle_causes ends.NotBuilt (λ (e : ends.NotBuilt ≡ ends.LoadFault). cc) (λ (e : ends.NotBuilt ≡ ends.NoFile). cc) (λ (e : ends.NotBuilt ≡ ends.TooLarge). cc) (ap (λ (s : Shelved). s.faults) h.1) (by r (refusal.NotBuilt) h.0 so)
+  meaning_causes (Some (Made seed steps)) r h so = absurd h
   meaning_causes (Some (Open names from)) r (kind, s) so = file_causes (name_of names kind) kind r (why old new (name_of names kind) kind r s.why) so
+
+  -- a made run
+  pub made_causes : new.faults ≡ old.faults → Yields ends.Ok status → TopCauses (move old new) (move source source) sink status
+  made_causes calm so = idle_causes ends.Ok (λ (e : ends.Ok ≡ ends.LoadFault). cc) (λ (e : ends.Ok ≡ ends.NoFile). cc) (λ (e : ends.Ok ≡ ends.TooLarge). cc) calm so
 
   pub refused_causes : (m : Option Meaning) (r : Refusal) → LoadingStops m old new r → Yields (status_of r) status → TopCauses (move old new) (move source source) sink status
   refused_causes m r (inl h) so = stopped_causes (memory (by r refusal.OutOfMemory h.0 so)) (inl (ap (λ (s : Shelved). s.faults) h.1))
@@ -337,7 +384,7 @@ module _ (old new : Shelved) (source : Port) (sink : Move Port) (status : Status
 
   meaning_loads : (m : Option Meaning) (r : Refusal) → MeaningStops m old new r → Yields (status_of r) status → LoadsOf m (move old new) status
   meaning_loads None r h so = tt
-  meaning_loads (Some (Made seed steps)) r h so = tt
+  meaning_loads (Some (Made seed steps)) r h so = absurd h
   meaning_loads (Some (Open names from)) r (kind, s) so = inl (record {
     last = kind;
     before = s.before;
@@ -357,20 +404,19 @@ module _ (old new : Shelved) (source : Port) (sink : Move Port) (status : Status
 -- a status with which no call ends that loads no files
 pub record IsOther (other : Status) : Type 0 where
   pub usage : ends.Usage ≡ other → ⊥
-  pub words : ends.NotBuilt ≡ other → ⊥
   pub failed : ends.LoadFault ≡ other → ⊥
   pub missing : ends.NoFile ≡ other → ⊥
   pub large : ends.TooLarge ≡ other → ⊥
   pub memory : ends.OutOfMemory ≡ other → ⊥
 
 pub input_only : IsOther ends.InputFault
-input_only = record { usage = λ e. cc; words = λ e. cc; failed = λ e. cc; missing = λ e. cc; large = λ e. cc; memory = λ e. cc }
+input_only = record { usage = λ e. cc; failed = λ e. cc; missing = λ e. cc; large = λ e. cc; memory = λ e. cc }
 
 pub output_only : IsOther ends.OutputFault
-output_only = record { usage = λ e. cc; words = λ e. cc; failed = λ e. cc; missing = λ e. cc; large = λ e. cc; memory = λ e. cc }
+output_only = record { usage = λ e. cc; failed = λ e. cc; missing = λ e. cc; large = λ e. cc; memory = λ e. cc }
 
 pub conflict_only : IsOther ends.Inconsistent
-conflict_only = record { usage = λ e. cc; words = λ e. cc; failed = λ e. cc; missing = λ e. cc; large = λ e. cc; memory = λ e. cc }
+conflict_only = record { usage = λ e. cc; failed = λ e. cc; missing = λ e. cc; large = λ e. cc; memory = λ e. cc }
 
 file_status : (old new : Shelved) (name : List ℕ) (kind : FileKind) (r : Refusal) (other : Status) → IsOther other → Why old new name kind r → status_of r ≡ other → ⊥
 file_status old new name kind r other is (inl h) e = is.failed (ap status_of (sym h.0) ∙ e)
@@ -380,7 +426,7 @@ file_status old new name kind r other is (inr (inr (inr h))) e = is.memory (ap s
 
 meaning_status : (old new : Shelved) (m : Option Meaning) (r : Refusal) (other : Status) → IsOther other → MeaningStops m old new r → status_of r ≡ other → ⊥
 meaning_status old new None r other is h e = is.usage (ap status_of (sym h.0) ∙ e)
-meaning_status old new (Some (Made seed steps)) r other is h e = is.words (ap status_of (sym h.0) ∙ e)
+meaning_status old new (Some (Made seed steps)) r other is h e = absurd h
 meaning_status old new (Some (Open names from)) r other is (kind, s) e = file_status old new (name_of names kind) kind r other is (why old new (name_of names kind) kind r s.why) e
 
 pub no_status : (old new : Shelved) (m : Option Meaning) (r : Refusal) (other : Status) → IsOther other → LoadingStops m old new r → status_of r ≡ other → ⊥
@@ -389,8 +435,8 @@ no_status old new m r other is (inr h) e = meaning_status old new m r other is h
 
 -- all files were loaded
 pub all_loads : (old new : Shelved) (m : Option Meaning) (status : Status) → LoadsAll m old new → LoadsOf m (move old new) status
-all_loads old new None status h = tt
-all_loads old new (Some (Made seed steps)) status h = tt
+all_loads old new None status h = absurd h
+all_loads old new (Some (Made seed steps)) status h = absurd h
 all_loads old new (Some (Open names from)) status h = inl (record { last = file.Trace; before = h.before; loads = h.loads; all = inl refl })
 
 -- the causes of a call whose files were loaded
@@ -461,3 +507,65 @@ holds_where o H exe core trace from status h (inr f) = inr (f.1, where_some o H 
     where_some : (o : Option Files) (H : Files → Type 0) → ((files : Files) → o ≡ Some files → H files) → IfSome o H
     where_some None H k = tt
     where_some (Some files) H k = k files refl
+
+-- what is said of words that ask for a made run, and isn't of others
+pub asked_holds : (m : Option Meaning) → ((seed steps : ℕ) → MadeHolds seed steps) → AskedHolds m
+asked_holds None h = tt
+asked_holds (Some (Open names from)) h = tt
+asked_holds (Some (Made seed steps)) h = h seed steps
+
+pub loaded_asks : (m : Option Meaning) (old new : Shelved) (status : Status) → LoadsAll m old new → AskedEnds m status
+loaded_asks None old new status h = tt
+loaded_asks (Some (Open names from)) old new status h = tt
+loaded_asks (Some (Made seed steps)) old new status h = absurd h
+
+pub loads_named : {P : Type 0} (m : Option Meaning) (old new : Shelved) → LoadsAll m old new → NamesNone m → P
+loads_named None old new h none = absurd h
+loads_named (Some (Open names from)) old new h none = absurd none
+loads_named (Some (Made seed steps)) old new h none = absurd h
+
+memory_ends : (r : Refusal) (status : Status) → r ≡ refusal.OutOfMemory → Yields (status_of r) status → Yields ends.Ok status
+memory_ends r status e so = stop (subst (λ (x : Refusal). Yields (status_of x) status) e so)
+  where
+    stop : Yields ends.OutOfMemory status → Yields ends.Ok status
+    stop (inl h) = inr (inr h)
+    stop (inr h) = inr h
+
+pub refused_asks : (m : Option Meaning) (old new : Shelved) (r : Refusal) (status : Status) → LoadingStops m old new r → Yields (status_of r) status → AskedEnds m status
+refused_asks None old new r status h so = tt
+refused_asks (Some (Open names from)) old new r status h so = tt
+refused_asks (Some (Made seed steps)) old new r status (inl h) so = memory_ends r status h.0 so
+refused_asks (Some (Made seed steps)) old new r status (inr h) so = absurd h
+
+-- of words that ask for a made run
+module _ (m : Option Meaning) (seed steps : ℕ) (named : m ≡ Some (Made seed steps)) where
+  pub made_asks : (status : Status) → Yields ends.Ok status → AskedEnds m status
+  made_asks status so = subst (λ (x : Option Meaning). AskedEnds x status) (sym named) so
+
+  pub made_loads : (shelf : Move Shelved) (status : Status) → LoadsOf m shelf status
+  made_loads shelf status = subst (λ (x : Option Meaning). LoadsOf x shelf status) (sym named) tt
+
+  pub made_means : {P : Type 0} → m ≡ None → P
+  made_means none = let bad : Some (Made seed steps) ≡ None = sym named ∙ none in let no : ⊥ = cc in absurd no
+
+-- a call that ends well, or stops, ends with no other status
+pub no_other : {P : Type 0} (other status : Status) → (ends.Ok ≡ other → ⊥) → (ends.OutputFault ≡ other → ⊥) → (ends.OutOfMemory ≡ other → ⊥) → Yields ends.Ok status → status ≡ other → P
+no_other other status a b c (inl h) e = absurd (a (sym h ∙ e))
+no_other other status a b c (inr (inl h)) e = absurd (b (sym h ∙ e))
+no_other other status a b c (inr (inr h)) e = absurd (c (sym h ∙ e))
+
+-- what is said of a call that answered so
+pub ok_at : {T E : Type 0} (r : Result T E) (a b : T) (P : T → Type 0) → r ≡ Ok a → a ≡ b → IfOk r P → P b
+ok_at {T} {E} r a b P e same h =
+    let here : P a = subst (λ (x : Result T E). IfOk x P) e h in
+    subst P same here
+
+pub done_at : {T E : Type 0} {P : Type 0} (r : Result T E) (a : T) → r ≡ Ok a → OnOk r P → P
+done_at {T} {E} {P} r a e h = subst (λ (x : Result T E). OnOk x P) e h
+
+module _ (r : Result Asked Refusal) (a : Asked) where
+  pub all_at : (l : CrashFiles) (m : Option Meaning) (old new : Shelved) → r ≡ Ok a → a ≡ asked.Files l → IfOk r (λ x. IsAsked x m old new) → LoadsAll m old new
+  all_at l m old new e same h = (ok_at r a (asked.Files l) (λ x. IsAsked x m old new) e same h).0
+
+  pub made_at : (seed steps : ℕ) (m : Option Meaning) (old new : Shelved) → r ≡ Ok a → a ≡ asked.Made seed steps → IfOk r (λ x. IsAsked x m old new) → m ≡ Some (Made seed steps)
+  made_at seed steps m old new e same h = (ok_at r a (asked.Made seed steps) (λ x. IsAsked x m old new) e same h).0

@@ -10,7 +10,7 @@ use Rattle.rept_app.specs.declared.status.Status.{Status}
 use Rattle.rept_app.specs.declared.status.Status.TheVariants as ends
 
 -- The output is what it was, followed by a text that goes with the status, and no fault was counted; or the output failed once,
--- and what follows is a front of such a text.
+-- and what follows is a prefix of such a text.
 abbrev pub Delivers : (List ℕ → Status → Type 0) → Move Port → Status → Type 0
 Delivers Goes out result =
     ((text : List ℕ) × Goes text result × Appends out.before.bytes out.after.bytes text × (out.after.faults ≡ out.before.faults))

@@ -5,6 +5,7 @@ pub mod Forms
 pub mod Held
 pub mod Lines
 pub mod Loading
+pub mod MadeRun
 pub mod Path
 pub mod Status
 pub mod Study

@@ -4,15 +4,19 @@ use Rattle.rept_ports.specs.Causes.{Rose, next_count}
 use Rattle.rept_ports.specs.Shelves.{Files, Shelved, IsOver}
 use Rattle.rept_words.specs.Words.{Names, Meaning, meaning_of}
 use Rattle.rept_words.specs.Words.Meaning.{Open, Made}
+use Rattle.rept_app.specs.declared.load.Asked.{Asked}
+use Rattle.rept_app.specs.declared.load.Asked.TheVariants as asked
 use Rattle.rept_app.specs.declared.refusal.FileKind.{FileKind}
 use Rattle.rept_app.specs.declared.refusal.FileKind.TheVariants as file
 use Rattle.rept_app.specs.declared.refusal.Refusal.{Refusal}
 use Rattle.rept_app.specs.declared.refusal.Refusal.TheVariants as refusal
 
--- a refusal, or the bytes of the executable, the core file and the trace, and the number of the packet to begin from
+-- a refusal; or the bytes of the executable, the core file and the trace, and the number of the packet to begin from; or the seed and
+-- the count of steps of a made run, for which nothing is loaded
 pub data Loading : Type 0 where
   Refused : Refusal → Loading
   Loaded : List ℕ → List ℕ → List ℕ → ℕ → Loading
+  MadeRun : ℕ → ℕ → Loading
 
 -- the most bytes of a file: 64 MiB, 256 MiB and 16 MiB
 abbrev pub limit_of : FileKind → ℕ
@@ -37,16 +41,17 @@ first_packet (Some from) = from
 
 abbrev pub loading_by : Files → Option Meaning → Loading
 loading_by files None = Refused refusal.Usage
-loading_by files (Some (Made seed steps)) = Refused refusal.NotBuilt
+loading_by files (Some (Made seed steps)) = MadeRun seed steps
 loading_by files (Some (Open names from)) = fetched_all files names (first_packet from)
 
--- what words and files come to: no meaning, words that aren't read yet, the first file that is missing or too large, or all files
+-- what words and files come to: no meaning, a made run, the first file that is missing or too large, or all files
 abbrev pub loading : List (List ℕ) → Files → Loading
 loading words files = loading_by files (meaning_of words)
 
-abbrev pub MatchLoading : Loading → (Refusal → Type 0) → (List ℕ → List ℕ → List ℕ → ℕ → Type 0) → Type 0
-MatchLoading (Refused r) P Q = P r
-MatchLoading (Loaded exe core trace from) P Q = Q exe core trace from
+abbrev pub MatchLoading : Loading → (Refusal → Type 0) → (List ℕ → List ℕ → List ℕ → ℕ → Type 0) → (ℕ → ℕ → Type 0) → Type 0
+MatchLoading (Refused r) P Q R = P r
+MatchLoading (Loaded exe core trace from) P Q R = Q exe core trace from
+MatchLoading (MadeRun seed steps) P Q R = R seed steps
 
 -- the file of that name is there and within the limit
 abbrev pub Fits : Files → FileKind → List ℕ → Type 0
@@ -91,7 +96,7 @@ pub record StopsAt (old new : Shelved) (names : Names) (kind : FileKind) (r : Re
 -- why the words or the files that they name don't come to three files: by the words, or by the file whose load was the last
 abbrev pub MeaningStops : Option Meaning → Shelved → Shelved → Refusal → Type 0
 MeaningStops None old new r = (r ≡ refusal.Usage) × (new ≡ old)
-MeaningStops (Some (Made seed steps)) old new r = (r ≡ refusal.NotBuilt) × (new ≡ old)
+MeaningStops (Some (Made seed steps)) old new r = ⊥
 MeaningStops (Some (Open names from)) old new r = (kind : FileKind) × StopsAt old new names kind r
 
 -- why no files are loaded: there was no memory to read the words, or by these
@@ -121,3 +126,13 @@ abbrev pub LoadsAll : Option Meaning → Shelved → Shelved → Type 0
 LoadsAll None old new = ⊥
 LoadsAll (Some (Made seed steps)) old new = ⊥
 LoadsAll (Some (Open names from)) old new = AllLoaded names old new
+
+-- what was loaded, or is to be made
+abbrev pub asked_for : Asked → Loading
+asked_for (asked.Files l) = Loaded l.exe.items l.core.items l.trace.items l.from
+asked_for (asked.Made seed steps) = MadeRun seed steps
+
+-- All three files of the words were loaded, and the trace is within its limit; or the words ask for a made run, and the shelf is as it was.
+abbrev pub IsAsked : Asked → Option Meaning → Shelved → Shelved → Type 0
+IsAsked (asked.Files l) m old new = LoadsAll m old new × (length l.trace.items ≤ limit_of file.Trace)
+IsAsked (asked.Made seed steps) m old new = (m ≡ Some (Made seed steps)) × (new ≡ old)

@@ -17,4 +17,3 @@ number_of_status ends.InputFault = 9
 number_of_status ends.OutputFault = 10
 number_of_status ends.OutOfMemory = 11
 number_of_status ends.TooMuchInput = 12
-number_of_status ends.NotBuilt = 13

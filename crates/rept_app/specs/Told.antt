@@ -1,5 +1,5 @@
 -- What the program writes, and with which status.
-use Rattle.std.specs.Prelude.{◌≡◌, ◌⊎◌, ℕ, List, length, None, Result, Ok, MatchOption, MatchResult}
+use Rattle.std.specs.Prelude.{◌≡◌, ◌⊎◌, ℕ, List, [], ◌∷◌, ◌++◌, length, Option, None, Some, Result, Ok, MatchOption, MatchResult, codes}
 use Rattle.rept_elf.specs.Segments.{segments}
 use Rattle.rept_dump.specs.Registers.{Says as NotesSay}
 use Rattle.rept_dump.specs.declared.fault.CoreFault.{CoreFault}
@@ -8,9 +8,10 @@ use Rattle.rept_path.specs.declared.fault.PathFault.{PathFault}
 use Rattle.rept_path.specs.declared.rebuilding.Path.{Path}
 use Rattle.rept_ports.specs.Port.{Port, Move, move}
 use Rattle.rept_ports.specs.Shelves.{Files, Shelved}
+use Rattle.rept_machine.specs.State.{State}
 use Rattle.rept_reason.specs.Facts.{Knowledge}
 use Rattle.rept_report.specs.Closure.{ClosureHas, IsConsistent, IsReport}
-use Rattle.rept_report.specs.Setting.{Setting}
+use Rattle.rept_report.specs.Setting.{Setting, Runs}
 use Rattle.rept_report.specs.Soundness.{HasNoExecution}
 use Rattle.rept_report.specs.declared.conflict.ConflictKind.{ConflictKind}
 use Rattle.rept_analysis.specs.Logged.{IsLogOf}
@@ -18,6 +19,10 @@ use Rattle.rept_found.specs.Crash.{Crash, end_pc, setting}
 use Rattle.rept_found.specs.Telling.{Account, told_of}
 use Rattle.rept_found.specs.Truth.{IsTrueReport}
 use Rattle.rept_serve.specs.Serving.{Reading}
+use Rattle.rept_make.specs.Made.{IsMade}
+use Rattle.rept_make.specs.declared.made.Made.{Made}
+use Rattle.rept_words.specs.Words.{Meaning, meaning_of}
+use Rattle.rept_words.specs.Words.Meaning.{Open, Made as MadeWords}
 use Rattle.rept_app.specs.Delivered.{Says}
 use Rattle.rept_app.specs.Forms.{executable_fault, core_image_fault, crash_in}
 use Rattle.rept_app.specs.Held.{Replies, CutOff}
@@ -60,10 +65,19 @@ Examined exe core trace from input text status =
     MatchOption (executable_fault exe) (MatchOption (core_image_fault core) (NotesTold exe core trace from input text status) (λ fault. Says (refusal.CoreImage fault) text status))
     (λ fault. Says (refusal.Executable fault) text status)
 
+-- the input that is answered of a made run: the command `summary`
+abbrev pub summary_line : List ℕ
+summary_line = codes "summary" ++ 10 ∷ []
+
+-- what is written of a made run: what the files of its crash tell, answering `summary`
+abbrev pub Summed : ℕ → ℕ → List ℕ → Status → Type 0
+Summed seed steps text status = (made : Made) × IsMade seed steps made × Examined made.exe made.core made.trace 0 summary_line text status
+
 -- Words, files and input that are all there: the text that is written, and the status. The cases stand in the order in which
 -- they are looked at: the words, the files, the executable, the core file, the trace and its path, the analysis, the input.
 abbrev pub Told : List (List ℕ) → Files → List ℕ → List ℕ → Status → Type 0
-Told words files input text status = MatchLoading (loading words files) (λ r. Says r text status) (λ exe core trace from. Examined exe core trace from input text status)
+Told words files input text status =
+    MatchLoading (loading words files) (λ r. Says r text status) (λ exe core trace from. Examined exe core trace from input text status) (λ seed steps. Summed seed steps text status)
 
 -- the executable and the core file are accepted, and this is the descriptor of the register note
 pub record Reads (exe core note : List ℕ) : Type 0 where
@@ -93,6 +107,21 @@ pub record Opens (words : List (List ℕ)) (files : Files) (o : Opening) : Type 
   pub read : Reads o.exe o.core o.note
   pub path : IsTracePath (crash_at o) o.trace o.from o.path
 
+-- the files of a made crash come to it, from the first packet on
+pub record OpensMade (made : Made) (o : Opening) : Type 0 where
+  pub exe : o.exe ≡ made.exe
+  pub core : o.core ≡ made.core
+  pub trace : o.trace ≡ made.trace
+  pub from : o.from ≡ 0
+  pub read : Reads o.exe o.core o.note
+  pub path : IsTracePath (crash_at o) o.trace o.from o.path
+
+-- the session over the report of a made run was cut short
+abbrev pub SumCut : ℕ → ℕ → List ℕ → Status → Type 0
+SumCut seed steps text status =
+    (made : Made) × IsMade seed steps made × (o : Opening) × OpensMade made o × (a : Account) × IsAccountOf (crash_at o) o.path a
+    × (left : Option (List ℕ)) × CutOff (told_of (setting_at o) a) (record { input = summary_line; left = left }) text status
+
 -- What a call was given, where its ports tell it: its words, the files, how many loads the shelf was asked for before the call and
 -- after it, and the bytes of the input with those that are left of it.
 pub record Given : Type 0 where
@@ -110,12 +139,13 @@ given words files shelf input source = record {
 }
 
 -- A call that was cut short: a load failed, which is that of the file that the line names, and those before it are there and within
--- their limits; memory ran out; or, where all came to a report, the session was cut short.
+-- their limits; memory ran out; or, where all came to a report, the session was cut short; or that over a made run was.
 abbrev pub Interrupted : Given → List ℕ → Status → Type 0
 Interrupted g text status =
     ((kind : FileKind) × ComesTo g.words g.files kind × (g.loads.after ≡ loads_to kind g.loads.before) × Says (refusal.LoadFault kind) text status)
     ⊎ Says refusal.OutOfMemory text status
     ⊎ ((o : Opening) × (a : Account) × Opens g.words g.files o × IsAccountOf (crash_at o) o.path a × CutOff (told_of (setting_at o) a) g.reading text status)
+    ⊎ ((seed : ℕ) × (steps : ℕ) × (meaning_of g.words ≡ Some (MadeWords seed steps)) × SumCut seed steps text status)
 
 -- what is written where the output doesn't fail
 abbrev pub Writes : Given → List ℕ → Status → Type 0
@@ -133,3 +163,16 @@ ReportHolds words files = (o : Opening) (known : Knowledge) → Opens words file
 -- no execution of the path ends in the dump
 abbrev pub NoExecution : List (List ℕ) → Files → Type 0
 NoExecution words files = (o : Opening) → Opens words files o → HasNoExecution (setting_at o)
+
+-- The files of a made crash come to a path, of which an execution ends in the dump: what is told of its report isn't told of nothing.
+-- It holds in each such execution.
+abbrev pub MadeHolds : ℕ → ℕ → Type 0
+MadeHolds seed steps =
+    (made : Made) → IsMade seed steps made
+    → (o : Opening) × OpensMade made o × ((run : ℕ → State) × Runs (setting_at o) run) × ((known : Knowledge) → IsReport (setting_at o) known → IsTrueReport (setting_at o) known)
+
+-- the same of words that ask for a made run
+abbrev pub AskedHolds : Option Meaning → Type 0
+AskedHolds None = Unit {0}
+AskedHolds (Some (Open names from)) = Unit {0}
+AskedHolds (Some (MadeWords seed steps)) = MadeHolds seed steps

@@ -4,7 +4,7 @@ use Rattle.std.specs.Io.KnownBytes.{Appends}
 use Rattle.rept_ports.specs.Causes.{Rose, OneFault}
 use Rattle.rept_ports.specs.Port.{Port, Move}
 use Rattle.rept_ports.specs.Shelves.{Files, Shelved}
-use Rattle.rept_app.specs.Ends.{Stopped, FaultEnds, PortsEnd}
+use Rattle.rept_app.specs.Ends.{Stopped, Yields, FaultEnds, PortsEnd}
 use Rattle.rept_app.specs.Examine.{FilesEnd}
 use Rattle.rept_app.specs.Lines.{status_of}
 use Rattle.rept_app.specs.Loading.{loading, MatchLoading, FitBefore, loads_to}
@@ -53,12 +53,18 @@ abbrev pub EndsBy : Status → Status → Type 0
 EndsBy expected status = (status ≡ expected) ⊎ (status ≡ ends.LoadFault) ⊎ Stopped status
 
 -- Each status comes where the words and the files say so: a refusal has its status; files that are there end the call by what they
--- hold.
+-- hold; a made run ends it well.
 abbrev pub EndsByFiles : List (List ℕ) → Files → Status → Type 0
-EndsByFiles words files status = MatchLoading (loading words files) (λ r. EndsBy (status_of r) status) (λ exe core trace from. FilesEnd exe core trace from status ⊎ (status ≡ ends.LoadFault))
+EndsByFiles words files status = MatchLoading (loading words files) (λ r. EndsBy (status_of r) status) (λ exe core trace from. FilesEnd exe core trace from status ⊎ (status ≡ ends.LoadFault)) (λ seed steps. Yields ends.Ok status)
 
 -- where no port counted a fault: all of the text is written, or memory ran out
 abbrev pub Completes : Given → Move Shelved → Move Port → Move Port → Status → Type 0
 Completes g shelf source sink status =
     (Rose shelf.before.faults shelf.after.faults → ⊥) → (Rose source.before.faults source.after.faults → ⊥) → (Rose sink.before.faults sink.after.faults → ⊥)
     → (status ≡ ends.OutOfMemory) ⊎ ((text : List ℕ) × Told g.words g.files g.reading.input text status × Appends sink.before.bytes sink.after.bytes text)
+
+-- how words that ask for a made run end the call: well, whatever the ports are, unless the output fails or memory runs out
+abbrev pub AskedEnds : Option Meaning → Status → Type 0
+AskedEnds None status = Unit {0}
+AskedEnds (Some (Open names from)) status = Unit {0}
+AskedEnds (Some (Made seed steps)) status = Yields ends.Ok status

@@ -1,3 +1,5 @@
+//! From the bytes of the files to the study of their path.
+
 ghost use Rattle.std.specs.Prelude.{◌≡◌, ◌⊎◌, ◌<◌, ◌^◌, length, IfSome};
 ghost use Rattle.rept_ports.specs.Port.{move};
 ghost use Rattle.rept_found.specs.Crash.{crash_of};

@@ -1,4 +1,5 @@
-// Holding a session over what an analysis found.
+//! Holding a session over what an analysis found.
+
 ghost use Rattle.std.specs.Prelude.{◌≡◌, IfSome};
 ghost use Rattle.rept_ports.specs.Port.{move};
 ghost use Rattle.rept_session.specs.Shown.{SameReasons, told};

@@ -1,9 +1,10 @@
-// The top call: words, files, path, analysis and session.
+//! The top call: words, files, path, analysis and session.
 #![tactic(auto)]
 
 mod examine;
 mod hold;
 mod load;
+mod made_run;
 mod path;
 mod path_line;
 mod refusal;

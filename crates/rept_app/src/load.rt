@@ -1,9 +1,11 @@
+//! Loading the three files.
+
 ghost use Rattle.std.specs.Prelude.{◌≡◌, ◌⊎◌, ◌≤◌, map, length, string_bytes, IsOk, IfOk, IfErr, IfSome, Some, None, Err};
 ghost use Rattle.rept_ports.specs.Shelves.{Loads};
 ghost use Rattle.rept_words.specs.Words.{meaning_of};
 ghost use Rattle.rept_words.specs.Asked.{named_by};
 ghost use Rattle.rept_app.specs.declared.refusal.FileKind.{FileKind};
-ghost use Rattle.rept_app.specs.Loading.{limit_of, fetched_all, first_packet, loading, loads_to, FitBefore, LoadRefuses, LoadingStops, LoadsAll, NamesNone, ShelfMoves, StopsAt};
+ghost use Rattle.rept_app.specs.Loading.{limit_of, fetched_all, first_packet, loading, loads_to, asked_for, FitBefore, IsAsked, LoadRefuses, LoadingStops, NamesNone, ShelfMoves, StopsAt};
 ghost use Rattle.rept_app.specs.Loading.Loading.{Loaded};
 
 use crate::refusal::{FileKind, Refusal};
@@ -18,6 +20,13 @@ pub struct CrashFiles {
     pub core: Vec<u8>,
     pub trace: Vec<u8>,
     pub from: u32,
+}
+
+/// What the words ask for: the files of a crash, which are loaded, or a made run.
+#[derive(Drop)]
+pub enum Asked {
+    Files(CrashFiles),
+    Made { seed: u32, steps: u32 },
 }
 
 /// The most bytes of a file: 64 MiB of an executable, 256 MiB of a core file, 16 MiB of a trace.
@@ -95,15 +104,14 @@ fn load_names<H: Shelf>(
     }
 }
 
-/// Loads the files that the words name. Only `open` is read yet.
+/// Loads the files that the words name, if they ask for files.
 pub fn load_files<H: Shelf>(
     alloc: Global,
     words: &[String],
     shelf: &mut H,
-) -> Result<CrashFiles, Refusal>
-    ensures loaded { IfOk result (λ l. IfSome (H.port shelf.old).files (λ files. loading (map string_bytes words.now) files ≡ Loaded l.exe.items l.core.items l.trace.items l.from)) }
-    ensures within { IfOk result (λ l. length l.trace.items ≤ limit_of FileKind.Trace) }
-    ensures all { IsOk result → LoadsAll (meaning_of (map string_bytes words.now)) (H.port shelf.old) (H.port shelf.new) }
+) -> Result<Asked, Refusal>
+    ensures loaded { IfOk result (λ asked. IfSome (H.port shelf.old).files (λ files. loading (map string_bytes words.now) files ≡ asked_for asked)) }
+    ensures asked { IfOk result (λ asked. IsAsked asked (meaning_of (map string_bytes words.now)) (H.port shelf.old) (H.port shelf.new)) }
     ensures faults { ShelfMoves (H.port shelf.old) (H.port shelf.new) result }
     ensures refused { IfErr result (LoadingStops (meaning_of (map string_bytes words.now)) (H.port shelf.old) (H.port shelf.new)) }
     ensures idle { NamesNone (meaning_of (map string_bytes words.now)) → shelf.new ≡ shelf.old }
@@ -113,9 +121,12 @@ pub fn load_files<H: Shelf>(
     match meaning(alloc, words) {
         Ok(None) => Err(Refusal::Usage),
         Ok(Some(Request::Open { names, from })) => {
-            load_names(alloc, shelf, names, first_packet_of(from))
+            match load_names(alloc, shelf, names, first_packet_of(from)) {
+                Ok(files) => Ok(Asked::Files(files)),
+                Err(refusal) => Err(refusal),
+            }
         }
-        Ok(Some(Request::Made { .. })) => Err(Refusal::NotBuilt),
+        Ok(Some(Request::Made { seed, steps })) => Ok(Asked::Made { seed, steps }),
         Err(_) => Err(Refusal::OutOfMemory),
     }
 }

@@ -1,3 +1,5 @@
+//! The path that a trace file tells.
+
 ghost use Rattle.std.specs.Prelude.{◌≡◌, ◌≢◌, ◌⊎◌, ◌<◌, ◌^◌, length, IfOk, IfErr, MatchResult};
 ghost use Rattle.rept_dump.specs.Dump.{registers_of};
 ghost use Rattle.rept_steps.specs.Linked.{EndBefore};

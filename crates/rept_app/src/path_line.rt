@@ -1,3 +1,5 @@
+//! The line that says why a trace has no path.
+
 ghost use Rattle.std.specs.Prelude.{◌≡◌, ◌++◌, OnOk, codes};
 ghost use Rattle.std.specs.Fmt.{decimal};
 ghost use Rattle.rept_word.specs.Hex.{hex_word};

@@ -1,3 +1,5 @@
+//! What ends a call, with its line.
+
 ghost use Rattle.std.specs.Prelude.{◌≡◌, ◌++◌, IfOk, OnOk, codes};
 ghost use Rattle.std.specs.Fmt.{decimal};
 ghost use Rattle.rept_app.specs.Lines.{line_of, status_of, status_of_path, file_word, elf_fault_text, core_fault_text, conflict_text, two_values_text, cell_text, value_text_in};
@@ -37,8 +39,6 @@ pub enum Refusal {
     Core(CoreFault),
     /// The trace is refused, or has no path.
     Path(PathFault),
-    /// The words ask for what isn't built yet: `self`.
-    NotBuilt,
     Inconsistent(ConflictKind),
     InputFault,
     OutOfMemory,
@@ -58,7 +58,6 @@ impl Refusal {
             Refusal::Executable(_) => Status::Executable,
             Refusal::CoreImage(_) | Refusal::Core(_) => Status::Core,
             Refusal::Path(fault) => path_status(fault),
-            Refusal::NotBuilt => Status::NotBuilt,
             Refusal::Inconsistent(_) => Status::Inconsistent,
             Refusal::InputFault => Status::InputFault,
             Refusal::OutOfMemory => Status::OutOfMemory,
@@ -66,7 +65,7 @@ impl Refusal {
         }
     }
 
-    /// The line that is written before the status. The only refusal is want of memory.
+    /// The line that is written before the status. The only refusal is out of memory.
     pub fn line(&self, alloc: Global) -> Result<Text, OutOfMemory>
         ensures { IfOk result (λ text. text ≡ line_of self.now) }
     {
@@ -82,7 +81,6 @@ impl Refusal {
             Refusal::CoreImage(fault) => push_elf_fault(&mut text, b"core-image ", fault)?,
             Refusal::Core(fault) => push_core_fault(&mut text, fault)?,
             Refusal::Path(fault) => push_path_fault(&mut text, fault)?,
-            Refusal::NotBuilt => text.push(b"not-built words")?,
             Refusal::Inconsistent(kind) => push_conflict(&mut text, kind)?,
             Refusal::InputFault => text.push(b"input-fault")?,
             Refusal::OutOfMemory => text.push(b"out-of-memory")?,
@@ -93,7 +91,7 @@ impl Refusal {
     }
 }
 
-/// That a trace has no path has a status of its own, want of memory while it is rebuilt has not.
+/// That a trace has no path has a status of its own, running out of memory while it is rebuilt has not.
 fn path_status(fault: &PathFault) -> Status
     ensures { result ≡ status_of_path fault.now }
 {

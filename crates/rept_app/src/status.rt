@@ -1,3 +1,5 @@
+//! How a call ends.
+
 ghost use Rattle.std.specs.Prelude.{◌≡◌};
 ghost use Rattle.rept_app.specs.Status.{number_of_status};
 
@@ -30,8 +32,6 @@ pub enum Status {
     OutOfMemory,
     /// The input has more than 1,048,576 bytes.
     TooMuchInput,
-    /// The words ask for what isn't built yet.
-    NotBuilt,
 }
 
 impl Status {
@@ -53,7 +53,6 @@ impl Status {
             Status::OutputFault => 10,
             Status::OutOfMemory => 11,
             Status::TooMuchInput => 12,
-            Status::NotBuilt => 13,
         }
     }
 }

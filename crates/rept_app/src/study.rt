@@ -1,3 +1,5 @@
+//! From a path and its dump to the session, or the line of a conflict.
+
 ghost use Rattle.std.specs.Prelude.{◌≡◌, ◌⊎◌, ◌<◌, length, IfSome};
 ghost use Rattle.rept_dump.specs.Dump.{registers_of};
 ghost use Rattle.rept_ports.specs.Port.{move};

@@ -1,3 +1,5 @@
+//! Writing the line of a refusal.
+
 ghost use Rattle.std.specs.Prelude.{◌≡◌};
 ghost use Rattle.rept_ports.specs.Port.{move};
 ghost use Rattle.rept_app.specs.Delivered.{Delivers, Says, Tells};
@@ -18,7 +20,7 @@ pub fn tell<K: Sink>(alloc: Global, out: &mut K, refusal: &Refusal) -> Status
     }
 }
 
-/// Writes the line of want of memory, which takes none, and answers its status, or that the output failed: for callers that have
+/// Writes the line of running out of memory, which takes none, and answers its status, or that the output failed: for callers that have
 /// no memory to read the words.
 pub fn tell_no_memory<K: Sink>(out: &mut K) -> Status
     ensures { Delivers (Says Refusal.OutOfMemory) (move (K.port out.old) (K.port out.new)) result }

@@ -1,4 +1,7 @@
+//! The worked crashes, each refusal, and each fault of a port, through the top call.
+
 mod damages;
+mod made_runs;
 mod order;
 mod traces;
 
@@ -49,7 +52,7 @@ fn core_file(alloc: Global, pc: u32, x5: u32, x6: u32, x7: u32) -> Result<Vec<u8
     Ok(file)
 }
 
-/// A trace of so many steps behind the first one, by Efficient Trace: a start packet, an address packet and a support packet.
+/// A trace of so many steps after the first one, by Efficient Trace: a start packet, an address packet and a support packet.
 fn trace_file(alloc: Global, difference: u8) -> Result<Vec<u8>, AllocError> {
     let mut file = Vec::from_slice(alloc, b"RTR1\x01\0\0\0\x03\x13\0\x20\x01")?;
     file.push(difference)?;
@@ -169,14 +172,14 @@ const CASES: &[Case] = &[
         status: Status::Usage,
     },
     Case {
-        words: &["self", "1", "20000"],
+        words: &["self", "1", "0"],
         code: THREE,
         pc: 0x1000c,
         registers: [7, 10, 17],
         difference: 0x0a,
         input: "",
-        output: "not-built words\n",
-        status: Status::NotBuilt,
+        output: USAGE,
+        status: Status::Usage,
     },
     Case {
         words: &["open", "e", "c", "t", "4294967295"],
@@ -378,7 +381,7 @@ const FAILING: &[FailingCase] = &[
     },
 ];
 
-// Each call of a port that fails, and the first one behind the last, which doesn't.
+// Each call of a port that fails, and the first one after the last, which doesn't.
 #[test]
 fn failing_ports_are_told(rt: HostRuntime) -> Result<(), Fail> {
     let alloc = rt.alloc();

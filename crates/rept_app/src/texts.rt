@@ -1,3 +1,5 @@
+//! Words with numbers and addresses, as refusals have them.
+
 ghost use Rattle.std.specs.Prelude.{◌≡◌, ◌++◌, OnOk};
 ghost use Rattle.std.specs.Fmt.{decimal};
 ghost use Rattle.rept_word.specs.Hex.{hex_word};

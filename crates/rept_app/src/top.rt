@@ -1,26 +1,31 @@
+//! The top call.
+
 ghost use Rattle.std.specs.Prelude.{◌≡◌, ◌⊎◌, map, string_bytes, IfSome, None};
 ghost use Rattle.rept_ports.specs.Port.{move};
 ghost use Rattle.rept_app.specs.Delivered.{Delivers};
 ghost use Rattle.rept_app.specs.Ends.{EndsSession};
 ghost use Rattle.rept_app.specs.Loading.{NamesNone};
-ghost use Rattle.rept_app.specs.Told.{Writes, Holds, ReportHolds, NoExecution, given};
-ghost use Rattle.rept_app.specs.Top.{TopCauses, LoadsOf, EndsByFiles, Completes};
+ghost use Rattle.rept_app.specs.Told.{AskedHolds, Writes, Holds, ReportHolds, NoExecution, given};
+ghost use Rattle.rept_app.specs.Top.{AskedEnds, TopCauses, LoadsOf, EndsByFiles, Completes};
 ghost use Rattle.rept_words.specs.Words.{meaning_of};
 
 use crate::examine::examine;
-use crate::load::load_files;
+use crate::load::{Asked, load_files};
+use crate::made_run::tell_made_run;
 use crate::status::Status;
 use crate::tell::tell;
 use rept_found::reports_are_true;
 use rept_ports::{Shelf, Sink, Source};
 use std::alloc::Global;
 
-/// Opens the crash that the words name, and answers the commands of the input.
+/// Opens the crash that the words name, and answers the commands of the input; or sums up a made run.
 ///
 /// The words are `open EXE CORE TRACE`, and maybe the number of the packet to begin from. The executable, the core file and the
 /// instruction trace are loaded from the shelf; the path that the trace tells is rebuilt; what registers and memory held along it is
 /// inferred from what the core file has of them; and each command is answered on the output. Where the files contradict each other,
 /// or something is refused, one line is written before the status.
+///
+/// Or they are `self SEED STEPS`: the three files of a made crash take the place of files, and the command `summary` that of the input.
 pub fn rept<H: Shelf, S: Source, K: Sink>(
     alloc: Global,
     words: &[String],
@@ -53,6 +58,12 @@ pub fn rept<H: Shelf, S: Source, K: Sink>(
     ensures complete { IfSome (H.port shelf.old).files (λ files. IfSome (S.port input.old).bytes (λ left.
         Completes (given (map string_bytes words.now) files (move (H.port shelf.old) (H.port shelf.new)) left (move (S.port input.old) (S.port input.new))) (move (H.port shelf.old) (H.port shelf.new)) (move (S.port input.old) (S.port input.new)) (move (K.port out.old) (K.port out.new)) result)) }
 
+    // A made run: nothing is loaded or read, and the status is `Ok` unless the output fails or memory runs out. An execution of its
+    // path ends in the dump, and what is told holds in it.
+    ensures unread { NamesNone (meaning_of (map string_bytes words.now)) → input.new ≡ input.old }
+    ensures made { AskedEnds (meaning_of (map string_bytes words.now)) result }
+    ensures executed { AskedHolds (meaning_of (map string_bytes words.now)) }
+
     // What is told of values, bytes, ranges and writers holds in every execution of the path that ends in the dump, and reasons rest
     // on it; a conflict is told only where there is no such execution.
     ensures sound { IfSome (H.port shelf.old).files (λ files. ReportHolds (map string_bytes words.now) files) }
@@ -60,12 +71,13 @@ pub fn rept<H: Shelf, S: Source, K: Sink>(
 {
     reports_are_true();
     match load_files(alloc, words, shelf) {
-        Ok(files) => {
+        Ok(Asked::Files(files)) => {
             let exe = files.exe.as_slice();
             let core = files.core.as_slice();
             let trace = files.trace.as_slice();
             examine(alloc, exe, core, trace, files.from, input, out)
         }
+        Ok(Asked::Made { seed, steps }) => tell_made_run(alloc, seed, steps, out),
         Err(refusal) => tell(alloc, out, &refusal),
     }
 }

@@ -1,4 +1,4 @@
-// A process that runs the top call: its words, and the status that it ends with.
+//! A process that runs the top call: its words, and the status that it ends with.
 #![tactic(auto)]
 
 ghost use Rattle.std.specs.Prelude.{◌≡◌, map, string_bytes, IfSome, None, Some};

@@ -1,3 +1,5 @@
+//! Words that can't be read.
+
 use crate::{Unreadable, answer, exit_code};
 use rept_app::Status;
 use rept_ports::{CalmShelf, CalmSource, MemSink};
@@ -28,6 +30,6 @@ fn unreadable_words_are_told(rt: HostRuntime) -> Result<(), Fail> {
     }
     assert_eq!(rt; exit_code(Status::Ok), ExitCode::from(0));
     assert_eq!(rt; exit_code(Status::Inconsistent), ExitCode::from(1));
-    assert_eq!(rt; exit_code(Status::NotBuilt), ExitCode::from(13));
+    assert_eq!(rt; exit_code(Status::TooMuchInput), ExitCode::from(12));
     Ok(())
 }

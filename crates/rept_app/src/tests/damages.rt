@@ -1,4 +1,4 @@
-// Damaged executables and core files.
+//! Damaged executables and core files.
 
 use super::{OPEN, THREE, core_file, executable, trace_file, word_list};
 use crate::{Status, rept};

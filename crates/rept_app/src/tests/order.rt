@@ -1,4 +1,4 @@
-// In which order lines are read and answers written.
+//! In which order lines are read and answers written.
 
 use super::{OPEN, first_crash, word_list};
 use crate::{Status, rept};

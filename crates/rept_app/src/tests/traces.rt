@@ -1,4 +1,4 @@
-// Traces, with and without a path.
+//! Traces, with and without a path.
 
 use super::{THREE, core_file, executable, word_list};
 use crate::{Status, rept};

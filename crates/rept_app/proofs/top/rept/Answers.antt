@@ -1,81 +1,85 @@
-use Rattle.std.proofs.Common.{◌≡◌, map, string_bytes, rules}
+use Rattle.std.proofs.Common.{◌≡◌, map, string_bytes, IfSome}
 use Rattle.rept_ports.specs.Port.{move}
 use Rattle.rept_app.specs.Delivered.{Delivers}
 use Rattle.rept_app.specs.Examine.{Examines}
 use Rattle.rept_app.specs.Lines.{status_of}
-use Rattle.rept_app.specs.Loading.{loading}
-use Rattle.rept_app.specs.Loading.Loading.{Loaded}
+use Rattle.rept_app.specs.Loading.{loading, asked_for}
+use Rattle.rept_app.specs.Loading.Loading.{Loaded, MadeRun}
+use Rattle.rept_app.specs.MadeRun.{Sums}
+use Rattle.rept_app.specs.declared.load.Asked.TheVariants as asked
+use Rattle.rept_app.proofs.MadeLemmas.{made_holds}
+use Rattle.rept_app.proofs.WordsLemmas.{asks_few}
 use Rattle.rept_app.specs.Told.{Writes, Holds, ReportHolds, NoExecution, given}
 use Rattle.rept_app.specs.Top.{EndsByFiles}
 use Rattle.rept_words.specs.Words.{meaning_of}
 use Rattle.rept_app.specs.declared.status.Status.TheVariants as ends
 use Rattle.rept_app.proofs.DeliveredLemmas.{delivers_as, ends_told, told_ports, not_yielded}
 use Rattle.rept_app.proofs.ToldLemmas.{where_told, at_some, reading_of}
-use Rattle.rept_app.proofs.TopLemmas.{both, of_both, loaded_at, stops, refused_ends, refused_writes, refused_causes, refused_loads, no_status, input_only, output_only, conflict_only, examined_writes, examined_ends, examined_causes, examined_excludes, all_loads, files_hold, holds_where, reports_hold, completed}
+use Rattle.rept_app.proofs.TopLemmas.{both, of_both, loaded_at, stops, refused_ends, refused_writes, refused_causes, refused_loads, no_status, input_only, output_only, conflict_only, examined_writes, examined_ends, examined_causes, examined_excludes, all_loads, files_hold, holds_where, reports_hold, completed, ok_at, done_at, all_at, made_at, asked_holds, loaded_asks, loads_named, refused_asks, made_asks, made_loads, made_means, made_causes, made_ends, made_writes, no_other}
 use Rattle.rept_app.proofs.top.rept.Goals as goal
 
-pub returns-in-Ok-clause-causes : goal.returns-in-Ok-clause-causes
-returns-in-Ok-clause-causes g c =
-    examined_causes (g.H.Shelf.port c.args.shelf.now) (g.H.Shelf.port c.load_files.new.shelf) _ _ _ _ _ _ c.examine.result c.in-Ok.ensures.faults.files c.in-Ok.ensures.faults.calm c.examine.ensures.causes
+pub returns-in-Ok-Files-clause-causes : goal.returns-in-Ok-Files-clause-causes
+returns-in-Ok-Files-clause-causes g c =
+    examined_causes (g.H.Shelf.port c.args.shelf.now) (g.H.Shelf.port c.load_files.new.shelf) _ _ _ _ _ _ c.examine.result c.load_files.ensures.faults.files (done_at c.load_files.result c.in-Ok-Files.field-0 c.in-Ok-Files.is c.load_files.ensures.faults.calm) c.examine.ensures.causes
 
-pub returns-in-Ok-clause-loads : goal.returns-in-Ok-clause-loads
-returns-in-Ok-clause-loads g c = all_loads (g.H.Shelf.port c.args.shelf.now) (g.H.Shelf.port c.load_files.new.shelf) (meaning_of (map string_bytes c.args.words.now)) c.examine.result (c.in-Ok.ensures.all (search rules))
+pub returns-in-Ok-Files-clause-loads : goal.returns-in-Ok-Files-clause-loads
+returns-in-Ok-Files-clause-loads g c = all_loads (g.H.Shelf.port c.args.shelf.now) (g.H.Shelf.port c.load_files.new.shelf) (meaning_of (map string_bytes c.args.words.now)) c.examine.result (all_at c.load_files.result c.in-Ok-Files.field-0 c.in-Ok-Files.files (meaning_of (map string_bytes c.args.words.now)) (g.H.Shelf.port c.args.shelf.now) (g.H.Shelf.port c.load_files.new.shelf) c.in-Ok-Files.is c.in-Ok-Files.field-0-is c.load_files.ensures.asked)
 
-pub returns-in-Ok-clause-stays : goal.returns-in-Ok-clause-stays
-returns-in-Ok-clause-stays g c =
+pub returns-in-Ok-Files-clause-stays : goal.returns-in-Ok-Files-clause-stays
+returns-in-Ok-Files-clause-stays g c =
     let words = map string_bytes c.args.words.now in
     holds_where (g.H.Shelf.port c.args.shelf.now).files (Holds words) _ _ _ _ c.examine.result (λ files told.
-    let loaded : loading words files ≡ Loaded c.in-Ok.files.exe.items c.in-Ok.files.core.items c.in-Ok.files.trace.items c.in-Ok.files.from =
-    at_some (g.H.Shelf.port c.args.shelf.now).files files (λ fs. loading words fs ≡ Loaded c.in-Ok.files.exe.items c.in-Ok.files.core.items c.in-Ok.files.trace.items c.in-Ok.files.from) told c.in-Ok.ensures.loaded in
-    files_hold words files c.as_slice-exe.result.now c.as_slice-core.result.now c.as_slice-trace.result.now c.in-Ok.files.from
+    let loaded : loading words files ≡ Loaded c.in-Ok-Files.files.exe.items c.in-Ok-Files.files.core.items c.in-Ok-Files.files.trace.items c.in-Ok-Files.files.from =
+    at_some (g.H.Shelf.port c.args.shelf.now).files files (λ fs. loading words fs ≡ Loaded c.in-Ok-Files.files.exe.items c.in-Ok-Files.files.core.items c.in-Ok-Files.files.trace.items c.in-Ok-Files.files.from) told (ok_at c.load_files.result c.in-Ok-Files.field-0 (asked.Files c.in-Ok-Files.files) (λ a. IfSome (g.H.Shelf.port c.args.shelf.now).files (λ fs. loading words fs ≡ asked_for a)) c.in-Ok-Files.is c.in-Ok-Files.field-0-is c.load_files.ensures.loaded) in
+    files_hold words files c.as_slice-exe.result.now c.as_slice-core.result.now c.as_slice-trace.result.now c.in-Ok-Files.files.from
     (loaded_at _ _ _ _ _ _ _ _ loaded c.as_slice-exe.ensures.value c.as_slice-core.ensures.value c.as_slice-trace.ensures.value) c.examine.result) c.examine.ensures.stays
 
-pub returns-in-Ok-clause-files : goal.returns-in-Ok-clause-files
-returns-in-Ok-clause-files g c =
+pub returns-in-Ok-Files-clause-files : goal.returns-in-Ok-Files-clause-files
+returns-in-Ok-Files-clause-files g c =
     let words = map string_bytes c.args.words.now in
     where_told (g.H.Shelf.port c.args.shelf.now).files (λ files. EndsByFiles words files c.examine.result) (λ files told.
-    let loaded : loading words files ≡ Loaded c.in-Ok.files.exe.items c.in-Ok.files.core.items c.in-Ok.files.trace.items c.in-Ok.files.from =
-    at_some (g.H.Shelf.port c.args.shelf.now).files files (λ fs. loading words fs ≡ Loaded c.in-Ok.files.exe.items c.in-Ok.files.core.items c.in-Ok.files.trace.items c.in-Ok.files.from) told c.in-Ok.ensures.loaded in
-    examined_ends words files c.as_slice-exe.result.now c.as_slice-core.result.now c.as_slice-trace.result.now c.in-Ok.files.from
+    let loaded : loading words files ≡ Loaded c.in-Ok-Files.files.exe.items c.in-Ok-Files.files.core.items c.in-Ok-Files.files.trace.items c.in-Ok-Files.files.from =
+    at_some (g.H.Shelf.port c.args.shelf.now).files files (λ fs. loading words fs ≡ Loaded c.in-Ok-Files.files.exe.items c.in-Ok-Files.files.core.items c.in-Ok-Files.files.trace.items c.in-Ok-Files.files.from) told (ok_at c.load_files.result c.in-Ok-Files.field-0 (asked.Files c.in-Ok-Files.files) (λ a. IfSome (g.H.Shelf.port c.args.shelf.now).files (λ fs. loading words fs ≡ asked_for a)) c.in-Ok-Files.is c.in-Ok-Files.field-0-is c.load_files.ensures.loaded) in
+    examined_ends words files c.as_slice-exe.result.now c.as_slice-core.result.now c.as_slice-trace.result.now c.in-Ok-Files.files.from
     (loaded_at _ _ _ _ _ _ _ _ loaded c.as_slice-exe.ensures.value c.as_slice-core.ensures.value c.as_slice-trace.ensures.value) _ _ c.examine.result c.examine.ensures.causes)
 
-pub returns-in-Ok-clause-text : goal.returns-in-Ok-clause-text
-returns-in-Ok-clause-text g c =
+pub returns-in-Ok-Files-clause-text : goal.returns-in-Ok-Files-clause-text
+returns-in-Ok-Files-clause-text g c =
     let words = map string_bytes c.args.words.now in
     let shelf = move (g.H.Shelf.port c.args.shelf.now) (g.H.Shelf.port c.load_files.new.shelf) in
     let source = move (g.S.Source.port c.args.input.now) (g.S.Source.port c.examine.new.input) in
     let sink = move (g.K.Sink.port c.args.out.now) (g.K.Sink.port c.examine.new.out) in
     both (g.H.Shelf.port c.args.shelf.now).files (g.S.Source.port c.args.input.now).bytes _ (λ files told left told_left.
-    let loaded : loading words files ≡ Loaded c.in-Ok.files.exe.items c.in-Ok.files.core.items c.in-Ok.files.trace.items c.in-Ok.files.from =
-    at_some (g.H.Shelf.port c.args.shelf.now).files files (λ fs. loading words fs ≡ Loaded c.in-Ok.files.exe.items c.in-Ok.files.core.items c.in-Ok.files.trace.items c.in-Ok.files.from) told c.in-Ok.ensures.loaded in
+    let loaded : loading words files ≡ Loaded c.in-Ok-Files.files.exe.items c.in-Ok-Files.files.core.items c.in-Ok-Files.files.trace.items c.in-Ok-Files.files.from =
+    at_some (g.H.Shelf.port c.args.shelf.now).files files (λ fs. loading words fs ≡ Loaded c.in-Ok-Files.files.exe.items c.in-Ok-Files.files.core.items c.in-Ok-Files.files.trace.items c.in-Ok-Files.files.from) told (ok_at c.load_files.result c.in-Ok-Files.field-0 (asked.Files c.in-Ok-Files.files) (λ a. IfSome (g.H.Shelf.port c.args.shelf.now).files (λ fs. loading words fs ≡ asked_for a)) c.in-Ok-Files.is c.in-Ok-Files.field-0-is c.load_files.ensures.loaded) in
     let here = loaded_at _ _ _ _ _ _ _ _ loaded c.as_slice-exe.ensures.value c.as_slice-core.ensures.value c.as_slice-trace.ensures.value in
-    delivers_as (Examines c.as_slice-exe.result.now c.as_slice-core.result.now c.as_slice-trace.result.now c.in-Ok.files.from (reading_of left source.after.bytes)) (Writes (given words files shelf left source)) sink c.examine.result
-    (λ text status. examined_writes words files shelf source left text status c.as_slice-exe.result.now c.as_slice-core.result.now c.as_slice-trace.result.now c.in-Ok.files.from here)
+    delivers_as (Examines c.as_slice-exe.result.now c.as_slice-core.result.now c.as_slice-trace.result.now c.in-Ok-Files.files.from (reading_of left source.after.bytes)) (Writes (given words files shelf left source)) sink c.examine.result
+    (λ text status. examined_writes words files shelf source left text status c.as_slice-exe.result.now c.as_slice-core.result.now c.as_slice-trace.result.now c.in-Ok-Files.files.from here)
     (at_some (g.S.Source.port c.args.input.now).bytes left
-    (λ input. Delivers (Examines c.as_slice-exe.result.now c.as_slice-core.result.now c.as_slice-trace.result.now c.in-Ok.files.from (reading_of input source.after.bytes)) sink c.examine.result)
+    (λ input. Delivers (Examines c.as_slice-exe.result.now c.as_slice-core.result.now c.as_slice-trace.result.now c.in-Ok-Files.files.from (reading_of input source.after.bytes)) sink c.examine.result)
     told_left c.examine.ensures.text))
 
-pub returns-in-Ok-clause-complete : goal.returns-in-Ok-clause-complete
-returns-in-Ok-clause-complete g c =
+pub returns-in-Ok-Files-clause-complete : goal.returns-in-Ok-Files-clause-complete
+returns-in-Ok-Files-clause-complete g c =
     let words = map string_bytes c.args.words.now in
     let shelf = move (g.H.Shelf.port c.args.shelf.now) (g.H.Shelf.port c.load_files.new.shelf) in
     let source = move (g.S.Source.port c.args.input.now) (g.S.Source.port c.examine.new.input) in
     let sink = move (g.K.Sink.port c.args.out.now) (g.K.Sink.port c.examine.new.out) in
     both (g.H.Shelf.port c.args.shelf.now).files (g.S.Source.port c.args.input.now).bytes _ (λ files told left told_left.
-    completed (given words files shelf left source) shelf source sink c.examine.result (returns-in-Ok-clause-causes g c)
+    completed (given words files shelf left source) shelf source sink c.examine.result (returns-in-Ok-Files-clause-causes g c)
     (of_both (g.H.Shelf.port c.args.shelf.now).files (g.S.Source.port c.args.input.now).bytes (λ fs input. Delivers (Writes (given words fs shelf input source)) sink c.examine.result) files left told told_left
-    (returns-in-Ok-clause-text g c)))
+    (returns-in-Ok-Files-clause-text g c)))
 
-pub returns-in-Ok-clause-sound : goal.returns-in-Ok-clause-sound
-returns-in-Ok-clause-sound g c = where_told (g.H.Shelf.port c.args.shelf.now).files (ReportHolds (map string_bytes c.args.words.now)) (λ files told. reports_hold (map string_bytes c.args.words.now) files c.reports_are_true.ensures)
+pub returns-in-Ok-Files-clause-sound : goal.returns-in-Ok-Files-clause-sound
+returns-in-Ok-Files-clause-sound g c = where_told (g.H.Shelf.port c.args.shelf.now).files (ReportHolds (map string_bytes c.args.words.now)) (λ files told. reports_hold (map string_bytes c.args.words.now) files c.reports_are_true.ensures)
 
-pub returns-in-Ok-clause-impossible : goal.returns-in-Ok-clause-impossible
-returns-in-Ok-clause-impossible g c =
+pub returns-in-Ok-Files-clause-impossible : goal.returns-in-Ok-Files-clause-impossible
+returns-in-Ok-Files-clause-impossible g c =
     let words = map string_bytes c.args.words.now in
     where_told (g.H.Shelf.port c.args.shelf.now).files (λ files. c.examine.result ≡ ends.Inconsistent → NoExecution words files) (λ files told ok.
-    let loaded : loading words files ≡ Loaded c.in-Ok.files.exe.items c.in-Ok.files.core.items c.in-Ok.files.trace.items c.in-Ok.files.from =
-    at_some (g.H.Shelf.port c.args.shelf.now).files files (λ fs. loading words fs ≡ Loaded c.in-Ok.files.exe.items c.in-Ok.files.core.items c.in-Ok.files.trace.items c.in-Ok.files.from) told c.in-Ok.ensures.loaded in
-    examined_excludes words files c.as_slice-exe.result.now c.as_slice-core.result.now c.as_slice-trace.result.now c.in-Ok.files.from
+    let loaded : loading words files ≡ Loaded c.in-Ok-Files.files.exe.items c.in-Ok-Files.files.core.items c.in-Ok-Files.files.trace.items c.in-Ok-Files.files.from =
+    at_some (g.H.Shelf.port c.args.shelf.now).files files (λ fs. loading words fs ≡ Loaded c.in-Ok-Files.files.exe.items c.in-Ok-Files.files.core.items c.in-Ok-Files.files.trace.items c.in-Ok-Files.files.from) told (ok_at c.load_files.result c.in-Ok-Files.field-0 (asked.Files c.in-Ok-Files.files) (λ a. IfSome (g.H.Shelf.port c.args.shelf.now).files (λ fs. loading words fs ≡ asked_for a)) c.in-Ok-Files.is c.in-Ok-Files.field-0-is c.load_files.ensures.loaded) in
+    examined_excludes words files c.as_slice-exe.result.now c.as_slice-core.result.now c.as_slice-trace.result.now c.in-Ok-Files.files.from
     (loaded_at _ _ _ _ _ _ _ _ loaded c.as_slice-exe.ensures.value c.as_slice-core.ensures.value c.as_slice-trace.ensures.value) (c.examine.ensures.impossible ok))
 
 pub returns-in-Err-clause-causes : goal.returns-in-Err-clause-causes
@@ -138,3 +142,84 @@ returns-in-Err-clause-complete g c =
 
 pub returns-in-Err-clause-sound : goal.returns-in-Err-clause-sound
 returns-in-Err-clause-sound g c = where_told (g.H.Shelf.port c.args.shelf.now).files (ReportHolds (map string_bytes c.args.words.now)) (λ files told. reports_hold (map string_bytes c.args.words.now) files c.reports_are_true.ensures)
+
+pub returns-in-Ok-Files-clause-unread : goal.returns-in-Ok-Files-clause-unread
+returns-in-Ok-Files-clause-unread g c = λ none. loads_named (meaning_of (map string_bytes c.args.words.now)) (g.H.Shelf.port c.args.shelf.now) (g.H.Shelf.port c.load_files.new.shelf)
+    (all_at c.load_files.result c.in-Ok-Files.field-0 c.in-Ok-Files.files (meaning_of (map string_bytes c.args.words.now)) (g.H.Shelf.port c.args.shelf.now) (g.H.Shelf.port c.load_files.new.shelf) c.in-Ok-Files.is c.in-Ok-Files.field-0-is c.load_files.ensures.asked) none
+
+pub returns-in-Ok-Files-clause-made : goal.returns-in-Ok-Files-clause-made
+returns-in-Ok-Files-clause-made g c = loaded_asks (meaning_of (map string_bytes c.args.words.now)) (g.H.Shelf.port c.args.shelf.now) (g.H.Shelf.port c.load_files.new.shelf) c.examine.result
+    (all_at c.load_files.result c.in-Ok-Files.field-0 c.in-Ok-Files.files (meaning_of (map string_bytes c.args.words.now)) (g.H.Shelf.port c.args.shelf.now) (g.H.Shelf.port c.load_files.new.shelf) c.in-Ok-Files.is c.in-Ok-Files.field-0-is c.load_files.ensures.asked)
+
+pub returns-in-Ok-Files-clause-executed : goal.returns-in-Ok-Files-clause-executed
+returns-in-Ok-Files-clause-executed g c = asked_holds (meaning_of (map string_bytes c.args.words.now)) (λ seed steps. made_holds seed steps c.reports_are_true.ensures)
+
+pub returns-in-Err-clause-executed : goal.returns-in-Err-clause-executed
+returns-in-Err-clause-executed g c = asked_holds (meaning_of (map string_bytes c.args.words.now)) (λ seed steps. made_holds seed steps c.reports_are_true.ensures)
+
+pub returns-in-Err-clause-made : goal.returns-in-Err-clause-made
+returns-in-Err-clause-made g c = refused_asks (meaning_of (map string_bytes c.args.words.now)) (g.H.Shelf.port c.args.shelf.now) (g.H.Shelf.port c.load_files.new.shelf) c.in-Err.refusal c.tell.result c.in-Err.ensures.refused (ends_told c.in-Err.refusal _ c.tell.result c.tell.ensures)
+
+-- a made run
+pub tell_made_run-requires-clause-some : goal.tell_made_run-requires-clause-some
+tell_made_run-requires-clause-some g c = (asks_few (map string_bytes c.args.words.now) c.in-Ok-Made.seed c.in-Ok-Made.steps (made_at c.load_files.result c.in-Ok-Made.field-0 c.in-Ok-Made.seed c.in-Ok-Made.steps (meaning_of (map string_bytes c.args.words.now)) (g.H.Shelf.port c.args.shelf.now) (g.H.Shelf.port c.load_files.new.shelf) c.in-Ok-Made.is c.in-Ok-Made.field-0-is c.load_files.ensures.asked)).0
+
+pub tell_made_run-requires-clause-few : goal.tell_made_run-requires-clause-few
+tell_made_run-requires-clause-few g c = (asks_few (map string_bytes c.args.words.now) c.in-Ok-Made.seed c.in-Ok-Made.steps (made_at c.load_files.result c.in-Ok-Made.field-0 c.in-Ok-Made.seed c.in-Ok-Made.steps (meaning_of (map string_bytes c.args.words.now)) (g.H.Shelf.port c.args.shelf.now) (g.H.Shelf.port c.load_files.new.shelf) c.in-Ok-Made.is c.in-Ok-Made.field-0-is c.load_files.ensures.asked)).1
+
+pub returns-in-Ok-Made-clause-causes : goal.returns-in-Ok-Made-clause-causes
+returns-in-Ok-Made-clause-causes g c =
+    let f = c.load_files.ensures.faults in
+    made_causes (g.H.Shelf.port c.args.shelf.now) (g.H.Shelf.port c.load_files.new.shelf) (g.S.Source.port c.args.input.now) _ c.tell_made_run.result f.files f.later f.once (c.tell_made_run.ensures.ports (g.S.Source.port c.args.input.now))
+    (done_at c.load_files.result c.in-Ok-Made.field-0 c.in-Ok-Made.is f.calm) c.tell_made_run.ensures.yields
+
+pub returns-in-Ok-Made-clause-usage : goal.returns-in-Ok-Made-clause-usage
+returns-in-Ok-Made-clause-usage g c = λ e. no_other ends.Usage c.tell_made_run.result (λ (k : ends.Ok ≡ ends.Usage). cc) (λ (k : ends.OutputFault ≡ ends.Usage). cc) (λ (k : ends.OutOfMemory ≡ ends.Usage). cc) c.tell_made_run.ensures.yields e
+
+pub returns-in-Ok-Made-clause-no_meaning : goal.returns-in-Ok-Made-clause-no_meaning
+returns-in-Ok-Made-clause-no_meaning g c = λ none. made_means (meaning_of (map string_bytes c.args.words.now)) c.in-Ok-Made.seed c.in-Ok-Made.steps (made_at c.load_files.result c.in-Ok-Made.field-0 c.in-Ok-Made.seed c.in-Ok-Made.steps (meaning_of (map string_bytes c.args.words.now)) (g.H.Shelf.port c.args.shelf.now) (g.H.Shelf.port c.load_files.new.shelf) c.in-Ok-Made.is c.in-Ok-Made.field-0-is c.load_files.ensures.asked) none
+
+pub returns-in-Ok-Made-clause-loads : goal.returns-in-Ok-Made-clause-loads
+returns-in-Ok-Made-clause-loads g c = made_loads (meaning_of (map string_bytes c.args.words.now)) c.in-Ok-Made.seed c.in-Ok-Made.steps (made_at c.load_files.result c.in-Ok-Made.field-0 c.in-Ok-Made.seed c.in-Ok-Made.steps (meaning_of (map string_bytes c.args.words.now)) (g.H.Shelf.port c.args.shelf.now) (g.H.Shelf.port c.load_files.new.shelf) c.in-Ok-Made.is c.in-Ok-Made.field-0-is c.load_files.ensures.asked) _ c.tell_made_run.result
+
+pub returns-in-Ok-Made-clause-made : goal.returns-in-Ok-Made-clause-made
+returns-in-Ok-Made-clause-made g c = made_asks (meaning_of (map string_bytes c.args.words.now)) c.in-Ok-Made.seed c.in-Ok-Made.steps (made_at c.load_files.result c.in-Ok-Made.field-0 c.in-Ok-Made.seed c.in-Ok-Made.steps (meaning_of (map string_bytes c.args.words.now)) (g.H.Shelf.port c.args.shelf.now) (g.H.Shelf.port c.load_files.new.shelf) c.in-Ok-Made.is c.in-Ok-Made.field-0-is c.load_files.ensures.asked) c.tell_made_run.result c.tell_made_run.ensures.yields
+
+pub returns-in-Ok-Made-clause-executed : goal.returns-in-Ok-Made-clause-executed
+returns-in-Ok-Made-clause-executed g c = asked_holds (meaning_of (map string_bytes c.args.words.now)) (λ seed steps. made_holds seed steps c.reports_are_true.ensures)
+
+pub returns-in-Ok-Made-clause-sound : goal.returns-in-Ok-Made-clause-sound
+returns-in-Ok-Made-clause-sound g c = where_told (g.H.Shelf.port c.args.shelf.now).files (ReportHolds (map string_bytes c.args.words.now)) (λ files told. reports_hold (map string_bytes c.args.words.now) files c.reports_are_true.ensures)
+
+pub returns-in-Ok-Made-clause-impossible : goal.returns-in-Ok-Made-clause-impossible
+returns-in-Ok-Made-clause-impossible g c =
+    where_told (g.H.Shelf.port c.args.shelf.now).files (λ files. c.tell_made_run.result ≡ ends.Inconsistent → NoExecution (map string_bytes c.args.words.now) files) (λ files told e.
+    no_other ends.Inconsistent c.tell_made_run.result (λ (k : ends.Ok ≡ ends.Inconsistent). cc) (λ (k : ends.OutputFault ≡ ends.Inconsistent). cc) (λ (k : ends.OutOfMemory ≡ ends.Inconsistent). cc) c.tell_made_run.ensures.yields e)
+
+pub returns-in-Ok-Made-clause-files : goal.returns-in-Ok-Made-clause-files
+returns-in-Ok-Made-clause-files g c =
+    let words = map string_bytes c.args.words.now in
+    where_told (g.H.Shelf.port c.args.shelf.now).files (λ files. EndsByFiles words files c.tell_made_run.result) (λ files told.
+    made_ends words files c.in-Ok-Made.seed c.in-Ok-Made.steps c.tell_made_run.result
+    (at_some (g.H.Shelf.port c.args.shelf.now).files files (λ fs. loading words fs ≡ MadeRun c.in-Ok-Made.seed c.in-Ok-Made.steps) told (ok_at c.load_files.result c.in-Ok-Made.field-0 (asked.Made c.in-Ok-Made.seed c.in-Ok-Made.steps) (λ a. IfSome (g.H.Shelf.port c.args.shelf.now).files (λ fs. loading words fs ≡ asked_for a)) c.in-Ok-Made.is c.in-Ok-Made.field-0-is c.load_files.ensures.loaded)) c.tell_made_run.ensures.yields)
+
+pub returns-in-Ok-Made-clause-text : goal.returns-in-Ok-Made-clause-text
+returns-in-Ok-Made-clause-text g c =
+    let words = map string_bytes c.args.words.now in
+    let shelf = move (g.H.Shelf.port c.args.shelf.now) (g.H.Shelf.port c.load_files.new.shelf) in
+    let source = move (g.S.Source.port c.args.input.now) (g.S.Source.port c.args.input.now) in
+    both (g.H.Shelf.port c.args.shelf.now).files (g.S.Source.port c.args.input.now).bytes _ (λ files told left told_left.
+    delivers_as (Sums c.in-Ok-Made.seed c.in-Ok-Made.steps) (Writes (given words files shelf left source)) _ c.tell_made_run.result
+    (λ text status. made_writes words files shelf source left text status c.in-Ok-Made.seed c.in-Ok-Made.steps
+    (at_some (g.H.Shelf.port c.args.shelf.now).files files (λ fs. loading words fs ≡ MadeRun c.in-Ok-Made.seed c.in-Ok-Made.steps) told (ok_at c.load_files.result c.in-Ok-Made.field-0 (asked.Made c.in-Ok-Made.seed c.in-Ok-Made.steps) (λ a. IfSome (g.H.Shelf.port c.args.shelf.now).files (λ fs. loading words fs ≡ asked_for a)) c.in-Ok-Made.is c.in-Ok-Made.field-0-is c.load_files.ensures.loaded)) (made_at c.load_files.result c.in-Ok-Made.field-0 c.in-Ok-Made.seed c.in-Ok-Made.steps (meaning_of (map string_bytes c.args.words.now)) (g.H.Shelf.port c.args.shelf.now) (g.H.Shelf.port c.load_files.new.shelf) c.in-Ok-Made.is c.in-Ok-Made.field-0-is c.load_files.ensures.asked)) c.tell_made_run.ensures.text)
+
+pub returns-in-Ok-Made-clause-complete : goal.returns-in-Ok-Made-clause-complete
+returns-in-Ok-Made-clause-complete g c =
+    let words = map string_bytes c.args.words.now in
+    let shelf = move (g.H.Shelf.port c.args.shelf.now) (g.H.Shelf.port c.load_files.new.shelf) in
+    let source = move (g.S.Source.port c.args.input.now) (g.S.Source.port c.args.input.now) in
+    let sink = move (g.K.Sink.port c.args.out.now) (g.K.Sink.port c.tell_made_run.new.out) in
+    both (g.H.Shelf.port c.args.shelf.now).files (g.S.Source.port c.args.input.now).bytes _ (λ files told left told_left.
+    completed (given words files shelf left source) shelf source sink c.tell_made_run.result (returns-in-Ok-Made-clause-causes g c)
+    (of_both (g.H.Shelf.port c.args.shelf.now).files (g.S.Source.port c.args.input.now).bytes (λ fs input. Delivers (Writes (given words fs shelf input source)) sink c.tell_made_run.result) files left told told_left
+    (returns-in-Ok-Made-clause-text g c)))

@@ -1,0 +1,206 @@
+-- What is written of a made run, and how it ends the call.
+use Rattle.std.proofs.Common.{◌≡◌, ◌⊎◌, ℕ, zero, suc, ◌+◌, ◌*◌, ◌<◌, ◌≤◌, ◌==◌, eqb, List, [], ◌∷◌, ◌++◌, length, map, slice_index, get_or, slice_get, Bool, true, false, cond, Option, None, Some, Result, Ok, Err, MatchOption, MatchResult, inl, inr, refl, sym, ap, subst, ◌∙◌, arith}
+use Rattle.std.specs.List.{range_with_len}
+use Rattle.std.proofs.lemmas.Bool.{cond-false, ne_eqb}
+use Rattle.std.proofs.lemmas.List.FromFn.{length-range_with_len, get_or-range_with_len}
+use Rattle.rept_elf.specs.Header.{word_at}
+use Rattle.rept_elf.specs.Segments.{segments, greatest_end}
+use Rattle.rept_elf.specs.declared.fault.ElfFault.{ElfFault}
+use Rattle.rept_dump.specs.Memory.{byte_at}
+use Rattle.rept_dump.specs.Registers.{Says as NotesSay}
+use Rattle.rept_dump.specs.declared.fault.CoreFault.{CoreFault}
+use Rattle.rept_isa.specs.declared.row.StepRow.{StepRow}
+use Rattle.rept_machine.specs.State.{State}
+use Rattle.rept_path.specs.Traced.{IsTraced}
+use Rattle.rept_path.specs.declared.fault.PathFault.{PathFault}
+use Rattle.rept_path.specs.declared.fault.PathFault.TheVariants as fault
+use Rattle.rept_path.specs.declared.rebuilding.Path.{Path}
+use Rattle.rept_ports.specs.Causes.{OneFault}
+use Rattle.rept_ports.specs.Port.{Port, Move, move}
+use Rattle.rept_reason.specs.Facts.{Knowledge}
+use Rattle.rept_report.specs.Closure.{ClosureHas, IsConsistent, IsReport}
+use Rattle.rept_report.specs.Setting.{Runs}
+use Rattle.rept_report.specs.Soundness.{HasNoExecution}
+use Rattle.rept_report.specs.declared.conflict.ConflictKind.{ConflictKind}
+use Rattle.rept_found.specs.Crash.{Crash, last_value, last_values, end_pc, setting}
+use Rattle.rept_found.specs.Telling.{told_of}
+use Rattle.rept_found.specs.Truth.{IsTrueReport}
+use Rattle.rept_make.specs.Files.{bytes_of_words}
+use Rattle.rept_make.specs.Laid.{laid}
+use Rattle.rept_make.specs.Made.{IsMade}
+use Rattle.rept_make.specs.declared.made.Made.{Made}
+use Rattle.rept_serve.specs.Serving.{Reading}
+use Rattle.rept_session.specs.Shown.{Told as ToldOf}
+use Rattle.rept_app.specs.Delivered.{Delivers, Says, Tells}
+use Rattle.rept_app.specs.Ends.{Stopped, Yields, EndsSession, FaultEnds, PortsEnd}
+use Rattle.rept_app.specs.Examine.{Examines, WalkYields, NoteYields, FilesEnd, IsExamined}
+use Rattle.rept_app.specs.Forms.{executable_fault, core_image_fault, crash_in}
+use Rattle.rept_app.specs.Held.{Replies, CutOff}
+use Rattle.rept_app.specs.Lines.{status_of}
+use Rattle.rept_app.specs.MadeRun.{Sums}
+use Rattle.rept_app.specs.Path.{IsTracePath}
+use Rattle.rept_app.specs.Told.{Examined, NotesTold, Walked, Reads, Opening, OpensMade, MadeHolds, crash_at, setting_at, summary_line}
+use Rattle.rept_app.specs.declared.refusal.Refusal.TheVariants as refusal
+use Rattle.rept_app.specs.declared.status.Status.{Status}
+use Rattle.rept_app.specs.declared.status.Status.TheVariants as ends
+use Rattle.rept_app.proofs.DeliveredLemmas.{delivers_as, ends_told, told_ports}
+
+-- the registers that an analysis begins from are those of the note
+register_at : (note : List ℕ) (r : ℕ) → 0 < r → last_value note r ≡ word_at note (72 + 4 * r)
+register_at note r above = cond-false (eqb r 0) 0 (word_at note (72 + 4 * r)) (ne_eqb r 0 (λ (e : r ≡ 0). omega arith))
+
+mapped_at : (f : ℕ → ℕ) (xs : List ℕ) (i : ℕ) → i < length xs → get_or (map f xs) i 0 ≡ f (get_or xs i 0)
+mapped_at f [] i within = absurd (omega arith)
+mapped_at f (x ∷ xs) zero within = refl
+mapped_at f (x ∷ xs) (suc i) within = mapped_at f xs i (omega arith)
+
+mapped_size : (f : ℕ → ℕ) (xs : List ℕ) → length (map f xs) ≡ length xs
+mapped_size f [] = refl
+mapped_size f (x ∷ xs) = ap suc (mapped_size f xs)
+
+last_size : (note : List ℕ) → length (last_values note) ≡ 32
+unfolding last_values
+last_size note = mapped_size (last_value note) (range_with_len 0 32) ∙ length-range_with_len 0 32
+
+last_at : (note : List ℕ) (r : ℕ) → 0 < r → r < 32 → slice_index (last_values note) r ≡ word_at note (72 + 4 * r)
+unfolding last_values
+last_at note r above below =
+    let size : length (range_with_len 0 32) ≡ 32 = length-range_with_len 0 32 in
+    let here : get_or (range_with_len 0 32) r 0 ≡ r = omega (arith, get_or-range_with_len 0 32 r 0 below) in
+    mapped_at (last_value note) (range_with_len 0 32) r (omega arith) ∙ ap (last_value note) here ∙ register_at note r above
+
+abbrev path_of : List StepRow → Path
+path_of rows = record { steps = rows; skipped = 0 }
+
+-- the files of a made crash are read, and an execution of the path ends in the dump
+module _ (seed steps : ℕ) (made : Made) (m : IsMade seed steps made) where
+  abbrev pub crash_made : Crash
+  crash_made = crash_in made.exe made.core m.status
+
+  reads_made : Reads made.exe made.core m.status
+  reads_made = record { exe_accepted = m.exe_read; core_accepted = m.core_read; noted = m.notes }
+
+  path_made : IsTracePath crash_made made.trace 0 (path_of m.rows)
+  path_made = (m.rest, m.layout, subst (λ (p : ℕ). IsTraced (segments made.exe) m.rest 0 p 0 m.rows) (sym m.last_pc) m.path)
+
+  abbrev run_made : ℕ → State
+  run_made = λ i. laid (bytes_of_words m.words) (m.run i)
+
+  runs_made : Runs (setting crash_made m.rows) run_made
+  runs_made = m.execution (last_values m.status) (last_size m.status) (λ r above below. last_at m.status r above below)
+
+  abbrev opening_made : Opening
+  opening_made = record { exe = made.exe; core = made.core; trace = made.trace; from = 0; note = m.status; path = path_of m.rows }
+
+  opens_made : OpensMade made opening_made
+  opens_made = record { exe = refl; core = refl; trace = refl; from = refl; read = reads_made; path = path_made }
+
+  -- so the closure has no conflict
+  consistent_made : ((kind : ConflictKind) → ClosureHas (setting crash_made m.rows) kind → HasNoExecution (setting crash_made m.rows)) → IsConsistent (setting crash_made m.rows)
+  consistent_made none kind has = none kind has run_made runs_made
+
+  abbrev AfterCore : Status → Option ElfFault → Type 0
+  AfterCore status o = MatchOption o ((said : Result (List ℕ) CoreFault) → NotesSay (length made.core) (segments made.core) said → NoteYields (crash_in made.exe made.core) made.trace 0 said status) (λ _. Yields ends.Core status)
+
+  abbrev AfterExe : Status → Option ElfFault → Type 0
+  AfterExe status o = MatchOption o (AfterCore status (core_image_fault made.core)) (λ _. Yields ends.Executable status)
+
+  pub session_made : ((kind : ConflictKind) → ClosureHas (setting crash_made m.rows) kind → HasNoExecution (setting crash_made m.rows)) → (status : Status) → FilesEnd made.exe made.core made.trace 0 status → EndsSession status
+  session_made none status h =
+      let notes : (said : Result (List ℕ) CoreFault) → NotesSay (length made.core) (segments made.core) said → NoteYields (crash_in made.exe made.core) made.trace 0 said status =
+      subst (AfterCore status) m.core_read (subst (AfterExe status) m.exe_read h) in
+      let walk : WalkYields crash_made made.trace 0 status = notes (Ok m.status) m.notes in
+      (walk.walked (path_of m.rows) path_made).report (consistent_made none)
+
+pub made_holds : (seed steps : ℕ) → ((crash : Crash) (rows : List StepRow) (known : Knowledge) → IsReport (setting crash rows) known → IsTrueReport (setting crash rows) known) → MadeHolds seed steps
+made_holds seed steps true_of made m =
+    (opening_made seed steps made m, opens_made seed steps made m, (run_made seed steps made m, runs_made seed steps made m), λ known report. true_of (crash_made seed steps made m) m.rows known report)
+
+-- what is written, by what is written of the files
+pub sums : (seed steps : ℕ) (made : Made) → IsMade seed steps made → (left : Option (List ℕ)) (text : List ℕ) (status : Status) → Examines made.exe made.core made.trace 0 (record { input = summary_line; left = left }) text status → Sums seed steps text status
+sums seed steps made m left text status (inl h) = inl (made, m, h)
+sums seed steps made m left text status (inr (inl h)) = inr (inl h)
+sums seed steps made m left text status (inr (inr (note, read, (path, a, is, account, cut)))) =
+    inr (inr (made, m, record { exe = made.exe; core = made.core; trace = made.trace; from = 0; note = note; path = path }, record { exe = refl; core = refl; trace = refl; from = refl; read = read; path = is }, a, account, left, cut))
+
+-- the input isn't too long
+no_path_status : (f : PathFault) → status_of (refusal.Path f) ≡ ends.TooMuchInput → ⊥
+no_path_status (fault.NoStart k) e = cc
+no_path_status (fault.NotCode a) e = cc
+no_path_status (fault.NotRv32im a w) e = cc
+no_path_status (fault.Unaligned a) e = cc
+no_path_status (fault.NoBranchBit k a) e = cc
+no_path_status (fault.BranchesLeft k n) e = cc
+no_path_status (fault.JumpInMap k a) e = cc
+no_path_status (fault.Gap k a b) e = cc
+no_path_status (fault.End a b) e = cc
+no_path_status (fault.TooLong k) e = cc
+no_path_status (fault.Packet p) e = cc
+no_path_status (fault.Trapped k a) e = cc
+no_path_status fault.OutOfMemory e = cc
+
+module _ (exe core trace : List ℕ) (from : ℕ) (text : List ℕ) where
+  walked_short : (crash : Crash) → Walked crash trace from summary_line text ends.TooMuchInput → ⊥
+  walked_short crash (inl (f, has, says)) = no_path_status f (sym says.ending)
+  walked_short crash (inr (path, is, inl (kind, has, says))) = let bad : ends.TooMuchInput ≡ ends.Inconsistent = says.ending in cc
+  walked_short crash (inr (path, is, inr (a, account, (answered, over, e)))) = let long : 1048576 < 8 = over.long in omega arith
+
+  notes_short : NotesTold exe core trace from summary_line text ends.TooMuchInput → ⊥
+  notes_short (Ok note, said, h) = walked_short (crash_in exe core note) h
+  notes_short (Err f, said, says) = let bad : ends.TooMuchInput ≡ ends.Core = says.ending in cc
+
+  examined_short : (a b : Option ElfFault) → MatchOption a (MatchOption b (NotesTold exe core trace from summary_line text ends.TooMuchInput) (λ f. Says (refusal.CoreImage f) text ends.TooMuchInput)) (λ f. Says (refusal.Executable f) text ends.TooMuchInput) → ⊥
+  examined_short (Some f) b says = let bad : ends.TooMuchInput ≡ ends.Executable = says.ending in cc
+  examined_short None (Some f) says = let bad : ends.TooMuchInput ≡ ends.Core = says.ending in cc
+  examined_short None None h = notes_short h
+
+  pub never_long : (left : Option (List ℕ)) → Examines exe core trace from (record { input = summary_line; left = left }) text ends.TooMuchInput → ⊥
+  never_long left (inl h) = examined_short (executable_fault exe) (core_image_fault core) h
+  never_long left (inr (inl says)) = let bad : ends.TooMuchInput ≡ ends.OutOfMemory = says.ending in cc
+  never_long left (inr (inr (note, read, (path, a, is, account, cut)))) = absurd cut
+
+-- a source that counts no fault has none
+never_failed : OneFault 0 0 → ⊥
+never_failed h = let rose : 1 ≤ 0 = h.rose in omega arith
+
+-- how the call ends, from how the session may end
+pub yields_made : (exe core trace : List ℕ) (left : Option (List ℕ)) (out : Move Port) (status : Status) → EndsSession status → (status ≡ ends.InputFault → OneFault 0 0)
+    → Delivers (Examines exe core trace 0 (record { input = summary_line; left = left })) out status → Yields ends.Ok status
+yields_made exe core trace left out status so input (inr (e, fault, rest)) = inr (inl e)
+yields_made exe core trace left out status (inl e) input (inl d) = inl e
+yields_made exe core trace left out status (inr (inl e)) input (inl d) = absurd (never_failed (input e))
+yields_made exe core trace left out status (inr (inr (inl e))) input (inl (text, goes, appended, calm)) =
+    absurd (never_long exe core trace 0 text left (subst (Examines exe core trace 0 (record { input = summary_line; left = left }) text) e goes))
+yields_made exe core trace left out status (inr (inr (inr s))) input (inl d) = inr s
+
+-- a call that ends so reads nothing of the input of the program
+pub ports_made : (source : Port) (inner out : Move Port) (status : Status) → Yields ends.Ok status → PortsEnd inner out status → PortsEnd (move source source) out status
+ports_made source inner out status so p = record { input = λ e. absurd (never so e); input_ends = inl refl; output = p.output; output_ends = p.output_ends }
+  where
+    never : Yields ends.Ok status → status ≡ ends.InputFault → ⊥
+    never (inl h) e = let bad : ends.Ok ≡ ends.InputFault = sym h ∙ e in cc
+    never (inr (inl h)) e = let bad : ends.OutputFault ≡ ends.InputFault = sym h ∙ e in cc
+    never (inr (inr h)) e = let bad : ends.OutOfMemory ≡ ends.InputFault = sym h ∙ e in cc
+
+-- what holds of the slices of the files and of the input, holds of these
+pub at_bytes : (P : List ℕ → List ℕ → List ℕ → List ℕ → Type 0) {exe exe' core core' trace trace' input input' : List ℕ} → exe ≡ exe' → core ≡ core' → trace ≡ trace' → input ≡ input' → P exe core trace input → P exe' core' trace' input'
+at_bytes P {exe} {exe'} {core} {core'} {trace} {trace'} {input} {input'} e k t i h =
+    subst (λ x. P exe' core' trace' x) i (subst (λ x. P exe' core' x input) t (subst (λ x. P exe' x trace input) k (subst (λ x. P x core trace input) e h)))
+
+-- where there was no memory for the files
+module _ (out : Move Port) (result : Status) (d : Delivers (Says refusal.OutOfMemory) out result) where
+  as_told : Delivers (Tells refusal.OutOfMemory) out result
+  as_told = delivers_as (Says refusal.OutOfMemory) (Tells refusal.OutOfMemory) out result (λ text status h. inl h) d
+
+  pub memory_sums : (seed steps : ℕ) → Delivers (Sums seed steps) out result
+  memory_sums seed steps = delivers_as (Says refusal.OutOfMemory) (Sums seed steps) out result (λ text status h. inr (inl h)) d
+
+  pub memory_yields : Yields ends.Ok result
+  memory_yields = stop (ends_told refusal.OutOfMemory out result as_told)
+    where
+      stop : Yields ends.OutOfMemory result → Yields ends.Ok result
+      stop (inl h) = inr (inr h)
+      stop (inr h) = inr h
+
+  pub memory_ports : (source : Port) → PortsEnd (move source source) out result
+  memory_ports source = told_ports refusal.OutOfMemory source out result (λ (e : ends.OutOfMemory ≡ ends.InputFault). cc) (λ (e : ends.OutOfMemory ≡ ends.OutputFault). cc) as_told

@@ -1,0 +1,59 @@
+-- The count of steps that words ask for.
+use Rattle.std.proofs.Common.{◌≡◌, ℕ, ◌<◌, ◌≤◌, List, [], ◌∷◌, Bool, true, false, ◌&&◌, cond, nat_lt, nat_le, Option, None, Some, codes, refl, subst, arith}
+use Rattle.std.proofs.lemmas.Bool.Decides.{nat_tests}
+use Rattle.std.specs.List.{list_all}
+use Rattle.std.specs.Option.{option_and_then}
+use Rattle.std.specs.Str.{bytes_eq}
+use Rattle.rept_number.specs.Numbers.{decimal_of}
+use Rattle.rept_words.specs.Words.{Names, Meaning, is_plain, steps_of, made_of, plain_meaning, meaning_of}
+use Rattle.rept_words.specs.Words.Meaning.{Open, Made}
+
+-- it is one of 1 to 20000
+abbrev pub AsksFew : Option Meaning → Type 0
+AsksFew None = Unit {0}
+AsksFew (Some (Open names from)) = Unit {0}
+AsksFew (Some (Made seed steps)) = (1 ≤ steps) × (steps ≤ 20000)
+
+abbrev IsFew : Option ℕ → Type 0
+IsFew None = Unit {0}
+IsFew (Some n) = (1 ≤ n) × (n ≤ 20000)
+
+either : (b : Bool) (x y : Option Meaning) → AsksFew x → AsksFew y → AsksFew (cond b x y)
+either true x y h k = h
+either false x y h k = k
+
+few_by : (n : ℕ) (b : Bool) → (nat_lt 0 n && nat_le n 20000) ≡ b → IsFew (cond b (Some n) None)
+few_by n true e = (grind (arith, nat_tests), grind (arith, nat_tests))
+few_by n false e = tt
+
+few_of : (o : Option ℕ) → IsFew (option_and_then (λ n. cond (nat_lt 0 n && nat_le n 20000) (Some n) None) o)
+few_of None = tt
+few_of (Some n) = few_by n (nat_lt 0 n && nat_le n 20000) refl
+
+made_few : (s : ℕ) (o : Option ℕ) → IsFew o → AsksFew (option_and_then (λ n. Some (Made s n)) o)
+made_few s None h = tt
+made_few s (Some n) h = h
+
+seeded_few : (o steps : Option ℕ) → IsFew steps → AsksFew (option_and_then (λ s. option_and_then (λ n. Some (Made s n)) steps) o)
+seeded_few None steps h = tt
+seeded_few (Some s) steps h = made_few s steps h
+
+made_of_few : (seed steps : List ℕ) → AsksFew (made_of seed steps)
+made_of_few seed steps = seeded_few (decimal_of seed) (steps_of steps) (few_of (decimal_of steps))
+
+from_few : (names : Names) (o : Option ℕ) → AsksFew (option_and_then (λ k. Some (Open names (Some k))) o)
+from_few names None = tt
+from_few names (Some k) = tt
+
+plain_few : (words : List (List ℕ)) → AsksFew (plain_meaning words)
+plain_few [] = tt
+plain_few (a ∷ []) = tt
+plain_few (a ∷ b ∷ []) = tt
+plain_few (first ∷ seed ∷ steps ∷ []) = either (bytes_eq first (codes "self")) (made_of seed steps) None (made_of_few seed steps) tt
+plain_few (first ∷ exe ∷ core ∷ trace ∷ []) = either (bytes_eq first (codes "open")) (Some (Open (record { exe = exe; core = core; trace = trace }) None)) None tt tt
+plain_few (first ∷ exe ∷ core ∷ trace ∷ from ∷ []) =
+    either (bytes_eq first (codes "open")) (option_and_then (λ k. Some (Open (record { exe = exe; core = core; trace = trace }) (Some k))) (decimal_of from)) None (from_few (record { exe = exe; core = core; trace = trace }) (decimal_of from)) tt
+plain_few (a ∷ b ∷ c ∷ d ∷ e ∷ f ∷ more) = tt
+
+pub asks_few : (words : List (List ℕ)) (seed steps : ℕ) → meaning_of words ≡ Some (Made seed steps) → (1 ≤ steps) × (steps ≤ 20000)
+asks_few words seed steps named = subst AsksFew named (either (list_all is_plain words) (plain_meaning words) None (plain_few words) tt)

@@ -1,0 +1,47 @@
+//! The summary of a made run.
+
+ghost use Rattle.std.specs.Prelude.{◌<◌, ◌≤◌, ◌^◌, ℕ, length};
+ghost use Rattle.rept_make.specs.Made.{IsMade};
+ghost use Rattle.rept_ports.specs.Port.{Port, move};
+ghost use Rattle.rept_app.specs.Delivered.{Delivers};
+ghost use Rattle.rept_app.specs.Ends.{Yields, PortsEnd};
+ghost use Rattle.rept_app.specs.MadeRun.{Sums};
+
+use crate::examine::examine;
+use crate::status::Status;
+use crate::tell::tell_no_memory;
+use rept_make::{Made, make};
+use rept_partial::Range;
+use rept_ports::{CalmSource, Sink};
+use rept_report::reports_are_sound;
+use rept_rules::Base;
+use std::alloc::Global;
+
+/// Makes the crash of a seed after so many steps, and writes the summary of its analysis. No file is loaded, and no input is read.
+pub fn tell_made_run<K: Sink>(alloc: Global, seed: u32, steps: u32, out: &mut K) -> Status
+    requires some { 1 ≤ steps }
+    requires few { steps ≤ 20000 }
+    ensures text { Delivers (Sums seed steps) (move (K.port out.old) (K.port out.new)) result }
+    ensures yields { Yields Status.Ok result }
+    ensures ports { (source : Port) → PortsEnd (move source source) (move (K.port out.old) (K.port out.new)) result }
+{
+    match make(alloc, seed, steps) {
+        Ok(made) => answer_summary(alloc, &made, out),
+        Err(_) => tell_no_memory(out),
+    }
+}
+
+/// Examines the files of a made crash, and answers `summary`.
+fn answer_summary<K: Sink>(alloc: Global, made: &Made, out: &mut K) -> Status
+    requires few { length made.now.trace < 2 ^ 32 }
+    ensures text { (seed steps : ℕ) → IsMade seed steps made.now → Delivers (Sums seed steps) (move (K.port out.old) (K.port out.new)) result }
+    ensures yields { (seed steps : ℕ) → IsMade seed steps made.now → Yields Status.Ok result }
+    ensures ports { (seed steps : ℕ) → IsMade seed steps made.now → (source : Port) → PortsEnd (move source source) (move (K.port out.old) (K.port out.new)) result }
+{
+    reports_are_sound::<Range, Base>();
+    let exe = made.exe.bytes();
+    let core = made.core.bytes();
+    let trace = made.trace.bytes();
+    let mut input = CalmSource::new(b"summary\n");
+    examine(alloc, exe, core, trace, 0, &mut input, out)
+}
