@@ -48,7 +48,7 @@ exe_passes words size =
     let n : length (executable words) ≡ 1108 = (let h = length_words words in let a = length-append exe_header (bytes_of_words words) in omega arith) in
     rw n refl
 
--- fronts of known length
+-- prefixes of known length
 take_front : (xs ys : List ℕ) (m k : ℕ) → m ≡ length xs + k → take m (xs ++ ys) ≡ xs ++ take k ys
 take_front [] ys m k e = let f : m ≡ k = omega arith in rw f refl
 take_front (x ∷ xs) ys m k e =

@@ -28,7 +28,7 @@ off_code body a byte h =
 same_laid : (body : List ℕ) (s t : State) → SameMemory s t → SameMemory (laid body s) (laid body t)
 same_laid body s t m = λ a. ap (laid_byte body a) (m a)
 
--- the data is reached behind the code
+-- the data is reached after the code
 near_data : (s : State) (imm k : ℕ) → Near s → imm ≤ 3 → k ≤ 3 → 66560 ≤ beside (plus (s.register 22) (pos imm)) k
 unfolding word
 near_data s imm k n small few =

@@ -1,5 +1,5 @@
 -- The files of a made crash: an executable of one segment of code, and a core file of one register note and one segment of data (TIS ELF
--- 1.2, book I; for the note Linux's `elf_prstatus` with words of 32 bits). Fields of more than one byte stand least byte first.
+-- 1.2, book I; for the note Linux's `elf_prstatus` with words of 32 bits). Fields of more than one byte stand little-endian.
 use Rattle.std.specs.Prelude.{ℕ, List, [], ◌∷◌, ◌++◌}
 use Rattle.byteorder.specs.Endian.{little_bytes}
 
@@ -8,7 +8,7 @@ abbrev pub bytes_of_words : List ℕ → List ℕ
 bytes_of_words [] = []
 bytes_of_words (word ∷ words) = little_bytes 4 word ++ bytes_of_words words
 
--- The header: class 1, least byte first, version 1; type 2, machine 243, version 1, entry 0x10000, the table at 52, and sizes 52 and 32 of the
+-- The header: class 1, little-endian, version 1; type 2, machine 243, version 1, entry 0x10000, the table at 52, and sizes 52 and 32 of the
 -- header and of one entry. Then the entry: loaded, from offset 84 to 0x10000, 1,024 bytes, flags 5 (to read and to run), aligned to 4.
 abbrev pub exe_header : List ℕ
 exe_header =

@@ -1,3 +1,5 @@
+//! The registers and the code of a made crash.
+
 ghost use Rattle.std.specs.Prelude.{◌≡◌, IfOk};
 ghost use Rattle.rept_make.specs.Draws.{drawn_times};
 ghost use Rattle.rept_make.specs.Start.{start_registers};

@@ -1,3 +1,5 @@
+//! The sequence of numbers from which all is drawn.
+
 ghost use Rattle.std.specs.Prelude.{◌≡◌, ◌<◌, ◌≤◌, ◌+◌};
 ghost use Rattle.rept_make.specs.Draws.{drawn, pick, slot_of, after_slot, IsSlot};
 

@@ -1,3 +1,5 @@
+//! The executable and the core file of a made crash.
+
 ghost use Rattle.std.specs.Prelude.{◌≡◌, ◌++◌, OnOk, IfOk};
 ghost use Rattle.rept_make.specs.Files.{bytes_of_words, executable, core_file};
 

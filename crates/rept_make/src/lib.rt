@@ -1,4 +1,4 @@
-// Made crashes: a program that is drawn, its run, and the three files of it.
+//! Made crashes: a program that is drawn, its run, and the three files of it.
 #![tactic(auto)]
 
 mod code;

@@ -1,3 +1,5 @@
+//! A made crash as a whole.
+
 ghost use Rattle.std.specs.Prelude.{◌≡◌, ◌+◌, ◌^◌, ◌<◌, ◌≤◌, ℕ, length, slice_index, IfOk};
 ghost use Rattle.rept_machine.specs.Machine.{state_of, pc_of};
 ghost use Rattle.rept_encode.specs.Walkable.{IsWalkable};

@@ -1,3 +1,5 @@
+//! The run of a made crash.
+
 ghost use Rattle.std.specs.Prelude.{◌≡◌, ◌+◌, ◌<◌, ◌≤◌, List, ℕ, length, IfOk, OnOk};
 ghost use Rattle.rept_make.specs.Start.{start_registers};
 ghost use Rattle.rept_make.specs.Ran.{Ran};

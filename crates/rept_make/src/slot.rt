@@ -1,3 +1,5 @@
+//! The instructions of one slot of made code.
+
 ghost use Rattle.std.specs.Prelude.{◌≡◌, ◌<◌, ◌≤◌, pos};
 ghost use Rattle.rept_isa.specs.Range.{InRange};
 ghost use Rattle.rept_make.specs.Draws.{IsSlot};
@@ -44,7 +46,7 @@ fn immediate(op: ImmOp, target: u8, slot: &Slot, imm: i32) -> Instr
     }
 }
 
-/// A store of a register of the slot behind x22.
+/// A store of a register of the slot after x22.
 fn store(op: StoreOp, slot: &Slot, imm: i32) -> Instr
     requires { IsSlot slot.now }
     ensures { result ≡ Instr.Store op 22 slot.now.first imm }

@@ -1,3 +1,5 @@
+//! Made crashes, against a simulation apart.
+
 use crate::make;
 use rept_dump::Dump;
 use rept_elf::{Image, Want};

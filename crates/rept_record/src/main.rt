@@ -1,57 +1,11 @@
-// Writes the trace of a log of executed addresses: `rept_record EXE < LOG > TRACE`.
+//! Writes the trace of a log of executed addresses: `rept_record EXE < LOG > TRACE`.
 #![tactic(auto)]
 
-mod stop;
-mod work;
-
-use rept_ports::{DiskShelf, StdSink, StdSource};
+use rept_recording::record_input;
 use std::process::ExitCode;
-use std::{env, io};
-use stop::Stop;
-use work::run;
-
-/// The only word after the program's name.
-fn name_of<R: AllocGlobal + env::Env>(rt: &R) -> Result<String, Stop> {
-    let arguments = match env::args(rt) {
-        Ok(arguments) => arguments,
-        Err(error) => {
-            return Err(match error.kind() {
-                io::ErrorKind::OutOfMemory => Stop::OutOfMemory,
-                _ => Stop::Usage,
-            });
-        }
-    };
-    let words = match arguments.skip(1).collect::<Vec<String>>(rt.alloc()) {
-        Ok(words) => words,
-        Err(_) => return Err(Stop::OutOfMemory),
-    };
-    let mut words = words;
-    let Some(name) = words.pop() else {
-        return Err(Stop::Usage);
-    };
-    if !words.is_empty() {
-        return Err(Stop::Usage);
-    }
-    Ok(name)
-}
-
-/// Runs over the system's files and streams.
-fn record<R: AllocGlobal + env::Env + std::fs::Files + Input + Print>(rt: &R) -> Result<(), Stop> {
-    let name = name_of(rt)?;
-    let mut shelf = DiskShelf::new(rt);
-    let mut source = StdSource::new(rt.reader());
-    let mut sink = StdSink::new(io::writer(rt));
-    run(
-        rt.alloc(),
-        name.as_str(),
-        &mut shelf,
-        &mut source,
-        &mut sink,
-    )
-}
 
 fn main(rt: HostRuntime) -> ExitCode {
-    match record(&rt) {
+    match record_input(&rt) {
         Ok(()) => ExitCode::from(0),
         Err(stop) => {
             let _ = eprintln!(rt; "{stop}");
@@ -59,6 +13,3 @@ fn main(rt: HostRuntime) -> ExitCode {
         }
     }
 }
-
-#[cfg(test)]
-mod tests;

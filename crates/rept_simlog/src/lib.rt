@@ -1,4 +1,4 @@
-// Traces from a plain log of executed addresses, as a simulator writes it.
+//! Traces from a plain log of executed addresses, as a simulator writes it.
 #![tactic(auto)]
 
 mod address;

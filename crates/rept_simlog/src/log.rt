@@ -1,3 +1,5 @@
+//! The lines of a log, each an address.
+
 ghost use Rattle.std.specs.Prelude.{◌≡◌, ◌<◌, ◌^◌, length, IfOk, IfErr};
 ghost use Rattle.rept_simlog.specs.Log.{IsCut, IsLine, AreEntries};
 ghost use Rattle.rept_simlog.specs.Recorded.{IsLogFault};

@@ -1,3 +1,5 @@
+//! The trace of a log.
+
 ghost use Rattle.std.specs.Prelude.{◌≡◌, ◌<◌, ◌^◌, length, slice_get, Some, IfOk, IfErr};
 ghost use Rattle.rept_elf.specs.Image.{segments_of};
 ghost use Rattle.rept_simlog.specs.declared.log.Entry.{Entry};

@@ -1,3 +1,5 @@
+//! Why a log isn't recorded.
+
 use rept_elf::ElfFault;
 use rept_path::PathFault;
 use thiserror::Error;

@@ -1,3 +1,5 @@
+//! Logs that are recorded, and each refusal.
+
 use crate::{Refusal, record};
 use rept_elf::ElfFault;
 use rept_path::PathFault;
@@ -9,7 +11,7 @@ use std::test::Fail;
 const EXE: &[u8] =
     b"\x7fELF\x01\x01\x01\0\0\0\0\0\0\0\0\0\x02\0\xf3\0\x01\0\0\0\0\0\x01\0\x34\0\0\0\0\0\0\0\0\0\0\0\x34\0\x20\0\x01\0\0\0\0\0\0\0\x01\0\0\0\x54\0\0\0\0\0\x01\0\0\0\x01\0\x10\0\0\0\x10\0\0\0\x05\0\0\0\x04\0\0\0\x13\0\0\0\x13\0\0\0\x67\0\x03\0\x73\0\0\0";
 
-/// What comes of a log, a refusal or the trace behind its header.
+/// What comes of a log, a refusal or the trace after its header.
 fn outcome(alloc: Global, log: &[u8]) -> Result<Result<Vec<u8>, Refusal>, AllocError> {
     if log.len() >= 0x1_0000_0000 {
         return Ok(Err(Refusal::OutOfMemory));

@@ -1,3 +1,5 @@
+//! The steps that a log's addresses make.
+
 ghost use Rattle.std.specs.Prelude.{◌≡◌, ◌≤◌, ℕ, length, IfOk, IfErr, OnOk};
 ghost use Rattle.std.specs.List.{All};
 ghost use Rattle.rept_elf.specs.Image.{segments_of};

@@ -1,7 +1,8 @@
 use Rattle.std.proofs.Common.{◌∙◌}
 use Rattle.rept_elf.specs.Image.{segments_of, segment_of}
 use Rattle.rept_dump.specs.Memory.{bytes_from}
-use Rattle.rept_dump.proofs.SearchLemmas.{find-from, found, passed_over}
+use Rattle.rept_dump.proofs.SearchLemmas.{find-from}
+use Rattle.rept_simlog.proofs.Searching.{found, passed_over}
 use Rattle.rept_simlog.proofs.code.find_code.Goals as goal
 
 pub returns-in-Some-clause-bytes : goal.returns-in-Some-clause-bytes

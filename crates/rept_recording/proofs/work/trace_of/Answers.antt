@@ -1,7 +1,7 @@
 use Rattle.std.proofs.Common.{◌≡◌, ℕ, List, sym, subst}
 use Rattle.rept_simlog.specs.Recorded.{IsRecorded, IsRefused}
-use Rattle.rept_record.proofs.Working.{told}
-use Rattle.rept_record.proofs.work.trace_of.Goals as goal
+use Rattle.rept_recording.proofs.Working.{told}
+use Rattle.rept_recording.proofs.work.trace_of.Goals as goal
 
 pub returns-in-Ok-record-clause-ok : goal.returns-in-Ok-record-clause-ok
 returns-in-Ok-record-clause-ok g c =

@@ -1,3 +1,5 @@
+//! Why no trace was written, with its line and its code.
+
 ghost use Rattle.std.specs.Prelude.{◌≤◌};
 
 use rept_simlog::Refusal;

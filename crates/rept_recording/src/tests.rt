@@ -1,3 +1,5 @@
+//! Each refusal of the program.
+
 use crate::stop::Stop;
 use crate::work::run;
 use rept_ports::{CalmShelf, CalmSource, MemSink, MemSource};

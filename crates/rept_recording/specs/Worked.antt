@@ -5,8 +5,8 @@ use Rattle.rept_ports.specs.Port.{Port, Move}
 use Rattle.rept_ports.specs.Shelves.{Shelved, Files}
 use Rattle.rept_simlog.specs.declared.refusal.Refusal.{Refusal}
 use Rattle.rept_simlog.specs.Recorded.{IsRecorded, IsRefused}
-use Rattle.rept_record.specs.declared.stop.Stop.{Stop}
-use Rattle.rept_record.specs.declared.stop.Stop.TheVariants.{Usage, LoadFault, NoFile, TooLarge, InputFault, TooMuchInput, Refused, OutputFault, OutOfMemory}
+use Rattle.rept_recording.specs.declared.stop.Stop.{Stop}
+use Rattle.rept_recording.specs.declared.stop.Stop.TheVariants.{Usage, LoadFault, NoFile, TooLarge, InputFault, TooMuchInput, Refused, OutputFault, OutOfMemory}
 
 -- the trace is that of the log that the input has left, over the executable of this name
 abbrev pub Traces : List ℕ → Shelved → Port → List ℕ → Type 0

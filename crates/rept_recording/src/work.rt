@@ -1,7 +1,9 @@
+//! From the words and the input to the trace that is written.
+
 ghost use Rattle.std.specs.Prelude.{◌≡◌, ◌≤◌, length, IfOk, IfErr, OnOk, OnErr};
 ghost use Rattle.std.specs.Io.KnownBytes.{Consumes, IsAtEnd};
 ghost use Rattle.rept_ports.specs.Port.{move};
-ghost use Rattle.rept_record.specs.Worked.{Traces, IsKept, Writes, Refuses};
+ghost use Rattle.rept_recording.specs.Worked.{Traces, IsKept, Writes, Refuses};
 
 use crate::stop::Stop;
 use rept_ports::{LoadFault, Shelf, Sink, Source, write_all};
