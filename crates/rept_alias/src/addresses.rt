@@ -1,4 +1,5 @@
-// Sets of addresses.
+//! Sets of addresses.
+
 ghost use Rattle.std.specs.Prelude.{◌≡◌};
 ghost use Rattle.rept_alias.specs.Accesses.{hits, hits_part, call_hits};
 

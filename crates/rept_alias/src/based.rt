@@ -1,4 +1,5 @@
-// The addresses that an access of a known range of its base may touch.
+//! The addresses that an access of a known range of its base may touch.
+
 ghost use Rattle.std.specs.Prelude.{◌≡◌, ◌⊎◌, ℕ, ◌<◌, ◌≤◌, ◌^◌, true, pos, ◌+ℤ◌, int_lt, not};
 ghost use Rattle.rept_isa.specs.Numbers.{plus};
 ghost use Rattle.rept_partial.specs.declared.range.Range.{Range};

@@ -1,4 +1,4 @@
-// Which bytes of memory an access may touch.
+//! Which bytes of memory an access may touch.
 #![tactic(auto)]
 
 pub mod addresses;

@@ -1,3 +1,5 @@
+//! Accesses at both ends of the address space.
+
 use crate::{Access, CallAccess, access};
 use rept_partial::Range;
 

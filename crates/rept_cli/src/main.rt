@@ -1,4 +1,4 @@
-// The debugger over the system's files and streams.
+//! The debugger over the system's files and streams.
 #![tactic(auto)]
 
 use rept_run::{exit_code, run};

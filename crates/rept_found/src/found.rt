@@ -1,4 +1,5 @@
-// An analysis that has ended.
+//! An analysis that has ended.
+
 ghost use Rattle.std.specs.Prelude.{◌≡◌, ◌<◌, ℕ, length, IfOk, Err};
 ghost use Rattle.rept_dump.specs.Dump.{registers_of};
 ghost use Rattle.rept_dump.specs.Status.{IsStatus};

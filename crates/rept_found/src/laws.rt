@@ -1,4 +1,5 @@
-// A law of the definitions, for callers whose contracts speak of any path and crash. The call does nothing.
+//! A law of the definitions, for callers whose contracts speak of any path and crash. The call does nothing.
+
 ghost use Rattle.std.specs.Prelude.{List};
 ghost use Rattle.rept_isa.specs.declared.row.StepRow.{StepRow};
 ghost use Rattle.rept_reason.specs.Facts.{Knowledge};

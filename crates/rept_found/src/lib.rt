@@ -1,4 +1,4 @@
-// What an analysis finds out of a path and the dump in which it ends, for the session that tells it.
+//! What an analysis finds out of a path and the dump in which it ends, for the session that tells it.
 #![tactic(auto)]
 
 pub mod found;

@@ -1,4 +1,5 @@
-// What a session asks of an analysis that has ended.
+//! What a session asks of an analysis that has ended.
+
 use crate::found::Found;
 use rept_isa::{Reg, StepRow};
 use rept_partial::{Flat, Range};

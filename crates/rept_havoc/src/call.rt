@@ -1,4 +1,5 @@
-// The bytes of a call, by its number.
+//! The bytes of a call, by its number.
+
 ghost use Rattle.std.specs.Prelude.{◌≡◌, ℕ, ◌+◌, ◌<◌, ◌^◌, true, Option};
 ghost use Rattle.rept_partial.specs.declared.range.Range.{Range};
 ghost use Rattle.rept_partial.specs.declared.flat.Flat.{Flat};

@@ -1,4 +1,4 @@
-// Which bytes a system call may change, from what is known of its arguments.
+//! Which bytes a system call may change, from what is known of its arguments.
 #![tactic(auto)]
 
 pub mod call;

@@ -1,3 +1,5 @@
+//! What each listed call may change.
+
 use crate::havoc;
 use rept_alias::{Access, CallAccess};
 use rept_partial::{Flat, Partial, Range};

@@ -1,3 +1,5 @@
+//! What kinds of instructions and ways of branches there are.
+
 /// What an instruction does to the path.
 #[derive(Clone, Copy, PartialEq, Eq, Debug)]
 pub enum Kind {

@@ -1,3 +1,5 @@
+//! From words to instructions.
+
 ghost use Rattle.std.specs.Prelude.{◌≡◌, IfSome, IfNone, IsTrue};
 ghost use Rattle.rept_isa.specs.declared.instr.Instr.{Instr};
 ghost use Rattle.rept_isa.specs.Words.{IsWord, IsCounter, opcode};

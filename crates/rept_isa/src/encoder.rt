@@ -1,3 +1,5 @@
+//! From instructions to words.
+
 ghost use Rattle.std.specs.Prelude.{◌≡◌, ◌<◌, ◌^◌};
 ghost use Rattle.rept_isa.specs.declared.instr.Instr.{Instr};
 ghost use Rattle.rept_isa.specs.declared.instr.ImmOp.{ImmOp};

@@ -1,3 +1,5 @@
+//! The fields of a word of code.
+
 ghost use Rattle.std.specs.Prelude.{◌≡◌, ◌<◌, ◌≤◌, ◌*◌, ◌-◌, ◌^◌, suc, nat_lt, if◌then◌else◌, pos, negsuc};
 ghost use Rattle.rept_isa.specs.Words.{opcode, rd_field, funct3, rs1_field, rs2_field, funct7, field, i_immediate, s_immediate, b_immediate, u_immediate, j_immediate};
 

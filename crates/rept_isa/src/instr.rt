@@ -1,3 +1,5 @@
+//! The instructions.
+
 use crate::reg::Reg;
 
 /// The condition of a branch (unprivileged manual, chapter 2.5).

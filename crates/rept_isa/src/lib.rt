@@ -1,4 +1,4 @@
-// The instructions of RV32IM: their words, their registers and their texts.
+//! The instructions of RV32IM: their words, their registers and their texts.
 #![tactic(auto)]
 
 pub mod class;

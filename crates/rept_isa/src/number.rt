@@ -1,3 +1,5 @@
+//! Sums of words and signed numbers, modulo 2^32.
+
 ghost use Rattle.std.specs.Prelude.{◌≡◌};
 ghost use Rattle.rept_isa.specs.Numbers.{word, plus, following};
 
@@ -15,7 +17,7 @@ pub fn plus(base: u32, imm: i32) -> u32
     base.wrapping_add(word(imm))
 }
 
-/// The address of the instruction behind the one at `address`, modulo 2^32.
+/// The address of the instruction after the one at `address`, modulo 2^32.
 pub fn following(address: u32) -> u32
     ensures { result ≡ following address }
 {

@@ -1,3 +1,5 @@
+//! What an instruction reads and writes, and where it may lead.
+
 ghost use Rattle.std.specs.Prelude.{◌≡◌};
 ghost use Rattle.rept_isa.specs.Operands.{unless_zero, written_by, first_read, second_read, kind_of, way, turn_of};
 

@@ -1,4 +1,5 @@
-// The operation that a word's function fields name.
+//! The operation that a word's function fields name.
+
 ghost use Rattle.std.specs.Prelude.{◌≡◌, IfSome};
 ghost use Rattle.rept_isa.specs.Words.{branch_funct3, load_funct3, store_funct3, op_funct3, op_funct7};
 ghost use Rattle.rept_isa.specs.Reading.{branch_named, load_named, store_named, base_named, other_named, multiply_named, register_named, wide_named, shift_named};

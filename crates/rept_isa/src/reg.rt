@@ -1,3 +1,5 @@
+//! The numbers of registers.
+
 ghost use Rattle.std.specs.Prelude.{◌≡◌, ◌<◌, ◌%◌, ◌^◌, ◌↔◌, IsSome, IfSome};
 
 use std::marker::Model;

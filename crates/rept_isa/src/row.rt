@@ -1,3 +1,5 @@
+//! One executed step.
+
 use crate::instr::Instr;
 
 /// One executed step: the address of its instruction, the instruction, and the address of the next step.

@@ -1,3 +1,5 @@
+//! The printed text of an instruction.
+
 ghost use Rattle.std.specs.Prelude.{◌≡◌, ◌+◌, ◌/◌, ◌%◌, ◌^◌, ◌<◌, ◌++◌, codes, Some};
 ghost use Rattle.std.specs.Fmt.{digits};
 ghost use Rattle.rept_isa.specs.Numbers.{plus};

@@ -1,3 +1,5 @@
+//! Words and texts of other tools.
+
 mod foreign_words;
 mod jump_words;
 mod memory_words;

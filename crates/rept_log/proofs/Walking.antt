@@ -1,4 +1,4 @@
--- Where a byte that stands in a front of a log comes from.
+-- Where a byte that stands in a prefix of a log comes from.
 use Rattle.std.proofs.Common.{◌≡◌, ℕ, ◌-◌, ◌<◌, ◌≤◌, eqb, length, Option, Some, None, inl, inr, refl, sym, ap, ◌∙◌, arith}
 use Rattle.std.proofs.lemmas.Bool.{cases_eq, cases_lt, cond-true, cond-false, eq-eqb, ne_eqb}
 use Rattle.rept_reason.specs.declared.fact.Cell.TheVariants.{Byte}

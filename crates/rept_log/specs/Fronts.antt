@@ -1,4 +1,4 @@
--- What stands in a front of a log, the nearest points with a byte of it, and reasons that rest on it. This project's own.
+-- What stands in a prefix of a log, the nearest points with a byte of it, and reasons that rest on it. This project's own.
 use Rattle.std.specs.Prelude.{◌≡◌, ◌≢◌, ℕ, ◌+◌, ◌<◌, ◌≤◌, false, List, [], ◌∷◌, map, length, Option, Some, None, slice_get}
 use Rattle.rept_isa.specs.declared.instr.Instr.TheVariants.{Ecall}
 use Rattle.rept_isa.specs.declared.row.StepRow.{StepRow}
@@ -50,7 +50,7 @@ front_of sets moves rules b = record {
 abbrev pub stands : {W : Type 0} → FrontView W → Knowledge
 stands f = standing f.setting f.facts
 
--- a front of the facts on a path with so many points, and the sets that are filled from it
+-- a prefix of the facts on a path with so many points, and the sets that are filled from it
 pub record IsFront {W : Type 0} (f : FrontView W) (last : ℕ) (spans : View W) : Type 0 where
   pub few : length f.setting.rows ≤ 65536
   pub registers : length f.setting.last ≡ 32

@@ -1,4 +1,5 @@
-// A log of facts in the order in which they were learnt, the place in it of each register at each point, and a store of bytes.
+//! A log of facts in the order in which they were learnt, the place in it of each register at each point, and a store of bytes.
+
 ghost use Rattle.std.specs.Prelude.{◌≡◌, ◌<◌, ◌≤◌, ◌^◌, ℕ, length, IfOk, None, Some, slice_get, IsSome, true, false};
 ghost use Rattle.rept_reason.specs.declared.fact.Cell.TheVariants.{Register, Byte};
 ghost use Rattle.rept_reason.specs.Facts.{told, flat, register_known, register_fact};

@@ -1,4 +1,5 @@
-// What stands in a front of a log: the facts at places below a limit, and the bytes that are carried from them or from the dump.
+//! What stands in a prefix of a log: the facts at places below a limit, and the bytes that are carried from them or from the dump.
+
 ghost use Rattle.std.specs.Prelude.{◌≡◌, ◌+◌, ◌<◌, ◌≤◌, ◌^◌, ℕ, length, Some, IsSome, slice_get};
 ghost use Rattle.rept_dump.specs.Dump.{exe_of, core_of};
 ghost use Rattle.rept_reason.specs.declared.fact.Cell.TheVariants.{Register, Byte};

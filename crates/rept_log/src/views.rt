@@ -1,4 +1,5 @@
-// What the facts of a log tell, as fillings of ranges and rules of rows look at it.
+//! What the facts of a log tell, as fillings of ranges and rules of rows look at it.
+
 ghost use Rattle.std.specs.Prelude.{◌≡◌, ◌+◌, ◌<◌, ◌≤◌, ◌^◌, ℕ, Option, Some};
 ghost use Rattle.rept_reason.specs.declared.fact.Cell.TheVariants.{Register};
 ghost use Rattle.rept_reason.specs.Facts.{told, flat};

@@ -1,4 +1,4 @@
-// The numbers that words spell.
+//! The numbers that words spell.
 #![tactic(auto)]
 
 pub mod digits;

@@ -1,3 +1,5 @@
+//! Words, and the numbers that they spell.
+
 use crate::{decimal, number_in};
 use std::process::Abort;
 use std::test::Fail;

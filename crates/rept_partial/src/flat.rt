@@ -1,4 +1,5 @@
-// One known value, or nothing known.
+//! One known value, or nothing known.
+
 use crate::partial::Partial;
 
 /// One known value, or nothing known.

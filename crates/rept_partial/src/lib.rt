@@ -1,4 +1,4 @@
-// Sets of values of one 32-bit word: the trait of such sets, and two kinds of them.
+//! Sets of values of one 32-bit word: the trait of such sets, and two kinds of them.
 #![tactic(auto)]
 
 pub mod flat;

@@ -1,4 +1,5 @@
-// What every kind of set of values can do.
+//! What every kind of set of values can do.
+
 ghost use Rattle.std.specs.Prelude.{◌≡◌};
 ghost use Rattle.rept_partial.specs.Sets.{Sets, AreLawful};
 

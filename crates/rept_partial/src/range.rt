@@ -1,4 +1,5 @@
-// The words from one bound to another.
+//! The words from one bound to another.
+
 ghost use Rattle.std.specs.Prelude.{◌≡◌, ◌<◌, ◌≤◌, ◌^◌};
 
 use crate::partial::Partial;

@@ -1,4 +1,5 @@
-// Sets of values, on cases that were worked out by hand.
+//! Sets of values, on cases that were worked out by hand.
+
 use crate::{Flat, Partial, Range};
 
 /// Two ranges, and what they have in common.

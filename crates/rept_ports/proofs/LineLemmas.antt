@@ -29,7 +29,7 @@ Consumes-Keeps (Some x) None c xs h k = absurd h
 Consumes-Keeps (Some x) (Some y) None xs h k = absurd k
 Consumes-Keeps (Some x) (Some y) (Some z) xs h k = h ∙ ap (λ w. xs ++ w) (sym k)
 
--- What was taken so far, and the front of the line.
+-- What was taken so far, and the prefix of the line.
 pub record SoFar (old new : Taken) (source source' : Port) (items : List ℕ) (is_long : Bool) : Type 0 where
   pub got : List ℕ
   pub consumed : Consumes source.bytes source'.bytes got

@@ -1,3 +1,5 @@
+//! The ports over the system.
+
 ghost use Rattle.std.specs.Prelude.{◌≡◌, ◌≤◌, length, IfOk};
 
 use crate::traits::{Failed, LoadFault, Shelf, Sink, Source};

@@ -1,5 +1,5 @@
-// The outside of the program: named files, bytes that come in, bytes that go out. Each is a trait, with ports in memory
-// and ports over the system.
+//! The outside of the program: named files, bytes that come in, bytes that go out. Each is a trait, with ports in memory
+//! and ports over the system.
 #![tactic(auto)]
 
 pub mod host;

@@ -1,3 +1,5 @@
+//! Outputs in memory, and the writing of a whole text.
+
 ghost use Rattle.std.specs.Prelude.{◌≡◌, IfOk, OnOk, OnErr};
 ghost use Rattle.std.specs.Io.KnownBytes.{Appends};
 ghost use Rattle.rept_ports.specs.Causes.{HasCause, AppendsPrefix};

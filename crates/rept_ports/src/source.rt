@@ -1,3 +1,5 @@
+//! Inputs in memory.
+
 ghost use Rattle.std.specs.Prelude.{◌≡◌, IfOk};
 
 use crate::traits::{Failed, OutOfMemory, Source};

@@ -1,3 +1,5 @@
+//! The ports on real files and streams.
+
 use crate::{
     BoundedLines, CalmShelf, CalmSource, DiskShelf, Failed, Line, LineFault, LoadFault, MemShelf,
     MemSink, MemSource, OutOfMemory, Shelf, Sink, Source, StdSink, StdSource, write_all,

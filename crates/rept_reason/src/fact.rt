@@ -1,4 +1,5 @@
-// A fact: at a point of a path, a register or a byte has a value.
+//! A fact: at a point of a path, a register or a byte has a value.
+
 ghost use Rattle.std.specs.Prelude.{◌≡◌};
 ghost use Rattle.rept_reason.specs.declared.fact.Cell.TheVariants.{Byte};
 

@@ -1,4 +1,4 @@
-// Facts on registers and bytes along a path, and the reasons for which they are known.
+//! Facts on registers and bytes along a path, and the reasons for which they are known.
 #![tactic(auto)]
 
 pub mod fact;

@@ -1,4 +1,5 @@
-// Why a fact is known: a rule, the facts that it rests on, and the ranges that it looked at.
+//! Why a fact is known: a rule, the facts that it rests on, and the ranges that it looked at.
+
 ghost use Rattle.std.specs.Prelude.{◌≡◌, ◌<◌, ◌≤◌, ◌^◌, []};
 
 use crate::fact::Fact;

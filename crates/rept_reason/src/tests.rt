@@ -1,4 +1,5 @@
-// A reason keeps its premises and ranges in place.
+//! A reason keeps its premises and ranges in place.
+
 use crate::{Cell, Fact, Looked, Reason};
 use rept_isa::Reg;
 use rept_partial::Range;

@@ -69,7 +69,7 @@ entry_in (g ∷ gs) t f e =
           rw (oldest_new (t + 1) g gs (omega arith)) (entry_in gs t f older)
     ]
 
--- a fact of a front has a place in it
+-- a fact of a prefix has a place in it
 front_entry : (fs : List Fact) (t : ℕ) (f : Fact) → In (oldest t fs) f → (s : ℕ) × (s < t) × (entry fs s ≡ Some f)
 front_entry [] t f h = absurd h
 front_entry (g ∷ gs) t f h =
@@ -148,7 +148,7 @@ module _ {W : Type 0} (S : Setting W) (laws : HasLaws S) (es : List Entry) (trac
       let why = register_because S (standing S (oldest at.0 Log)) f r is concludes.by in
       (why.0, of_register at.0 r is at.1 why.1)
 
-  -- the least front in which a byte stands
+  -- the least prefix in which a byte stands
   least_front : (p a v : ℕ) → p ≤ length S.rows → a < 2 ^ 32 → (t : ℕ) → byte_at S (oldest t Log) p a ≡ Some v → (u : ℕ) × IsLeastFront S Log (fact_of p (Byte a) v) u
   least_front p a v early small zero e = (zero, record { stands = found_stands S (oldest zero Log) a small p v early e; least = λ u below h. absurd (omega arith) })
   least_front p a v early small (suc t) e = decide (λ x. least_front p a v early small t x) (byte_at S (oldest t Log) p a) refl
@@ -187,7 +187,7 @@ module _ {W : Type 0} (S : Setting W) (laws : HasLaws S) (es : List Entry) (trac
       same_carries : (a p q : ℕ) → Carries S (standing S (oldest t Log)) a p q → Carries S (told (oldest t Log)) a p q
       same_carries a p q h = record { inside = h.inside; next = h.next; spared = sym (may_write_same S (standing S (oldest t Log)) (told (oldest t Log)) (λ x r. refl) p a) ∙ h.spared }
 
-  -- a byte that is the last one of its least front is drawn
+  -- a byte that is the last one of its least prefix is drawn
   drawn_reason : (s p a v : ℕ) → IsLeastFront S Log (fact_of p (Byte a) v) (s + 1) → entry Log s ≡ Some (fact_of p (Byte a) v) → HasReason (fact_of p (Byte a) v)
   drawn_reason s p a v least at =
       let concludes = entries_stand S laws es trace quiet tracked closed s (fact_of p (Byte a) v) at in
@@ -205,7 +205,7 @@ module _ {W : Type 0} (S : Setting W) (laws : HasLaws S) (es : List Entry) (trac
       let why = by_side near.0 near.1 early in
       (why.0, of_carried_byte t a refl least other why.1)
     where
-      -- a listed fact is the last one of the least front
+      -- a listed fact is the last one of the least prefix
       not_listed : (w : ℕ) → told (oldest t Log) p (Byte a) ≡ Some w → ⊥
       not_listed w e =
           let h = told_in (oldest t Log) p (Byte a) w e in

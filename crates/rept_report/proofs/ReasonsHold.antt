@@ -109,7 +109,7 @@ module _ {W : Type 0} (S : Setting W) (laws : HasLaws S) (es : List Entry) (trac
   reason_given f why (of_drawn_byte t a c least at h) = drawn_given t f why h
   reason_given f why (of_carried_byte t a c least other h) = carried_given t f why least.stands h
 
-  -- what is looked at in a front holds
+  -- what is looked at in a prefix holds
   looked_holds : (t p r : ℕ) → p ≤ length S.rows → RangeAlwaysHolds S (looked S (told (oldest t Log)) p r)
   looked_holds t p r early run x = seen_between S laws run x (told (oldest t Log)) (front_words S laws es trace quiet t) (λ q c v e. closure_sound S laws (fact_of q c v) (front_derived S laws es trace quiet t (fact_of q c v) e) run x) p r early
 

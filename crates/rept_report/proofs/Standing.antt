@@ -1,4 +1,4 @@
--- At the end, what stands in any front of the log is one look-up, and each entry is a one-step conclusion of it.
+-- At the end, what stands in any prefix of the log is one look-up, and each entry is a one-step conclusion of it.
 use Rattle.std.proofs.Common.{◌≡◌, ℕ, ◌<◌, ◌≤◌, ◌^◌, Bool, true, false, List, [], ◌∷◌, length, Option, Some, None, inl, inr, refl, sym, subst, ◌∙◌, arith}
 use Rattle.std.proofs.lemmas.Bool.{cases_lt}
 use Rattle.rept_reason.specs.declared.fact.Fact.{Fact}
@@ -91,22 +91,22 @@ module _ {W : Type 0} (S : Setting W) (laws : HasLaws S) (es : List Entry) (trac
   pub front_cells : (t : ℕ) → AllCells (oldest t Log)
   front_cells t f h = logged_cells S es trace f (oldest_in t Log f h)
 
-  -- what stands in a front is at a point of the path
+  -- what stands in a prefix is at a point of the path
   pub front_early : (t : ℕ) (f : Fact) → StandsIn S (oldest t Log) f → f.point ≤ length S.rows
   front_early t f h = stands_early S (oldest t Log) (λ g k. derivation_early S (facts_of es) (trace_derivation S laws es trace quiet) g (logged_in es g (oldest_in t Log g k))) f h
 
-  -- each front of the log is quiet
+  -- each prefix of the log is quiet
   pub front_quiet : (t : ℕ) → IsQuiet S (told (oldest t Log))
   front_quiet t = quiet_less S laws (told (oldest t Log)) (told Log) (λ p r v e. oldest_less t Log log_once p (Register r) v e) log_quiet
 
-  -- what stands in a front stands in each longer one
+  -- what stands in a prefix stands in each longer one
   pub stands_up : (t u : ℕ) (f : Fact) → t ≤ u → StandsIn S (oldest t Log) f → StandsIn S (oldest u Log) f
   stands_up t u f le h = stands_more S laws (oldest t Log) (oldest u Log) (front_cells t) (λ g k. oldest_up t u Log g le k) (λ p r v e. oldest_more t u Log log_once le p (Register r) v e) (front_words u) (front_quiet u) f h
 
   pub stands_whole : (t : ℕ) (f : Fact) → StandsIn S (oldest t Log) f → StandsIn S Log f
   stands_whole t f h = stands_more S laws (oldest t Log) Log (front_cells t) (λ g k. oldest_in t Log g k) (λ p r v e. oldest_less t Log log_once p (Register r) v e) (words_of Log (logged_words S es trace)) log_quiet f h
 
-  -- the facts of a front stand in a derivation
+  -- the facts of a prefix stand in a derivation
   pub front_derived : (t : ℕ) (f : Fact) → told (oldest t Log) f.point f.cell ≡ Some f.value → InClosure S f
   front_derived t f e = (facts_of es, trace_derivation S laws es trace quiet, logged_in es f (oldest_in t Log f (told_in (oldest t Log) f.point f.cell f.value e)))
 

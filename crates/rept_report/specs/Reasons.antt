@@ -1,4 +1,4 @@
--- Which facts stand behind each fact of a log: the older entries, and the bytes that are carried from them or from the dump
+-- Which facts stand before each fact of a log: the older entries, and the bytes that are carried from them or from the dump
 -- across rows that, by these entries, may not write them. This project's own.
 use Rattle.std.specs.Prelude.{◌≡◌, ℕ, zero, suc, ◌+◌, ◌-◌, ◌<◌, ◌^◌, ◌==◌, if◌then◌else◌, List, length, Option, Some, None}
 use Rattle.rept_reason.specs.declared.fact.Fact.{Fact}

@@ -108,13 +108,13 @@ pub data IsCarriedBecause {W : Type 0} (S : Setting W) (fs : List Fact) (f : Fac
   onward : (a i q : ℕ) → f.point ≡ i + 1 → f.cell ≡ Byte a → IsNearest S fs a (i + 1) q → q ≤ i → why ≡ because 5 (fact_of i (Byte a) f.value ∷ []) (looked_across S (told fs) i) → IsCarriedBecause S fs f why
   back : (a i q : ℕ) → f.point ≡ i → f.cell ≡ Byte a → IsNearest S fs a i q → i < q → why ≡ because 6 (fact_of (i + 1) (Byte a) f.value ∷ []) (looked_across S (told fs) i) → IsCarriedBecause S fs f why
 
--- the shortest front of the log in which the fact stands: the facts at places below t
+-- the shortest prefix of the log in which the fact stands: the facts at places below t
 pub record IsLeastFront {W : Type 0} (S : Setting W) (log : List Fact) (f : Fact) (t : ℕ) : Type 0 where
   pub stands : StandsIn S (oldest t log) f
   pub least : (u : ℕ) → u < t → StandsIn S (oldest u log) f → ⊥
 
--- A reason of a fact rests on what stands in a front of the log. A register's fact rests on what stands before its place. So does a
--- byte's fact that is the last one of its least front; any other byte's fact is carried in its least front. So no reason rests
+-- A reason of a fact rests on what stands in a prefix of the log. A register's fact rests on what stands before its place. So does a
+-- byte's fact that is the last one of its least prefix; any other byte's fact is carried in its least prefix. So no reason rests
 -- on itself.
 pub data IsReason {W : Type 0} (S : Setting W) (log : List Fact) (f : Fact) (why : Because) : Type 0 where
   of_register : (t r : ℕ) → f.cell ≡ Register r → entry log t ≡ Some f → IsKnownBecause S (standing S (oldest t log)) f why → IsReason S log f why

@@ -1,4 +1,5 @@
-// Laws of the definitions, for callers whose contracts speak of any path and dump. The calls do nothing.
+//! Laws of the definitions, for callers whose contracts speak of any path and dump. The calls do nothing.
+
 ghost use Rattle.std.specs.Prelude.{◌≡◌, ◌<◌, ◌≤◌, ◌^◌, ◌↔◌, ℕ, Bool, true, false, List, length, All, Some};
 ghost use Rattle.rept_reason.specs.declared.fact.Fact.{Fact};
 ghost use Rattle.rept_reason.specs.declared.fact.Cell.{Cell};
@@ -39,7 +40,7 @@ pub fn knowledge_is_monotone<W: Transfer, R: RowRules>()
 {}
 
 /// Facts that were learnt one by one, each of which follows from those before it if these are quiet, are a derivation where they
-/// are quiet. Where each shorter front of their log is quiet, the facts of a front are of the closure, and what they show is a
+/// are quiet. Where each shorter prefix of their log is quiet, the facts of a prefix are of the closure, and what they show is a
 /// conflict of the closure. So are two values of a cell, where quiet facts have the one and the other follows from them.
 pub fn traces_are_derived<W: Transfer, R: RowRules>()
     ensures whole { (S : Setting W) (es : List Entry) → Uses S W.sets W.moves R.rules → IsTrace S es → IsQuiet S (told (facts_of es)) → Derivation S (facts_of es) }
@@ -71,7 +72,7 @@ pub fn entries_are_reasoned<W: Transfer, R: RowRules>()
 {}
 
 /// The look-up of a byte finds something exactly where a byte stands in the facts. At the end it finds exactly what stands in a
-/// front of the log, and what it finds in one front it finds in each longer one.
+/// prefix of the log, and what it finds in one prefix it finds in each longer one.
 pub fn bytes_are_found<W: Transfer, R: RowRules>()
     ensures found { (S : Setting W) (fs : List Fact) (p a v : ℕ) → a < 2 ^ 32 → p ≤ length S.rows → byte_at S fs p a ≡ Some v → StandsIn S fs (record { point = p; cell = Cell.Byte a; value = v }) }
     ensures stands { (S : Setting W) (fs : List Fact) (p a v : ℕ) → a < 2 ^ 32 → StandsIn S fs (record { point = p; cell = Cell.Byte a; value = v }) → (w : ℕ) × (byte_at S fs p a ≡ Some w) }

@@ -1,5 +1,5 @@
-// What follows from a path and a dump, step by step: the report of an analysis, how it may contradict itself, and what it says
-// of the machine.
+//! What follows from a path and a dump, step by step: the report of an analysis, how it may contradict itself, and what it says
+//! of the machine.
 #![tactic(auto)]
 
 pub mod conflict;

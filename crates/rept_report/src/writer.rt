@@ -1,4 +1,4 @@
-// Which step wrote a byte.
+//! Which step wrote a byte.
 
 /// What is known of the step that last wrote a byte before a point. Steps are counted as the rows are, from 0 on.
 #[derive(Clone, Copy, PartialEq, Eq, Debug)]

@@ -1,4 +1,5 @@
-// The rules of RV32IM.
+//! The rules of RV32IM.
+
 ghost use Rattle.std.specs.Prelude.{◌≡◌, ◌+◌, min, Contains};
 ghost use Rattle.rept_view.specs.declared.drawn.Drawn.{Drawn};
 ghost use Rattle.rept_rules.specs.Conclusions.{Concludes};

@@ -1,4 +1,5 @@
-// The conclusions of a row, one after another into a list.
+//! The conclusions of a row, one after another into a list.
+
 ghost use Rattle.std.specs.Prelude.{◌≡◌, ◌+◌, ◌<◌, ◌≤◌, ◌^◌, ◌++◌, ℕ, Option, length};
 ghost use Rattle.smallvec.specs.SmallVec.{HasRoomFor};
 ghost use Rattle.rept_isa.specs.Operands.{turn_of};

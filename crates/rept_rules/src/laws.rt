@@ -1,4 +1,5 @@
-// Laws of the rules of RV32IM, for callers whose contracts speak of rules by their definition. The calls do nothing.
+//! Laws of the rules of RV32IM, for callers whose contracts speak of rules by their definition. The calls do nothing.
+
 ghost use Rattle.std.specs.Prelude.{◌≡◌, ◌<◌, ◌^◌, ℕ, Contains, true, Some};
 ghost use Rattle.rept_isa.specs.declared.row.StepRow.{StepRow};
 ghost use Rattle.rept_view.specs.declared.drawn.Drawn.{Drawn};

@@ -1,4 +1,4 @@
-// What a row of a path lets one conclude of the values before and after it.
+//! What a row of a path lets one conclude of the values before and after it.
 #![tactic(auto)]
 
 pub mod base;

@@ -1,4 +1,5 @@
-// What is known around a row: its operands, its result, and the bytes that it reads or writes.
+//! What is known around a row: its operands, its result, and the bytes that it reads or writes.
+
 ghost use Rattle.std.specs.Prelude.{◌≡◌, ◌<◌, ◌^◌, ℕ, Option};
 ghost use Rattle.rept_isa.specs.Operands.{written_by, unless_zero};
 ghost use Rattle.rept_machine.specs.Arithmetic.{beside, extended};

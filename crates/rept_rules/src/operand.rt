@@ -1,4 +1,5 @@
-// An operand, from the result of an instruction and the other operand.
+//! An operand, from the result of an instruction and the other operand.
+
 ghost use Rattle.std.specs.Prelude.{◌≡◌, ◌%◌, ℕ, Some};
 ghost use Rattle.rept_isa.specs.Operands.{written_by};
 ghost use Rattle.rept_machine.specs.State.{State, IsState};

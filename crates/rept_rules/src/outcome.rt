@@ -1,4 +1,5 @@
-// The result of an instruction, from what is known of its operands.
+//! The result of an instruction, from what is known of its operands.
+
 ghost use Rattle.std.specs.Prelude.{◌≡◌, ℕ, Some};
 ghost use Rattle.rept_isa.specs.Operands.{written_by, first_read, second_read};
 ghost use Rattle.rept_machine.specs.State.{State, IsState};

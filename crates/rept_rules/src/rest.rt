@@ -1,4 +1,5 @@
-// What a conclusion of a row rests on.
+//! What a conclusion of a row rests on.
+
 ghost use Rattle.std.specs.Prelude.{◌≡◌, ◌+◌, ◌<◌, ◌≤◌, ◌^◌, ◌++◌, ℕ, Option, length};
 ghost use Rattle.smallvec.specs.SmallVec.{HasRoomFor};
 ghost use Rattle.rept_machine.specs.Arithmetic.{register_form};

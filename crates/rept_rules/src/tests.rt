@@ -1,3 +1,5 @@
+//! Each line of the tables of rules.
+
 mod sample;
 mod words;
 

@@ -1,4 +1,5 @@
-// Which bytes a row may write, by the ranges of registers around it.
+//! Which bytes a row may write, by the ranges of registers around it.
+
 ghost use Rattle.std.specs.Prelude.{◌≡◌, ◌<◌, ◌≤◌, ◌^◌, ◌&&◌, ℕ, is_some};
 ghost use Rattle.rept_alias.specs.Accesses.{hits, call_hits, access_of};
 ghost use Rattle.rept_havoc.specs.Havoc.{changed};

@@ -71,7 +71,7 @@ told_all : (input taken : List ℕ) (left : Option (List ℕ)) → Consumes (Som
 told_all input taken None h k = absurd h
 told_all input taken (Some rest) h k = h ∙ ap (λ w. taken ++ w) k ∙ append-nil taken
 
--- the lines that are read begin with those of a front
+-- the lines that are read begin with those of a prefix
 begins_with : (input taken rest : List ℕ) (F W : List ℕ → List (List ℕ)) (front : List (List ℕ)) → input ≡ taken ++ rest → length taken ≤ most_input
     → ((more : List ℕ) → lines_of (taken ++ more) ≡ front ++ F more) → ((more : List ℕ) → whole_lines (taken ++ more) ≡ front ++ W more)
     → (b : Bool) → nat_le (length input) most_input ≡ b → (later : List (List ℕ)) × (lines_read input ≡ front ++ later)

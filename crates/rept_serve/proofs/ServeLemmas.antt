@@ -70,9 +70,9 @@ starts t o intake cursor old h at = where_told o (λ input. SoFar t input o inta
   text = Appends-nothing old;
 })
 
--- a front of what follows
-prefix_behind : (old mid new : Option (List ℕ)) (front whole : List ℕ) → Appends old mid front → AppendsPrefix mid new whole → AppendsPrefix old new (front ++ whole)
-prefix_behind old mid new front whole h p = (
+-- a prefix of what follows
+prefix_after : (old mid new : Option (List ℕ)) (front whole : List ℕ) → Appends old mid front → AppendsPrefix mid new whole → AppendsPrefix old new (front ++ whole)
+prefix_after old mid new front whole h p = (
   length front + p.0,
   omega (arith, length-append front whole, p.1),
   subst (Appends old new) (sym (take-append-add front whole p.0)) (Appends-trans old mid new front (take p.0 whole) h p.2),
@@ -201,7 +201,7 @@ module _ (t : Told) (input : List ℕ) (source source' : Port) (intake intake' :
                 goes_on = ap (has_quit t) first ∙ no_quit_more t so_far.done this.0 so_far.goes_on goes;
                 answers = subst (λ ls. IsSession t start ls (so_far.written ++ h.reply)) (sym first) told;
               },
-              prefix_behind old.bytes mid.bytes new.bytes so_far.written h.reply so_far.text h.wrote,
+              prefix_after old.bytes mid.bytes new.bytes so_far.written h.reply so_far.text h.wrote,
             ),
           )
 

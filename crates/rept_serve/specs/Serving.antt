@@ -67,7 +67,7 @@ Wrote t reading text served.TooMuchInput = Overran t reading.input text
 Wrote t reading text served.OutOfMemory = FirstAnswers t reading.input text
 Wrote t reading text served.OutputFault = ⊥
 
--- The output is what it was, followed by such a text; or it failed once, and what follows is a front of the answers to the first
+-- The output is what it was, followed by such a text; or it failed once, and what follows is a prefix of the answers to the first
 -- lines.
 abbrev pub Serves : Told → Reading → Move Port → Served → Type 0
 Serves t reading out result =

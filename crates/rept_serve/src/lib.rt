@@ -1,4 +1,4 @@
-// A session over an input and an output: each line is answered before the next one is read.
+//! A session over an input and an output: each line is answered before the next one is read.
 #![tactic(auto)]
 
 mod serving;

@@ -1,4 +1,5 @@
-// The loop over the lines of an input.
+//! The loop over the lines of an input.
+
 ghost use Rattle.std.specs.Prelude.{◌≡◌, ◌≤◌, false, length, IfOk, IfSome};
 ghost use Rattle.rept_ports.specs.Port.{move};
 ghost use Rattle.rept_session.specs.Shown.{SameReasons, told};

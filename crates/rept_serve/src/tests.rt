@@ -1,4 +1,5 @@
-// Sessions over a path without steps.
+//! Sessions over a path without steps.
+
 use crate::{Served, serve};
 use rept_isa::{Reg, StepRow};
 use rept_partial::Range;

@@ -25,7 +25,7 @@ module _ (p : ℕ → Bool) (text : List ℕ) where
   pub nowhere : None ≡ position p text → length text ≤ n
   nowhere is = at_none (nat_lt n (length text)) refl is
 
--- where the first byte passes, that is the place; else it is one place behind that in the rest
+-- where the first byte passes, that is the place; else it is one place after that in the rest
 first_is : (p : ℕ → Bool) (x : ℕ) (xs : List ℕ) → p x ≡ true → position_or_len p (x ∷ xs) ≡ 0
 first_is p x xs e = ap (λ (b : Bool). cond (not b) (1 + position_or_len p xs) 0) e
 

@@ -1,4 +1,5 @@
-// Answering a command.
+//! Answering a command.
+
 ghost use Rattle.std.specs.Prelude.{◌≡◌, ◌≤◌, ◌++◌, false, length, IfOk, OnOk};
 ghost use Rattle.rept_session.specs.Commands.{IsWithin, command_of};
 ghost use Rattle.rept_session.specs.Session.{IsReply, cursor_of, ends};
@@ -19,7 +20,7 @@ use std::alloc::Global;
 
 /// The answer to a command at a cursor. `skipped` is the count of packets that the path was read without.
 ///
-/// The only refusal is want of memory. In each case the findings stay as they were.
+/// The only refusal is out of memory. In each case the findings stay as they were.
 pub fn answer<F: Findings>(
     alloc: Global,
     findings: &mut F,
@@ -48,7 +49,7 @@ pub fn answer<F: Findings>(
 
 /// The answer to a line at a cursor: that to its command, or `? N` for a line that is none, which leaves the cursor where it is.
 ///
-/// The only refusal is want of memory. In each case the findings stay as they were.
+/// The only refusal is out of memory. In each case the findings stay as they were.
 pub fn answer_line<F: Findings>(
     alloc: Global,
     findings: &mut F,

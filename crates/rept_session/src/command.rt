@@ -1,4 +1,5 @@
-// What a line of a session asks for, and why a line asks for nothing that can be answered.
+//! What a line of a session asks for, and why a line asks for nothing that can be answered.
+
 ghost use Rattle.std.specs.Prelude.{◌≡◌};
 ghost use Rattle.rept_session.specs.Commands.{number_of_refusal};
 

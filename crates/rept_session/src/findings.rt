@@ -1,4 +1,5 @@
-// What a session asks of an analysis.
+//! What a session asks of an analysis.
+
 ghost use Rattle.std.specs.Prelude.{◌≡◌, ◌≢◌, ◌≤◌, length, Some, IfOk, IfNone, IfSome};
 ghost use Rattle.rept_session.specs.Shown.{SameReasons, Shown, explained, known_value};
 ghost use Rattle.rept_reason.specs.declared.fact.Fact.{Fact};
@@ -53,7 +54,7 @@ pub trait Findings {
         ensures { result ≡ (shown self.now).counts };
 
     /// A reason of a fact, which isn't one of x0: its value needs no reason. None only where the fact isn't known. A refusal is for
-    /// want of memory alone.
+    /// running out of memory alone.
     fn why(&mut self, alloc: Global, fact: Fact) -> Result<Option<Reason>, OutOfMemory>
         requires point { fact.point ≤ length (shown self.old).rows }
         requires named { fact.cell ≢ Register 0 }

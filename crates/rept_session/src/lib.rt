@@ -1,4 +1,4 @@
-// The lines of a session: which command a line is, and the text that answers it.
+//! The lines of a session: which command a line is, and the text that answers it.
 #![tactic(auto)]
 
 pub mod answers;

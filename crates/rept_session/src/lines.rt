@@ -1,4 +1,5 @@
-// Answers of many lines.
+//! Answers of many lines.
+
 ghost use Rattle.std.specs.Prelude.{◌≡◌, ◌≤◌, ◌+◌, ◌++◌, codes, length, IfOk, OnOk, slice_get};
 ghost use Rattle.std.specs.List.{flat_map, range_with_len};
 ghost use Rattle.rept_session.specs.Texts.{byte_piece, byte_text, memory_line, memory_lines, register_lines, step_line, step_lines, wrapped};

@@ -1,4 +1,5 @@
-// The names of registers.
+//! The names of registers.
+
 ghost use Rattle.std.specs.Prelude.{◌≡◌, ◌<◌};
 ghost use Rattle.rept_session.specs.Registers.{named, plain_index, indexed, register_of};
 

@@ -1,4 +1,5 @@
-// Reading a line as a command.
+//! Reading a line as a command.
+
 ghost use Rattle.std.specs.Prelude.{◌≡◌, IfOk, MatchResult, None, Some};
 ghost use Rattle.rept_session.specs.Commands.{IsWithin, alone, command_of, begins_with_digit, command_of_verb, double_command, goto_command, single_command, why_command};
 ghost use Rattle.rept_number.specs.Numbers.{number_of_word};

@@ -1,4 +1,5 @@
-// Pieces of answers, pushed onto a text.
+//! Pieces of answers, pushed onto a text.
+
 ghost use Rattle.std.specs.Prelude.{◌≡◌, ◌++◌, OnOk, Some, codes};
 ghost use Rattle.std.specs.Fmt.{decimal};
 ghost use Rattle.rept_isa.specs.Texts.{register_text};

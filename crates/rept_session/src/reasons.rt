@@ -1,4 +1,5 @@
-// Answers that tell why something is known.
+//! Answers that tell why something is known.
+
 ghost use Rattle.std.specs.Prelude.{◌≡◌, ◌≢◌, ℕ, ◌≤◌, ◌++◌, length, IfOk, OnOk, Some};
 ghost use Rattle.std.specs.List.{flat_map};
 ghost use Rattle.rept_reason.specs.declared.fact.Cell.TheVariants.{Byte, Register};

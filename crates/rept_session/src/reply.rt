@@ -1,4 +1,5 @@
-// The answer to a command.
+//! The answer to a command.
+
 use rept_word::Text;
 
 /// The answer to a command, and where the session stands after it.

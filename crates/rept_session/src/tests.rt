@@ -1,4 +1,5 @@
-// Lines and what they are, and the answers over a small path whose findings are fixed.
+//! Lines and what they are, and the answers over a small path whose findings are fixed.
+
 mod fixed;
 
 use crate::tests::fixed::{two_steps, x};

@@ -1,4 +1,5 @@
-// The words by which commands begin.
+//! The words by which commands begin.
+
 ghost use Rattle.std.specs.Prelude.{◌≡◌};
 ghost use Rattle.rept_session.specs.Commands.{lone_command, single_verb, double_verb, verb_of};
 

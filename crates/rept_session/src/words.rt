@@ -1,4 +1,5 @@
-// The words of a line, one after the other.
+//! The words of a line, one after the other.
+
 ghost use Rattle.std.specs.Prelude.{◌≡◌, ◌∷◌, [], MatchOption, length};
 ghost use Rattle.std.specs.List.{position};
 ghost use Rattle.rept_session.specs.Words.{is_blank, is_letter, is_some_part, words_in};

@@ -1,4 +1,4 @@
-// The sets of values that registers may have along a path.
+//! The sets of values that registers may have along a path.
 #![tactic(auto)]
 
 mod bounds;

@@ -1,4 +1,5 @@
-// The sets of values of all registers at all points of a path.
+//! The sets of values of all registers at all points of a path.
+
 ghost use Rattle.std.specs.Prelude.{◌≡◌, ◌≢◌, ◌+◌, ◌-◌, ◌*◌, ◌<◌, ◌≤◌, ℕ, length, true, false, OnOk, IfOk, IfErr, IfSome, Some, None, Option, slice_get, if◌then◌else◌};
 ghost use Rattle.rept_isa.specs.Operands.{first_read, second_read};
 ghost use Rattle.rept_reason.specs.Facts.{Knowledge, register_fact};

@@ -1,3 +1,5 @@
+//! Each line of both tables at its edges.
+
 mod jumps;
 mod operations;
 

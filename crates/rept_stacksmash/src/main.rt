@@ -1,4 +1,4 @@
-// The same program as `rept_cli`, for a stored run that ends with another status than 0.
+//! The same program as `rept_cli`, for a stored run that ends with another status than 0.
 #![tactic(auto)]
 
 use rept_run::{exit_code, run};

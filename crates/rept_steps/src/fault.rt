@@ -1,3 +1,5 @@
+//! Why a step isn't added.
+
 use thiserror::Error;
 
 /// Why a step isn't added.

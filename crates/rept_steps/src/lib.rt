@@ -1,4 +1,4 @@
-// The steps of an executed path, one after another.
+//! The steps of an executed path, one after another.
 #![tactic(auto)]
 
 mod fault;

@@ -1,3 +1,5 @@
+//! Steps that were executed one after another.
+
 ghost use Rattle.std.specs.Prelude.{◌≡◌, ◌++◌, ◌∷◌, ◌≤◌, ◌<◌, ◌↔◌, [], length, OnOk, OnErr, Err};
 ghost use Rattle.rept_steps.specs.Linked.{AreLinked, EndBefore};
 

@@ -1,3 +1,5 @@
+//! Each call once, and the full list.
+
 ghost use Rattle.std.specs.Prelude.{◌≡◌, OnOk};
 ghost use Rattle.rept_steps.specs.Linked.{EndBefore};
 

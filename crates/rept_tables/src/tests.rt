@@ -1,2 +1,4 @@
+//! Tables worked out apart from the code.
+
 mod calls;
 mod instructions;

@@ -1,3 +1,5 @@
+//! Why bytes are no trace.
+
 use thiserror::Error;
 
 /// Why the bytes are no trace. Packets are numbered from 0, and a length of 0 is no packet and isn't counted.

@@ -1,3 +1,5 @@
+//! The packets, and their fields.
+
 /// The address that formats 1 and 2 report, with its flags (Efficient Trace for RISC-V 2.0, formats 1 and 2).
 #[derive(Clone, Copy, Debug, PartialEq, Eq)]
 pub struct Report {

@@ -1,3 +1,5 @@
+//! The packets of a trace file, one after the other.
+
 ghost use Rattle.std.specs.Prelude.{◌≡◌, ◌⊎◌, ◌<◌, ◌+◌, ◌^◌, List, ◌∷◌, ℕ, length, nat_lt, if◌then◌else◌};
 ghost use Rattle.rept_trace.specs.Stream.{AreAfterZeros};
 

@@ -1,3 +1,5 @@
+//! From a payload to its packet.
+
 ghost use Rattle.std.specs.Prelude.{◌≡◌, ◌<◌, ℕ, List, length};
 ghost use Rattle.rept_word.specs.Bits.{field};
 ghost use Rattle.rept_word.specs.Cursor.{IsAt};

@@ -1,4 +1,5 @@
-// A block of spans in a ring, so that it gives up a span at one end and takes one in at the other without moving the rest.
+//! A block of spans in a ring, so that it gives up a span at one end and takes one in at the other without moving the rest.
+
 ghost use Rattle.std.specs.Prelude.{◌≡◌, ◌+◌, ◌-◌, ◌<◌, ◌≤◌, ◌∷◌, ◌++◌, [], IfOk, length, take, set, insert, remove};
 ghost use Rattle.rept_versions.specs.Line.{nth};
 

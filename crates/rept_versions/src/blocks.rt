@@ -1,4 +1,5 @@
-// A row of spans in blocks, in which a span is put in or taken out without moving all those that follow.
+//! A row of spans in blocks, in which a span is put in or taken out without moving all those that follow.
+
 ghost use Rattle.std.specs.Prelude.{◌≡◌, ℕ, suc, ◌+◌, ◌*◌, ◌<◌, ◌≤◌, [], IfOk, length, set, insert, remove};
 ghost use Rattle.rept_versions.specs.Line.{nth};
 ghost use Rattle.rept_versions.specs.Blocks.{AreEmpty};

@@ -1,4 +1,5 @@
-// The store of byte facts as a trait: what is known, what is learnt, what is tracked.
+//! The store of byte facts as a trait: what is known, what is learnt, what is tracked.
+
 ghost use Rattle.std.specs.Prelude.{◌≡◌, ℕ, ◌+◌, ◌*◌, ◌<◌, Bool, true, IfOk, IsSome, Some, length, slice_get};
 ghost use Rattle.rept_versions.specs.Facts.{Store, Made, Learns, Carries, TracksOr, Nexts};
 

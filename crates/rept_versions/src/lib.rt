@@ -1,4 +1,4 @@
-// What is known of the bytes of memory at the points of a path: a trait, a plain list that is the reference, and spans.
+//! What is known of the bytes of memory at the points of a path: a trait, a plain list that is the reference, and spans.
 #![tactic(auto)]
 
 mod block;

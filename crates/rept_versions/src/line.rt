@@ -1,4 +1,5 @@
-// Stretches of a line of numbers that have a value each: what is read, put in one place, and carried on.
+//! Stretches of a line of numbers that have a value each: what is read, put in one place, and carried on.
+
 ghost use Rattle.std.specs.Prelude.{◌≡◌, ◌≢◌, ℕ, suc, ◌+◌, ◌-◌, ◌<◌, ◌≤◌, length, Some, None, Option, [], insert, IfOk, IfErr, IsSome, MatchBool, MatchResult};
 ghost use Rattle.rept_versions.specs.Moves.{Moves};
 ghost use Rattle.rept_versions.specs.Puts.{Puts, Ups, Downs, UpStep, DownStep};

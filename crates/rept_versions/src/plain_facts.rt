@@ -1,4 +1,5 @@
-// Byte facts as a plain list: the reference that other stores are compared with.
+//! Byte facts as a plain list: the reference that other stores are compared with.
+
 ghost use Rattle.std.specs.Prelude.{◌≡◌, ◌≢◌, ℕ, ◌+◌, ◌<◌, ◌≤◌, Option, Some, None, IsSome, MatchBool, length};
 ghost use Rattle.rept_versions.specs.Listed.{BeginsAt, EndsAt, LeastOf, Leasts, Toward, fact_in};
 

@@ -1,4 +1,4 @@
-// Numbers side by side that have one value.
+//! Numbers side by side that have one value.
 
 /// The numbers from `low` to `high` have a value.
 #[derive(Clone, Copy, PartialEq, Eq, Debug)]

@@ -1,4 +1,5 @@
-// Byte facts as spans: points of one address that stand side by side and have one value take one place together.
+//! Byte facts as spans: points of one address that stand side by side and have one value take one place together.
+
 ghost use Rattle.std.specs.Prelude.{◌≡◌, ℕ, ◌+◌, ◌*◌, ◌<◌, ◌≤◌, Bool, true, IfOk, IsSome, Some, length, slice_get};
 
 use crate::facts::{ByteFacts, Carried, Learnt, Stretch};

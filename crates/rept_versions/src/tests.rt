@@ -1,3 +1,5 @@
+//! One table of calls on both stores.
+
 use super::*;
 use std::test::Fail;
 

@@ -1,4 +1,5 @@
-// The tracked addresses, each once, in the order of their first use.
+//! The tracked addresses, each once, in the order of their first use.
+
 ghost use Rattle.std.specs.Prelude.{◌≡◌, ◌<◌, length, Some, [], IfOk, slice_get};
 ghost use Rattle.rept_versions.specs.Row.{AddsTo};
 

@@ -1,4 +1,5 @@
-// What the rules of a row conclude, and what a conclusion rests on.
+//! What the rules of a row conclude, and what a conclusion rests on.
+
 use rept_reason::Cell;
 use std::default::Default;
 

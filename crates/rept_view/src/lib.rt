@@ -1,4 +1,4 @@
-// What is known around a row of a path, and the rules by which facts are drawn from it: the traits of both, and their laws.
+//! What is known around a row of a path, and the rules by which facts are drawn from it: the traits of both, and their laws.
 #![tactic(auto)]
 
 pub mod drawn;

@@ -1,4 +1,5 @@
-// The rules of a row.
+//! The rules of a row.
+
 ghost use Rattle.std.specs.Prelude.{◌≡◌, ℕ, ◌+◌, ◌<◌, ◌≤◌, ◌^◌, min, Contains};
 ghost use Rattle.rept_alias.specs.Accesses.{call_hits};
 ghost use Rattle.rept_view.specs.Rules.{Rules, AreLawful};

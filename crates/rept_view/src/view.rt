@@ -1,4 +1,5 @@
-// What is known around a row.
+//! What is known around a row.
+
 ghost use Rattle.std.specs.Prelude.{◌≡◌};
 ghost use Rattle.rept_reason.specs.Facts.{flat};
 ghost use Rattle.rept_view.specs.Seen.{Seen, IsLawful};

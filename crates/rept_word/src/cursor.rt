@@ -1,3 +1,5 @@
+//! The bits of a payload, in order.
+
 ghost use Rattle.std.specs.Prelude.{◌<◌, length};
 
 /// Takes the bits of a payload in order, the lowest of each byte first, as the packets of Efficient Trace for RISC-V are

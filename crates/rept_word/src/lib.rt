@@ -1,4 +1,4 @@
-// Numbers of 32 bits, bits of a payload, and texts with the printed forms of numbers.
+//! Numbers of 32 bits, bits of a payload, and texts with the printed forms of numbers.
 #![tactic(auto)]
 
 pub mod cursor;

@@ -1,3 +1,5 @@
+//! Signs, inverses and covers of words.
+
 ghost use Rattle.std.specs.Prelude.{◌≡◌, ◌+◌, ◌*◌, ◌%◌, ◌^◌, ◌≤◌, ℕ};
 ghost use Rattle.rept_word.specs.Number.{sign_extended, IsCover};
 

@@ -1,3 +1,5 @@
+//! Numbers in decimal and hexadecimal.
+
 ghost use Rattle.std.specs.Prelude.{◌≡◌, ◌++◌, ◌<◌, ◌/◌, ◌%◌, ◌^◌, OnOk, OnErr};
 ghost use Rattle.std.specs.Fmt.{decimal};
 ghost use Rattle.rept_word.specs.Hex.{hex_digit, hex_word, hex_byte};
@@ -6,7 +8,7 @@ use crate::text::{OutOfMemory, Text};
 
 impl Text {
     /// Appends the number in decimal, with no sign and no leading zero.
-    /// A refusal, for want of memory alone, leaves the text as it was.
+    /// A refusal, which comes only where memory runs out, leaves the text as it was.
     pub fn push_decimal(&mut self, n: u32) -> Result<(), OutOfMemory>
         ensures ok { OnOk result (self.new ≡ self.old ++ decimal n) }
         ensures err { OnErr result (self.new ≡ self.old) }
@@ -24,7 +26,7 @@ impl Text {
     }
 
     /// Appends the number as `0x` and eight lower-case hexadecimal digits.
-    /// A refusal, for want of memory alone, leaves the text as it was.
+    /// A refusal, which comes only where memory runs out, leaves the text as it was.
     pub fn push_word(&mut self, n: u32) -> Result<(), OutOfMemory>
         ensures ok { OnOk result (self.new ≡ self.old ++ hex_word n) }
         ensures err { OnErr result (self.new ≡ self.old) }
@@ -44,7 +46,7 @@ impl Text {
     }
 
     /// Appends the byte as two lower-case hexadecimal digits.
-    /// A refusal, for want of memory alone, leaves the text as it was.
+    /// A refusal, which comes only where memory runs out, leaves the text as it was.
     pub fn push_byte(&mut self, n: u8) -> Result<(), OutOfMemory>
         ensures ok { OnOk result (self.new ≡ self.old ++ hex_byte n) }
         ensures err { OnErr result (self.new ≡ self.old) }

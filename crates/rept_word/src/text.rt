@@ -1,3 +1,5 @@
+//! A text that grows at its end.
+
 ghost use Rattle.std.specs.Prelude.{◌≡◌, ◌++◌, [], OnOk, OnErr};
 
 use std::alloc::{AllocError, Global};
@@ -30,7 +32,7 @@ impl Text {
         }
     }
 
-    /// Appends the piece. A refusal, which comes for want of memory alone, leaves the text as it was.
+    /// Appends the piece. A refusal, which comes only where memory runs out, leaves the text as it was.
     pub fn push(&mut self, piece: &[u8]) -> Result<(), OutOfMemory>
         ensures ok { OnOk result (self.new ≡ self.old ++ piece.now) }
         ensures err { OnErr result (self.new ≡ self.old) }

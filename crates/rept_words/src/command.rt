@@ -1,4 +1,5 @@
-// The command line as a command of `clap`.
+//! The command line as a command of `clap`.
+
 ghost use Rattle.std.specs.Prelude.{◌≡◌, IfOk, false};
 ghost use Rattle.clap.specs.Words.{app_of, rule_of};
 ghost use Rattle.clap.specs.declared.builder.command.Command.TheViews.{out-Command as fields_of};

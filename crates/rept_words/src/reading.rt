@@ -1,4 +1,5 @@
-// Reading the words.
+//! Reading the words.
+
 ghost use Rattle.std.specs.Prelude.{◌≡◌, IfOk, map, string_bytes};
 ghost use Rattle.std.specs.Option.{option_map, option_and_then};
 ghost use Rattle.std.specs.List.{list_all};
@@ -16,7 +17,7 @@ use rept_word::OutOfMemory;
 use std::alloc::{AllocError, Global};
 
 /// What the words ask for. None exactly where they have no meaning: where a word is empty or begins with a hyphen, where
-/// they are neither of the two forms, or a number is out of form or of range. The only refusal is want of memory.
+/// they are neither of the two forms, or a number is out of form or of range. The only refusal is out of memory.
 pub fn meaning<'a>(alloc: Global, words: &'a [String]) -> Result<Option<Request<'a>>, OutOfMemory>
     ensures { IfOk result (λ r. option_map asked_by r ≡ meaning_of (map string_bytes words.entry.now)) }
 {

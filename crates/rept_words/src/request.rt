@@ -1,4 +1,4 @@
-// What can be asked for.
+//! What can be asked for.
 
 /// The names of the files of a crash: executable, core file and instruction trace.
 #[derive(Clone, Copy, Debug, PartialEq, Eq)]

@@ -1,3 +1,5 @@
+//! Words of the command line, and what they ask for.
+
 use crate::{FileNames, Request, meaning};
 use std::alloc::{AllocError, Global};
 use std::test::Fail;

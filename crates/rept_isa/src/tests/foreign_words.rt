@@ -1,8 +1,8 @@
-// Words of other extensions, made with GNU Binutils for Debian 2.40 from the texts in the second column:
-//   riscv64-unknown-elf-as -march=rv64imafd_zicsr_zifencei_zba_zbb -mabi=lp64 words.s -o words.o
-//   riscv64-unknown-elf-objdump -d -M no-aliases,numeric words.o
-// The words without a text are refused by Debian's LLVM 14 as an invalid encoding:
-//   llvm-mc -disassemble -triple=riscv32 -mattr=+m
+//! Words of other extensions, made with GNU Binutils for Debian 2.40 from the texts in the second column:
+//!   riscv64-unknown-elf-as -march=rv64imafd_zicsr_zifencei_zba_zbb -mabi=lp64 words.s -o words.o
+//!   riscv64-unknown-elf-objdump -d -M no-aliases,numeric words.o
+//! The words without a text are refused by Debian's LLVM 14 as an invalid encoding:
+//!   llvm-mc -disassemble -triple=riscv32 -mattr=+m
 
 /// Words that are no instruction of RV32IM, no FENCE and no read of a counter.
 pub const FOREIGN_WORDS: [(u32, &str); 88] = [

@@ -1,8 +1,8 @@
-// Made with GNU Binutils for Debian 2.40, from the texts in the third column (targets as `.+N`):
-//   riscv64-unknown-elf-as -march=rv32im_zicsr_zifencei -mabi=ilp32 words.s -o words.o
-//   riscv64-unknown-elf-objdump -d -M no-aliases,numeric --adjust-vma=0x10000 words.o
-// and with the same answer by Debian's LLVM 14: llvm-mc -disassemble -triple=riscv32 -mattr=+m -riscv-no-aliases.
-// Targets are laid out as 0x and eight digits, shift amounts in decimal, counters by number, fences without their sets.
+//! Made with GNU Binutils for Debian 2.40, from the texts in the third column (targets as `.+N`):
+//!   riscv64-unknown-elf-as -march=rv32im_zicsr_zifencei -mabi=ilp32 words.s -o words.o
+//!   riscv64-unknown-elf-objdump -d -M no-aliases,numeric --adjust-vma=0x10000 words.o
+//! and with the same answer by Debian's LLVM 14: llvm-mc -disassemble -triple=riscv32 -mattr=+m -riscv-no-aliases.
+//! Targets are laid out as 0x and eight digits, shift amounts in decimal, counters by number, fences without their sets.
 
 /// LUI and AUIPC: the address, the word and its text.
 pub const UPPER_WORDS: [(u32, u32, &str); 74] = [

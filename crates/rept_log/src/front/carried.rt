@@ -1,4 +1,5 @@
-// Reasons by which a byte is carried in a front of a log.
+//! Reasons by which a byte is carried in a prefix of a log.
+
 ghost use Rattle.std.specs.Prelude.{◌≡◌, ◌≢◌, true, false, ◌+◌, ◌-◌, ◌<◌, ◌≤◌, [], ◌∷◌, ◌++◌, length, Some, IfOk, OnOk, IfSome, IfNone};
 ghost use Rattle.rept_isa.specs.declared.instr.Instr.TheVariants.{Ecall};
 ghost use Rattle.rept_reason.specs.declared.fact.Cell.TheVariants.{Byte};

@@ -1,4 +1,5 @@
-// Reasons that rest on what stands in a front of a log.
+//! Reasons that rest on what stands in a prefix of a log.
+
 ghost use Rattle.std.specs.Prelude.{◌≡◌, ◌+◌, ◌-◌, ◌<◌, ◌≤◌, [], ◌∷◌, map, length, IfOk, IfSome, IfNone, Contains, slice_get, IsTrue, ◌↔◌};
 ghost use Rattle.rept_reason.specs.declared.fact.Cell.TheVariants.{Register, Byte};
 ghost use Rattle.rept_reason.specs.Facts.{told};
@@ -304,7 +305,7 @@ impl<'k, 'd, B: ByteFacts, W: Transfer, R: RowRules> Front<'k, 'd, B, W, R> {
         self.drawn_after(rules, alloc, fact)
     }
 
-    /// The reason by which what stands in the front makes a register's value known. `OutOfMemory` says that its room
+    /// The reason by which what stands in the prefix makes a register's value known. `OutOfMemory` says that its room
     /// can't be had.
     pub fn of_register(
         &self,

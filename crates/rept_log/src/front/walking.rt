@@ -1,4 +1,5 @@
-// The bytes that stand in a front of a log, and the points from which they are carried.
+//! The bytes that stand in a prefix of a log, and the points from which they are carried.
+
 ghost use Rattle.std.specs.Prelude.{◌≡◌, ◌+◌, ◌-◌, ◌<◌, ◌≤◌, ◌↔◌, ℕ, length, IsTrue, IfSome, IfNone};
 ghost use Rattle.rept_reason.specs.declared.fact.Cell.TheVariants.{Byte};
 ghost use Rattle.rept_report.specs.Why.{IsOrigin, IsNearest};

@@ -1,3 +1,5 @@
+//! The lines of an input, within their bounds.
+
 ghost use Rattle.std.specs.Prelude.{◌≡◌, [], None, false};
 
 use crate::lines::found::{Found, LineBytes};

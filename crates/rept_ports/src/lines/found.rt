@@ -1,3 +1,5 @@
+//! What is found where a line ends.
+
 ghost use Rattle.std.specs.Prelude.{◌≤◌, ℕ, List};
 ghost use Rattle.std.specs.Str.Lines.{strip_carriage_return};
 ghost use Rattle.rept_ports.specs.Lines.{Holds, IsFound, IsLast};

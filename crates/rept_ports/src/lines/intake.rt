@@ -1,3 +1,5 @@
+//! Bytes that were taken from an input and wait to be given on.
+
 ghost use Rattle.std.specs.Prelude.{false, ◌≡◌, ◌≤◌, ℕ, [], ◌∷◌, length, MatchOption};
 ghost use Rattle.rept_ports.specs.Taken.{IsMore};
 

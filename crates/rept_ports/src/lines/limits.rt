@@ -1,3 +1,5 @@
+//! The bounds of an input and its lines.
+
 use thiserror::Error;
 
 /// The most bytes that are taken of a source.

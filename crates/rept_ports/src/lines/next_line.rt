@@ -1,3 +1,5 @@
+//! Asking for the next line.
+
 ghost use Rattle.std.specs.Prelude.{◌≡◌, ⊤};
 ghost use mathlib.Core.List.{[]};
 ghost use mathlib.Core.Option.{none};

@@ -1,3 +1,5 @@
+//! Reading one line.
+
 ghost use Rattle.std.specs.Prelude.{◌≡◌, false};
 ghost use Rattle.rept_ports.specs.Lines.{LineStep, said_of};
 

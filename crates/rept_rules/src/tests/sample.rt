@@ -1,4 +1,5 @@
-// A view of three registers and four bytes.
+//! A view of three registers and four bytes.
+
 ghost use Rattle.std.specs.Prelude.{◌≡◌};
 ghost use Rattle.rept_reason.specs.Facts.{flat};
 ghost use Rattle.rept_rules.specs.Sample.{as_word, register_before, register_after, byte_at, range_by};

@@ -1,4 +1,4 @@
-// Words of instructions, by the manual's formats. They write x7 and read x5 and x6, where nothing else is said.
+//! Words of instructions, by the manual's formats. They write x7 and read x5 and x6, where nothing else is said.
 
 pub const LUI: u32 = 0x123453b7; // lui x7,0x12345
 

@@ -1,4 +1,5 @@
-// Findings of a path of two steps that are what they are made of.
+//! Findings of a path of two steps that are what they are made of.
+
 ghost use Rattle.std.specs.Prelude.{◌≡◌, ◌<◌, length};
 
 use crate::Findings;

@@ -1,4 +1,5 @@
-// What the ways of branches and the targets of JALR leave of ranges, worked by hand from the table's rules.
+//! What the ways of branches and the targets of JALR leave of ranges, worked by hand from the table's rules.
+
 use rept_isa::BranchOp;
 
 const MAX: u32 = 0xffff_ffff;

@@ -1,4 +1,5 @@
-// What the operations make of ranges, worked by hand from the table's rules.
+//! What the operations make of ranges, worked by hand from the table's rules.
+
 use rept_isa::{ImmOp, RegOp};
 
 const MAX: u32 = 0xffff_ffff;

@@ -1,5 +1,5 @@
-// Which bytes system calls may change. The numbers are those of Linux's asm-generic/unistd.h, which 32-bit RISC-V has; what a call
-// writes is from its page in section 2 of the Linux manual, and the first and last bytes were worked out by hand.
+//! Which bytes system calls may change. The numbers are those of Linux's asm-generic/unistd.h, which 32-bit RISC-V has; what a call
+//! writes is from its page in section 2 of the Linux manual, and the first and last bytes were worked out by hand.
 
 ghost use Rattle.std.specs.Prelude.{◌≡◌, ℕ, ◌+◌, ◌<◌, slice_index};
 ghost use Rattle.rept_machine.specs.Calls.{may_change};

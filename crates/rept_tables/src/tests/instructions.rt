@@ -1,6 +1,6 @@
-// What an instruction does to the path, which registers it writes and reads, and which way a row went. Worked out by hand from the
-// RISC-V unprivileged manual 20191213, chapters 2.4 to 2.8, 7 and 10: one instruction of each kind and form. That an ECALL answers in
-// x10, and that x0 is read and never written, are the project's own.
+//! What an instruction does to the path, which registers it writes and reads, and which way a row went. Worked out by hand from the
+//! RISC-V unprivileged manual 20191213, chapters 2.4 to 2.8, 7 and 10: one instruction of each kind and form. That an ECALL answers in
+//! x10, and that x0 is read and never written, are the project's own.
 
 use rept_isa::{Kind, Reg, StepRow, Turn, decode, kind, reads, turn, writes};
 use std::test::Fail;

@@ -1,3 +1,5 @@
+//! Every packet, whole and at its shortest, and each fault.
+
 use super::*;
 use crate::packet::{Qual, Report};
 use std::alloc::Global;
@@ -211,9 +213,9 @@ fn refuses_packets(rt: HostRuntime) -> Result<(), Fail> {
     Ok(())
 }
 
-// The options are bits 8 to 12 of a support packet: bits 13 to 15, and whole bytes behind them, aren't looked at.
+// The options are bits 8 to 12 of a support packet: bits 13 to 15, and whole bytes after them, aren't looked at.
 #[test]
-fn reads_no_bit_behind_the_options(rt: HostRuntime) -> Result<(), Fail> {
+fn reads_no_bit_after_the_options(rt: HostRuntime) -> Result<(), Fail> {
     let whole = trace(
         rt.alloc(),
         b"\x02\x0f\x20\x02\x4f\x40\x02\x1f\xe0\x03\xcf\x00\xff",
