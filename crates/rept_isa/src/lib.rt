@@ -21,6 +21,3 @@ pub use operands::{kind, reads, turn, writes};
 pub use reg::Reg;
 pub use row::StepRow;
 pub use shown::Shown;
-
-#[cfg(test)]
-mod tests;

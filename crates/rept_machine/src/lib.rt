@@ -9,6 +9,3 @@ mod registers;
 mod store;
 
 pub use machine::{Halt, Machine};
-
-#[cfg(test)]
-mod tests;

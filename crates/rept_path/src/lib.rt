@@ -13,6 +13,3 @@ mod window;
 
 pub use fault::PathFault;
 pub use rebuilding::{Path, rebuild};
-
-#[cfg(test)]
-mod tests;

@@ -15,6 +15,3 @@ pub use shelf::{CalmShelf, MemShelf};
 pub use sink::{MemSink, write_all};
 pub use source::{CalmSource, MemSource};
 pub use traits::{Failed, LoadFault, OutOfMemory, Shelf, Sink, Source};
-
-#[cfg(test)]
-mod tests;

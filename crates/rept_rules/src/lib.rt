@@ -16,6 +16,3 @@ pub use operand::{Side, solve};
 pub use outcome::forward;
 pub use rept_machine::arithmetic::branch_holds;
 pub use rept_view::{Drawn, Need, RowRules, RowView, When};
-
-#[cfg(test)]
-mod tests;

@@ -18,6 +18,3 @@ pub use command::{BadCommand, Command};
 pub use findings::Findings;
 pub use parser::parse;
 pub use reply::Answer;
-
-#[cfg(test)]
-mod tests;

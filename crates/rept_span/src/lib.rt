@@ -13,6 +13,3 @@ pub mod transfer;
 pub use facts::RegFacts;
 pub use spans::{EmptyAt, Spans};
 pub use transfer::Transfer;
-
-#[cfg(test)]
-mod tests;

@@ -15,6 +15,3 @@ pub use facts::{ByteFacts, Carried, Learnt, Stretch};
 pub use plain_facts::PlainFacts;
 pub use span_facts::SpanFacts;
 pub use std::alloc::AllocError as OutOfMemory;
-
-#[cfg(test)]
-mod tests;

@@ -4,8 +4,6 @@
 mod command;
 pub mod reading;
 pub mod request;
-#[cfg(test)]
-mod tests;
 
 pub use reading::meaning;
 pub use request::{FileNames, Request};

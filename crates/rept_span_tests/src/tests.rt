@@ -5,10 +5,10 @@ mod operations;
 
 use crate::tests::jumps::{BRANCHES, FAR_JUMPS};
 use crate::tests::operations::{BITWISE, DIVISIONS, IMMEDIATES, PRODUCTS, SHIFTS, SUMS};
-use crate::{EmptyAt, RegFacts, Spans, Transfer};
 use rept_isa::{BranchOp, ImmOp, Instr, LoadOp, Reg, RegOp, StepRow};
 use rept_partial::{Flat, Partial, Range};
 use rept_reason::{Cell, Fact};
+use rept_span::{EmptyAt, RegFacts, Spans, Transfer};
 use std::process::Abort;
 use std::test::Fail;
 

@@ -3,7 +3,7 @@
 mod fixed;
 
 use crate::tests::fixed::{two_steps, x};
-use crate::{Answer, BadCommand, Command, answer_line, parse};
+use rept_session::{Answer, BadCommand, Command, answer_line, parse};
 use rept_word::OutOfMemory;
 use std::alloc::Global;
 use std::process::Abort;

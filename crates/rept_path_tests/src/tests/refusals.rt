@@ -6,7 +6,7 @@ use super::cases::{
     NO_INSTRUCTION, STANDSTILL, THREE, WINDING, Window,
 };
 use super::sent::Sent::*;
-use crate::PathFault;
+use rept_path::PathFault;
 use rept_trace::TraceFault;
 
 /// Addresses to which no path comes, and ways that don't go on.

@@ -6,12 +6,12 @@ mod sent;
 mod stops;
 mod stretches;
 
-use crate::{PathFault, rebuild};
 use cases::{Case, LOOP, LongCase, THREE, Wanted, Window};
 use refusals::{LONG, REFUSALS, WINDOWS};
 use rept_dump::Dump;
 use rept_elf::{Image, Want};
 use rept_isa::{Instr, StepRow, decode};
+use rept_path::{PathFault, rebuild};
 use rept_sample::{core_file, executable};
 use rept_trace::Packets;
 use sent::{Sent, push_sent};

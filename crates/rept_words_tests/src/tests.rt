@@ -1,6 +1,6 @@
 //! Words of the command line, and what they ask for.
 
-use crate::{FileNames, Request, meaning};
+use rept_words::{FileNames, Request, meaning};
 use std::alloc::{AllocError, Global};
 use std::test::Fail;
 

@@ -2,7 +2,7 @@
 //! compared with those of a second program that follows the same rules.
 
 use super::sent::Sent;
-use crate::PathFault;
+use rept_path::PathFault;
 
 /// What must come of a trace.
 #[derive(Clone, Copy)]

@@ -3,7 +3,7 @@
 use super::cases::Wanted::{Refusal, Rounds, Rows};
 use super::cases::{AGAIN, Case, JUMP_ALONE, LOOP, LOOP_AND_JUMP, ROUND, THREE, WINDING};
 use super::sent::Sent::*;
-use crate::PathFault;
+use rept_path::PathFault;
 
 /// Where the moves of a packet stop.
 pub const STOPS: &[Case] = &[

@@ -9,8 +9,8 @@ use crate::tests::branches::BRANCHES;
 use crate::tests::operations::{
     BITWISE, DIVISIONS, EDGES, IMMEDIATES, PRODUCTS, SHIFTS, SUMS_AND_COMPARES,
 };
-use crate::{Halt, Machine};
 use rept_isa::{Reg, StepRow};
+use rept_machine::{Halt, Machine};
 use std::alloc::Global;
 use std::process::Abort;
 use std::test::Fail;

@@ -1,6 +1,6 @@
 //! One table of calls on both stores.
 
-use super::*;
+use rept_versions::{ByteFacts, Carried, Learnt, OutOfMemory, PlainFacts, SpanFacts, Stretch};
 use std::test::Fail;
 
 /// A call on a store.

@@ -11,7 +11,7 @@ use crate::tests::jump_words::JUMP_WORDS;
 use crate::tests::memory_words::MEMORY_WORDS;
 use crate::tests::operation_words::OPERATION_WORDS;
 use crate::tests::upper_words::UPPER_WORDS;
-use crate::{Instr, Shown, decode, encode};
+use rept_isa::{Instr, Shown, decode, encode};
 use std::alloc::Global;
 use std::process::Abort;
 use std::test::Fail;

@@ -2,11 +2,11 @@
 
 ghost use Rattle.std.specs.Prelude.{◌≡◌, ◌<◌, length};
 
-use crate::Findings;
 use rept_isa::{ImmOp, Instr, Reg, StepRow};
 use rept_partial::Range;
 use rept_reason::{Fact, Looked, Reason};
 use rept_report::{Counts, Writer};
+use rept_session::Findings;
 use rept_word::OutOfMemory;
 use std::alloc::{AllocError, Global};
 

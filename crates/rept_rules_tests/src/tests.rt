@@ -3,10 +3,10 @@
 mod sample;
 mod words;
 
-use crate::{Base, Drawn, Need, RowRules, Side, When, forward, solve};
 use rept_isa::{StepRow, decode};
 use rept_partial::Flat;
 use rept_reason::Cell;
+use rept_rules::{Base, Drawn, Need, RowRules, Side, When, forward, solve};
 use sample::Sample;
 use smallvec::SmallVec;
 use std::alloc::Global;

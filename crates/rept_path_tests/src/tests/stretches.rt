@@ -6,7 +6,7 @@ use super::cases::{
     THREE, WINDING,
 };
 use super::sent::Sent::*;
-use crate::PathFault;
+use rept_path::PathFault;
 
 /// Start packets in a stretch.
 pub const STARTS: &[Case] = &[

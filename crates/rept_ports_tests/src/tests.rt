@@ -1,6 +1,6 @@
 //! The ports on real files and streams.
 
-use crate::{
+use rept_ports::{
     BoundedLines, CalmShelf, CalmSource, DiskShelf, Failed, Line, LineFault, LoadFault, MemShelf,
     MemSink, MemSource, OutOfMemory, Shelf, Sink, Source, StdSink, StdSource, write_all,
 };
