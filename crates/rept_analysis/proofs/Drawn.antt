@@ -67,6 +67,24 @@ module _ {W : Type 0} (a b c : State W) (x y : Bool) (P Q R : State W → Type 0
       newer false true p q e = news_before a b c g (q.news refl)
       newer false false p q e = absurd (false≢true e)
 
+  -- the second of which changed nothing
+  pub Drew_first : Grows b c → y ≡ false → Drew a b x P → Drew b c y Q → (P a → Q a → R a) → Drew a c x R
+  Drew_first h calm p q r = record {
+    news = λ e. news_then a b c h (p.news e);
+    unchanged = λ e. q.unchanged calm ∙ p.unchanged e;
+    closed = λ e. r (p.closed e) (subst Q (p.unchanged e) (q.closed calm));
+    uncut = λ u. q.uncut (p.uncut u);
+  }
+
+  -- the first of which brought news
+  pub Drew_further : Grows b c → x ≡ true → Drew a b x P → Drew b c y Q → Drew a c true R
+  Drew_further h loud p q = record {
+    news = λ _. news_then a b c h (p.news loud);
+    unchanged = λ e. absurd (true≢false e);
+    closed = λ e. absurd (true≢false e);
+    uncut = λ u. q.uncut (p.uncut u);
+  }
+
 pub Drew_as : {W : Type 0} (a b : State W) (x : Bool) (P Q : State W → Type 0) → Drew a b x P → (P a → Q a) → Drew a b x Q
 Drew_as a b x P Q d f = record { news = d.news; unchanged = d.unchanged; closed = λ e. f (d.closed e); uncut = d.uncut }
 

@@ -57,7 +57,7 @@ pub struct Analysis<'a, B: ByteFacts, W: Transfer, R: RowRules> {
     alloc: Global,
     rows: &'a [StepRow],
     last: Vec<u32>,
-    dump: &'a Dump<'a>,
+    dump: Dump<'a>,
     known: FactLog<B>,
     spans: Spans<W>,
     filled: u32,
@@ -77,9 +77,9 @@ impl<'a, B: ByteFacts, W: Transfer, R: RowRules> Model for Analysis<'a, B, W, R>
 
     ghost Value = { Whole B W R };
 
-    ghost view = { λ a. record { rows = a.rows.now; last = a.last.items; exe = exe_of a.dump.now; core = core_of a.dump.now; known = a.known; spans = a.spans; filled = a.filled; rules = a.rules; shown = a.shown; complete = a.complete; conflict = a.conflict; work = work_of B.JOINS (R.draws a.rules) a.writing a.drawn } };
+    ghost view = { λ a. record { rows = a.rows.now; last = a.last.items; exe = exe_of a.dump; core = core_of a.dump; known = a.known; spans = a.spans; filled = a.filled; rules = a.rules; shown = a.shown; complete = a.complete; conflict = a.conflict; work = work_of B.JOINS (R.draws a.rules) a.writing a.drawn } };
 
-    ghost invariant = { λ a. IsKept (state_of W.sets W.moves R.rules B.store (record { rows = a.rows.now; last = a.last.items; exe = exe_of a.dump.now; core = core_of a.dump.now; known = a.known; spans = a.spans; filled = a.filled; rules = a.rules; shown = a.shown; complete = a.complete; conflict = a.conflict; work = work_of B.JOINS (R.draws a.rules) a.writing a.drawn })) };
+    ghost invariant = { λ a. IsKept (state_of W.sets W.moves R.rules B.store (record { rows = a.rows.now; last = a.last.items; exe = exe_of a.dump; core = core_of a.dump; known = a.known; spans = a.spans; filled = a.filled; rules = a.rules; shown = a.shown; complete = a.complete; conflict = a.conflict; work = work_of B.JOINS (R.draws a.rules) a.writing a.drawn })) };
 }
 
 /// The register of a number below 32.
@@ -126,7 +126,7 @@ impl<'a, B: ByteFacts, W: Transfer, R: RowRules> Analysis<'a, B, W, R> {
             alloc,
             rows,
             last,
-            dump,
+            dump: *dump,
             known,
             spans,
             filled: 0,
@@ -215,6 +215,15 @@ impl<'a, B: ByteFacts, W: Transfer, R: RowRules> Analysis<'a, B, W, R> {
     fn dump_byte(&self, a: u32) -> Option<u8>
         ensures { result ≡ byte_at self.now.exe self.now.core a }
     {
+        self.dump.byte(a)
+    }
+
+    /// The byte of the dump at an address, after which those near it are found at once.
+    fn last_byte(&mut self, a: u32) -> Option<u8>
+        ensures byte { result ≡ byte_at self.old.exe self.old.core a }
+        ensures same { self.new ≡ self.old }
+    {
+        self.dump = self.dump.near_byte(a);
         self.dump.byte(a)
     }
 

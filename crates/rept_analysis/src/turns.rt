@@ -1,11 +1,11 @@
 //! Whether a row went another way than its operands say.
 
 ghost use Rattle.std.specs.Prelude.{◌≡◌};
-ghost use Rattle.rept_machine.specs.Arithmetic.{branch_holds, below_signed};
 ghost use Rattle.rept_report.specs.Conflicts.{is_against, branch_against, jump_against, is_wrong_turn};
 
 use rept_isa::number::plus;
 use rept_isa::{BranchOp, Instr, StepRow, Turn, turn};
+use rept_machine::arithmetic::branch_holds;
 use rept_partial::Flat;
 
 /// Whether the row went another way than the registers in the places of rs1 and rs2 say, as far as they are known.
@@ -55,24 +55,4 @@ fn jump_against(imm: i32, next: u32, base: Flat) -> bool
         Flat::Known(base) => next != plus(base, imm) / 2 * 2,
         Flat::Unknown => false,
     }
-}
-
-/// The condition of a branch.
-fn branch_holds(op: BranchOp, a: u32, b: u32) -> bool
-    ensures { result ≡ branch_holds op a b }
-{
-    match op {
-        BranchOp::Beq => a == b,
-        BranchOp::Bne => a != b,
-        BranchOp::Blt => below_signed(a, b),
-        BranchOp::Bge => !below_signed(a, b),
-        BranchOp::Bltu => a < b,
-        BranchOp::Bgeu => a >= b,
-    }
-}
-
-fn below_signed(a: u32, b: u32) -> bool
-    ensures { result ≡ below_signed a b }
-{
-    a.cast_signed() < b.cast_signed()
 }

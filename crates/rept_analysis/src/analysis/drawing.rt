@@ -344,8 +344,8 @@ impl<'a, B: ByteFacts, W: Transfer, R: RowRules> Analysis<'a, B, W, R> {
         if !drawn {
             return Ok(false);
         }
-        let carried = self.carry_row(i, row)?;
-        Ok(drawn | carried)
+        self.carry_row(i, row)?;
+        Ok(true)
     }
 
     /// All that row i lets one conclude.

@@ -58,7 +58,7 @@ impl<'a, B: ByteFacts, W: Transfer, R: RowRules> Analysis<'a, B, W, R> {
             limit,
             self.rows,
             self.last.as_slice(),
-            self.dump,
+            &self.dump,
             spans,
         );
         front.byte(point, a)
@@ -88,7 +88,7 @@ impl<'a, B: ByteFacts, W: Transfer, R: RowRules> Analysis<'a, B, W, R> {
             limit,
             self.rows,
             self.last.as_slice(),
-            self.dump,
+            &self.dump,
             spans,
         );
         front.of_register(&mut self.rules, alloc, fact, r)
@@ -115,7 +115,7 @@ impl<'a, B: ByteFacts, W: Transfer, R: RowRules> Analysis<'a, B, W, R> {
             limit,
             self.rows,
             self.last.as_slice(),
-            self.dump,
+            &self.dump,
             spans,
         );
         front.drawn(&mut self.rules, alloc, fact)
@@ -143,7 +143,7 @@ impl<'a, B: ByteFacts, W: Transfer, R: RowRules> Analysis<'a, B, W, R> {
             limit,
             self.rows,
             self.last.as_slice(),
-            self.dump,
+            &self.dump,
             spans,
         );
         front.carried(alloc, fact, a)

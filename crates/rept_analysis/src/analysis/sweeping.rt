@@ -1,6 +1,7 @@
 //! All rules once: rows, last values and bytes, and sets of one value.
 
 ghost use Rattle.std.specs.Prelude.{◌≡◌, ◌+◌, ◌<◌, ◌≤◌, length, false, IfOk, IfErr, Some, None, Ok, Err};
+ghost use Rattle.rept_dump.specs.Memory.{byte_at};
 ghost use Rattle.rept_analysis.specs.State.{state_of};
 ghost use Rattle.rept_analysis.specs.Drawing.{IsTracked, Grows, Drew, IsHalt, IsFitted, LastKnown, IsDrawnThrough, AreWritings, IsUncut, RowsClosed, LastByteKnown, LastBytesKnown, SingleKnown, PointSingles, SinglesKnown, IsDrawnAll, LastKnownBelow};
 
@@ -85,8 +86,21 @@ impl<'a, B: ByteFacts, W: Transfer, R: RowRules> Analysis<'a, B, W, R> {
         ensures drew { IfOk result (λ learnt. Drew (state_of W.sets W.moves R.rules B.store self.old) (state_of W.sets W.moves R.rules B.store self.new) learnt (LastByteKnown a)) }
         ensures halt { IfErr result (λ h. IsHalt (state_of W.sets W.moves R.rules B.store self.new) h) }
     {
+        let byte = self.last_byte(a);
+        self.learn_last_byte(a, byte)
+    }
+
+    /// The byte of the dump at a tracked address, which was looked up.
+    fn learn_last_byte(&mut self, a: u32, byte: Option<u8>) -> Result<bool, Halt>
+        requires tracked { IsTracked a (state_of W.sets W.moves R.rules B.store self.old) }
+        requires open { self.old.complete ≡ false }
+        requires byte { byte ≡ byte_at self.old.exe self.old.core a }
+        ensures grows { Grows (state_of W.sets W.moves R.rules B.store self.old) (state_of W.sets W.moves R.rules B.store self.new) }
+        ensures drew { IfOk result (λ learnt. Drew (state_of W.sets W.moves R.rules B.store self.old) (state_of W.sets W.moves R.rules B.store self.new) learnt (LastByteKnown a)) }
+        ensures halt { IfErr result (λ h. IsHalt (state_of W.sets W.moves R.rules B.store self.new) h) }
+    {
         let point = self.count();
-        match self.dump_byte(a) {
+        match byte {
             None => Ok(false),
             Some(v) => {
                 let learnt = self.learn_byte(point, a, v, false)?;
@@ -179,10 +193,10 @@ impl<'a, B: ByteFacts, W: Transfer, R: RowRules> Analysis<'a, B, W, R> {
         let carried = self.carry_tracked()?;
         let back = self.draw_back()?;
         if !back {
-            return Ok(carried | back);
+            return Ok(carried);
         }
-        let onward = self.draw_onward()?;
-        Ok(carried | back | onward)
+        self.draw_onward()?;
+        Ok(true)
     }
 
     /// All rules once: last values and bytes, rows and carried bytes, and sets of one value.

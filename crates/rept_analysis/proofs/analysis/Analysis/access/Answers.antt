@@ -11,7 +11,7 @@ use Rattle.rept_analysis.proofs.analysis.Analysis.access.Goals as goal
 
 pub invariant_of-view : goal.invariant_of-view
 invariant_of-view g c =
-    let a : Whole g.row.B.Denot g.row.W.Denot g.row.R.Denot = record { rows = c.self.inside.rows.now; last = c.self.inside.last.items; exe = exe_of c.self.inside.dump.now; core = core_of c.self.inside.dump.now; known = c.self.inside.known; spans = c.self.inside.spans; filled = c.self.inside.filled; rules = c.self.inside.rules; shown = c.self.inside.shown; complete = c.self.inside.complete; conflict = c.self.inside.conflict; work = work_of g.B.ByteFacts.JOINS (g.R.RowRules.draws c.self.inside.rules) c.self.inside.writing c.self.inside.drawn } in
+    let a : Whole g.row.B.Denot g.row.W.Denot g.row.R.Denot = record { rows = c.self.inside.rows.now; last = c.self.inside.last.items; exe = exe_of c.self.inside.dump; core = core_of c.self.inside.dump; known = c.self.inside.known; spans = c.self.inside.spans; filled = c.self.inside.filled; rules = c.self.inside.rules; shown = c.self.inside.shown; complete = c.self.inside.complete; conflict = c.self.inside.conflict; work = work_of g.B.ByteFacts.JOINS (g.R.RowRules.draws c.self.inside.rules) c.self.inside.writing c.self.inside.drawn } in
     let inside = subst (λ (x : Whole g.row.B.Denot g.row.W.Denot g.row.R.Denot). c.args.i < length x.rows) (sym c.self.view_is) c.requires.inside in
     let last_is = c.self.invariant.last_is in
     let sized = c.self.invariant.sized in
@@ -19,7 +19,7 @@ invariant_of-view g c =
 
 pub returns : goal.returns
 returns g c =
-    let a : Whole g.row.B.Denot g.row.W.Denot g.row.R.Denot = record { rows = c.self.inside.rows.now; last = c.self.inside.last.items; exe = exe_of c.self.inside.dump.now; core = core_of c.self.inside.dump.now; known = c.self.inside.known; spans = c.self.inside.spans; filled = c.self.inside.filled; rules = c.self.inside.rules; shown = c.self.inside.shown; complete = c.self.inside.complete; conflict = c.self.inside.conflict; work = work_of g.B.ByteFacts.JOINS (g.R.RowRules.draws c.self.inside.rules) c.self.inside.writing c.self.inside.drawn } in
+    let a : Whole g.row.B.Denot g.row.W.Denot g.row.R.Denot = record { rows = c.self.inside.rows.now; last = c.self.inside.last.items; exe = exe_of c.self.inside.dump; core = core_of c.self.inside.dump; known = c.self.inside.known; spans = c.self.inside.spans; filled = c.self.inside.filled; rules = c.self.inside.rules; shown = c.self.inside.shown; complete = c.self.inside.complete; conflict = c.self.inside.conflict; work = work_of g.B.ByteFacts.JOINS (g.R.RowRules.draws c.self.inside.rules) c.self.inside.writing c.self.inside.drawn } in
     let inside = subst (λ (x : Whole g.row.B.Denot g.row.W.Denot g.row.R.Denot). c.args.i < length x.rows) (sym c.self.view_is) c.requires.inside in
     let row = subst (λ (x : Whole g.row.B.Denot g.row.W.Denot g.row.R.Denot). slice_get x.rows c.args.i ≡ Some c.args.row.now) (sym c.self.view_is) c.requires.row in
     let fitted = subst (λ (x : Whole g.row.B.Denot g.row.W.Denot g.row.R.Denot). IsFitted (state_of g.W.Partial.sets g.W.Transfer.moves g.R.RowRules.rules g.B.ByteFacts.store x)) (sym c.self.view_is) c.requires.fitted in
