@@ -32,8 +32,6 @@ mod looking;
 mod refining;
 mod stopping;
 mod sweeping;
-#[cfg(test)]
-mod tests;
 mod why;
 
 use crate::pass::Passes;

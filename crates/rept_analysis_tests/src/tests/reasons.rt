@@ -1,13 +1,14 @@
 //! Reasons, worked out by hand: each of these facts has one reason alone, in whatever order facts are learnt.
 
-use super::super::Analysis;
-use super::{EXECUTABLE, STORED, core, registers_of, rows_of};
+use super::{CODE, STORED, core, ends_in, steps_of};
+use rept_analysis::Analysis;
 use rept_dump::Dump;
 use rept_elf::{Image, Want};
 use rept_isa::Reg;
 use rept_partial::{Partial, Range};
 use rept_reason::{Cell, Fact, Reason};
 use rept_rules::Base;
+use rept_sample::executable;
 use rept_versions::{ByteFacts, PlainFacts, SpanFacts};
 use std::alloc::Global;
 use std::process::Abort;
@@ -140,20 +141,23 @@ fn check_reason(rt: &impl Abort, reason: &Reason, wanted: &Told) {
 fn check<B: ByteFacts>(
     rt: &impl Abort,
     alloc: Global,
-    dump: &Dump,
     steps: &[(u32, u32, u32)],
     last: &[(u8, u32)],
     told: &[Told],
 ) -> Result<(), Fail> {
-    let rows = rows_of(alloc, steps)?;
-    assert!(rt; rows.len() <= 65536);
-    let last = registers_of(alloc, last)?;
-    assert!(rt; last.len() == 32);
-    let mut analysis: Analysis<B, Range, Base> = Analysis::over(
+    let steps = steps_of(rt, alloc, steps)?;
+    assert!(rt; steps.len() > 0);
+    let exe = executable(alloc, 0x10000, &CODE)?;
+    let file = core(alloc, steps.end_pc(), last)?;
+    let dump = Dump::read(
+        Image::read(exe.as_slice(), Want::Exec)?,
+        Image::read(file.as_slice(), Want::Core)?,
+    )?;
+    assert!(rt; ends_in(&steps, &dump));
+    let mut analysis: Analysis<B, Range, Base> = Analysis::prepare(
         alloc,
-        rows.as_slice(),
-        last,
-        dump,
+        &steps,
+        &dump,
         Base::new(),
     )?;
     for wanted in told {
@@ -171,24 +175,19 @@ fn check<B: ByteFacts>(
 fn check_both(
     rt: &impl Abort,
     alloc: Global,
-    dump: &Dump,
     steps: &[(u32, u32, u32)],
     last: &[(u8, u32)],
     told: &[Told],
 ) -> Result<(), Fail> {
-    check::<PlainFacts>(rt, alloc, dump, steps, last, told)?;
-    check::<SpanFacts>(rt, alloc, dump, steps, last, told)
+    check::<PlainFacts>(rt, alloc, steps, last, told)?;
+    check::<SpanFacts>(rt, alloc, steps, last, told)
 }
 
 #[test]
 fn reasons_by_hand(rt: HostRuntime) -> Result<(), Fail> {
-    let file = core(rt.alloc())?;
-    let exe = Image::read(EXECUTABLE.as_slice(), Want::Exec)?;
-    let dump = Dump::read(exe, Image::read(file.as_slice(), Want::Core)?)?;
     check_both(
         &rt,
         rt.alloc(),
-        &dump,
         &STORED,
         &[(5, 0x20000), (6, 7), (7, 7)],
         &OF_STORED,
@@ -196,11 +195,10 @@ fn reasons_by_hand(rt: HostRuntime) -> Result<(), Fail> {
     check_both(
         &rt,
         rt.alloc(),
-        &dump,
         &HIDDEN,
         &[(5, 0x20000), (6, 9), (7, 7)],
         &OF_HIDDEN,
     )?;
-    check_both(&rt, rt.alloc(), &dump, &AT_ZERO, &[(5, 3)], &OF_AT_ZERO)?;
+    check_both(&rt, rt.alloc(), &AT_ZERO, &[(5, 3)], &OF_AT_ZERO)?;
     Ok(())
 }

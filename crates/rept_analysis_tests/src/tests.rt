@@ -1,24 +1,29 @@
 //! Small runs, worked out by hand from the rules. Bytes in a list and bytes in spans give the same answers.
 
+ghost use Rattle.std.specs.Prelude.{◌≡◌, ◌<◌, length, true};
+ghost use Rattle.rept_dump.specs.Dump.{registers_of};
+ghost use Rattle.rept_dump.specs.Status.{IsStatus};
+ghost use Rattle.rept_dump.specs.declared.status.Status.{Status};
+ghost use Rattle.rept_steps.specs.Linked.{EndBefore};
+
 mod reasons;
 
-use super::Analysis;
+use rept_analysis::Analysis;
 use rept_dump::Dump;
 use rept_elf::{Image, Want};
 use rept_isa::{Instr, Reg, StepRow, decode};
 use rept_partial::{Flat, Partial, Range};
 use rept_report::{Counts, Writer};
 use rept_rules::Base;
+use rept_sample::executable;
+use rept_steps::Steps;
 use rept_versions::{ByteFacts, PlainFacts, SpanFacts};
 use std::alloc::{AllocError, Global};
 use std::process::Abort;
 use std::test::Fail;
 
-// An executable of one segment at 0x10000, of 12 bytes that can't be written.
-const EXECUTABLE: [u8; 96] = *b"\x7fELF\x01\x01\x01\0\0\0\0\0\0\0\0\0\
-    \x02\0\xf3\0\x01\0\0\0\0\0\x01\0\x34\0\0\0\0\0\0\0\0\0\0\0\x34\0\x20\0\x01\0\0\0\0\0\0\0\
-    \x01\0\0\0\x54\0\0\0\0\0\x01\0\0\0\x01\0\x0c\0\0\0\x0c\0\0\0\x05\0\0\0\x04\0\0\0\
-    \x93\x02\x70\0\x13\x83\x32\0\xb3\x83\x62\0";
+// The code of the executable, at 0x10000: 12 bytes that can't be written.
+const CODE: [u32; 3] = [0x0070_0293, 0x0032_8313, 0x0062_83b3];
 
 // The headers of a core file of a note segment, which stands at 116, and of eight bytes at 0x20000, which stand at 340; and the
 // sizes, the type and the name of its note.
@@ -76,10 +81,30 @@ struct Run<'r> {
     counts: Counts,
 }
 
-/// The rows of these addresses, words and next addresses.
-fn rows_of(alloc: Global, steps: &[(u32, u32, u32)]) -> Result<Vec<StepRow>, AllocError> {
-    let mut rows = Vec::new(alloc);
-    for (at, word, next) in steps {
+/// Whether steps lead to an address, as they do anywhere where there is none.
+fn leads_to(steps: &Steps, at: u32) -> bool
+    ensures { result ≡ true → EndBefore steps.now at }
+{
+    if steps.len() == 0 {
+        return true;
+    }
+    steps.end_pc() == at
+}
+
+/// Whether steps end where the dump's program counter stands.
+fn ends_in(steps: &Steps, dump: &Dump) -> bool
+    requires { 0 < length steps.now }
+    ensures { result ≡ true → (s : Status) → IsStatus (registers_of dump.now) s → EndBefore steps.now s.pc }
+{
+    let end = steps.end_pc();
+    let status = dump.status();
+    status.pc == end
+}
+
+/// The steps of these addresses, words and next addresses.
+fn steps_of(rt: &impl Abort, alloc: Global, given: &[(u32, u32, u32)]) -> Result<Steps, Fail> {
+    let mut steps = Steps::new(alloc);
+    for (at, word, next) in given {
         if let Some(instr) = decode(*word) {
             let call = matches!(instr, Instr::Ecall);
             let row = StepRow {
@@ -88,12 +113,11 @@ fn rows_of(alloc: Global, steps: &[(u32, u32, u32)]) -> Result<Vec<StepRow>, All
                 next: *next,
                 call,
             };
-            if let Err(e) = rows.push(row) {
-                return Err(e.into());
-            }
+            assert!(rt; leads_to(&steps, *at));
+            steps.push(row)?;
         }
     }
-    Ok(rows)
+    Ok(steps)
 }
 
 /// The values of the registers, 0 where none is given.
@@ -107,12 +131,16 @@ fn registers_of(alloc: Global, given: &[(u8, u32)]) -> Result<Vec<u32>, AllocErr
     Vec::from_slice(alloc, last.as_slice())
 }
 
-/// The core file: the bytes at 0x20000 are 7, 0, 0, 0, 5, 6, 7, 8.
-fn core(alloc: Global) -> Result<Vec<u8>, AllocError> {
+/// The core file: the program counter and the registers x1 to x31; the bytes at 0x20000 are 7, 0, 0, 0, 5, 6, 7, 8.
+fn core(alloc: Global, pc: u32, given: &[(u8, u32)]) -> Result<Vec<u8>, AllocError> {
     let mut file = Vec::from_slice(alloc, CORE.as_slice())?;
-    for _ in 0..204 {
-        file.push(0)?;
+    file.extend_from_slice(&[0; 72])?;
+    file.extend_from_slice(&pc.to_le_bytes())?;
+    let last = registers_of(alloc, given)?;
+    for value in last.iter().skip(1) {
+        file.extend_from_slice(&value.to_le_bytes())?;
     }
+    file.extend_from_slice(&[0; 4])?;
     file.extend_from_slice(&[7, 0, 0, 0, 5, 6, 7, 8])?;
     Ok(file)
 }
@@ -156,16 +184,20 @@ fn check_bytes<B: ByteFacts>(rt: &impl Abort, analysis: &Analysis<B, Range, Base
     }
 }
 
-fn check<B: ByteFacts>(rt: &impl Abort, alloc: Global, dump: &Dump, run: &Run) -> Result<(), Fail> {
-    let rows = rows_of(alloc, run.steps)?;
-    assert!(rt; rows.len() <= 65536);
-    let last = registers_of(alloc, run.last)?;
-    assert!(rt; last.len() == 32);
-    let mut analysis: Analysis<B, Range, Base> = Analysis::over(
+fn check<B: ByteFacts>(rt: &impl Abort, alloc: Global, run: &Run) -> Result<(), Fail> {
+    let steps = steps_of(rt, alloc, run.steps)?;
+    assert!(rt; steps.len() > 0);
+    let exe = executable(alloc, 0x10000, &CODE)?;
+    let file = core(alloc, steps.end_pc(), run.last)?;
+    let dump = Dump::read(
+        Image::read(exe.as_slice(), Want::Exec)?,
+        Image::read(file.as_slice(), Want::Core)?,
+    )?;
+    assert!(rt; ends_in(&steps, &dump));
+    let mut analysis: Analysis<B, Range, Base> = Analysis::prepare(
         alloc,
-        rows.as_slice(),
-        last,
-        dump,
+        &steps,
+        &dump,
         Base::new(),
     )?;
     assert_eq!(rt; analysis.refine().is_ok(), run.can_be);
@@ -180,9 +212,6 @@ fn check<B: ByteFacts>(rt: &impl Abort, alloc: Global, dump: &Dump, run: &Run) -
 
 #[test]
 fn runs_by_hand(rt: HostRuntime) -> Result<(), Fail> {
-    let file = core(rt.alloc())?;
-    let exe = Image::read(EXECUTABLE.as_slice(), Want::Exec)?;
-    let dump = Dump::read(exe, Image::read(file.as_slice(), Want::Core)?)?;
     let runs = [
         Run {
             steps: &STORED,
@@ -317,8 +346,8 @@ fn runs_by_hand(rt: HostRuntime) -> Result<(), Fail> {
         },
     ];
     for run in &runs {
-        check::<PlainFacts>(&rt, rt.alloc(), &dump, run)?;
-        check::<SpanFacts>(&rt, rt.alloc(), &dump, run)?;
+        check::<PlainFacts>(&rt, rt.alloc(), run)?;
+        check::<SpanFacts>(&rt, rt.alloc(), run)?;
     }
     Ok(())
 }
