@@ -1,11 +1,10 @@
 -- What an analysis has that has ended: its log is one of what it answers.
-use Rattle.std.proofs.Common.{◌≡◌, ℕ, Bool, sym, ap, subst}
-use Rattle.rept_reason.specs.declared.fact.Cell.{Cell}
+use Rattle.std.proofs.Common.{ℕ, Bool, sym, ap, subst}
 use Rattle.rept_reason.specs.Facts.{Knowledge}
-use Rattle.rept_report.specs.Setting.{Setting, HasLaws}
+use Rattle.rept_report.specs.Setting.{HasLaws}
 use Rattle.rept_report.specs.Conflicts.{IsQuiet}
 use Rattle.rept_report.specs.Implied.{with_implied, IsClosed}
-use Rattle.rept_analysis.specs.State.{State, all_known}
+use Rattle.rept_analysis.specs.State.{State}
 use Rattle.rept_analysis.specs.Kept.{is_among, answers, IsFinished, IsKept}
 use Rattle.rept_analysis.specs.Logged.{IsLogOf}
 use Rattle.rept_analysis.proofs.Learning.{trace_known}

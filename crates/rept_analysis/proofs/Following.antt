@@ -1,7 +1,7 @@
 -- What a row lets follow.
 use Rattle.std.proofs.Common.{◌≡◌, ◌≢◌, ℕ, ◌+◌, ◌<◌, ◌≤◌, ◌^◌, eqb, ltb, false, true, min, List, length, Option, Some, None, inl, inr, refl, sym, ap, subst, ◌∙◌, arith, Contains, slice_get, get_or}
 use Rattle.std.proofs.lemmas.Option.{slice_get-get_or, same_Some}
-use Rattle.std.proofs.lemmas.Bool.{cond-true, cond-false, ne_eqb, cases_lt, lt-ltb, le-ltb, false≢true}
+use Rattle.std.proofs.lemmas.Bool.{cases_Bool, cond-true, cond-false, ne_eqb, cases_lt, lt-ltb, le-ltb, false≢true}
 use mathlib.Core.Path.{fun_ext}
 use Rattle.rept_isa.specs.Numbers.{plus}
 use Rattle.rept_isa.specs.declared.row.StepRow.{StepRow}
@@ -21,11 +21,11 @@ use Rattle.rept_span.specs.Filled.{entry_at}
 use Rattle.rept_view.specs.declared.drawn.When.{When}
 use Rattle.rept_view.specs.declared.drawn.When.TheVariants.{Before, After}
 use Rattle.rept_view.specs.declared.drawn.Drawn.{Drawn}
-use Rattle.rept_view.specs.Seen.{Seen, seen_cell}
+use Rattle.rept_view.specs.Seen.{Seen, KnowsMore, seen_cell}
 use Rattle.rept_view.specs.Rules.{offset_of, IsRowByte, IsRowCell, Rules}
 use Rattle.rept_log.specs.Around.{around, around_lawful}
 use Rattle.rept_report.specs.Setting.{Setting, HasLaws, way_of}
-use Rattle.rept_report.specs.Views.{point_of, all_words, bounds, register_range, known_or, seen_at, registers_at, Carries}
+use Rattle.rept_report.specs.Views.{point_of, all_words, bounds, register_range, known_or, seen_at, registers_at, may_write, Carries}
 use Rattle.rept_report.specs.Conclusions.{IsWordOf, HasWords, Concludes}
 use Rattle.rept_report.specs.Conclusions.IsCarried.{last_byte, onward, back}
 use Rattle.rept_report.specs.Conclusions.Follows.{last_value, kept_onward, kept_back, carried, drawn, only_value}
@@ -33,12 +33,12 @@ use Rattle.rept_report.specs.Conflicts.{IsQuiet}
 use Rattle.rept_report.specs.Log.{oldest, OnceEach}
 use Rattle.rept_report.proofs.Told.{same_some, none_some}
 use Rattle.rept_report.proofs.Places.{oldest_less}
-use Rattle.rept_report.proofs.ViewLaws.{known_fact, known_more, seen_at_lawful}
+use Rattle.rept_report.proofs.ViewLaws.{LiesIn, known_fact, known_more, known_word, seen_at_lawful, registers_at_lawful, seen_more, ranges_lie}
 use Rattle.rept_report.proofs.Monotony.{quiet_less, spared_more, single_value_more, Concludes_more}
 use Rattle.rept_analysis.specs.Cells.{bytes_from, bytes_known, base_known}
 use Rattle.rept_log.specs.Known.{Known as LogKnown}
 use Rattle.rept_analysis.specs.State.{State, all_known}
-use Rattle.rept_analysis.specs.Moments.{filled_range, moment}
+use Rattle.rept_analysis.specs.Moments.{filled_range, moment, moment_lawful}
 use Rattle.rept_analysis.specs.Room.{IsDrawnByte, IsOwnByte}
 use Rattle.rept_analysis.proofs.Reserve.{drawn_byte_more, own_byte_more}
 use Rattle.rept_analysis.specs.Drawing.{Knows, IsTracked, Grows, IsFollowing, IsBrought, fact_at, IsLearntAt, IsKeptAt, LastKnown, IsFitted, IsAccess, IsCarriedAt, AreTrackedFrom, IsRowTracked, IsConclusion, IsBroughtTo, KeptBelow, DrawnKnown, IsRowDrawn, IsRowClosed, LastByteKnown, SingleKnown, AreRowAddresses}
@@ -180,6 +180,25 @@ module _ {W : Type 0} (s : State W) (i : ℕ) (inside : i < length s.setting.row
 
   pub access_is : (row : StepRow) (access : CallAccess) → slice_get s.setting.rows i ≡ Some row → ((a : ℕ) → a < 2 ^ 32 → call_hits access a ≡ s.setting.rules.touched row (moment s.setting.sets older s.spans i) s.setting.image_end a) → IsAccess i access s
   access_is row access found hits a small = hits a small ∙ rw found (ap (λ (v : Seen). s.setting.rules.touched row v s.setting.image_end a) moment_is)
+
+-- what a row may not write by all facts and the sets of older ones, it may not write by what is known
+module _ {W : Type 0} (s : State W) (i : ℕ) (inside : i < length s.setting.rows) (fitted : IsFitted s) (laws : HasLaws s.setting) (words : HasWords (all_known s)) (once : OnceEach s.known.log) (quiet : IsQuiet s.setting (all_known s)) where
+  now_seen : KnowsMore (moment s.setting.sets s.known.log s.spans i) (registers_at s.setting (all_known s) i)
+  now_seen = seen_more (register_known (told s.known.log)) (λ p a. None) (filled_range s.setting.sets s.spans) (register_known (all_known s)) (λ p a. None) (register_range s.setting (all_known s)) i (record {
+    registers = λ p r v e. e;
+    bytes = λ p a v e. e;
+    small = known_word (all_known s) words;
+    inside = λ w r v unknown known. absurd (none_some (sym unknown ∙ known));
+    lies = λ w r. subst (λ (x : Range). LiesIn (register_range s.setting (all_known s) (point_of i w) r) x) (sym (same_range s i inside fitted (point_of i w) r (early s i inside fitted w)))
+        (ranges_lie s.setting laws (told (oldest s.filled s.known.log)) (all_known s) (λ p q v e. oldest_less s.filled s.known.log once p (Register q) v e) words quiet (point_of i w) r (early s i inside fitted w));
+  })
+
+  pub not_touched : (row : StepRow) (access : CallAccess) (a : ℕ) → a < 2 ^ 32 → slice_get s.setting.rows i ≡ Some row → call_hits access a ≡ s.setting.rules.touched row (moment s.setting.sets s.known.log s.spans i) s.setting.image_end a → call_hits access a ≡ false → may_write s.setting (all_known s) i a ≡ false
+  not_touched row access a small found hits miss =
+      elim (cases_Bool (s.setting.rules.touched row (registers_at s.setting (all_known s) i) s.setting.image_end a)) [
+        | inl t ↦ absurd (false≢true (sym miss ∙ hits ∙ laws.rules.touched_less s.setting.image_end row (moment s.setting.sets s.known.log s.spans i) (registers_at s.setting (all_known s) i) a (moment_lawful s.setting.sets s.known.log s.spans i (λ p r v e. words p r v e)) (registers_at_lawful s.setting (all_known s) words i) now_seen small t))
+        | inr t ↦ rw found t
+      ]
 
 -- what a row may not write is carried over it
 module _ {W : Type 0} (s : State W) (laws : HasLaws s.setting) (words : HasWords (all_known s)) (once : OnceEach s.known.log) (i a v : ℕ) (inside : i < length s.setting.rows) (small : a < 2 ^ 32) (access : CallAccess) (is_access : IsAccess i access s) (spared : call_hits access a ≡ false) where

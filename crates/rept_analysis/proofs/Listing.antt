@@ -10,7 +10,8 @@ use Rattle.rept_report.specs.Log.{oldest}
 use Rattle.rept_writing.specs.declared.list.Writing.{Writing}
 use Rattle.rept_analysis.specs.Work.{row_past}
 use Rattle.rept_analysis.specs.State.{State, with_writing}
-use Rattle.rept_analysis.specs.Drawing.{Grows, IsAccess, IsSparedAt, IsSparedBetween, IsSilent, IsCarriedFrom, past, IsWriting, AreWritingsBefore, AreWritings, SameFacts, IsFitted}
+use Rattle.rept_analysis.specs.Drawing.{Grows, IsAccess, IsSparedAt, IsSparedNow, IsSpared, IsSparedBetween, IsSilent, IsCarriedFrom, past, IsWriting, AreWritingsBefore, AreWritings, SameFacts, IsFitted}
+use Rattle.rept_analysis.proofs.Following.{fitted_after}
 use Rattle.rept_analysis.proofs.Spreading.{between_none, carried_hit}
 
 -- the same rows may write where path, facts and sets are the same
@@ -27,9 +28,9 @@ module _ {W : Type 0} (s t : State W) (setting : t.setting ≡ s.setting) (older
 
 pub writings_after : {W : Type 0} (s t : State W) → Grows s t → AreWritings s → AreWritings t
 writings_after s t g h =
-    let listed = writings_like s t g.setting g.older (length s.setting.rows) s.work.writing h in
+    let listed = writings_like s t g.setting g.older (length s.setting.rows) s.work.writing h.listed in
     let same : length s.setting.rows ≡ length t.setting.rows = rw g.rows refl in
-    subst (λ (n : ℕ). AreWritingsBefore n t.work.writing t) same (subst (λ (xs : List Writing). AreWritingsBefore (length s.setting.rows) xs t) (sym g.writing) listed)
+    record { fitted = fitted_after s t g h.fitted; listed = subst (λ (n : ℕ). AreWritingsBefore n t.work.writing t) same (subst (λ (xs : List Writing). AreWritingsBefore (length s.setting.rows) xs t) (sym g.writing) listed) }
 
 -- a row that may write nothing
 pub listed_less : {W : Type 0} (s : State W) (i : ℕ) (list : List Writing) → ((a : ℕ) → a < 2 ^ 32 → IsSparedAt i a s) → AreWritingsBefore i list s → AreWritingsBefore (i + 1) list s
@@ -107,7 +108,7 @@ between_silent s from middle to a small le before after low i (inl x) =
     let q = x.1 in
     elim (cases_lt i middle) [
       | inl lt ↦ before i (inl (p, lt))
-      | inr ge ↦ after i a ge q small
+      | inr ge ↦ inl (after i a ge q small)
     ]
 between_silent s from middle to a small le before after low i (inr x) = let p = x.0 in let q = x.1 in absurd (omega (arith, p, q, le, low))
 
@@ -120,7 +121,7 @@ past_at list k w at = at_suc (k + 1) refl
     at_suc (suc m) e = let same : m ≡ k = omega (arith, e) in rw same (ap row_past at)
 
 pub listed_end : {W : Type 0} (s t : State W) → Grows s t → AreWritings s → AreWritingsBefore (length s.setting.rows) s.work.writing t
-listed_end s t g h = writings_like s t g.setting g.older (length s.setting.rows) s.work.writing h
+listed_end s t g h = writings_like s t g.setting g.older (length s.setting.rows) s.work.writing h.listed
 
 -- with another list everything else is the same
 pub listed_same : {W : Type 0} (s t : State W) (list : List Writing) → t ≡ with_writing s list → SameFacts s t
@@ -152,7 +153,7 @@ reach_silent : {W : Type 0} (s : State W) (from middle to a : ℕ) → a < 2 ^ 3
 reach_silent s from middle to a small le silent x = let order = x.order in record { order = omega (arith, le, order); spared = between_silent s from middle to a small le x.spared silent order }
 
 -- then one that may not write the byte
-reach_spared : {W : Type 0} (s : State W) (from to a : ℕ) → IsSparedAt to a s → IsReached s from to a → IsReached s from (to + 1) a
+reach_spared : {W : Type 0} (s : State W) (from to a : ℕ) → IsSpared to a s → IsReached s from to a → IsReached s from (to + 1) a
 reach_spared s from to a spared x = let order = x.order in record { order = omega (arith, order); spared = each }
   where
     each : IsSparedBetween from (to + 1) a s
@@ -171,7 +172,7 @@ module _ {W : Type 0} (n : ℕ) (list : List Writing) (s : State W) (h : AreWrit
   reach_over j w at miss x =
       let row = h.each j w at in
       let spared : IsSparedAt w.row a s = sym (row.access a small) ∙ sym (same_hit list j a w at) ∙ miss in
-      rw (past_at list j w at) (reach_spared s from w.row a spared (reach_silent s from (past list j) w.row a small row.low row.silent x))
+      rw (past_at list j w at) (reach_spared s from w.row a (inl spared) (reach_silent s from (past list j) w.row a small row.low row.silent x))
 
   -- over all of them from an index to another one
   reach_all : (k m j : ℕ) → j ≡ k + m → j ≤ length list → IsMissed list k j a → IsReached s from (past list k) a → IsReached s from (past list j) a
@@ -204,7 +205,7 @@ module _ {W : Type 0} (s t : State W) (grows : Grows s t) (listed : AreWritings 
       let first : IsFirstHit s.work.writing k a hit = subst (λ (xs : List Writing). IsFirstHit xs k a hit) grows.writing found in
       let at : slice_get s.work.writing hit ≡ Some w = subst (λ (xs : List Writing). slice_get xs hit ≡ Some w) grows.writing there in
       let row = later.each hit w at in
-      let old = listed.each hit w at in
+      let old = listed.listed.each hit w at in
       let low = first.from in
       let inside = first.inside in
       let all = reach_all (length s.setting.rows) s.work.writing t later from a small k (hit - k) hit (omega (arith, low)) (omega (arith, inside)) first.none_before here in
@@ -223,3 +224,17 @@ module _ {W : Type 0} (s t : State W) (grows : Grows s t) (listed : AreWritings 
       let none : (j : ℕ) → k ≤ j → hits_at s.work.writing j a ≡ false = subst (λ (xs : List Writing). (j : ℕ) → k ≤ j → hits_at xs j a ≡ false) grows.writing missed in
       let all = reach_all (length s.setting.rows) s.work.writing t later from a small k (length s.work.writing - k) (length s.work.writing) (omega (arith, low)) (omega arith) (λ j le lt. none j le) here in
       reach_silent t from (past s.work.writing (length s.work.writing)) (length s.setting.rows) a small later.low later.silent all
+
+-- rows that may not write the byte, one that may not by what is known by now, and others after it
+pub spared_over : {W : Type 0} (s : State W) (from row to a : ℕ) → from ≤ row → row + 1 ≤ to → IsSparedBetween from row a s → IsSparedNow row a s → IsSparedBetween (row + 1) to a s → IsSparedBetween from to a s
+spared_over s from row to a low high before now after i (inl x) =
+    let p = x.0 in
+    let q = x.1 in
+    elim (cases_lt i row) [
+      | inl less ↦ before i (inl (p, less))
+      | inr more ↦ elim (cases_eq i row) [
+        | inl e ↦ rw e (inr now)
+        | inr ne ↦ after i (inl (omega (arith, more, ne), q))
+      ]
+    ]
+spared_over s from row to a low high before now after i (inr x) = let p = x.0 in let q = x.1 in absurd (omega (arith, p, q, low, high))

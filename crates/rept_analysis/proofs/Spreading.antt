@@ -6,13 +6,13 @@ use Rattle.rept_reason.specs.declared.fact.Cell.{Cell}
 use Rattle.rept_reason.specs.declared.fact.Cell.TheVariants.{Register, Byte}
 use Rattle.rept_reason.specs.Facts.{told}
 use Rattle.rept_report.specs.Setting.{Setting, HasLaws}
-use Rattle.rept_report.specs.Views.{Carries}
+use Rattle.rept_report.specs.Views.{Carries, may_write}
 use Rattle.rept_report.specs.Conclusions.IsCarried.{onward, back}
 use Rattle.rept_report.specs.Conflicts.{IsQuiet}
 use Rattle.rept_report.specs.Log.{oldest}
 use Rattle.rept_report.proofs.Told.{same_some, none_some}
 use Rattle.rept_report.proofs.Places.{oldest_less}
-use Rattle.rept_report.proofs.Monotony.{spared_more}
+use Rattle.rept_report.proofs.Monotony.{spared_more, quiet_less}
 use Rattle.std.specs.declared.alloc.AllocError.{AllocError}
 use Rattle.rept_reason.specs.declared.fact.Fact.{Fact}
 use Rattle.rept_versions.specs.declared.facts.Carried.{Carried}
@@ -24,7 +24,7 @@ use Rattle.rept_versions.specs.Facts.{Told, Store, Between, Spreads, Carries as 
 use Rattle.rept_log.proofs.Stores.{stays_same}
 use Rattle.rept_log.specs.Known.{Known, knows, AddsByte, SameLog}
 use Rattle.rept_analysis.specs.State.{State, all_known}
-use Rattle.rept_analysis.specs.Drawing.{fact_at, Knows, IsTracked, Grows, IsBrought, IsSparedAt, IsSparedBetween, IsSpreadTo, IsCarriedFrom, IsCarriedAt, IsAccess}
+use Rattle.rept_analysis.specs.Drawing.{fact_at, Knows, IsTracked, Grows, IsBrought, IsSpared, IsSparedBetween, IsSpreadTo, IsCarriedFrom, IsCarriedAt, IsAccess}
 use Rattle.rept_analysis.specs.Drawing.HasNews.{fact}
 use Rattle.rept_analysis.specs.Told.{Sends}
 use Rattle.rept_analysis.specs.Kept.{IsKept}
@@ -60,10 +60,14 @@ kept_like s k k' last log facts tracked open_ roomy kept = record {
     same p (Register r) = rw log refl
     same p (Byte a) = rw facts refl
 
--- a byte that a row may not write, by the facts of which the sets are, is brought over it
-module _ {W : Type 0} (s : State W) (laws : HasLaws s.setting) (kept : IsKept s) (i a v : ℕ) (inside : i < length s.setting.rows) (small : a < 2 ^ 32) (spared : IsSparedAt i a s) where
+-- a byte that a row may not write is brought over it
+module _ {W : Type 0} (s : State W) (laws : HasLaws s.setting) (kept : IsKept s) (i a v : ℕ) (inside : i < length s.setting.rows) (small : a < 2 ^ 32) (spared : IsSpared i a s) where
   carries : IsQuiet s.setting (all_known s) → Carries s.setting (all_known s) a i (i + 1)
-  carries quiet = record { inside = inside; next = refl; spared = spared_more s.setting laws (told (oldest s.filled s.known.log)) (all_known s) (λ p r w e. oldest_less s.filled s.known.log kept.once p (Register r) w e) (known_words s kept) quiet i a small spared }
+  carries quiet = record { inside = inside; next = refl; spared = missed spared }
+    where
+      missed : IsSpared i a s → may_write s.setting (all_known s) i a ≡ false
+      missed (inl old) = spared_more s.setting laws (told (oldest s.filled s.known.log)) (all_known s) (λ p r w e. oldest_less s.filled s.known.log kept.once p (Register r) w e) (known_words s kept) quiet i a small old
+      missed (inr now) = now quiet
 
   pub up_brought : Knows i (Byte a) v s → IsBrought s (fact_at (i + 1) (Byte a) v)
   up_brought h quiet = onward a i (i + 1) refl refl (carries quiet) h
@@ -71,8 +75,10 @@ module _ {W : Type 0} (s : State W) (laws : HasLaws s.setting) (kept : IsKept s)
   pub down_brought : Knows (i + 1) (Byte a) v s → IsBrought s (fact_at i (Byte a) v)
   down_brought h quiet = back a i (i + 1) refl refl (carries quiet) h
 
-pub spared_after : {W : Type 0} (s t : State W) (i a : ℕ) → Grows s t → IsSparedAt i a s → IsSparedAt i a t
-spared_after s t i a g h = rw (g.setting, g.older) h
+pub spared_after : {W : Type 0} (s t : State W) → HasLaws s.setting → IsKept t → Grows s t → (i a : ℕ) → a < 2 ^ 32 → IsSpared i a s → IsSpared i a t
+spared_after s t laws kept g i a small (inl old) = inl (rw (g.setting, g.older) old)
+spared_after s t laws kept g i a small (inr now) = inr (subst (λ (S : Setting _). IsQuiet S (all_known t) → may_write S (all_known t) i a ≡ false) (sym g.setting) (λ quiet.
+    spared_more s.setting laws (all_known s) (all_known t) (λ p r v e. g.more p (Register r) v e) (known_words t kept) quiet i a small (now (quiet_less s.setting laws (all_known s) (all_known t) (λ p r v e. g.more p (Register r) v e) quiet))))
 
 module _ {W : Type 0} (s : State W) (laws : HasLaws s.setting) (kept : IsKept s) (open_ : s.complete ≡ false) (a v : ℕ) (small : a < 2 ^ 32) (tracked : IsTracked a s) where
   -- one fact more
@@ -229,7 +235,7 @@ module _ {W : Type 0} (s : State W) (laws : HasLaws s.setting) (kept : IsKept s)
         reach : (d : ℕ) → d < to - from → (t : State W) → HasLaws t.setting → IsKept t → Grows s t → Knows (from + d) (Byte a) v t → IsBrought t (fact_at (from + suc d) (Byte a) v)
         reach d lt t laws_t kept_t g h =
             let inside : from + d < length t.setting.rows = rw g.rows (omega (arith, lt, to_early)) in
-            let at = up_brought t laws_t kept_t (from + d) a v inside small (spared_after s t (from + d) a g (spared (from + d) (inl (omega arith, omega (arith, lt))))) h in
+            let at = up_brought t laws_t kept_t (from + d) a v inside small (spared_after s t laws kept_t g (from + d) a small (spared (from + d) (inl (omega arith, omega (arith, lt))))) h in
             let next : from + d + 1 ≡ from + suc d = omega arith in
             subst (λ (p : ℕ). IsBrought t (fact_at p (Byte a) v)) next at
 
@@ -258,7 +264,7 @@ module _ {W : Type 0} (s : State W) (laws : HasLaws s.setting) (kept : IsKept s)
             let inside : from - suc d < length t.setting.rows = rw g.rows (omega (arith, lt, from_early)) in
             let next : from - d ≡ from - suc d + 1 = omega (arith, lt) in
             let above : Knows (from - suc d + 1) (Byte a) v t = subst (λ (p : ℕ). Knows p (Byte a) v t) next h in
-            down_brought t laws_t kept_t (from - suc d) a v inside small (spared_after s t (from - suc d) a g (spared (from - suc d) (inr (omega (arith, lt), omega (arith, lt))))) above
+            down_brought t laws_t kept_t (from - suc d) a v inside small (spared_after s t laws kept_t g (from - suc d) a small (spared (from - suc d) (inr (omega (arith, lt), omega (arith, lt))))) above
 
         same : (q b : ℕ) → k.store.fact q b ≡ (chain (λ d. from - d) (from - to)).known.store.fact q b
         same q b =
@@ -302,13 +308,13 @@ module _ {W : Type 0} (s : State W) (laws : HasLaws s.setting) (kept : IsKept s)
   spread : (k : Known) → SameLog s.known k → (before : ℕ) → Between from to before → Spreads s.work.joins s.known.store k.store a from before v → IsKept (with_known s k) × Grows s (with_known s k)
   spread k log before at h = spread_kept s laws kept open_ a v small tracked k from before log.last log.log log.left from_early (between_early before at) known (within before at) h
 
-  up_spared : (before stop : ℕ) → before + 1 ≡ stop → Between from to before → Between from to stop → IsSparedAt before a s
+  up_spared : (before stop : ℕ) → before + 1 ≡ stop → Between from to before → Between from to stop → IsSpared before a s
   up_spared before stop next (inl y) (inl x) = let p = y.0 in let q = x.1 in spared before (inl (p, omega (arith, next, q)))
   up_spared before stop next (inr y) (inr x) = let p = y.0 in let q = x.1 in spared before (inr (p, omega (arith, next, q)))
   up_spared before stop next (inl y) (inr x) = let p = y.0 in let q = x.1 in let z = y.1 in absurd (omega (arith, next, p, q, z))
   up_spared before stop next (inr y) (inl x) = let p = y.0 in let q = x.1 in let z = y.1 in let w = x.0 in spared before (inl (omega (arith, z, w, next, q, p), omega (arith, next, q)))
 
-  down_spared : (before stop : ℕ) → stop + 1 ≡ before → Between from to before → Between from to stop → IsSparedAt stop a s
+  down_spared : (before stop : ℕ) → stop + 1 ≡ before → Between from to before → Between from to stop → IsSpared stop a s
   down_spared before stop next (inl y) (inl x) = let p = x.0 in let q = y.1 in spared stop (inl (p, omega (arith, next, q)))
   down_spared before stop next (inr y) (inr x) = let p = x.0 in let q = y.1 in spared stop (inr (p, omega (arith, next, q)))
   down_spared before stop next (inl y) (inr x) = let p = x.0 in let q = x.1 in let z = y.0 in let w = y.1 in spared stop (inr (p, omega (arith, next, q, z, w)))
@@ -343,10 +349,10 @@ module _ {W : Type 0} (s : State W) (laws : HasLaws s.setting) (kept : IsKept s)
       next_brought : (k : Known) → IsKept (with_known s k) → Grows s (with_known s k) → (before stop : ℕ) → (before + 1 ≡ stop) ⊎ (stop + 1 ≡ before) → Between from to before → Between from to stop → k.store.fact before a ≡ Some v → IsBrought (with_known s k) (fact_at stop (Byte a) v)
       next_brought k kept_t g before stop (inl next) at within_ h =
           let early = between_early stop within_ in
-          subst (λ (p : ℕ). IsBrought (with_known s k) (fact_at p (Byte a) v)) next (up_brought (with_known s k) laws kept_t before a v (omega (arith, next, early)) small (spared_after s (with_known s k) before a g (up_spared before stop next at within_)) h)
+          subst (λ (p : ℕ). IsBrought (with_known s k) (fact_at p (Byte a) v)) next (up_brought (with_known s k) laws kept_t before a v (omega (arith, next, early)) small (spared_after s (with_known s k) laws kept_t g before a small (up_spared before stop next at within_)) h)
       next_brought k kept_t g before stop (inr next) at within_ h =
           let early = between_early before at in
-          down_brought (with_known s k) laws kept_t stop a v (omega (arith, next, early)) small (spared_after s (with_known s k) stop a g (down_spared before stop next at within_)) (subst (λ (p : ℕ). k.store.fact p a ≡ Some v) (sym next) h)
+          down_brought (with_known s k) laws kept_t stop a v (omega (arith, next, early)) small (spared_after s (with_known s k) laws kept_t g stop a small (down_spared before stop next at within_)) (subst (λ (p : ℕ). k.store.fact p a ≡ Some v) (sym next) h)
   sent k log (Err e) h = let both = spread k log h.reaches.before h.reaches.toward h.reaches.spreads in (both.0, (both.1, h.plain))
 
 -- a segment in which no row may write the byte

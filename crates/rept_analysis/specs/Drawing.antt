@@ -252,9 +252,17 @@ SinglesKnown s = SinglesBelow (length s.setting.rows + 1) s
 abbrev pub IsSparedAt : {W : Type 0} → ℕ → ℕ → State W → Type 0
 IsSparedAt i a s = may_write s.setting (told (oldest s.filled s.known.log)) i a ≡ false
 
+-- row i may not write the byte, by all that is known by now, if that leaves no range empty and no turn wrong
+abbrev pub IsSparedNow : {W : Type 0} → ℕ → ℕ → State W → Type 0
+IsSparedNow i a s = IsQuiet s.setting (all_known s) → may_write s.setting (all_known s) i a ≡ false
+
+-- it may not, by the one or by the other
+abbrev pub IsSpared : {W : Type 0} → ℕ → ℕ → State W → Type 0
+IsSpared i a s = IsSparedAt i a s ⊎ IsSparedNow i a s
+
 -- so may none of the rows between two points
 abbrev pub IsSparedBetween : {W : Type 0} → ℕ → ℕ → ℕ → State W → Type 0
-IsSparedBetween from to a s = (i : ℕ) → ((from ≤ i) × (i < to)) ⊎ ((to ≤ i) × (i < from)) → IsSparedAt i a s
+IsSparedBetween from to a s = (i : ℕ) → ((from ≤ i) × (i < to)) ⊎ ((to ≤ i) × (i < from)) → IsSpared i a s
 
 -- the byte has the value at each point from one to another
 abbrev pub IsSpreadTo : {W : Type 0} → ℕ → ℕ → ℕ → ℕ → State W → Type 0
@@ -298,10 +306,7 @@ pub record AreWritingsBefore {W : Type 0} (n : ℕ) (list : List Writing) (s : S
   pub low : past list (length list) ≤ n
   pub silent : IsSilent (past list (length list)) n s
 
--- the rows that may write are listed
-abbrev pub AreWritings : {W : Type 0} → State W → Type 0
-AreWritings s = AreWritingsBefore (length s.setting.rows) s.work.writing s
-
--- all rows' conclusions are known, and all tracked bytes are carried
-abbrev pub IsDrawnThrough : {W : Type 0} → State W → Type 0
-IsDrawnThrough s = RowsClosed s × AllCarried s
+-- the sets are those of some of the facts, and the rows that may write by these are listed
+pub record AreWritings {W : Type 0} (s : State W) : Type 0 where
+  pub fitted : IsFitted s
+  pub listed : AreWritingsBefore (length s.setting.rows) s.work.writing s

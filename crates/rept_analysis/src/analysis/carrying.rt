@@ -5,7 +5,7 @@ ghost use Rattle.rept_alias.specs.Accesses.{call_hits};
 ghost use Rattle.rept_reason.specs.declared.fact.Cell.TheVariants.{Byte};
 ghost use Rattle.rept_versions.specs.Facts.{Nexts};
 ghost use Rattle.rept_analysis.specs.State.{state_of, with_writing};
-ghost use Rattle.rept_analysis.specs.Drawing.{Knows, IsTracked, past, Grows, Drew, IsHalt, IsFitted, IsAccess, AreWritings, AreWritingsBefore, IsSparedAt, IsSparedBetween, IsSpreadTo, IsCarriedFrom, IsCarriedAlong, AllCarried};
+ghost use Rattle.rept_analysis.specs.Drawing.{Knows, IsTracked, past, Grows, Drew, IsHalt, IsFitted, IsAccess, AreWritings, AreWritingsBefore, IsSparedBetween, IsSpreadTo, IsCarriedFrom, IsCarriedAlong, AllCarried};
 ghost use Rattle.rept_analysis.specs.Told.{Sends};
 ghost use Rattle.rept_writing.specs.Hits.{IsNextHit};
 
@@ -102,6 +102,7 @@ impl<'a, B: ByteFacts, W: Transfer, R: RowRules> Analysis<'a, B, W, R> {
                 }
                 let at = stretch.first.max(from);
                 let right = self.spread(a, at, to, stretch.value)?;
+                self.held();
                 let left = self.spread(a, at, from, stretch.value)?;
                 Ok(right | left)
             }
@@ -146,7 +147,59 @@ impl<'a, B: ByteFacts, W: Transfer, R: RowRules> Analysis<'a, B, W, R> {
         row + 1
     }
 
-    /// The value of a byte over the rows around a point that may not write it.
+    /// The number of the first row from an index of the list on that may write the byte, or the number of rows.
+    fn next_writer(&self, k: usize, a: u32) -> u32
+        requires writings { AreWritings (state_of W.sets W.moves R.rules B.store self.now) }
+        requires within { k ≤ length self.now.work.writing }
+        ensures last { result ≤ length self.now.rows }
+        ensures order { past self.now.work.writing k ≤ result }
+        ensures spared { IsSparedBetween (past self.now.work.writing k) result a (state_of W.sets W.moves R.rules B.store self.now) }
+    {
+        match self.next_hit(k, a) {
+            None => self.count(),
+            Some(hit) => self.writing_at(hit).row,
+        }
+    }
+
+    /// The same, past one row at most that may write the byte by the list, and may not by what is known by now.
+    fn next_spared(&self, k: usize, a: u32) -> u32
+        requires writings { AreWritings (state_of W.sets W.moves R.rules B.store self.now) }
+        requires within { k ≤ length self.now.work.writing }
+        ensures last { result ≤ length self.now.rows }
+        ensures order { past self.now.work.writing k ≤ result }
+        ensures spared { IsSparedBetween (past self.now.work.writing k) result a (state_of W.sets W.moves R.rules B.store self.now) }
+    {
+        match self.next_hit(k, a) {
+            None => self.count(),
+            Some(hit) => {
+                let row = self.writing_at(hit).row;
+                if self.is_spared(row, a) {
+                    return self.next_writer(hit + 1, a);
+                }
+                row
+            }
+        }
+    }
+
+    /// An index in the list, after the last row before a point that may write the byte, past one row at most that may not by what is
+    /// known by now.
+    fn past_writer(&self, point: u32, a: u32) -> usize
+        requires writings { AreWritings (state_of W.sets W.moves R.rules B.store self.now) }
+        ensures { result ≤ length self.now.work.writing }
+    {
+        let k = self.past_hit(point, a);
+        if k == 0 {
+            return 0;
+        }
+        let row = self.writing_at(k - 1).row;
+        if self.is_spared(row, a) {
+            return self.past_hit(row, a);
+        }
+        k
+    }
+
+    /// The value of a byte over the rows around a point that may not write it; nothing in the first round, in which the addresses
+    /// of most stores become known, so that a byte isn't carried in pieces.
     pub(super) fn carry_around(&mut self, a: u32, point: u32) -> Result<bool, Halt>
         requires writings { AreWritings (state_of W.sets W.moves R.rules B.store self.old) }
         requires open { self.old.complete ≡ false }
@@ -154,20 +207,14 @@ impl<'a, B: ByteFacts, W: Transfer, R: RowRules> Analysis<'a, B, W, R> {
         ensures drew { IfOk result (λ learnt. Drew (state_of W.sets W.moves R.rules B.store self.old) (state_of W.sets W.moves R.rules B.store self.new) learnt (λ _. ⊤)) }
         ensures halt { IfErr result (λ h. IsHalt (state_of W.sets W.moves R.rules B.store self.new) h) }
     {
-        let k = self.past_hit(point, a);
-        let from = self.row_past(k);
-        match self.next_hit(k, a) {
-            None => {
-                let rows = self.count();
-                let learnt = self.carry_segment(a, from, rows)?;
-                Ok(learnt)
-            }
-            Some(hit) => {
-                let row = self.writing_at(hit).row;
-                let learnt = self.carry_segment(a, from, row)?;
-                Ok(learnt)
-            }
+        if self.filled == 0 {
+            return Ok(false);
         }
+        let k = self.past_writer(point, a);
+        let from = self.row_past(k);
+        let to = self.next_spared(k, a);
+        let learnt = self.carry_segment(a, from, to)?;
+        Ok(learnt)
     }
 
     /// So for so many bytes from an address on.
@@ -187,7 +234,7 @@ impl<'a, B: ByteFacts, W: Transfer, R: RowRules> Analysis<'a, B, W, R> {
         Ok(learnt)
     }
 
-    /// The byte of the dump at a tracked address, over the last rows that may not write it.
+    /// The byte of the dump at a tracked address, over the last rows that may not write it; nothing in the first round.
     pub(super) fn draw_dump(&mut self, a: u32) -> Result<bool, Halt>
         requires tracked { IsTracked a (state_of W.sets W.moves R.rules B.store self.old) }
         requires writings { AreWritings (state_of W.sets W.moves R.rules B.store self.old) }
@@ -196,6 +243,9 @@ impl<'a, B: ByteFacts, W: Transfer, R: RowRules> Analysis<'a, B, W, R> {
         ensures drew { IfOk result (λ learnt. Drew (state_of W.sets W.moves R.rules B.store self.old) (state_of W.sets W.moves R.rules B.store self.new) learnt (λ _. ⊤)) }
         ensures halt { IfErr result (λ h. IsHalt (state_of W.sets W.moves R.rules B.store self.new) h) }
     {
+        if self.filled == 0 {
+            return Ok(false);
+        }
         let point = self.count();
         let told = self.draw_last_byte(a)?;
         let carried = self.carry_around(a, point)?;

@@ -328,6 +328,32 @@ impl<'a, B: ByteFacts, W: Transfer, R: RowRules> Analysis<'a, B, W, R> {
         }
     }
 
+    /// Whether row i loads a value that isn't known.
+    fn loads_unknown(&self, i: u32, row: &StepRow) -> bool
+        requires { i < length self.now.rows }
+    {
+        let _count = self.count();
+        match row.instr {
+            Instr::Load { rd, .. } => is_same(self.known(i + 1, rd), Flat::Unknown),
+            _ => false,
+        }
+    }
+
+    /// The bytes of a load whose value isn't known, carried to it, so that its rules are drawn with them.
+    fn fetch(&mut self, i: u32, row: &StepRow) -> Result<bool, Halt>
+        requires inside { i < length self.old.rows }
+        requires writings { AreWritings (state_of W.sets W.moves R.rules B.store self.old) }
+        requires open { self.old.complete ≡ false }
+        ensures grows { Grows (state_of W.sets W.moves R.rules B.store self.old) (state_of W.sets W.moves R.rules B.store self.new) }
+        ensures drew { IfOk result (λ learnt. Drew (state_of W.sets W.moves R.rules B.store self.old) (state_of W.sets W.moves R.rules B.store self.new) learnt (λ _. ⊤)) }
+        ensures halt { IfErr result (λ h. IsHalt (state_of W.sets W.moves R.rules B.store self.new) h) }
+    {
+        if !self.loads_unknown(i, row) {
+            return Ok(false);
+        }
+        self.carry_row(i, row)
+    }
+
     /// All that row i lets one draw; where its rules were drawn, its bytes are carried at once.
     fn draw_around(&mut self, i: u32, row: &StepRow) -> Result<bool, Halt>
         requires inside { i < length self.old.rows }
@@ -360,8 +386,9 @@ impl<'a, B: ByteFacts, W: Transfer, R: RowRules> Analysis<'a, B, W, R> {
     {
         let row = self.row(i);
         let registers = self.carry_all(i, &row)?;
+        let fetched = self.fetch(i, &row)?;
         let tracked = self.track_row(i, &row)?;
         let drawn = self.draw_around(i, &row)?;
-        Ok(registers | tracked | drawn)
+        Ok(registers | fetched | tracked | drawn)
     }
 }

@@ -1,6 +1,6 @@
 //! What the facts at places below a limit show: sets that are empty, and wrong turns.
 
-ghost use Rattle.std.specs.Prelude.{◌≡◌, ◌<◌, ◌≤◌, ℕ, length, true, false, IfErr, OnOk, Some, None, Ok, Err, slice_get};
+ghost use Rattle.std.specs.Prelude.{◌≡◌, ◌<◌, ◌≤◌, ◌^◌, ℕ, length, true, false, IfErr, OnOk, Some, None, Ok, Err, slice_get};
 ghost use Rattle.rept_isa.specs.declared.row.StepRow.{StepRow};
 ghost use Rattle.rept_reason.specs.Facts.{told, operand};
 ghost use Rattle.rept_span.specs.Ranges.{IsEmptyFirst};
@@ -9,8 +9,11 @@ ghost use Rattle.rept_report.specs.Setting.{way_of};
 ghost use Rattle.rept_report.specs.Conflicts.{IsQuiet, IsWrongTurn, Shows};
 ghost use Rattle.rept_report.specs.declared.conflict.ConflictKind.{ConflictKind};
 ghost use Rattle.rept_report.specs.Log.{oldest};
+ghost use Rattle.rept_alias.specs.Accesses.{call_hits};
+ghost use Rattle.rept_elf.specs.Segments.{greatest_end};
+ghost use Rattle.rept_analysis.specs.Moments.{moment};
 ghost use Rattle.rept_analysis.specs.State.{setting_of, state_of};
-ghost use Rattle.rept_analysis.specs.Drawing.{IsFitted, SameFacts, IsAccess};
+ghost use Rattle.rept_analysis.specs.Drawing.{IsFitted, SameFacts, IsAccess, IsSparedNow};
 
 use super::Analysis;
 use crate::moment::Moment;
@@ -41,6 +44,35 @@ impl<'a, B: ByteFacts, W: Transfer, R: RowRules> Analysis<'a, B, W, R> {
             row: i,
         };
         R::touched(row, &view, image_end)
+    }
+
+    /// The bytes that row i may write, by all facts that are known by now and the sets as they were filled.
+    fn access_now(&self, i: u32, row: &StepRow) -> CallAccess
+        requires { i < length self.now.rows }
+        ensures { (a : ℕ) → a < 2 ^ 32 → call_hits result a ≡ R.rules.touched row.now (moment W.sets self.now.known.log self.now.spans i) (greatest_end self.now.exe) a }
+    {
+        let limit = self.known.len();
+        let image_end = self.dump.image_end();
+        let view = Moment {
+            facts: &self.known,
+            spans: &self.spans,
+            limit,
+            row: i,
+        };
+        R::touched(row, &view, image_end)
+    }
+
+    /// Whether row i may not write the byte, by all facts that are known by now and the sets as they were filled. No is said where
+    /// that isn't sure.
+    pub(super) fn is_spared(&self, i: u32, a: u32) -> bool
+        requires inside { i < length self.now.rows }
+        requires fitted { IsFitted (state_of W.sets W.moves R.rules B.store self.now) }
+        ensures { result ≡ true → IsSparedNow i a (state_of W.sets W.moves R.rules B.store self.now) }
+    {
+        self.held();
+        let row = self.row(i);
+        let access = self.access_now(i, &row);
+        !access.may_hit(a)
     }
 
     /// What is known of the register in an operand's place by the facts at places below the limit.

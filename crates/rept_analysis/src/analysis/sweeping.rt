@@ -3,7 +3,7 @@
 ghost use Rattle.std.specs.Prelude.{◌≡◌, ◌+◌, ◌<◌, ◌≤◌, length, false, IfOk, IfErr, Some, None, Ok, Err};
 ghost use Rattle.rept_dump.specs.Memory.{byte_at};
 ghost use Rattle.rept_analysis.specs.State.{state_of};
-ghost use Rattle.rept_analysis.specs.Drawing.{IsTracked, Grows, Drew, IsHalt, IsFitted, LastKnown, IsDrawnThrough, AreWritings, IsUncut, RowsClosed, LastByteKnown, LastBytesKnown, SingleKnown, PointSingles, SinglesKnown, IsDrawnAll, LastKnownBelow};
+ghost use Rattle.rept_analysis.specs.Drawing.{IsTracked, Grows, Drew, IsHalt, IsFitted, LastKnown, AreWritings, IsUncut, RowsClosed, LastByteKnown, LastBytesKnown, SingleKnown, PointSingles, SinglesKnown, IsDrawnAll, LastKnownBelow};
 
 use super::{Analysis, register};
 use crate::halt::Halt;
@@ -181,27 +181,26 @@ impl<'a, B: ByteFacts, W: Transfer, R: RowRules> Analysis<'a, B, W, R> {
         Ok(learnt)
     }
 
-    /// The tracked bytes carried; and all rows, back and, where that told something, onward.
+    /// All rows, back and, where that told something, onward.
     fn draw_through(&mut self) -> Result<bool, Halt>
         requires writings { AreWritings (state_of W.sets W.moves R.rules B.store self.old) }
         requires open { self.old.complete ≡ false }
         requires uncut { IsUncut (state_of W.sets W.moves R.rules B.store self.old) }
         ensures grows { Grows (state_of W.sets W.moves R.rules B.store self.old) (state_of W.sets W.moves R.rules B.store self.new) }
-        ensures drew { IfOk result (λ learnt. Drew (state_of W.sets W.moves R.rules B.store self.old) (state_of W.sets W.moves R.rules B.store self.new) learnt (IsDrawnThrough)) }
+        ensures drew { IfOk result (λ learnt. Drew (state_of W.sets W.moves R.rules B.store self.old) (state_of W.sets W.moves R.rules B.store self.new) learnt (RowsClosed)) }
         ensures halt { IfErr result (λ h. IsHalt (state_of W.sets W.moves R.rules B.store self.new) h) }
     {
-        let carried = self.carry_tracked()?;
         let back = self.draw_back()?;
         if !back {
-            return Ok(carried);
+            return Ok(false);
         }
         self.draw_onward()?;
         Ok(true)
     }
 
-    /// All rules once: last values and bytes, rows and carried bytes, and sets of one value.
+    /// All rules once: last values, carried bytes, last bytes, rows, and sets of one value. Bytes are carried before the dump tells
+    /// its own, so that most of those are known by then and take no place of their own.
     pub(super) fn sweep(&mut self) -> Result<bool, Halt>
-        requires fitted { IsFitted (state_of W.sets W.moves R.rules B.store self.old) }
         requires writings { AreWritings (state_of W.sets W.moves R.rules B.store self.old) }
         requires open { self.old.complete ≡ false }
         requires uncut { IsUncut (state_of W.sets W.moves R.rules B.store self.old) }
@@ -210,9 +209,10 @@ impl<'a, B: ByteFacts, W: Transfer, R: RowRules> Analysis<'a, B, W, R> {
         ensures halt { IfErr result (λ h. IsHalt (state_of W.sets W.moves R.rules B.store self.new) h) }
     {
         let last = self.draw_all_last()?;
+        let carried = self.carry_tracked()?;
         let bytes = self.draw_last_bytes()?;
-        let through = self.draw_through()?;
+        let rows = self.draw_through()?;
         let singles = self.draw_singles()?;
-        Ok(last | bytes | through | singles)
+        Ok(last | carried | bytes | rows | singles)
     }
 }

@@ -14,3 +14,6 @@ pub returns-clause-drew : goal.returns-clause-drew
 returns-clause-drew g c =
     Drew_both (state_of g.W.Partial.sets g.W.Transfer.moves g.R.RowRules.rules g.B.ByteFacts.store c.args.self.now) (state_of g.W.Partial.sets g.W.Transfer.moves g.R.RowRules.rules g.B.ByteFacts.store c.draw_last_byte.new.self) (state_of g.W.Partial.sets g.W.Transfer.moves g.R.RowRules.rules g.B.ByteFacts.store c.carry_around.new.self) c.in_ok-told.told c.in_ok-carried.carried (LastByteKnown c.args.a) (λ (x : State g.row.W.Denot). Unit {0}) (λ (x : State g.row.W.Denot). Unit {0})
     c.in_ok-told.ensures.grows c.in_ok-carried.ensures.grows c.in_ok-told.ensures.drew c.in_ok-carried.ensures.drew (λ p q. tt)
+
+pub returns-clause-grows : goal.returns-clause-grows
+returns-clause-grows g c = Grows_trans _ _ _ c.in_ok-told.ensures.grows c.in_ok-carried.ensures.grows

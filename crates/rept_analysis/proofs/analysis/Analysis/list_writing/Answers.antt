@@ -1,7 +1,7 @@
 use Rattle.std.proofs.Common.{◌≡◌, ◌+◌, ℕ, length, ap, sym, subst, arith}
 use Rattle.rept_analysis.specs.State.{State, state_of}
 use Rattle.rept_analysis.specs.Drawing.{AreWritingsBefore, AreWritings}
-use Rattle.rept_analysis.proofs.Listing.{writings_listed, writings_back, listed_then}
+use Rattle.rept_analysis.proofs.Listing.{fitted_listed, writings_listed, writings_back, listed_then}
 use Rattle.rept_analysis.proofs.analysis.Analysis.list_writing.Goals as goal
 
 pub list_row-requires-clause-before : goal.list_row-requires-clause-before
@@ -21,4 +21,4 @@ returns-clause-listed g c =
     let count = c.loop-i.invariant.count in
     let all : c.loop-i.i ≡ length c.loop-i.self.rows = omega (arith, rows, count) in
     let listed = subst (λ (n : ℕ). AreWritingsBefore n c.loop-i.self.work.writing (state_of g.W.Partial.sets g.W.Transfer.moves g.R.RowRules.rules g.B.ByteFacts.store c.args.self.now)) all c.loop-i.invariant.listed in
-    subst (λ (x : State g.row.W.Denot). AreWritings x) (sym c.index_writing.ensures) (writings_listed (state_of g.W.Partial.sets g.W.Transfer.moves g.R.RowRules.rules g.B.ByteFacts.store c.args.self.now) (state_of g.W.Partial.sets g.W.Transfer.moves g.R.RowRules.rules g.B.ByteFacts.store c.loop-i.self) _ c.loop-i.invariant.same (length c.loop-i.self.rows) c.loop-i.self.work.writing listed)
+    subst (λ (x : State g.row.W.Denot). AreWritings x) (sym c.index_writing.ensures) (record { fitted = fitted_listed (state_of g.W.Partial.sets g.W.Transfer.moves g.R.RowRules.rules g.B.ByteFacts.store c.args.self.now) (state_of g.W.Partial.sets g.W.Transfer.moves g.R.RowRules.rules g.B.ByteFacts.store c.loop-i.self) _ c.loop-i.invariant.same c.requires.fitted; listed = writings_listed (state_of g.W.Partial.sets g.W.Transfer.moves g.R.RowRules.rules g.B.ByteFacts.store c.args.self.now) (state_of g.W.Partial.sets g.W.Transfer.moves g.R.RowRules.rules g.B.ByteFacts.store c.loop-i.self) _ c.loop-i.invariant.same (length c.loop-i.self.rows) c.loop-i.self.work.writing listed })
