@@ -5,7 +5,7 @@ use Rattle.rept_reason.specs.declared.fact.Fact.{Fact}
 use Rattle.rept_reason.specs.declared.fact.Cell.TheVariants.{Register, Byte}
 use Rattle.rept_reason.specs.Facts.{Knowledge, told}
 use Rattle.rept_report.specs.Log.{place_of, OnceEach, add_if}
-use Rattle.rept_versions.specs.Facts.{Told, Store, Made, Adds}
+use Rattle.rept_versions.specs.Facts.{Told, Store, Made, change, Adds}
 use Rattle.rept_log.specs.declared.answer.Answer.{Answer}
 use Rattle.rept_log.specs.declared.answer.Answer.TheVariants.{Old, New, Clash}
 
@@ -80,7 +80,7 @@ pub record AddsByte (joins : Bool) (old new : Known) (f : Fact) (a : ℕ) (keep 
   pub log : new.log ≡ add_if keep f old.log
   pub left : new.left ≡ left_after keep old.left
   pub had_room : keep ≡ true → 0 < old.left
-  pub store : Adds joins old.store new.store f.point a f.value
+  pub store : Adds (change joins old.store new.store) (record { point = f.point; address = a; value = f.value })
 
 -- nothing is known of the byte, and there is no room for it
 pub record HasNoRoom (k : Known) (p a : ℕ) (keep : Bool) : Type 0 where

@@ -5,7 +5,7 @@ ghost use Rattle.rept_reason.specs.declared.fact.Cell.TheVariants.{Register, Byt
 ghost use Rattle.rept_reason.specs.Facts.{told, flat, register_known, register_fact};
 ghost use Rattle.rept_report.specs.Log.{oldest, OnceEach};
 ghost use Rattle.rept_log.specs.Known.{known_of, slot, IsFree, IsNew, LearnsRegister, LearnsByte, TracksByte, SameLog};
-ghost use Rattle.rept_versions.specs.Facts.{Carries, Nexts};
+ghost use Rattle.rept_versions.specs.Facts.{change, Carries, Nexts};
 
 mod looking;
 
@@ -259,7 +259,7 @@ impl<B: ByteFacts> FactLog<B> {
     /// where another value is known. The log keeps none of these. What was learnt before a stop or an `OutOfMemory` stays.
     pub fn carry(&mut self, a: u32, from: u32, to: u32) -> Result<Carried, OutOfMemory>
         requires { IsSome ((known_of B.store self.old).store.fact from a) }
-        ensures carries { (v : ℕ) → (known_of B.store self.old).store.fact from a ≡ Some v → Carries B.JOINS (known_of B.store self.old).store (known_of B.store self.new).store a from to v result }
+        ensures carries { (v : ℕ) → (known_of B.store self.old).store.fact from a ≡ Some v → Carries (change B.JOINS (known_of B.store self.old).store (known_of B.store self.new).store) (record { address = a; from = from; to = to; value = v }) result }
         ensures log { SameLog (known_of B.store self.old) (known_of B.store self.new) }
     {
         let _last = self.last;

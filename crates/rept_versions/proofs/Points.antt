@@ -6,9 +6,12 @@ use Rattle.std.proofs.lemmas.Bool.{cases_lt}
 use Rattle.std.proofs.lemmas.Bool.Decides.{nat_tests}
 use Rattle.rept_versions.specs.Line.{Line, value_at}
 use Rattle.rept_versions.specs.Row.{AddsTo}
-use Rattle.rept_versions.specs.Facts.{Stays, Between, Spreads, Stops, TracksOr}
+use Rattle.rept_versions.specs.Facts.{Stays, change, Course, Between, Spreads, Stops, TracksOr}
 use Rattle.rept_versions.specs.Moves.{SpreadsOn, StopsOn}
 use Rattle.rept_versions.specs.OnLine.{Parts, store, fact_on, key}
+
+abbrev course : ℕ → ℕ → ℕ → ℕ → Course
+course a from to v = record { address = a; from = from; to = to; value = v }
 
 pub fact_in : (line : Line) (p a : ℕ) → p < 4294967296 → fact_on line p a ≡ value_at line.spans (key p a)
 fact_in line p a lt = grind (arith, nat_tests, lt)
@@ -54,7 +57,7 @@ module _ (old new : Parts) (row : new.row ≡ old.row) where
   }
 
   module _ (a from to v : ℕ) (lf : from < 4294967296) (lt : to < 4294967296) where
-    pub spreads : SpreadsOn old.line new.line (key from a) (key to a) v → Spreads true (store old) (store new) a from to v
+    pub spreads : SpreadsOn old.line new.line (key from a) (key to a) v → Spreads (change true (store old) (store new)) (course a from to v)
     spreads s = record {
       here = λ q between. fact_in new.line q a (between_small from to q lf lt between) ∙ s.here (key q a) (between_on from to q a between);
       free = λ q w between e. s.free (key q a) w (between_on from to q a between) (sym (fact_in old.line q a (between_small from to q lf lt between)) ∙ e);
@@ -70,7 +73,7 @@ module _ (old new : Parts) (row : new.row ≡ old.row) where
     pub more : (q : ℕ) × Between (key from a) (key to a) q × (value_at old.line.spans q ≡ None) → (q : ℕ) × Between from to q × (fact_on old.line q a ≡ None)
     more m = let p = keyed from to a m.0 lf lt m.1 in (p.0, p.3, fact_in old.line p.0 a p.1 ∙ subst (λ k. value_at old.line.spans k ≡ None) (sym p.2) m.2)
 
-  pub stops : (a from to v k w point : ℕ) → from < 4294967296 → to < 4294967296 → StopsOn old.line new.line (key from a) (key to a) v k w → key point a ≡ k → Stops true (store old) (store new) a from to v point w
+  pub stops : (a from to v k w point : ℕ) → from < 4294967296 → to < 4294967296 → StopsOn old.line new.line (key from a) (key to a) v k w → key point a ≡ k → Stops (change true (store old) (store new)) (course a from to v) point w
   stops a from to v k w point lf lt s is =
       let b = keyed from to a s.before lf lt s.toward in
       let within = between_off from to point a (subst (λ x. Between (key from a) (key to a) x) (sym is) s.within) in
@@ -86,7 +89,7 @@ module _ (old new : Parts) (row : new.row ≡ old.row) where
         differs = s.differs;
       }
 
-pub tracks : (old new : Parts) → new.line ≡ old.line → (a : ℕ) → (r : Result ⊤ AllocError) → AddsTo old.row new.row a r → TracksOr true (store old) (store new) a r
+pub tracks : (old new : Parts) → new.line ≡ old.line → (a : ℕ) → (r : Result ⊤ AllocError) → AddsTo old.row new.row a r → TracksOr (change true (store old) (store new)) a r
 tracks old new line a (Ok u) p = record {
   fact = λ q b. ap (λ l. fact_on l q b) line;
   spare = ap (λ l. l.room - length l.spans) line;
@@ -106,7 +109,7 @@ tracks old new line a (Err e) p = (
 )
 
 abbrev pub More : Parts → Parts → ℕ → ℕ → ℕ → ℕ → Type 0
-More old new a from to v = Spreads true (store old) (store new) a from to v × ((q : ℕ) × Between from to q × (fact_on old.line q a ≡ None))
+More old new a from to v = Spreads (change true (store old) (store new)) (course a from to v) × ((q : ℕ) × Between from to q × (fact_on old.line q a ≡ None))
 
 abbrev pub Told : Parts → ℕ → ℕ → (ℕ → Type 0) → Type 0
 Told old from a P = (v : ℕ) → fact_on old.line from a ≡ Some v → P v
@@ -121,7 +124,7 @@ module _ (old new : Parts) (row : new.row ≡ old.row) (a from to k1 k2 : ℕ) (
       (subst (λ k. SpreadsOn old.line new.line k1 k v × ((q : ℕ) × Between k1 k q × (value_at old.line.spans q ≡ None))) is2 (moves v (at v e))) in
       (spreads old new row a from to v lf lt m.0, more old new row a from to v lf lt m.1)
 
-  pub carried_stop : (k u w point : ℕ) → key point a ≡ k → ((v : ℕ) → value_at old.line.spans k1 ≡ Some v → (u ≡ v) × StopsOn old.line new.line k1 k2 v k w) → Told old from a (λ v. (u ≡ v) × Stops true (store old) (store new) a from to v point w)
+  pub carried_stop : (k u w point : ℕ) → key point a ≡ k → ((v : ℕ) → value_at old.line.spans k1 ≡ Some v → (u ≡ v) × StopsOn old.line new.line k1 k2 v k w) → Told old from a (λ v. (u ≡ v) × Stops (change true (store old) (store new)) (course a from to v) point w)
   carried_stop k u w point is moves v e =
       let m = moves v (at v e) in
       let n = subst (λ j. StopsOn old.line new.line j (key to a) v k w) is1 (subst (λ j. StopsOn old.line new.line k1 j v k w) is2 m.1) in

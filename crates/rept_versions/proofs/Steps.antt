@@ -2,7 +2,7 @@
 use Rattle.std.proofs.Common.{◌≡◌, ◌≢◌, ℕ, ◌+◌, ◌≤◌, ◌⊎◌, Bool, true, false, Some, None, Result, Ok, Err, refl, sym, ◌∙◌, ap, subst, inl, inr, arith, true≢false}
 use Rattle.std.specs.declared.alloc.AllocError.{AllocError}
 use Rattle.rept_versions.specs.declared.facts.Learnt.TheVariants.{Old, New}
-use Rattle.rept_versions.specs.Facts.{Store, Stays, Learns, Between, Spreads, Reaches, Fails, Carries, TracksOr}
+use Rattle.rept_versions.specs.Facts.{Store, Stays, change, Course, ByteFact, Learns, Between, Spreads, Reaches, Fails, Carries, TracksOr}
 use Rattle.std.specs.Result.{IsErr}
 use Rattle.std.specs.Prelude.{⊤}
 use Rattle.rept_versions.specs.declared.facts.Carried.{Carried}
@@ -10,12 +10,18 @@ use Rattle.rept_versions.specs.Row.{AddsTo}
 use Rattle.rept_versions.specs.Listed.{Toward, Plain, store, fact_in}
 use Rattle.rept_versions.proofs.Lines.{same_or}
 
+abbrev course : ℕ → ℕ → ℕ → ℕ → Course
+course a from to v = record { address = a; from = from; to = to; value = v }
+
+abbrev fact : ℕ → ℕ → ℕ → ByteFact
+fact p a v = record { point = p; address = a; value = v }
+
 -- v was carried from one point to another, and at one of them nothing was known, or nothing changed
 abbrev pub Gone : Store → Store → ℕ → ℕ → ℕ → ℕ → Bool → Type 0
-Gone old new a from to v true = Spreads false old new a from to v × ((q : ℕ) × Between from to q × (old.fact q a ≡ None))
-Gone old new a from to v false = Stays old new × Spreads false old new a from to v
+Gone old new a from to v true = Spreads (change false old new) (course a from to v) × ((q : ℕ) × Between from to q × (old.fact q a ≡ None))
+Gone old new a from to v false = Stays old new × Spreads (change false old new) (course a from to v)
 
-spread : (old new : Store) (a from to v : ℕ) (more : Bool) → Gone old new a from to v more → Spreads false old new a from to v
+spread : (old new : Store) (a from to v : ℕ) (more : Bool) → Gone old new a from to v more → Spreads (change false old new) (course a from to v)
 spread old new a from to v true g = g.0
 spread old new a from to v false g = g.1
 
@@ -68,12 +74,12 @@ module _ (from point next : ℕ) where
   beside (inl h) = inl (sym h.1)
   beside (inr h) = inr h.1
 
-module _ (old mid new : Store) (a from point next v : ℕ) (h : Heads from point next) (s : Spreads false old mid a from point v) where
+module _ (old mid new : Store) (a from point next v : ℕ) (h : Heads from point next) (s : Spreads (change false old mid) (course a from point v)) where
   -- at the next point nothing changed yet
   untouched : mid.fact next a ≡ old.fact next a
   untouched = s.others next a (λ between _. outside from point next h between)
 
-  spread_on : ((w : ℕ) → mid.fact next a ≡ Some w → w ≡ v) → new.fact next a ≡ Some v → ((q b : ℕ) → (q ≡ next → b ≡ a → ⊥) → new.fact q b ≡ mid.fact q b) → new.tracked ≡ mid.tracked → new.places ≡ mid.places → Spreads false old new a from next v
+  spread_on : ((w : ℕ) → mid.fact next a ≡ Some w → w ≡ v) → new.fact next a ≡ Some v → ((q b : ℕ) → (q ≡ next → b ≡ a → ⊥) → new.fact q b ≡ mid.fact q b) → new.tracked ≡ mid.tracked → new.places ≡ mid.places → Spreads (change false old new) (course a from next v)
   spread_on free here others tracked places = record {
     here = λ q between. elim (same_or q next) [
       | inl e ↦ subst (λ x. new.fact x a ≡ Some v) (sym e) here
@@ -89,17 +95,17 @@ module _ (old mid new : Store) (a from point next v : ℕ) (h : Heads from point
     spare = not_joins;
   }
 
-  spread_old : Learns false mid new next a v (Ok Old) → Spreads false old new a from next v
+  spread_old : Learns (change false mid new) (fact next a v) (Ok Old) → Spreads (change false old new) (course a from next v)
   spread_old l = spread_on (λ w e. some_same v w (sym l.1 ∙ e)) (l.0.fact next a ∙ l.1) (λ q b _. l.0.fact q b) l.0.tracked l.0.places
 
-  spread_new : Learns false mid new next a v (Ok New) → Spreads false old new a from next v
+  spread_new : Learns (change false mid new) (fact next a v) (Ok New) → Spreads (change false old new) (course a from next v)
   spread_new l = spread_on (λ w e. absurd (none_some w (sym l.none ∙ e))) l.here l.others l.tracked l.places
     where
       none_some : (w : ℕ) → None ≡ Some w → ⊥
       none_some w e = grind (arith, e)
 
   -- nothing changed since
-  spread_same : Stays mid new → Spreads false old new a from point v
+  spread_same : Stays mid new → Spreads (change false old new) (course a from point v)
   spread_same l = record {
     here = λ q between. l.fact q a ∙ s.here q between;
     free = s.free;
@@ -113,13 +119,13 @@ module _ (old mid new : Store) (a from to point next v : ℕ) (way : Between fro
   h : Heads from point next
   h = heads from to point next way toward
 
-  s : Spreads false old mid a from point v
+  s : Spreads (change false old mid) (course a from point v)
   s = spread old mid a from point v more g
 
-  pub gone_new : Learns false mid new next a v (Ok New) → Gone old new a from next v true
+  pub gone_new : Learns (change false mid new) (fact next a v) (Ok New) → Gone old new a from next v true
   gone_new l = (spread_new old mid new a from point next v h s l, (next, ends_at from point next h, sym (untouched old mid new a from point next v h s) ∙ l.none))
 
-  reaches : Stays mid new → Reaches false old new a from to v next
+  reaches : Stays mid new → Reaches (change false old new) (course a from to v) next
   reaches l = record {
     before = point;
     next = beside from point next h;
@@ -128,7 +134,7 @@ module _ (old mid new : Store) (a from to point next v : ℕ) (way : Between fro
     spreads = spread_same old mid new a from point next v h s l;
   }
 
-  pub gone_fail : (e : AllocError) → new.spare ≡ 0 → Learns false mid new next a v (Err e) → Fails false old new a from to v
+  pub gone_fail : (e : AllocError) → new.spare ≡ 0 → Learns (change false mid new) (fact next a v) (Err e) → Fails (change false old new) (course a from to v)
   gone_fail e none l = record {
     plain = refl;
     stop = next;
@@ -137,12 +143,12 @@ module _ (old mid new : Store) (a from to point next v : ℕ) (way : Between fro
     spare = none;
   }
 
-pub failed : (old new : Store) (a from to v : ℕ) (r : Result Carried AllocError) → IsErr r → Fails false old new a from to v → Carries false old new a from to v r
+pub failed : (old new : Store) (a from to v : ℕ) (r : Result Carried AllocError) → IsErr r → Fails (change false old new) (course a from to v) → Carries (change false old new) (course a from to v) r
 failed old new a from to v (Err e) is f = f
 failed old new a from to v (Ok c) is f = not_joins is
 
 -- a is tracked where it was added to the row
-pub tracks_plain : (old new : Plain) (a : ℕ) (r : Result ⊤ AllocError) → new.entries ≡ old.entries → AddsTo old.row new.row a r → TracksOr false (store old) (store new) a r
+pub tracks_plain : (old new : Plain) (a : ℕ) (r : Result ⊤ AllocError) → new.entries ≡ old.entries → AddsTo old.row new.row a r → TracksOr (change false (store old) (store new)) a r
 tracks_plain old new a (Ok u) same p = record {
   fact = λ q b. ap (λ es. fact_in es q b) same;
   spare = refl;

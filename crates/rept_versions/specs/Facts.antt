@@ -20,6 +20,32 @@ pub record Store : Type 0 where
   -- where the store joins, so many addresses can be tracked without memory
   pub places : ℕ
 
+-- what a call does to a store: whether the store joins, and what it holds before and after
+pub record Change : Type 0 where
+  pub joins : Bool
+  pub old : Store
+  pub new : Store
+
+abbrev pub change : Bool → Store → Store → Change
+change joins old new = record { joins = joins; old = old; new = new }
+
+-- the value of an address at a point
+pub record ByteFact : Type 0 where
+  pub point : ℕ
+  pub address : ℕ
+  pub value : ℕ
+
+-- a value of an address that is carried from one point to another
+pub record Course : Type 0 where
+  pub address : ℕ
+  pub from : ℕ
+  pub to : ℕ
+  pub value : ℕ
+
+-- the same, carried to this point
+abbrev pub as_far_as : Course → ℕ → Course
+as_far_as course point = record { address = course.address; from = course.from; to = point; value = course.value }
+
 -- the same facts, addresses and room
 pub record Stays (old new : Store) : Type 0 where
   pub fact : (q b : ℕ) → new.fact q b ≡ old.fact q b
@@ -34,68 +60,68 @@ pub record Made (joins : Bool) (made : Store) (access_bytes : ℕ) : Type 0 wher
   pub places : joins ≡ true → made.places ≡ access_bytes
   pub spare : joins ≡ true → 2 * access_bytes + 1 ≤ made.spare
 
--- v is known at the point before or after
-abbrev pub HasBeside : Told → ℕ → ℕ → ℕ → Type 0
-HasBeside told p a v = (told (p + 1) a ≡ Some v) ⊎ ((q : ℕ) × (q + 1 ≡ p) × (told q a ≡ Some v))
+-- the value of the fact is known at the point before or after it
+abbrev pub HasBeside : Told → ByteFact → Type 0
+HasBeside told f = (told (f.point + 1) f.address ≡ Some f.value) ⊎ ((q : ℕ) × (q + 1 ≡ f.point) × (told q f.address ≡ Some f.value))
 
 -- one fact more, where nothing was known
-pub record Adds (joins : Bool) (old new : Store) (p a v : ℕ) : Type 0 where
-  pub none : old.fact p a ≡ None
-  pub here : new.fact p a ≡ Some v
-  pub others : (q b : ℕ) → (q ≡ p → b ≡ a → ⊥) → new.fact q b ≡ old.fact q b
-  pub tracked : new.tracked ≡ old.tracked
-  pub places : new.places ≡ old.places
-  pub spare : old.spare ≤ new.spare + 1
-  pub beside : joins ≡ true → HasBeside old.fact p a v → old.spare ≤ new.spare
+pub record Adds (c : Change) (f : ByteFact) : Type 0 where
+  pub none : c.old.fact f.point f.address ≡ None
+  pub here : c.new.fact f.point f.address ≡ Some f.value
+  pub others : (q b : ℕ) → (q ≡ f.point → b ≡ f.address → ⊥) → c.new.fact q b ≡ c.old.fact q b
+  pub tracked : c.new.tracked ≡ c.old.tracked
+  pub places : c.new.places ≡ c.old.places
+  pub spare : c.old.spare ≤ c.new.spare + 1
+  pub beside : c.joins ≡ true → HasBeside c.old.fact f → c.old.spare ≤ c.new.spare
 
 -- what `learn` did, by its answer
-abbrev pub Learns : Bool → Store → Store → ℕ → ℕ → ℕ → Result Learnt AllocError → Type 0
-Learns joins old new p a v (Err e) = Stays old new × (old.fact p a ≡ None) × (old.spare ≡ 0)
-Learns joins old new p a v (Ok Old) = Stays old new × (old.fact p a ≡ Some v)
-Learns joins old new p a v (Ok New) = Adds joins old new p a v
-Learns joins old new p a v (Ok (Clash known asked)) = Stays old new × (old.fact p a ≡ Some known) × (known ≢ v) × (asked ≡ v)
+abbrev pub Learns : Change → ByteFact → Result Learnt AllocError → Type 0
+Learns c f (Err e) = Stays c.old c.new × (c.old.fact f.point f.address ≡ None) × (c.old.spare ≡ 0)
+Learns c f (Ok Old) = Stays c.old c.new × (c.old.fact f.point f.address ≡ Some f.value)
+Learns c f (Ok New) = Adds c f
+Learns c f (Ok (Clash known asked)) = Stays c.old c.new × (c.old.fact f.point f.address ≡ Some known) × (known ≢ f.value) × (asked ≡ f.value)
 
 -- q stands between two points, in either order, or is one of them
 abbrev pub Between : ℕ → ℕ → ℕ → Type 0
 Between from to q = ((from ≤ q) × (q ≤ to)) ⊎ ((to ≤ q) × (q ≤ from))
 
--- v is known at each point from one to another, where before it was v or nothing; nothing else changed
-pub record Spreads (joins : Bool) (old new : Store) (a from to v : ℕ) : Type 0 where
-  pub here : (q : ℕ) → Between from to q → new.fact q a ≡ Some v
-  pub free : (q w : ℕ) → Between from to q → old.fact q a ≡ Some w → w ≡ v
-  pub others : (q b : ℕ) → (Between from to q → b ≡ a → ⊥) → new.fact q b ≡ old.fact q b
-  pub tracked : new.tracked ≡ old.tracked
-  pub places : new.places ≡ old.places
-  pub spare : joins ≡ true → old.spare ≤ new.spare
+-- the value is known at each point of the course, where before it was that value or nothing; nothing else changed
+pub record Spreads (c : Change) (course : Course) : Type 0 where
+  pub here : (q : ℕ) → Between course.from course.to q → c.new.fact q course.address ≡ Some course.value
+  pub free : (q w : ℕ) → Between course.from course.to q → c.old.fact q course.address ≡ Some w → w ≡ course.value
+  pub others : (q b : ℕ) → (Between course.from course.to q → b ≡ course.address → ⊥) → c.new.fact q b ≡ c.old.fact q b
+  pub tracked : c.new.tracked ≡ c.old.tracked
+  pub places : c.new.places ≡ c.old.places
+  pub spare : c.joins ≡ true → c.old.spare ≤ c.new.spare
 
--- v was carried to a point, and next to that one on the way stands `stop`
-pub record Reaches (joins : Bool) (old new : Store) (a from to v stop : ℕ) : Type 0 where
+-- the value was carried to a point of the course, and next to that one on the way stands `stop`
+pub record Reaches (c : Change) (course : Course) (stop : ℕ) : Type 0 where
   pub before : ℕ
   pub next : (before + 1 ≡ stop) ⊎ (stop + 1 ≡ before)
-  pub toward : Between from to before
-  pub within : Between from to stop
-  pub spreads : Spreads joins old new a from before v
+  pub toward : Between course.from course.to before
+  pub within : Between course.from course.to stop
+  pub spreads : Spreads c (as_far_as course before)
 
--- v was carried to the point next to one at which another value is known
-pub record Stops (joins : Bool) (old new : Store) (a from to v stop found : ℕ) : Type 0 where
-  pub reaches : Reaches joins old new a from to v stop
-  pub other : old.fact stop a ≡ Some found
-  pub differs : found ≢ v
+-- the value was carried to the point next to one at which another value is known
+pub record Stops (c : Change) (course : Course) (stop found : ℕ) : Type 0 where
+  pub reaches : Reaches c course stop
+  pub other : c.old.fact stop course.address ≡ Some found
+  pub differs : found ≢ course.value
 
--- v was carried to the point next to one at which nothing is known and that there is no room for
-pub record Fails (joins : Bool) (old new : Store) (a from to v : ℕ) : Type 0 where
-  pub plain : joins ≡ false
+-- the value was carried to the point next to one at which nothing is known and that there is no room for
+pub record Fails (c : Change) (course : Course) : Type 0 where
+  pub plain : c.joins ≡ false
   pub stop : ℕ
-  pub reaches : Reaches joins old new a from to v stop
-  pub none : old.fact stop a ≡ None
-  pub spare : new.spare ≡ 0
+  pub reaches : Reaches c course stop
+  pub none : c.old.fact stop course.address ≡ None
+  pub spare : c.new.spare ≡ 0
 
--- what `carry` of v did, by its answer
-abbrev pub Carries : Bool → Store → Store → ℕ → ℕ → ℕ → ℕ → Result Carried AllocError → Type 0
-Carries joins old new a from to v (Err e) = Fails joins old new a from to v
-Carries joins old new a from to v (Ok Same) = Stays old new × Spreads joins old new a from to v
-Carries joins old new a from to v (Ok More) = Spreads joins old new a from to v × ((q : ℕ) × Between from to q × (old.fact q a ≡ None))
-Carries joins old new a from to v (Ok (Stop stop known found)) = (known ≡ v) × Stops joins old new a from to v stop found
+-- what `carry` of the value did, by its answer
+abbrev pub Carries : Change → Course → Result Carried AllocError → Type 0
+Carries c course (Err e) = Fails c course
+Carries c course (Ok Same) = Stays c.old c.new × Spreads c course
+Carries c course (Ok More) = Spreads c course × ((q : ℕ) × Between course.from course.to q × (c.old.fact q course.address ≡ None))
+Carries c course (Ok (Stop stop known found)) = (known ≡ course.value) × Stops c course stop found
 
 -- a is tracked too: where it wasn't, it goes last
 pub record Tracks (old new : Store) (a : ℕ) : Type 0 where
@@ -106,20 +132,20 @@ pub record Tracks (old new : Store) (a : ℕ) : Type 0 where
   pub last : (Contains old.tracked a → ⊥) → new.tracked ≡ old.tracked ++ a ∷ []
 
 -- what `track` did, by its answer
-abbrev pub TracksOr : Bool → Store → Store → ℕ → Result ⊤ AllocError → Type 0
-TracksOr joins old new a (Ok u) = Tracks old new a
-TracksOr joins old new a (Err e) = Stays old new × (Contains old.tracked a → ⊥) × (joins ≡ true → old.places ≤ length old.tracked)
+abbrev pub TracksOr : Change → ℕ → Result ⊤ AllocError → Type 0
+TracksOr c a (Ok u) = Tracks c.old c.new a
+TracksOr c a (Err e) = Stays c.old c.new × (Contains c.old.tracked a → ⊥) × (c.joins ≡ true → c.old.places ≤ length c.old.tracked)
 
--- v is known from one point to another, and neither at the point before nor at the one after
-pub record IsRun (told : Told) (a first last v : ℕ) : Type 0 where
-  pub ordered : first ≤ last
-  pub value : (q : ℕ) → first ≤ q → q ≤ last → told q a ≡ Some v
-  pub begins : (q : ℕ) → q + 1 ≡ first → told q a ≢ Some v
-  pub ends : told (last + 1) a ≢ Some v
+-- the value of the stretch is known from its first point to its last, and neither at the point before nor at the one after
+pub record IsRun (told : Told) (a : ℕ) (s : Stretch) : Type 0 where
+  pub ordered : s.first ≤ s.last
+  pub value : (q : ℕ) → s.first ≤ q → q ≤ s.last → told q a ≡ Some s.value
+  pub begins : (q : ℕ) → q + 1 ≡ s.first → told q a ≢ Some s.value
+  pub ends : told (s.last + 1) a ≢ Some s.value
 
 -- the first stretch of one value that ends at p or later; between p and it nothing is known
 pub record IsNext (told : Told) (a p : ℕ) (s : Stretch) : Type 0 where
-  pub run : IsRun told a s.first s.last s.value
+  pub run : IsRun told a s
   pub reaches : p ≤ s.last
   pub free : (q : ℕ) → p ≤ q → q < s.first → told q a ≡ None
 

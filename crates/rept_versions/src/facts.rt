@@ -1,7 +1,7 @@
 //! The store of byte facts as a trait: what is known, what is learnt, what is tracked.
 
 ghost use Rattle.std.specs.Prelude.{◌≡◌, ℕ, ◌+◌, ◌*◌, ◌<◌, Bool, true, IfOk, IsSome, Some, length, slice_get};
-ghost use Rattle.rept_versions.specs.Facts.{Store, Made, Learns, Carries, TracksOr, Nexts};
+ghost use Rattle.rept_versions.specs.Facts.{Store, Made, change, Learns, Carries, TracksOr, Nexts};
 
 use std::alloc::{AllocError as OutOfMemory, Global};
 
@@ -68,14 +68,14 @@ pub trait ByteFacts: Drop {
     /// is 0. Where it doesn't answer `New`, nothing changes. It lowers `spare` by at most one, and not at all where `JOINS` and
     /// the same value is known at the point before or after.
     fn learn(&mut self, point: u32, a: u32, value: u8) -> Result<Learnt, OutOfMemory>
-        ensures { Learns JOINS (store self.old) (store self.new) point a value result };
+        ensures { Learns (change JOINS (store self.old) (store self.new)) (record { point = point; address = a; value = value }) result };
 
     /// Learns the value at `from` at each point up or down to `to`, one after another, and stops at the first point where
     /// another value is known. Where `JOINS`, it doesn't lower `spare` and never answers `OutOfMemory`. Else `OutOfMemory`
     /// comes at a point at which nothing is known, and what was learnt before it stays.
     fn carry(&mut self, a: u32, from: u32, to: u32) -> Result<Carried, OutOfMemory>
         requires { IsSome ((store self.old).fact from a) }
-        ensures { (v : ℕ) → (store self.old).fact from a ≡ Some v → Carries JOINS (store self.old) (store self.new) a from to v result };
+        ensures { (v : ℕ) → (store self.old).fact from a ≡ Some v → Carries (change JOINS (store self.old) (store self.new)) (record { address = a; from = from; to = to; value = v }) result };
 
     /// So many facts can be learnt without memory.
     fn spare(&self) -> u32
@@ -85,7 +85,7 @@ pub trait ByteFacts: Drop {
     /// `OutOfMemory` changes nothing. Where `JOINS`, it comes neither for an address that is tracked nor while fewer than
     /// `access_bytes` are.
     fn track(&mut self, a: u32) -> Result<(), OutOfMemory>
-        ensures { TracksOr JOINS (store self.old) (store self.new) a result };
+        ensures { TracksOr (change JOINS (store self.old) (store self.new)) a result };
 
     /// How many addresses are tracked.
     fn count(&self) -> usize
