@@ -20,7 +20,7 @@ use Rattle.rept_versions.specs.declared.facts.Carried.TheVariants.{Same, More, S
 use Rattle.rept_alias.specs.declared.addresses.CallAccess.{CallAccess}
 use Rattle.rept_alias.specs.Accesses.{call_hits}
 use Rattle.rept_versions.specs.declared.facts.Stretch.{Stretch}
-use Rattle.rept_versions.specs.Facts.{Told, Store, Between, Spreads, Carries as StoreCarries, Nexts}
+use Rattle.rept_versions.specs.Facts.{Told, Store, change, Between, Spreads, Carries as StoreCarries, Nexts}
 use Rattle.rept_log.proofs.Stores.{stays_same}
 use Rattle.rept_log.specs.Known.{Known, knows, AddsByte, SameLog}
 use Rattle.rept_analysis.specs.State.{State, all_known}
@@ -222,7 +222,7 @@ module _ {W : Type 0} (s : State W) (laws : HasLaws s.setting) (kept : IsKept s)
         more_of p (Byte b) w e facts k_log = rw facts e
 
   -- a store in which the value was spread from a point to another one
-  module _ (k : Known) (from to : ℕ) (last : k.last ≡ s.known.last) (log : k.log ≡ s.known.log) (left : k.left ≡ s.known.left) (from_early : from ≤ length s.setting.rows) (to_early : to ≤ length s.setting.rows) (known : Knows from (Byte a) v s) (spared : IsSparedBetween from to a s) (spreads : Spreads s.work.joins s.known.store k.store a from to v) where
+  module _ (k : Known) (from to : ℕ) (last : k.last ≡ s.known.last) (log : k.log ≡ s.known.log) (left : k.left ≡ s.known.left) (from_early : from ≤ length s.setting.rows) (to_early : to ≤ length s.setting.rows) (known : Knows from (Byte a) v s) (spared : IsSparedBetween from to a s) (spreads : Spreads (change s.work.joins s.known.store k.store) (record { address = a; from = from; to = to; value = v })) where
     start_up : s.known.store.fact (from + 0) a ≡ Some v
     start_up = let e : from ≡ from + 0 = omega arith in subst (λ (p : ℕ). s.known.store.fact p a ≡ Some v) e known
 
@@ -305,7 +305,7 @@ module _ {W : Type 0} (s : State W) (laws : HasLaws s.setting) (kept : IsKept s)
   within before (inr y) i (inl x) = let p = x.0 in let q = x.1 in let z = y.1 in absurd (omega (arith, p, q, z))
   within before (inr y) i (inr x) = let p = x.0 in let q = x.1 in let z = y.0 in spared i (inr (omega (arith, p, z), q))
 
-  spread : (k : Known) → SameLog s.known k → (before : ℕ) → Between from to before → Spreads s.work.joins s.known.store k.store a from before v → IsKept (with_known s k) × Grows s (with_known s k)
+  spread : (k : Known) → SameLog s.known k → (before : ℕ) → Between from to before → Spreads (change s.work.joins s.known.store k.store) (record { address = a; from = from; to = before; value = v }) → IsKept (with_known s k) × Grows s (with_known s k)
   spread k log before at h = spread_kept s laws kept open_ a v small tracked k from before log.last log.log log.left from_early (between_early before at) known (within before at) h
 
   up_spared : (before stop : ℕ) → before + 1 ≡ stop → Between from to before → Between from to stop → IsSpared before a s
@@ -327,7 +327,7 @@ module _ {W : Type 0} (s : State W) (laws : HasLaws s.setting) (kept : IsKept s)
       ∙ ap (λ (x : Store). record { last = s.known.last; log = s.known.log; store = x; left = k.left }) store
       ∙ ap (λ (x : ℕ). record { last = s.known.last; log = s.known.log; store = s.known.store; left = x }) log.left
 
-  pub sent : (k : Known) → SameLog s.known k → (r : Result Carried AllocError) → StoreCarries s.work.joins s.known.store k.store a from to v r → IsKept (with_known s k) × Sends s (with_known s k) a from to v r
+  pub sent : (k : Known) → SameLog s.known k → (r : Result Carried AllocError) → StoreCarries (change s.work.joins s.known.store k.store) (record { address = a; from = from; to = to; value = v }) r → IsKept (with_known s k) × Sends s (with_known s k) a from to v r
   sent k log (Ok Same) (stays, h) =
       let same = same_known_is k log (stays_same s.known.store k.store stays) in
       (kept_same s k same kept, (same_known s k same, λ q between. sym (stays.fact q a) ∙ h.here q between))
