@@ -327,7 +327,7 @@ module _ {W : Type 0} (s : State W) (laws : HasLaws s.setting) (kept : IsKept s)
       ∙ ap (λ (x : Store). record { last = s.known.last; log = s.known.log; store = x; left = k.left }) store
       ∙ ap (λ (x : ℕ). record { last = s.known.last; log = s.known.log; store = s.known.store; left = x }) log.left
 
-  pub sent : (k : Known) → SameLog s.known k → (r : Result Carried AllocError) → StoreCarries (change s.work.joins s.known.store k.store) (record { address = a; from = from; to = to; value = v }) r → IsKept (with_known s k) × Sends s (with_known s k) a from to v r
+  pub sent : (k : Known) → SameLog s.known k → (r : Result Carried AllocError) → StoreCarries (change s.work.joins s.known.store k.store) (record { address = a; from = from; to = to; value = v }) r → IsKept (with_known s k) × Sends s (with_known s k) (record { address = a; from = from; to = to; value = v }) r
   sent k log (Ok Same) (stays, h) =
       let same = same_known_is k log (stays_same s.known.store k.store stays) in
       (kept_same s k same kept, (same_known s k same, λ q between. sym (stays.fact q a) ∙ h.here q between))

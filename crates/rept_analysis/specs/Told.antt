@@ -8,6 +8,7 @@ use Rattle.rept_log.specs.declared.answer.Answer.TheVariants.{Old, New, Clash}
 use Rattle.rept_analysis.specs.State.{State}
 use Rattle.rept_versions.specs.declared.facts.Carried.{Carried}
 use Rattle.rept_versions.specs.declared.facts.Carried.TheVariants.{Same, More, Stop}
+use Rattle.rept_versions.specs.Facts.{Course}
 use Rattle.rept_analysis.specs.Drawing.{Knows, IsTracked, Grows, HasNews, IsClash, IsSpreadTo}
 
 -- the value is known now, and wasn't
@@ -36,8 +37,8 @@ Tracks old new a (Ok false) = (new ≡ old) × IsTracked a old
 Tracks old new a (Err e) = (new ≡ old) × (new.work.joins ≡ false)
 
 -- what carrying a byte's value from a point to another one does, by the answer
-abbrev pub Sends : {W : Type 0} → State W → State W → ℕ → ℕ → ℕ → ℕ → Result Carried AllocError → Type 0
-Sends old new a from to v (Ok Same) = (new ≡ old) × IsSpreadTo a from to v old
-Sends old new a from to v (Ok More) = Grows old new × HasNews old new × (new.work ≡ old.work)
-Sends old new a from to v (Ok (Stop p known found)) = Grows old new × IsClash new p (Byte a) found v × (known ≡ v)
-Sends old new a from to v (Err e) = Grows old new × (new.work.joins ≡ false)
+abbrev pub Sends : {W : Type 0} → State W → State W → Course → Result Carried AllocError → Type 0
+Sends old new course (Ok Same) = (new ≡ old) × IsSpreadTo course.address course.from course.to course.value old
+Sends old new course (Ok More) = Grows old new × HasNews old new × (new.work ≡ old.work)
+Sends old new course (Ok (Stop p known found)) = Grows old new × IsClash new p (Byte course.address) found course.value × (known ≡ course.value)
+Sends old new course (Err e) = Grows old new × (new.work.joins ≡ false)

@@ -41,7 +41,7 @@ impl<'a, B: ByteFacts, W: Transfer, R: RowRules> Analysis<'a, B, W, R> {
         requires to { to ≤ length self.old.rows }
         requires known { Knows from (Byte a) value (state_of W.sets W.moves R.rules B.store self.old) }
         requires spared { IsSparedBetween from to a (state_of W.sets W.moves R.rules B.store self.old) }
-        ensures { Sends (state_of W.sets W.moves R.rules B.store self.old) (state_of W.sets W.moves R.rules B.store self.new) a from to value result }
+        ensures { Sends (state_of W.sets W.moves R.rules B.store self.old) (state_of W.sets W.moves R.rules B.store self.new) (record { address = a; from = from; to = to; value = value }) result }
     {
         let _value = value;
         let _rows = &self.rows;
