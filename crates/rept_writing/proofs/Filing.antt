@@ -1,6 +1,6 @@
 -- That what is kept stays true when a row is added, and what it says of the first row that may write an address.
 use Rattle.std.proofs.Common.{◌≡◌, ℕ, ◌<◌, ◌^◌, ◌⊎◌, Bool, true, false, List, Option, Some, None, inl, inr, refl, sym, arith, subst}
-use Rattle.std.specs.Prelude.{min}
+use Rattle.std.specs.Prelude.{min, max}
 use Rattle.std.specs.List.{Contains}
 use Rattle.std.proofs.lemmas.List.Elements.{All-contains}
 use Rattle.std.specs.List.Sorted.{IsPermutation}
@@ -9,7 +9,8 @@ use Rattle.rept_writing.specs.declared.list.Writing.{Writing}
 use Rattle.rept_writing.specs.declared.narrow.Hit.{Hit}
 use Rattle.rept_writing.specs.Hits.{hits_at, IsNextHit}
 use Rattle.rept_writing.proofs.Keeping.{inside_of}
-use Rattle.rept_writing.specs.Filed.{IsFirst, IsFiled, hit, sooner}
+use Rattle.rept_writing.specs.Filed.{IsFirst, IsPast, IsFiled, hit, sooner}
+use Rattle.rept_writing.proofs.Going.{past_later}
 
 -- the first of which the one or the other holds
 pub sooner_first : (P Q R : ℕ → Type 0) (k : ℕ) (x y : Option ℕ) → ((j : ℕ) → P j → R j) → ((j : ℕ) → Q j → R j) → ((j : ℕ) → R j → P j ⊎ Q j) → IsFirst P k x → IsFirst Q k y → IsFirst R k (sooner x y)
@@ -45,6 +46,15 @@ first_filed list narrow wide k a x y filed small first second =
     (λ j there. there.1)
     (λ j hits. elim (filed.complete j a small hits) [ inl there ↦ inl there | inr there ↦ inr (there, hits) ])
     first second)
+
+-- the place after the last one below k, from that of the single addresses and that of the rows of many
+pub past_filed : (list : List Writing) (narrow : List Hit) (wide : List ℕ) (k a : ℕ) (x y : ℕ) → IsFiled list narrow wide → a < 2 ^ 32 → IsPast (λ j. Contains narrow (hit a j)) k x → IsPast (λ j. Contains wide j × (hits_at list j a ≡ true)) k y → IsPast (λ j. hits_at list j a ≡ true) k (max x y)
+past_filed list narrow wide k a x y filed small first second =
+    past_later (λ j. Contains narrow (hit a j)) (λ j. Contains wide j × (hits_at list j a ≡ true)) (λ j. hits_at list j a ≡ true) k x y
+    (λ j there. All-contains (λ (h : Hit). hits_at list h.index h.address ≡ true) narrow (hit a j) filed.sound there)
+    (λ j there. there.1)
+    (λ j hits. elim (filed.complete j a small hits) [ inl there ↦ inl there | inr there ↦ inr (there, hits) ])
+    first second
 
 -- in another order
 pub filed_sorted : (list : List Writing) (narrow sorted : List Hit) (wide : List ℕ) → IsFiled list narrow wide → IsPermutation narrow sorted → IsFiled list sorted wide

@@ -1,5 +1,5 @@
 -- Addresses with an index, in order, and what a search among them finds.
-use Rattle.std.proofs.Common.{◌≡◌, ℕ, ◌<◌, ◌≤◌, ◌⊎◌, true, false, List, length, get_or, Some, None, inl, inr, sym, ◌∙◌, ap, subst, arith}
+use Rattle.std.proofs.Common.{◌≡◌, ℕ, zero, ◌+◌, ◌-◌, ◌<◌, ◌≤◌, ◌⊎◌, true, false, List, length, get_or, Some, None, inl, inr, sym, ◌∙◌, ap, subst, arith}
 use Rattle.std.specs.List.{Contains}
 use Rattle.std.specs.List.Sorted.{IsSorted, IsPartitionPoint, IsNonDecreasingBy}
 use Rattle.std.specs.Ordering.{is_lt, ordering_index}
@@ -10,7 +10,8 @@ use Rattle.std.proofs.lemmas.Bool.Decides.{nat_tests}
 use Rattle.std.proofs.lemmas.List.{get_or_default}
 use Rattle.std.proofs.lemmas.List.Sorted.{sorted_far, searchable_from_sorted, ranks_by}
 use Rattle.rept_writing.specs.declared.narrow.Hit.{Hit}
-use Rattle.rept_writing.specs.Filed.{IsFirst, hit, hit_cmp}
+use Rattle.rept_writing.specs.Filed.{IsFirst, IsPast, hit, hit_cmp}
+use Rattle.rept_writing.proofs.Going.{past_after}
 
 pub hits_total : IsTotalOrder hit_cmp
 hits_total = then_total (on_total (λ (x : Hit). x.address) nat_cmp_total) (on_total (λ (x : Hit). x.index) nat_cmp_total)
@@ -83,3 +84,63 @@ first_there hits a k at d up parts inside same = (from (greater_at x a k (parts.
         let l = later hits a k at j up parts low there in
         let e : get_or hits at (hit a j) ≡ x = get_or_default hits at (hit a j) d inside in
         true≢false (sym (sooner_at x a j same high) ∙ subst (λ (y : Hit). is_lt (hit_cmp (hit a j) y) ≡ false) e l.1)
+
+-- what stands at an address up to an index is before the place
+earlier : (hits : List Hit) (a k at j : ℕ) → IsPlaceOf hits (hit a k) at → j ≤ k → Contains hits (hit a j) → (m : ℕ) × (m < at) × (m < length hits) × (get_or hits m (hit a j) ≡ hit a j)
+earlier hits a k at j parts to (m, inside, is) = (m, omega (arith, before), inside, is)
+  where
+    before : at ≤ m → ⊥
+    before le = elim (greater_at (hit a j) a k (subst (λ (x : Hit). hit_cmp x (hit a k) ≡ Greater) is (parts.1 m (hit a j) le inside))) [ inl above ↦ omega (arith, above) | inr (_, lt) ↦ omega (arith, lt, to) ]
+
+-- it isn't after the one before the place
+not_after : (hits : List Hit) (a k at j : ℕ) → IsSorted hit_cmp hits → IsPlaceOf hits (hit a k) at → at ≤ length hits → j ≤ k → Contains hits (hit a j) → (0 < at) × ((d : Hit) → is_lt (hit_cmp (get_or hits (at - 1) d) (hit a j)) ≡ false)
+not_after hits a k at j up parts bound to there =
+    let (m, lt, inside, is) = earlier hits a k at j parts to there in (
+      omega (arith, lt),
+      λ d. subst (λ (x : Hit). is_lt (hit_cmp x (hit a j)) ≡ false) (get_or_default hits (at - 1) (hit a j) d (omega (arith, lt, bound)))
+          (subst (λ (x : Hit). is_lt (hit_cmp (get_or hits (at - 1) (hit a j)) x) ≡ false) is (sorted_far (λ x y. is_lt (hit_cmp x y)) (ranks_by hits_total (λ (y : Hit). y)) hits up m (at - 1) (hit a j) (omega (arith, lt)) (omega (arith, lt, bound)))),
+    )
+
+less_of : (x : Hit) (a k : ℕ) → hit_cmp x (hit a k) ≡ Less → (x.address < a) ⊎ ((x.address ≡ a) × (x.index < k))
+less_of x a k h = grind (arith, nat_tests, h)
+
+lower_than : (x : Hit) (a j : ℕ) → x.address < a → is_lt (hit_cmp x (hit a j)) ≡ true
+lower_than x a j h = grind (arith, nat_tests, h)
+
+sooner_than : (x : Hit) (a j : ℕ) → x.address ≡ a → x.index < j → is_lt (hit_cmp x (hit a j)) ≡ true
+sooner_than x a j e h = grind (arith, nat_tests, e, h)
+
+-- the one before the place has a lower address or is before the index
+before_place : (hits : List Hit) (a k at : ℕ) (d : Hit) → IsPlaceOf hits (hit a k) at → 0 < at → ((get_or hits (at - 1) d).address < a) ⊎ (((get_or hits (at - 1) d).address ≡ a) × ((get_or hits (at - 1) d).index < k))
+before_place hits a k at d parts some = less_of (get_or hits (at - 1) d) a k (parts.0 (at - 1) d (omega arith) (omega (arith, some)))
+
+-- no one up to the index stands there, where the one before the place has another address
+pub none_up_to : (hits : List Hit) (a k at : ℕ) (d : Hit) → IsSorted hit_cmp hits → IsPlaceOf hits (hit a k) at → at ≤ length hits → (0 < at → (get_or hits (at - 1) d).address ≡ a → ⊥) → (j : ℕ) → j ≤ k → Contains hits (hit a j) → ⊥
+none_up_to hits a k at d up parts bound other j to there =
+    let (some, not) = not_after hits a k at j up parts bound to there in
+    elim (before_place hits a k at d parts some) [
+      | inl low ↦ true≢false (sym (lower_than (get_or hits (at - 1) d) a j low) ∙ not d)
+      | inr (same, _) ↦ other some same
+    ]
+
+-- the one before the place is the last one up to the index, where it has the address
+pub last_up_to : (hits : List Hit) (a k at : ℕ) (d : Hit) → IsSorted hit_cmp hits → IsPlaceOf hits (hit a k) at → at ≤ length hits → 0 < at → (get_or hits (at - 1) d).address ≡ a → IsPast (λ j. Contains hits (hit a j)) (k + 1) ((get_or hits (at - 1) d).index + 1)
+last_up_to hits a k at d up parts bound some same = past_after (λ j. Contains hits (hit a j)) (k + 1) x.index below (at - 1, omega (arith, some, bound), get_or_default hits (at - 1) _ d (omega (arith, some, bound)) ∙ ap (λ n. hit n x.index) same) none
+  where
+    x : Hit
+    x = get_or hits (at - 1) d
+
+    below : x.index < k + 1
+    below = elim (before_place hits a k at d parts some) [ inl low ↦ absurd (omega (arith, low, same)) | inr (_, lt) ↦ omega (arith, lt) ]
+
+    none : (j : ℕ) → x.index < j → j < k + 1 → Contains hits (hit a j) → ⊥
+    none j low high there = true≢false (sym (sooner_than x a j same low) ∙ (not_after hits a k at j up parts bound (omega (arith, high)) there).1 d)
+
+-- the same below an index
+pub none_below : (hits : List Hit) (a k at : ℕ) (d : Hit) → 0 < k → IsSorted hit_cmp hits → IsPlaceOf hits (hit a (k - 1)) at → at ≤ length hits → (0 < at → (get_or hits (at - 1) d).address ≡ a → ⊥) → IsPast (λ j. Contains hits (hit a j)) k zero
+none_below hits a k at d some up parts bound other j lt there = none_up_to hits a (k - 1) at d up parts bound other j (omega (arith, lt)) there
+
+pub last_below : (hits : List Hit) (a k at : ℕ) (d : Hit) → 0 < k → IsSorted hit_cmp hits → IsPlaceOf hits (hit a (k - 1)) at → at ≤ length hits → 0 < at → (get_or hits (at - 1) d).address ≡ a → IsPast (λ j. Contains hits (hit a j)) k ((get_or hits (at - 1) d).index + 1)
+last_below hits a k at d low up parts bound some same =
+    let e : k - 1 + 1 ≡ k = omega arith in
+    subst (λ (n : ℕ). IsPast (λ j. Contains hits (hit a j)) n ((get_or hits (at - 1) d).index + 1)) e (last_up_to hits a (k - 1) at d up parts bound some same)

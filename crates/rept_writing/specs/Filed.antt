@@ -24,6 +24,11 @@ abbrev pub IsFirst : (ℕ → Type 0) → ℕ → Option ℕ → Type 0
 IsFirst P k None = (j : ℕ) → k ≤ j → P j → ⊥
 IsFirst P k (Some h) = (k ≤ h) × P h × ((j : ℕ) → k ≤ j → j < h → P j → ⊥)
 
+-- the number after the greatest one below k of which P holds, or 0 where there is none
+abbrev pub IsPast : (ℕ → Type 0) → ℕ → ℕ → Type 0
+IsPast P k zero = (j : ℕ) → j < k → P j → ⊥
+IsPast P k (suc h) = (h < k) × P h × ((j : ℕ) → h < j → j < k → P j → ⊥)
+
 -- the lesser of two numbers, where there are two
 abbrev pub sooner : Option ℕ → Option ℕ → Option ℕ
 sooner None second = second

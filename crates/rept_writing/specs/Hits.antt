@@ -1,5 +1,6 @@
 -- Which rows of a list may write an address, and the first of them. This project's own.
-use Rattle.std.specs.Prelude.{◌≡◌, ℕ, ◌<◌, ◌≤◌, List, length, Bool, true, false, Option, Some, None, slice_get}
+use Rattle.std.specs.Prelude.{◌≡◌, ℕ, ◌+◌, ◌<◌, ◌≤◌, ◌⊎◌, List, length, Bool, true, false, Option, Some, None, slice_get}
+use Rattle.std.specs.List.Sorted.{IsNonDecreasingBy}
 use Rattle.rept_alias.specs.Accesses.{call_hits}
 use Rattle.rept_writing.specs.declared.list.Writing.{Writing}
 
@@ -27,3 +28,19 @@ pub record IsFirstHit (list : List Writing) (k a h : ℕ) : Type 0 where
 abbrev pub IsNextHit : List Writing → ℕ → ℕ → Option ℕ → Type 0
 IsNextHit list k a None = (j : ℕ) → k ≤ j → hits_at list j a ≡ false
 IsNextHit list k a (Some h) = IsFirstHit list k a h
+
+-- the rows stand in the order of their numbers
+abbrev pub AreInOrder : List Writing → Type 0
+AreInOrder list = IsNonDecreasingBy (λ w. w.row) list
+
+-- the row at index j has a lower number than the given one, and may write the address
+pub record IsHitBefore (list : List Writing) (row a j : ℕ) : Type 0 where
+  pub writing : Writing
+  pub stands : slice_get list j ≡ Some writing
+  pub lower : writing.row < row
+  pub hits : call_hits writing.access a ≡ true
+
+-- the index after the last such row; 0 where there is none
+pub record IsPastHit (list : List Writing) (row a past : ℕ) : Type 0 where
+  pub before : (past ≡ 0) ⊎ ((j : ℕ) × (past ≡ j + 1) × IsHitBefore list row a j)
+  pub none_after : (j : ℕ) → past ≤ j → IsHitBefore list row a j → ⊥

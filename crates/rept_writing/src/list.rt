@@ -1,11 +1,11 @@
 //! The list of rows that may write, with what finds them by address.
 
 ghost use Rattle.std.specs.Prelude.{◌≡◌, ◌+◌, ◌<◌, ◌≤◌, [], ◌∷◌, ◌++◌, IfOk, Some, length, slice_get};
-ghost use Rattle.rept_writing.specs.Hits.{IsNextHit};
+ghost use Rattle.rept_writing.specs.Hits.{IsNextHit, IsPastHit, AreInOrder};
 ghost use Rattle.rept_writing.specs.Filed.{sooner};
 
 use crate::narrow::{Hit, file, next_narrow, past_narrow};
-use crate::wide::{next_wide, past_wide, scan};
+use crate::wide::{next_wide, past_wide, scan, scan_back};
 use rept_alias::CallAccess;
 use std::alloc::{AllocError as OutOfMemory, Global};
 use std::marker::Model;
@@ -20,7 +20,7 @@ pub struct Writing {
 }
 
 /// Rows that may write, in the order in which they were added, with room for so many as were asked for. The next row that may
-/// write an address is found fast once `index` was called, and by a search through the list before.
+/// write an address, and the last one before a row, are found fast once `index` was called, and by a search through the list before.
 #[derive(Drop)]
 pub struct Writings {
     list: Vec<Writing>,
@@ -123,16 +123,21 @@ impl Writings {
         }
     }
 
-    /// The index after the last row with a lower number that may write the address, where the rows stand in order and `index` was
-    /// called; else some index, up to the number of rows.
+    /// The index after the last row with a lower number that may write the address, or 0 where there is none. The rows must stand
+    /// in the order of their numbers; where they don't, it is some index, up to the number of rows.
     pub fn past_hit(&self, row: u32, a: u32) -> usize
-        ensures { result ≤ length self.now.list }
+        ensures bound { result ≤ length self.now.list }
+        ensures past { AreInOrder self.now.list → IsPastHit self.now.list row a result }
     {
         let list = self.list.as_slice();
         let k = list.partition_point(|w| w.row < row);
-        let narrow = past_narrow(self.narrow.as_slice(), k, a);
-        let wide = past_wide(list, self.wide.as_slice(), k, a);
-        narrow.max(wide).min(list.len())
+        if self.is_indexed {
+            let narrow = past_narrow(self.narrow.as_slice(), k, a);
+            let wide = past_wide(list, self.wide.as_slice(), k, a);
+            narrow.max(wide)
+        } else {
+            scan_back(list, k, a)
+        }
     }
 }
 

@@ -4,7 +4,7 @@ ghost use Rattle.std.specs.Prelude.{◌≡◌, ◌⊎◌, ◌+◌, ◌<◌, ◌�
 ghost use Rattle.std.specs.Vec.{vec_len, vec_capacity};
 ghost use Rattle.std.specs.List.{Contains};
 ghost use Rattle.std.specs.List.Sorted.{IsSorted};
-ghost use Rattle.rept_writing.specs.Filed.{IsFirst, IsKeptByAddress, StartsAtWord, hit, hit_cmp, hits_from, hits_of_part, size_of_part};
+ghost use Rattle.rept_writing.specs.Filed.{IsFirst, IsPast, IsKeptByAddress, StartsAtWord, hit, hit_cmp, hits_from, hits_of_part, size_of_part};
 
 use rept_alias::{Access, CallAccess};
 
@@ -104,20 +104,25 @@ pub fn next_narrow(narrow: &[Hit], k: usize, a: u32) -> Option<usize>
     }
 }
 
-/// The number after the greatest index below k that is kept with the address, or 0, where they are in order.
-pub fn past_narrow(narrow: &[Hit], k: usize, a: u32) -> usize {
-    let wanted = Hit {
-        address: a,
-        index: k,
-    };
-    let at = narrow.partition_point(|h| *h < wanted);
-    if at == 0 || narrow.len() < at {
+/// The number after the greatest index below k that is kept with the address, or 0.
+pub fn past_narrow(narrow: &[Hit], k: usize, a: u32) -> usize
+    requires { IsSorted hit_cmp narrow.now }
+    ensures { IsPast (λ j. Contains narrow.now (hit a j)) k result }
+{
+    if k == 0 {
         return 0;
     }
-    let last = narrow[at - 1];
-    if last.address == a {
-        last.index.saturating_add(1)
-    } else {
-        0
+    match narrow.binary_search(&Hit {
+        address: a,
+        index: k - 1,
+    }) {
+        Ok(_) => k,
+        Err(at) => {
+            if 0 < at && narrow[at - 1].address == a {
+                narrow[at - 1].index + 1
+            } else {
+                0
+            }
+        }
     }
 }

@@ -78,15 +78,36 @@ fn look(rt: &impl Abort, writings: &Writings) {
     }
 }
 
-// The first row of the table from an index on whose addresses include the one that is looked up, by hand: as the list stands, in
-// order, and where single addresses have no room, or room for some rows only.
+/// Looks up the place after the last row with a lower number that may write an address.
+fn look_back(rt: &impl Abort, writings: &Writings) {
+    for (row, a, expected) in [
+        (10, 100, 0),
+        (11, 100, 1),
+        (13, 100, 3),
+        (14, 102, 3),
+        (16, 100, 6),
+        (99, 104, 3),
+        (13, 500, 0),
+        (14, 500, 4),
+        (16, 500, 4),
+        (12, 1, 2),
+        (16, 0xffff_fffd, 0),
+    ] {
+        assert_eq!(rt; writings.past_hit(row, a), expected);
+    }
+}
+
+// The first row of the table from an index on whose addresses include the one that is looked up, and the place after the last one
+// below a number, by hand: as the list stands, in order, and where single addresses have no room, or room for some rows only.
 #[test]
 fn rows_by_hand(rt: HostRuntime) -> Result<(), Fail> {
     for bytes in [64, 0, 5] {
         let mut writings = listed(rt.alloc(), bytes)?;
         look(&rt, &writings);
+        look_back(&rt, &writings);
         writings.index();
         look(&rt, &writings);
+        look_back(&rt, &writings);
         assert_eq!(rt; writings.len(), 6);
         writings.clear();
         writings.index();

@@ -1,10 +1,10 @@
 //! The rows of many addresses, and the search through all.
 
-ghost use Rattle.std.specs.Prelude.{◌≡◌, ◌<◌, true, length};
+ghost use Rattle.std.specs.Prelude.{◌≡◌, ◌<◌, ◌≤◌, true, length};
 ghost use Rattle.std.specs.List.{All, Contains};
 ghost use Rattle.std.specs.List.Sorted.{IsNonDecreasing};
 ghost use Rattle.rept_writing.specs.Hits.{IsNextHit, hits_at};
-ghost use Rattle.rept_writing.specs.Filed.{IsFirst};
+ghost use Rattle.rept_writing.specs.Filed.{IsFirst, IsPast};
 
 use crate::list::Writing;
 
@@ -19,6 +19,20 @@ pub fn scan(list: &[Writing], k: usize, a: u32) -> Option<usize>
         }
     }
     None
+}
+
+/// The number after the last row before index k that may write the address, or 0, by a look at each.
+pub fn scan_back(list: &[Writing], k: usize, a: u32) -> usize
+    requires { k ≤ length list.now }
+    ensures { IsPast (λ j. hits_at list.now j a ≡ true) k result }
+{
+    for j in (0..k).rev() {
+        let access = list[j].access;
+        if access.may_hit(a) {
+            return j + 1;
+        }
+    }
+    0
 }
 
 /// The first one of these indices, from k on, whose row may write the address.
@@ -40,14 +54,16 @@ pub fn next_wide(list: &[Writing], wide: &[usize], k: usize, a: u32) -> Option<u
 
 /// The number after the last one of these indices below k whose row may write the address, or 0.
 pub fn past_wide(list: &[Writing], wide: &[usize], k: usize, a: u32) -> usize
-    requires { All (λ j. j < length list.now) wide.now }
+    requires rising { IsNonDecreasing wide.now }
+    requires inside { All (λ j. j < length list.now) wide.now }
+    ensures { IsPast (λ j. Contains wide.now j × (hits_at list.now j a ≡ true)) k result }
 {
     let end = wide.partition_point(|j| *j < k);
-    for i in (0..end.min(wide.len())).rev() {
+    for i in (0..end).rev() {
         let j = wide[i];
         let access = list[j].access;
         if access.may_hit(a) {
-            return j.saturating_add(1);
+            return j + 1;
         }
     }
     0
