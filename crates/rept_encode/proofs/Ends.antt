@@ -15,7 +15,7 @@ use Rattle.rept_path.specs.declared.fault.PathFault.{PathFault}
 use Rattle.rept_path.specs.declared.fault.PathFault.TheVariants.{Gap, End}
 use Rattle.rept_path.specs.Code.{look, flow_of, branches}
 use Rattle.rept_path.specs.Packets.{bits, bits_of, reported, waiting}
-use Rattle.rept_path.specs.Moves.{Place, Stand, by_bit, successor, ◌>>=◌}
+use Rattle.rept_path.specs.Moves.{Place, Stand, by_bit, successor, ◌>>=◌, way_by}
 use Rattle.rept_path.specs.Gap.{row, Goal, Edge, by_successor, by_flow, crossing, gap, gap_to_start}
 use Rattle.rept_path.specs.Route.{Met, stand_of, met_by, place, marked}
 use Rattle.rept_path.specs.Trace.{starts, loses, Window, stand_after, IsPath}
@@ -59,7 +59,7 @@ by_next code e next h =
     let one : (next >>= f) ≡ (Ok e.to >>= f) = ap (λ (x : Result ℕ PathFault). x >>= f) h in
     one ∙ rw t refl
 
-pub crosses : (code : List ElfSegment) (n : ℕ) (e : Edge) (bit : Option Bool) (flow : Flow) → MayLead flow e.at e.to → (branches flow ≡ true → bit ≡ Some (passed_by flow e.at e.to)) → by_flow code e (successor n e.at flow bit None) flow ≡ Ok (row e.at e.instr e.to (calls flow) ∷ [])
+pub crosses : (code : List ElfSegment) (n : ℕ) (e : Edge) (bit : Option Bool) (flow : Flow) → MayLead flow e.at e.to → (branches flow ≡ true → bit ≡ Some (passed_by flow e.at e.to)) → by_flow code e (successor n e.at flow (way_by bit None)) flow ≡ Ok (row e.at e.instr e.to (calls flow) ∷ [])
 crosses code n e bit Plain l b = by_next code e (Ok (following e.at)) (ap (λ (x : ℕ). Ok x) (sym l))
 crosses code n e bit (Jump imm) l b = by_next code e (Ok (plus e.at imm)) (ap (λ (x : ℕ). Ok x) (sym l))
 crosses code n e bit (Fixed to) l b = by_next code e (Ok to) (ap (λ (x : ℕ). Ok x) (sym l))

@@ -10,7 +10,7 @@ use Rattle.rept_path.specs.declared.flow.Flow.TheVariants.{Plain, Branch, Jump, 
 use Rattle.rept_path.specs.declared.fault.PathFault.{PathFault}
 use Rattle.rept_path.specs.declared.fault.PathFault.TheVariants.{TooLong}
 use Rattle.rept_path.specs.Code.{look, flow_of, branches, jumps_far, branches_at}
-use Rattle.rept_path.specs.Moves.{Lead, Place, along, successor, by_bit, position, next_of, IsMove, ◌>>=◌}
+use Rattle.rept_path.specs.Moves.{Lead, Place, along, successor, by_bit, position, next_of, IsMove, ◌>>=◌, way_by}
 use Rattle.rept_path.proofs.MoveLemmas.{branch_of}
 use Rattle.rept_encode.specs.Bits.{passed_by, passed, branch_row, count, bit_list}
 use Rattle.rept_encode.specs.Walkable.{MayLead, calls}
@@ -48,7 +48,7 @@ pub branch_to : (k at next to : ℕ) (imm : ℤ) (b : Bool) → to ≡ plus at i
 branch_to k at next to imm true same t l = elim t [ inl e ↦ ap (λ (n : ℕ). Ok n) (sym same ∙ sym e.1) | inr e ↦ absurd (cc) ]
 branch_to k at next to imm false same t l = elim t [ inl e ↦ absurd (cc) | inr e ↦ elim l [ inl m ↦ absurd (e.1 m) | inr m ↦ ap (λ (n : ℕ). Ok n) (sym m) ] ]
 
-pub leads : (k at next : ℕ) (flow : Flow) (bit : Option Bool) (target : Option ℕ) → MayLead flow at next → calls flow ≡ false → (branches flow ≡ true → bit ≡ Some (passed_by flow at next)) → (jumps_far flow ≡ true → target ≡ Some next) → successor k at flow bit target ≡ Ok next
+pub leads : (k at next : ℕ) (flow : Flow) (bit : Option Bool) (target : Option ℕ) → MayLead flow at next → calls flow ≡ false → (branches flow ≡ true → bit ≡ Some (passed_by flow at next)) → (jumps_far flow ≡ true → target ≡ Some next) → successor k at flow (way_by bit target) ≡ Ok next
 leads k at next Plain bit target l c b t = ap (λ (n : ℕ). Ok n) (sym l)
 leads k at next (Jump imm) bit target l c b t = ap (λ (n : ℕ). Ok n) (sym l)
 leads k at next (Fixed to) bit target l c b t = ap (λ (n : ℕ). Ok n) (sym l)
@@ -63,11 +63,11 @@ room n k r lt = elim (leb_tells 65536 n) [ inl t ↦ absurd (omega arith) | inr 
 pub position_ok : (code : List ElfSegment) (a : ℕ) (i : Instr) → look code a ≡ Ok i → position code a ≡ Ok a
 position_ok code a i h = rw h refl
 
-next_is : (code : List ElfSegment) (how : Lead) (p : Place) (i j : Instr) (next : ℕ) → look code p.at ≡ Ok i → look code next ≡ Ok j → successor how.packet p.at (flow_of i) (slice_get how.bits p.branches) how.target ≡ Ok next → length p.rows < 65536 → next_of code how p ≡ Ok next
+next_is : (code : List ElfSegment) (how : Lead) (p : Place) (i j : Instr) (next : ℕ) → look code p.at ≡ Ok i → look code next ≡ Ok j → successor how.packet p.at (flow_of i) (way_by (slice_get how.bits p.branches) how.target) ≡ Ok next → length p.rows < 65536 → next_of code how p ≡ Ok next
 unfolding next_of
 next_is code how p i j next here there leads lt =
     let f : ℕ → Result ℕ PathFault = λ a. cond (nat_le 65536 (length p.rows)) (Err (TooLong how.packet)) (position code a) in
-    let g : Instr → Result ℕ PathFault = λ i. successor how.packet p.at (flow_of i) (slice_get how.bits p.branches) how.target >>= f in
+    let g : Instr → Result ℕ PathFault = λ i. successor how.packet p.at (flow_of i) (way_by (slice_get how.bits p.branches) how.target) >>= f in
     let one : next_of code how p ≡ (Ok i >>= g) = ap (λ (r : Result Instr PathFault). r >>= g) here in
     let two : (Ok i >>= g) ≡ (Ok next >>= f) = ap (λ (r : Result ℕ PathFault). r >>= f) leads in
     one ∙ two ∙ room (length p.rows) how.packet (position code next) lt ∙ position_ok code next j there
@@ -79,7 +79,7 @@ pub move_is : (code : List ElfSegment) (how : Lead) (p : Place) (row : StepRow) 
 move_is code how p row m t =
     let lead = m.step.lead in
     let here : look code p.at ≡ Ok row.instr = rw m.at m.here in
-    let s : successor how.packet p.at (flow_of row.instr) (slice_get how.bits p.branches) how.target ≡ Ok row.next = rw m.at (leads how.packet row.at row.next (flow_of row.instr) (slice_get how.bits p.branches) how.target lead m.plain m.bit t) in
+    let s : successor how.packet p.at (flow_of row.instr) (way_by (slice_get how.bits p.branches) how.target) ≡ Ok row.next = rw m.at (leads how.packet row.at row.next (flow_of row.instr) (slice_get how.bits p.branches) how.target lead m.plain m.bit t) in
     record {
       next = next_is code how p row.instr m.goes row.next here m.there s m.room;
       at = sym m.at;

@@ -8,7 +8,7 @@ use Rattle.rept_isa.specs.declared.row.StepRow.{StepRow}
 use Rattle.rept_path.specs.declared.aim.Aim.{Aim}
 use Rattle.rept_path.specs.declared.aim.Aim.TheVariants as aims
 use Rattle.rept_path.specs.Code.{look, flow_of, jumps_far, is_branch, branches_at}
-use Rattle.rept_path.specs.Moves.{Lead, Place, after, along, unused, bits_fit, by_jump, stops, misfits, is_inferred}
+use Rattle.rept_path.specs.Moves.{Lead, Place, after, along, unused, bits_fit, by_jump, stops, misfits, is_inferred, course_by}
 use Rattle.rept_path.specs.Legs.{Passes, PhaseLeg}
 use Rattle.rept_encode.specs.Walkable.{calls}
 use Rattle.rept_encode.specs.State.{Moved, Moves}
@@ -19,14 +19,14 @@ abbrev pub Clear : List ElfSegment → List Bool → Aim → Place → List Step
 Clear code all aim past [] = Unit {0}
 Clear code all aim past (row ∷ leg) = Clear code all aim past leg × (stops code all aim (along code past (row ∷ leg)) ≡ false)
 
-pub passes : (code : List ElfSegment) (how : Lead) (aim : Aim) (past : Place) (leg : List StepRow) → Moves code how.bits past leg → Clear code how.bits aim past leg → Passes code how aim past leg
+pub passes : (code : List ElfSegment) (how : Lead) (aim : Aim) (past : Place) (leg : List StepRow) → Moves code how.bits past leg → Clear code how.bits aim past leg → Passes code (course_by how aim) past leg
 passes code how aim past [] m c = tt
 passes code how aim past (row ∷ leg) m c =
     let far = m.2 in
     (passes code how aim past leg m.0 c.0, move_is code how (along code past leg) row m.1 (λ t. absurd (cc)), c.1)
 
 -- The leg of a phase that stops where its last row leads.
-pub phase_leg : (code : List ElfSegment) (how : Lead) (aim : Aim) (past : Place) (row : StepRow) (leg : List StepRow) → Moves code how.bits past leg → Clear code how.bits aim past leg → Moved code how.bits (along code past leg) row → (jumps_far (flow_of row.instr) ≡ true → how.target ≡ Some row.next) → stops code how.bits aim (along code past (row ∷ leg)) ≡ true → misfits code how.bits aim (along code past (row ∷ leg)) ≡ false → PhaseLeg code how aim past (row ∷ leg)
+pub phase_leg : (code : List ElfSegment) (how : Lead) (aim : Aim) (past : Place) (row : StepRow) (leg : List StepRow) → Moves code how.bits past leg → Clear code how.bits aim past leg → Moved code how.bits (along code past leg) row → (jumps_far (flow_of row.instr) ≡ true → how.target ≡ Some row.next) → stops code how.bits aim (along code past (row ∷ leg)) ≡ true → misfits code how.bits aim (along code past (row ∷ leg)) ≡ false → PhaseLeg code (course_by how aim) past (row ∷ leg)
 phase_leg code how aim past row leg m c last t stop fit = record {
   reaches = (passes code how aim past leg m c, move_is code how (along code past leg) row last t, stop);
   fits = fit;

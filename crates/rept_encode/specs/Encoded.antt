@@ -15,7 +15,7 @@ use Rattle.rept_encode.specs.Walkable.{IsFirstJumpEnd}
 pub record Tells (trace : List ℕ) (rows : List StepRow) : Type 0 where
   pub rest : List ℕ
   pub layout : trace ≡ header ++ rest
-  pub path : (code : List ElfSegment) (pc : ℕ) → CarryCode code rows → EndBefore rows pc → IsTraced code rest 0 pc 0 rows
+  pub path : (code : List ElfSegment) (pc : ℕ) → CarryCode code rows → EndBefore rows pc → IsTraced (record { code = code; bytes = rest; from = 0; pc = pc }) 0 rows
 
 -- why rows aren't written
 abbrev pub IsRefusal : List StepRow → EncodeFault → Type 0

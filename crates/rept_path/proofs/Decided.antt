@@ -20,11 +20,11 @@ use Rattle.rept_path.specs.declared.fault.PathFault.TheVariants as faults
 use Rattle.rept_path.specs.Code.{look}
 use Rattle.rept_path.specs.Packets.{waiting}
 use Rattle.rept_path.specs.Gap.{gap_to_start, gap_to_end}
-use Rattle.rept_path.specs.Moves.{Lead, Place, Stand, along, next_of, IsMove, stops, misfits, unused, position, ◌>>=◌}
-use Rattle.rept_path.specs.Legs.{Passes, Reaches, Blocked, PhaseLeg, PhaseFault}
+use Rattle.rept_path.specs.Moves.{Lead, Place, Stand, along, next_of, IsMove, stops, misfits, unused, position, ◌>>=◌, course_by}
+use Rattle.rept_path.specs.Legs.{Passes, Reaches, PhaseLeg, PhaseFault}
 use Rattle.rept_path.specs.Route.{Phase, PhaseLegs, PhasesFault, lead_of, further, with_bits, phases_of, admits, Met, met_by, stand_of, RunningLeg, RunningFault, WaitingLeg, WaitingFault, FirstLeg, FirstFault, Leg, Fault, Route}
 use Rattle.rept_path.specs.Trace.{starts, loses, IsWindow, stand_after, IsPath, StopsAt, IsRefused}
-use Rattle.rept_path.specs.Traced.{pc_of, IsPathOf, IsRefusedBy}
+use Rattle.rept_path.specs.Traced.{pc_of, IsTraced, IsRefusedBy, raw_of}
 use Rattle.rept_path.proofs.MoveLemmas.{made, few_before}
 use Rattle.rept_path.proofs.Whole.{get_drop}
 use Rattle.rept_path.proofs.Windows.{starts_within, lost, found, still, still_none, passed}
@@ -46,16 +46,16 @@ position_of code a = go (look code a) where
 
 module _ (code : List ElfSegment) (lead : Lead) (aim : Aim) (past : Place) where
   abbrev Ends : Type 0
-  Ends = ((leg : List StepRow) × Reaches code lead aim past leg) ⊎ ((e : PathFault) × (leg : List StepRow) × Blocked code lead aim past leg e)
+  Ends = ((leg : List StepRow) × Reaches code (course_by lead aim) past leg) ⊎ ((e : PathFault) × (leg : List StepRow) × Passes code (course_by lead aim) past leg × (next_of code lead (along code past leg) ≡ Err e))
 
   -- what a move gives
   row_of : (p : Place) (a : ℕ) → next_of code lead p ≡ Ok a → (row : StepRow) × IsMove code lead p row
   row_of p a h = let m = made code lead p a h in (record { at = p.at; instr = m.0; next = a; call = false }, record { next = h; at = refl; instr = m.1; call = refl })
 
   -- a leg without a stop ends after one row more, or goes on
-  moves : (leg : List StepRow) → Passes code lead aim past leg → ((row : StepRow) → length (along code past leg).rows < 65536 → Passes code lead aim past (row ∷ leg) → Ends) → Ends
+  moves : (leg : List StepRow) → Passes code (course_by lead aim) past leg → ((row : StepRow) → length (along code past leg).rows < 65536 → Passes code (course_by lead aim) past (row ∷ leg) → Ends) → Ends
   moves leg x more = elim (result_of (next_of code lead (along code past leg))) [
-    | inr f ↦ inr (f.0, leg, (x, f.1))
+    | inr f ↦ inr (f.0, leg, x, f.1)
     | inl a ↦
         let r = row_of (along code past leg) a.0 a.1 in
         elim (bool_of (stops code lead.bits aim (along code past (r.0 ∷ leg)))) [
@@ -65,17 +65,17 @@ module _ (code : List ElfSegment) (lead : Lead) (aim : Aim) (past : Place) where
   ]
 
   -- so many rows more are the limit
-  go : (room : ℕ) (leg : List StepRow) → Passes code lead aim past leg → 65536 ≤ room + length (along code past leg).rows → Ends
+  go : (room : ℕ) (leg : List StepRow) → Passes code (course_by lead aim) past leg → 65536 ≤ room + length (along code past leg).rows → Ends
   go zero leg x full = moves leg x (λ row few y. absurd (omega arith))
   go (suc room) leg x full = moves leg x (λ row few y. go room (row ∷ leg) y (omega arith))
 
-  one_phase : ((leg : List StepRow) × PhaseLeg code lead aim past leg) ⊎ ((e : PathFault) × PhaseFault code lead aim past e)
+  one_phase : ((leg : List StepRow) × PhaseLeg code (course_by lead aim) past leg) ⊎ ((e : PathFault) × PhaseFault code (course_by lead aim) past e)
   one_phase = elim (go 65536 [] tt (omega arith)) [
     | inl r ↦ elim (bool_of (misfits code lead.bits aim (along code past r.0))) [
       | inl m ↦ inr (BranchesLeft lead.packet (unused lead.bits (along code past r.0)), inr (record { leg = r.0; reaches = r.1; left = m; fault = refl }))
       | inr m ↦ inl (r.0, record { reaches = r.1; fits = m })
     ]
-    | inr b ↦ inr (b.0, inl (record { leg = b.1; blocked = b.2 }))
+    | inr b ↦ inr (b.0, inl (record { leg = b.1; passes = b.2; blocked = b.3 }))
   ]
 
 module _ (code : List ElfSegment) where
@@ -191,7 +191,7 @@ module _ (code : List ElfSegment) (packets : List Packet) (from pc : ℕ) where
 abbrev pub IsWhole : Packets → Type 0
 IsWhole packets = ((list : List Packet) × Hold (rest_of packets) list) ⊎ ((list : List Packet) × (refused : TraceFault) × FailsAfter (number_of packets) (rest_of packets) list refused)
 
-pub decided : (packets : Packets) (dump : Dump) (from : ℕ) → IsWhole packets → ((skipped : ℕ) × (rows : List StepRow) × IsPathOf packets dump from skipped rows) ⊎ ((fault : PathFault) × IsRefusedBy packets dump from fault)
+pub decided : (packets : Packets) (dump : Dump) (from : ℕ) → IsWhole packets → ((skipped : ℕ) × (rows : List StepRow) × IsTraced (raw_of packets dump from) skipped rows) ⊎ ((fault : PathFault) × IsRefusedBy packets dump from fault)
 decided packets dump from whole = elim whole [
   | inl h ↦ elim (is_decided (exe_of dump) h.0 from (pc_of dump)) [
     | inl p ↦ inl (p.0, p.1, (h.0, h.1, p.2))

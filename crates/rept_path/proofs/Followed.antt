@@ -17,17 +17,17 @@ use Rattle.rept_path.specs.Gap.{gap_to_start}
 use Rattle.rept_path.specs.Legs.{PhaseFault}
 use Rattle.rept_path.specs.declared.walk.Walk.{Walk}
 use Rattle.rept_path.specs.Packets.{bits_of, bits_before, reported_after, waits_after}
-use Rattle.rept_path.specs.Moves.{Place, along, position, ◌>>=◌}
-use Rattle.rept_path.specs.Route.{phases_of, first_phase, PhaseLegs, Met, WaitingFault, RunningFault, mark_after, place_after, admits}
-use Rattle.rept_path.specs.State.{here, standing, arrival, met, Counts, lead, Walked, WalkedAll, Followed}
+use Rattle.rept_path.specs.Moves.{Place, along, position, ◌>>=◌, course_by}
+use Rattle.rept_path.specs.Route.{phases_of, first_phase, PhaseLegs, Met, WaitingFault, RunningFault, mark_after, place_after, admits, meets}
+use Rattle.rept_path.specs.State.{here, standing, arrival, met, Counts, lead, Walked, WalkedAll, Followed, from_to}
 use Rattle.rept_path.proofs.Waiting.{LegIn, FaultIn}
 
 -- a phase alone
-pub alone : (code : List ElfSegment) (k : ℕ) (target : Option ℕ) (aim : Aim) (old new : Walk) → Walked code (lead old k target) aim old new → WalkedAll code k (record { target = target; aim = aim } ∷ []) old new
+pub alone : (code : List ElfSegment) (k : ℕ) (target : Option ℕ) (aim : Aim) (old new : Walk) → Walked code (course_by (lead old k target) aim) old new → WalkedAll code (record { target = target; aim = aim } ∷ []) (from_to k old new)
 alone code k target aim old new w = record { leg = w.leg; goes = (w.leg, [], refl, w.goes, refl); seen = w.seen; counts = w.counts; kept = w.kept; grows = w.grows }
 
 -- Nothing is done at a packet that says nothing of the path.
-pub stays : (code : List ElfSegment) (k privilege : ℕ) (w : Walk) → Counts w → length w.bits.items ≤ w.used + 1 → Followed code k (Context privilege) w w
+pub stays : (code : List ElfSegment) (k privilege : ℕ) (w : Walk) → Counts w → length w.bits.items ≤ w.used + 1 → Followed code (Context privilege) (from_to k w w)
 stays code k privilege w counts rests = record { leg = []; goes = go w.waiting; seen = refl; counts = counts; bits = sym (append-nil w.bits.items); reported = refl; waiting = refl; marked = refl; rests = rests }
   where
     go : (b : Bool) → LegIn code (Context privilege) b (met k w) []
@@ -36,13 +36,13 @@ stays code k privilege w counts rests = record { leg = []; goes = go w.waiting; 
 
 -- The packet's bits were added, and its phases were walked.
 pub walked : (code : List ElfSegment) (k : ℕ) (packet : Packet) (old mid last new : Walk) → old.waiting ≡ false → ((a : ℕ) × (admits code packet ≡ Ok a)) → here mid ≡ here old → mid.bits.items ≡ old.bits.items ++ bits_of code packet → mid.reported ≡ reported_after packet old.reported → mid.waiting ≡ old.waiting
-    → WalkedAll code k (phases_of packet old.inferred old.reported) mid last → here new ≡ here last → new.bits.items ≡ last.bits.items → new.reported ≡ last.reported → new.waiting ≡ last.waiting → Counts new
-    → new.inferred ≡ mark_after code packet old.inferred (arrival new) → length new.bits.items ≤ new.used + 1 → waits_after packet false ≡ false → ((b : Bool) → bits_before packet false old.bits.items ≡ old.bits.items) → ((leg : List StepRow) → place_after code packet false (here old) leg ≡ along code (here old) leg) → Followed code k packet old new
+    → WalkedAll code (phases_of packet old.inferred old.reported) (from_to k mid last) → here new ≡ here last → new.bits.items ≡ last.bits.items → new.reported ≡ last.reported → new.waiting ≡ last.waiting → Counts new
+    → new.inferred ≡ mark_after code packet old.inferred (arrival new) → length new.bits.items ≤ new.used + 1 → waits_after packet false ≡ false → ((b : Bool) → bits_before packet false old.bits.items ≡ old.bits.items) → ((leg : List StepRow) → place_after code packet (meets false (here old)) leg ≡ along code (here old) leg) → Followed code packet (from_to k old new)
 walked code k packet old mid last new runs admitted there all report wait w at bits rep waits counts mark rests keeps whole places =
     record {
       leg = w.leg;
       goes = subst (λ (b : Bool). LegIn code packet b (met k old) w.leg) (sym runs) (record { admitted = admitted; legs = rw (← all, ← there) w.goes });
-      seen = subst (λ (b : Bool). here new ≡ place_after code packet b (here old) w.leg) (sym runs) (at ∙ w.seen ∙ ap (λ (p : Place). along code p w.leg) there ∙ sym (places w.leg));
+      seen = subst (λ (b : Bool). here new ≡ place_after code packet (meets b (here old)) w.leg) (sym runs) (at ∙ w.seen ∙ ap (λ (p : Place). along code p w.leg) there ∙ sym (places w.leg));
       counts = counts;
       bits = subst (λ (b : Bool). new.bits.items ≡ bits_before packet b old.bits.items ++ bits_of code packet) (sym runs) (bits ∙ w.kept.bits ∙ all ∙ ap (λ (xs : List Bool). xs ++ bits_of code packet) (sym (whole false)));
       reported = rep ∙ w.kept.reported ∙ report;
@@ -63,7 +63,7 @@ as_support code packet p waits before e same h = rw same h
 
 -- The moves after a start packet in a stretch are stopped by a fault.
 pub restart_fault : (code : List ElfSegment) (k : ℕ) (branch : Bool) (privilege a : ℕ) (old : Walk) (bits : List Bool) (e : PathFault) → ((at : ℕ) × (position code a ≡ Ok at)) → bits ≡ old.bits.items ++ bits_of code (Start branch privilege a)
-    → (e ≡ OutOfMemory) ⊎ PhaseFault code (record { packet = k; target = Some a; bits = bits }) (aims.Start a) (here old) e → (e ≡ OutOfMemory) ⊎ RunningFault code (Start branch privilege a) (met k old) e
+    → (e ≡ OutOfMemory) ⊎ PhaseFault code (course_by (record { packet = k; target = Some a; bits = bits }) (aims.Start a)) (here old) e → (e ≡ OutOfMemory) ⊎ RunningFault code (Start branch privilege a) (met k old) e
 restart_fault code k branch privilege a old bits e there all h = elim h [ inl m ↦ inl m | inr f ↦ inr (inr (there, inl (rw all at f))) ]
 
 pub same_position : (code : List ElfSegment) (a at : ℕ) → position code a ≡ Ok at → at ≡ a
@@ -75,14 +75,14 @@ same_position code a at h = go (look code a) h where
 -- A stretch begins.
 pub started : (code : List ElfSegment) (k : ℕ) (branch : Bool) (privilege a at : ℕ) (old new : Walk) (leg : List StepRow) → old.waiting ≡ true → gap_to_start code (standing k old) a ≡ Ok leg → position code a ≡ Ok at → reverse new.steps ≡ leg ++ reverse old.steps
     → new.at ≡ at → new.used ≡ 0 → new.bits.items ≡ bits_of code (Start branch privilege at) → length new.bits.items ≤ 1 → new.reported ≡ at → new.inferred ≡ false → new.waiting ≡ false → length new.steps ≤ 65536 → EndBefore new.steps a
-    → Followed code k (Start branch privilege a) old new
+    → Followed code (Start branch privilege a) (from_to k old new)
 started code k branch privilege a at old new leg waits crosses admitted seen stands used bits size report plain runs few ends =
     let same = same_position code a at admitted in
     let there = stands ∙ same in
     record {
       leg = leg;
       goes = subst (λ (b : Bool). LegIn code (Start branch privilege a) b (met k old) leg) (sym waits) (crosses, (rw same at admitted));
-      seen = subst (λ (b : Bool). here new ≡ place_after code (Start branch privilege a) b (here old) leg) (sym waits) (cc);
+      seen = subst (λ (b : Bool). here new ≡ place_after code (Start branch privilege a) (meets b (here old)) leg) (sym waits) (cc);
       counts = record { enough = rw used (omega arith); few = few; spare = rw used (omega arith); linked = rw there ends };
       bits = subst (λ (b : Bool). new.bits.items ≡ bits_before (Start branch privilege a) b old.bits.items ++ bits_of code (Start branch privilege a)) (sym waits) (rw same at bits);
       reported = report ∙ same;
@@ -92,14 +92,14 @@ started code k branch privilege a at old new leg waits crosses admitted seen sta
     }
 
 -- Support packets.
-pub no_change : (code : List ElfSegment) (k : ℕ) (enabled : Bool) (w : Walk) → Counts w → length w.bits.items ≤ w.used + 1 → Followed code k (Support enabled NoChange) w w
+pub no_change : (code : List ElfSegment) (k : ℕ) (enabled : Bool) (w : Walk) → Counts w → length w.bits.items ≤ w.used + 1 → Followed code (Support enabled NoChange) (from_to k w w)
 no_change code k enabled w counts rests = record { leg = []; goes = go w.waiting; seen = refl; counts = counts; bits = sym (append-nil w.bits.items); reported = refl; waiting = refl; marked = refl; rests = rests }
   where
     go : (b : Bool) → LegIn code (Support enabled NoChange) b (met k w) []
     go true = refl
     go false = record { admitted = (0, refl); legs = refl }
 
-pub lost : (code : List ElfSegment) (k : ℕ) (enabled : Bool) (w : Walk) → Counts w → length w.bits.items ≤ w.used + 1 → Followed code k (Support enabled TraceLost) w w
+pub lost : (code : List ElfSegment) (k : ℕ) (enabled : Bool) (w : Walk) → Counts w → length w.bits.items ≤ w.used + 1 → Followed code (Support enabled TraceLost) (from_to k w w)
 lost code k enabled w counts rests = record { leg = []; goes = go w.waiting; seen = refl; counts = counts; bits = sym (append-nil w.bits.items); reported = refl; waiting = refl; marked = refl; rests = rests }
   where
     go : (b : Bool) → LegIn code (Support enabled TraceLost) b (met k w) []
@@ -109,14 +109,14 @@ lost code k enabled w counts rests = record { leg = []; goes = go w.waiting; see
 abbrev pub stopped : Walk → Walk
 stopped w = record { at = w.at; steps = w.steps; bits = w.bits; used = w.used; reported = w.reported; inferred = w.inferred; waiting = true }
 
-pub reported_end : (code : List ElfSegment) (k : ℕ) (enabled : Bool) (w : Walk) → Counts w → length w.bits.items ≤ w.used + 1 → Followed code k (Support enabled EndedRep) w (stopped w)
+pub reported_end : (code : List ElfSegment) (k : ℕ) (enabled : Bool) (w : Walk) → Counts w → length w.bits.items ≤ w.used + 1 → Followed code (Support enabled EndedRep) (from_to k w (stopped w))
 reported_end code k enabled w counts rests = record { leg = []; goes = go w.waiting; seen = refl; counts = record { enough = counts.enough; few = counts.few; spare = counts.spare; linked = counts.linked }; bits = sym (append-nil w.bits.items); reported = refl; waiting = refl; marked = refl; rests = rests }
   where
     go : (b : Bool) → LegIn code (Support enabled EndedRep) b (met k w) []
     go true = refl
     go false = record { admitted = (0, refl); legs = refl }
 
-pub not_reported_end : (code : List ElfSegment) (k : ℕ) (enabled : Bool) (old mid : Walk) → old.waiting ≡ false → length old.bits.items ≤ old.used + 1 → WalkedAll code k (first_phase old.inferred old.reported) old mid → Followed code k (Support enabled EndedNtr) old (stopped mid)
+pub not_reported_end : (code : List ElfSegment) (k : ℕ) (enabled : Bool) (old mid : Walk) → old.waiting ≡ false → length old.bits.items ≤ old.used + 1 → WalkedAll code (first_phase old.inferred old.reported) (from_to k old mid) → Followed code (Support enabled EndedNtr) (from_to k old (stopped mid))
 not_reported_end code k enabled old mid runs rests w =
     let none = sym (append-nil old.bits.items) in
     let grows = w.grows in

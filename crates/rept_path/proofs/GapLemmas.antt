@@ -12,7 +12,7 @@ use Rattle.rept_path.specs.Code.{look}
 use Rattle.rept_steps.specs.Linked.{EndBefore}
 use Rattle.rept_path.specs.Moves.{Stand, ◌>>=◌}
 use Rattle.rept_path.specs.Gap.{Goal, crossing, gap}
-use Rattle.rept_path.specs.State.{standing, Crossed}
+use Rattle.rept_path.specs.State.{standing, Crossed, from_to}
 
 module _ (code : List ElfSegment) (s : Stand) (goal : Goal) (i : Instr) (there : look code s.place.at ≡ Ok i) (rows : List StepRow) (crosses : crossing code s goal i ≡ Ok rows) where
   pub gap_ok : length s.place.rows + length rows ≤ 65536 → gap code s goal ≡ Ok rows
@@ -35,7 +35,7 @@ module _ (code : List ElfSegment) (s : Stand) (goal : Goal) (i : Instr) (there :
 
 -- one row was added
 pub one_row : (code : List ElfSegment) (k : ℕ) (goal : Goal) (i : Instr) (old new : Walk) (row : StepRow) → look code old.at ≡ Ok i → crossing code (standing k old) goal i ≡ Ok (row ∷ []) → length old.steps < 65536 → new.steps ≡ old.steps ++ row ∷ [] → EndBefore new.steps goal.address
-    → Crossed code k goal old new
+    → Crossed code goal (from_to k old new)
 one_row code k goal i old new row there crosses room is ends =
     let seen : reverse new.steps ≡ row ∷ reverse old.steps = ap reverse is ∙ reverse-append old.steps (row ∷ []) in
     let size : length new.steps ≡ length old.steps + 1 = ap (length {A = StepRow}) is ∙ grind (arith, length-append) in
@@ -43,7 +43,7 @@ one_row code k goal i old new row there crosses room is ends =
 
 -- two rows were added
 pub two_rows : (code : List ElfSegment) (k : ℕ) (goal : Goal) (i : Instr) (old : Walk) (mid all : List StepRow) (new : Walk) (row next : StepRow) → look code old.at ≡ Ok i → crossing code (standing k old) goal i ≡ Ok (next ∷ row ∷ []) → length old.steps + 1 < 65536 → mid ≡ old.steps ++ row ∷ [] → all ≡ mid ++ next ∷ [] → new.steps ≡ all → EndBefore new.steps goal.address
-    → Crossed code k goal old new
+    → Crossed code goal (from_to k old new)
 two_rows code k goal i old mid all new row next there crosses room is after same ends =
     let then = same ∙ after in
     let one : reverse mid ≡ row ∷ reverse old.steps = ap reverse is ∙ reverse-append old.steps (row ∷ []) in

@@ -13,7 +13,7 @@ use Rattle.rept_isa.specs.declared.instr.Instr.{Instr}
 use Rattle.rept_steps.specs.Linked.{EndBefore}
 use Rattle.rept_path.specs.declared.flow.Flow.{Flow}
 use Rattle.rept_path.specs.Code.{look, flow_of, branches, is_branch, branches_at, branches_there}
-use Rattle.rept_path.specs.Moves.{Lead, Place, next_of, successor, position, ◌>>=◌}
+use Rattle.rept_path.specs.Moves.{Lead, Place, next_of, successor, position, ◌>>=◌, way_by}
 use Rattle.rept_path.specs.State.{here, Counts, Keeps, Moved}
 
 pub bind_ok : {A B : Type 0} (r : Result A PathFault) (f : A → Result B PathFault) (y : B) → (r >>= f) ≡ Ok y → (x : A) × (r ≡ Ok x) × (f x ≡ Ok y)
@@ -21,7 +21,7 @@ bind_ok (Ok x) f y h = (x, refl, h)
 bind_ok (Err e) f y h = cc
 
 -- a branch goes on only with its bit
-bit_there : (k p : ℕ) (flow : Flow) (bit : Option Bool) (target : Option ℕ) (a : ℕ) → successor k p flow bit target ≡ Ok a → branches flow ≡ true → (b : Bool) × (bit ≡ Some b)
+bit_there : (k p : ℕ) (flow : Flow) (bit : Option Bool) (target : Option ℕ) (a : ℕ) → successor k p flow (way_by bit target) ≡ Ok a → branches flow ≡ true → (b : Bool) × (bit ≡ Some b)
 bit_there k p Plain bit target a h t = cc
 bit_there k p (Jump imm) bit target a h t = cc
 bit_there k p (Fixed to) bit target a h t = cc
@@ -38,7 +38,7 @@ abbrev limited : List ElfSegment → Lead → Place → ℕ → Result ℕ PathF
 limited code how p x = cond (nat_le 65536 (length p.rows)) (Err (TooLong how.packet)) (position code x)
 
 abbrev from : Lead → Place → Instr → Result ℕ PathFault
-from how p i = successor how.packet p.at (flow_of i) (slice_get how.bits p.branches) how.target
+from how p i = successor how.packet p.at (flow_of i) (way_by (slice_get how.bits p.branches) how.target)
 
 module _ (code : List ElfSegment) (how : Lead) (p : Place) where
   -- a move has an instruction, and its successor

@@ -19,7 +19,7 @@ use Rattle.rept_path.specs.declared.fault.PathFault.TheVariants.{TooLong, Gap, E
 use Rattle.rept_path.specs.Code.{instruction, by_instruction, by_word, look, flow_of, is_call}
 use Rattle.rept_path.specs.Gap.{row, Goal, Edge, by_successor, by_flow, crossing, gap}
 use Rattle.rept_path.specs.Legs.{PhaseFault}
-use Rattle.rept_path.specs.Moves.{Lead, Place, Stand, along, successor, position, next_of, ◌>>=◌}
+use Rattle.rept_path.specs.Moves.{Lead, Place, Stand, along, successor, position, next_of, ◌>>=◌, course_by, way_by}
 use Rattle.rept_path.specs.Packets.{waiting}
 use Rattle.rept_path.specs.Route.{Phase, PhasesFault, lead_of, further, with_bits, phases_of, Met, met_by, stand_of, admits, FirstFault, WaitingFault, RunningFault, Fault}
 use Rattle.rept_path.specs.Trace.{IsRefused, stand_after}
@@ -52,7 +52,7 @@ others_word a (Some spelled) e h = others_instruction a spelled (instruction spe
 others_unaligned : (a : ℕ) → Others {A = Instr} (Err (Unaligned a))
 others_unaligned a e h = λ m. cc
 
-others_bit : (k p : ℕ) (bit : Option Bool) (target : Option ℕ) (flow : Flow) → Others (successor k p flow bit target)
+others_bit : (k p : ℕ) (bit : Option Bool) (target : Option ℕ) (flow : Flow) → Others (successor k p flow (way_by bit target))
 others_bit k p bit target Plain e h = λ m. cc
 others_bit k p bit target (Jump imm) e h = λ m. cc
 others_bit k p bit target (Fixed to) e h = λ m. cc
@@ -82,7 +82,7 @@ module _ (code : List ElfSegment) where
   unfolding next_of
   others_next how p =
       let onward : ℕ → Result ℕ PathFault = λ a. cond (nat_le 65536 (length p.rows)) (Err (TooLong how.packet)) (position code a) in
-      let from : Instr → Result ℕ PathFault = λ i. successor how.packet p.at (flow_of i) (slice_get how.bits p.branches) how.target in
+      let from : Instr → Result ℕ PathFault = λ i. successor how.packet p.at (flow_of i) (way_by (slice_get how.bits p.branches) how.target) in
       others_bind (look code p.at) (λ i. from i >>= onward) (others_look p.at)
       (λ i. others_bind (from i) onward (others_bit how.packet p.at (slice_get how.bits p.branches) how.target (flow_of i))
       (λ a. others_cond (nat_le 65536 (length p.rows)) (Err (TooLong how.packet)) (position code a) (others_long how.packet) (others_position a)))
@@ -110,11 +110,11 @@ module _ (code : List ElfSegment) where
       let bit = slice_get s.bits p.branches in
       let cross : Instr → Result (List StepRow) PathFault = λ i. crossing code s goal i in
       others_bind (look code p.at) (λ i. cross i >>= room) (others_look p.at)
-      (λ i. others_bind (cross i) room (others_flow (record { at = p.at; instr = i; to = goal.address; otherwise = goal.otherwise }) other (successor s.packet p.at (flow_of i) bit None) (others_bit s.packet p.at bit None (flow_of i)) (flow_of i))
+      (λ i. others_bind (cross i) room (others_flow (record { at = p.at; instr = i; to = goal.address; otherwise = goal.otherwise }) other (successor s.packet p.at (flow_of i) (way_by bit None)) (others_bit s.packet p.at bit None (flow_of i)) (flow_of i))
       (λ rows. others_cond (nat_le (length p.rows + length rows) 65536) (Ok rows) (Err (TooLong s.packet)) (others_ok rows) (others_long s.packet)))
 
-  phase_other : (how : Lead) (aim : Aim) (past : Place) (e : PathFault) → PhaseFault code how aim past e → e ≢ OutOfMemory
-  phase_other how aim past e (inl blocked) = others_next how (along code past blocked.leg) e blocked.blocked.1
+  phase_other : (how : Lead) (aim : Aim) (past : Place) (e : PathFault) → PhaseFault code (course_by how aim) past e → e ≢ OutOfMemory
+  phase_other how aim past e (inl blocked) = others_next how (along code past blocked.leg) e blocked.blocked
   phase_other how aim past e (inr misfit) = λ m. let is = misfit.fault in cc
 
   phases_other : (s : Stand) (phases : List Phase) (e : PathFault) → PhasesFault code s phases e → e ≢ OutOfMemory

@@ -11,17 +11,17 @@ use Rattle.rept_trace.proofs.Going.{one_list, not_both, one_fault}
 use Rattle.rept_path.specs.declared.fault.PathFault.{PathFault}
 use Rattle.rept_path.specs.declared.fault.PathFault.TheVariants as fault
 use Rattle.rept_path.specs.Trace.{IsPath, IsRefused}
-use Rattle.rept_path.specs.Traced.{pc_of, IsPathOf, IsRefusedBy}
+use Rattle.rept_path.specs.Traced.{pc_of, IsTraced, IsRefusedBy, raw_of}
 use Rattle.rept_path.proofs.OneRoute.{one_path, path_or_refusal, one_refusal}
 
 module _ (packets : Packets) (dump : Dump) (from : ℕ) where
-  pub one_path_of : (i j : ℕ) (a b : List StepRow) → IsPathOf packets dump from i a → IsPathOf packets dump from j b → (i ≡ j) × (a ≡ b)
+  pub one_path_of : (i j : ℕ) (a b : List StepRow) → IsTraced (raw_of packets dump from) i a → IsTraced (raw_of packets dump from) j b → (i ≡ j) × (a ≡ b)
   one_path_of i j a b x y =
       let s = one_list (rest_of packets) x.0 y.0 x.1 y.1 in
       let z = subst (λ (l : List Packet). IsPath (record { code = exe_of dump; packets = l; from = from; pc = pc_of dump }) i a) s x.2 in
       one_path (exe_of dump) y.0 from (pc_of dump) i j a b z y.2
 
-  pub path_or_refusal_of : (i : ℕ) (a : List StepRow) (e : PathFault) → IsPathOf packets dump from i a → IsRefusedBy packets dump from e → ⊥
+  pub path_or_refusal_of : (i : ℕ) (a : List StepRow) (e : PathFault) → IsTraced (raw_of packets dump from) i a → IsRefusedBy packets dump from e → ⊥
   path_or_refusal_of i a e x y = elim y [
     | inl f ↦ not_both (number_of packets) (rest_of packets) x.0 f.0 f.1 x.1 f.2
     | inr f ↦

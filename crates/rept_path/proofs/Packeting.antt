@@ -16,13 +16,13 @@ use Rattle.rept_trace.specs.declared.packet.Packet.TheVariants.{Start}
 use Rattle.rept_path.specs.declared.walk.Walk.{Walk}
 use Rattle.rept_path.specs.Packets.{bits, bits_of, reported, reported_after, waiting, waits_after}
 use Rattle.rept_path.specs.Moves.{position}
-use Rattle.rept_path.specs.Route.{Met, Leg, LegBy, Fault, FaultBy, FirstFault, met_by, marked, place}
-use Rattle.rept_path.specs.State.{here, met, Followed, Stands}
+use Rattle.rept_path.specs.Route.{Met, Leg, LegBy, Fault, FaultBy, FirstFault, met_by, marked, place, earlier_by}
+use Rattle.rept_path.specs.State.{here, met, Followed, Stands, from_to}
 use Rattle.rept_path.specs.Trace.{StopsAt}
 
 -- a walk that stands at the address of a start packet
 pub begun : (code : List ElfSegment) (skipped : ℕ) (branch : Bool) (privilege a at : ℕ) (w : Walk) → position code a ≡ Ok at → w.at ≡ a → w.steps ≡ [] → w.bits.items ≡ bits_of code (Start branch privilege a) → length w.bits.items ≤ 1 → w.used ≡ 0 → w.reported ≡ a → w.inferred ≡ false → w.waiting ≡ false
-    → Stands code skipped (Start branch privilege a ∷ []) ([] ∷ []) w
+    → Stands code (earlier_by skipped (Start branch privilege a ∷ []) ([] ∷ [])) w
 unfolding bits reported marked waiting place
 begun code skipped branch privilege a at w admitted stands none all size used report plain runs =
     let same = same_position code a at admitted in
@@ -46,11 +46,11 @@ fault_after : (code : List ElfSegment) (skipped : ℕ) (packet : Packet) (earlie
 fault_after code skipped packet [] legs e some h = absurd (omega arith)
 fault_after code skipped packet (last ∷ earlier) legs e some h = h
 
-module _ (code : List ElfSegment) (skipped k : ℕ) (packet : Packet) (earlier : List Packet) (legs : List (List StepRow)) (old : Walk) (some : 0 < length earlier) (number : k ≡ skipped + length earlier) (s : Stands code skipped earlier legs old) where
+module _ (code : List ElfSegment) (skipped k : ℕ) (packet : Packet) (earlier : List Packet) (legs : List (List StepRow)) (old : Walk) (some : 0 < length earlier) (number : k ≡ skipped + length earlier) (s : Stands code (earlier_by skipped earlier legs) old) where
   same_met : met k old ≡ met_by code skipped earlier legs
   same_met = let a = s.seen in let b = s.bits in let c = s.reported in let d = s.marked in let w = s.waiting in cc
 
-  pub stands_on : (new : Walk) → (f : Followed code k packet old new) → Stands code skipped (packet ∷ earlier) (f.leg ∷ legs) new
+  pub stands_on : (new : Walk) → (f : Followed code packet (from_to k old new)) → Stands code (earlier_by skipped (packet ∷ earlier) (f.leg ∷ legs)) new
   unfolding bits reported marked waiting place
   stands_on new f =
       let all : new.bits.items ≡ bits code (packet ∷ earlier) = rw (← s.bits, ← s.waiting) f.bits in
@@ -78,11 +78,11 @@ pub record Going (code : List ElfSegment) (skipped : ℕ) (window : List Packet)
   pub legs : List (List StepRow)
   pub hold : Hold rest more
   pub whole : window ≡ reverse done ++ more
-  pub stands : Stands code skipped done legs w
+  pub stands : Stands code (earlier_by skipped done legs) w
   pub numbered : number ≡ skipped + length done
   pub some : 0 < length done
 
-pub goes_first : (code : List ElfSegment) (skipped : ℕ) (first : Packet) (later : List Packet) (rest : List ℕ) (w : Walk) (legs : List (List StepRow)) → Hold rest later → Stands code skipped (first ∷ []) legs w → Going code skipped (first ∷ later) (skipped + 1) rest w
+pub goes_first : (code : List ElfSegment) (skipped : ℕ) (first : Packet) (later : List Packet) (rest : List ℕ) (w : Walk) (legs : List (List StepRow)) → Hold rest later → Stands code (earlier_by skipped (first ∷ []) legs) w → Going code skipped (first ∷ later) (skipped + 1) rest w
 goes_first code skipped first later rest w legs h s = record { done = first ∷ []; more = later; legs = legs; hold = h; whole = refl; stands = s; numbered = refl; some = omega arith }
 
 -- what is left begins with the packet that is read
@@ -108,7 +108,7 @@ none_of k n rest after None a = a
 none_of k n rest after (Some packet) a = tt
 
 module _ (code : List ElfSegment) (skipped : ℕ) (window : List Packet) (number : ℕ) (rest : List ℕ) (w : Walk) (g : Going code skipped window number rest w) where
-  pub goes_on : (k n : ℕ) (after : List ℕ) (packet : Packet) (new : Walk) → Answers k rest (Ok (Some packet)) n after → Followed code number packet w new → Going code skipped window (number + 1) after new
+  pub goes_on : (k n : ℕ) (after : List ℕ) (packet : Packet) (new : Walk) → Answers k rest (Ok (Some packet)) n after → Followed code packet (from_to number w new) → Going code skipped window (number + 1) after new
   goes_on k n after packet new a f =
       let t = taken k n rest after packet g.more g.hold a in
       let numbered = g.numbered in
@@ -147,10 +147,10 @@ module _ (code : List ElfSegment) (skipped : ℕ) (window : List Packet) (number
       let more = ap (length {A = Packet}) t.1 in
       omega (arith, numbered, whole, more, length-append (reverse g.done) g.more, length-reverse g.done)
 
-  pub arrives : g.more ≡ [] → (legs : List (List StepRow)) × Stands code skipped (reverse window) legs w
+  pub arrives : g.more ≡ [] → (legs : List (List StepRow)) × Stands code (earlier_by skipped (reverse window) legs) w
   arrives none =
       let e : reverse window ≡ g.done = ap reverse (g.whole ∙ ap (λ (xs : List Packet). reverse g.done ++ xs) none ∙ append-nil (reverse g.done)) ∙ reverse-reverse g.done in
-      (g.legs, subst (λ (xs : List Packet). Stands code skipped xs g.legs w) (sym e) g.stands)
+      (g.legs, subst (λ (xs : List Packet). Stands code (earlier_by skipped xs g.legs) w) (sym e) g.stands)
 
 -- the first packet
 pub first_or : (code : List ElfSegment) (skipped : ℕ) (first : Packet) (later : List Packet) (e : PathFault) → (e ≡ OutOfMemory) ⊎ FirstFault code first e → (e ≡ OutOfMemory) ⊎ StopsAt code skipped (first ∷ later) e

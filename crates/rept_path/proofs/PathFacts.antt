@@ -22,12 +22,12 @@ use Rattle.rept_path.specs.declared.fault.PathFault.TheVariants.{TooLong, Gap, E
 use Rattle.rept_path.specs.Code.{look, flow_of, is_call}
 use Rattle.rept_path.specs.Gap.{row, Goal, Edge, by_successor, by_flow, crossing, gap}
 use Rattle.rept_path.specs.Legs.{Passes, Reaches}
-use Rattle.rept_path.specs.Moves.{Lead, Place, Stand, along, successor, IsMove, ◌>>=◌}
+use Rattle.rept_path.specs.Moves.{Lead, Place, Stand, along, successor, IsMove, ◌>>=◌, course_by, way_by}
 use Rattle.rept_path.specs.Packets.{reported_after, begins, waiting}
-use Rattle.rept_path.specs.Route.{Phase, PhaseLegs, lead_of, further, with_bits, phases_of, Met, met_by, stand_of, FirstLeg, WaitingLeg, Leg, Route, place, place_after}
+use Rattle.rept_path.specs.Route.{Phase, PhaseLegs, lead_of, further, with_bits, phases_of, Met, met_by, stand_of, FirstLeg, WaitingLeg, Leg, Route, place, place_after, meets}
 use Rattle.rept_path.specs.Rows.{CarriesCode, CarryCode}
 use Rattle.rept_path.specs.Trace.{IsPath, stand_after}
-use Rattle.rept_path.specs.Traced.{pc_of, IsPathOf}
+use Rattle.rept_path.specs.Traced.{pc_of, IsTraced, raw_of}
 use Rattle.rept_path.proofs.MoveLemmas.{bind_ok}
 use Rattle.rept_path.proofs.Phases.{along-append}
 use Rattle.rept_path.proofs.Waiting.{LegIn}
@@ -37,7 +37,7 @@ pub rows_along : (code : List ElfSegment) (p : Place) (leg : List StepRow) → (
 rows_along code p [] = refl
 rows_along code p (r ∷ leg) = ap (λ (rows : List StepRow). r ∷ rows) (rows_along code p leg)
 
-pub rows_after : (code : List ElfSegment) (packet : Packet) (waits : Bool) (p : Place) (leg : List StepRow) → (place_after code packet waits p leg).rows ≡ leg ++ p.rows
+pub rows_after : (code : List ElfSegment) (packet : Packet) (waits : Bool) (p : Place) (leg : List StepRow) → (place_after code packet (meets waits p) leg).rows ≡ leg ++ p.rows
 rows_after code packet waits p leg = go (begins packet waits)
   where
     go : (b : Bool) → (cond b (record { at = reported_after packet 0; rows = leg ++ p.rows; branches = 0 }) (along code p leg)).rows ≡ leg ++ p.rows
@@ -137,17 +137,17 @@ module _ (code : List ElfSegment) where
         let b = bind_ok (look code p.at) g rows is in
         let c = bind_ok (cross b.0) f rows b.2 in
         let edge : Edge = record { at = p.at; instr = b.0; to = goal.address; otherwise = goal.otherwise } in
-        let rows_there = flow_rows edge (successor s.packet p.at (flow_of b.0) (slice_get s.bits p.branches) None) (flow_of b.0) c.0 b.1 c.1 in
+        let rows_there = flow_rows edge (successor s.packet p.at (flow_of b.0) (way_by (slice_get s.bits p.branches) None)) (flow_of b.0) c.0 b.1 c.1 in
         kept (nat_le (length p.rows + length c.0) 65536) s.packet p.at goal.address c.0 rows rows_there c.2
 
   moved : (lead : Lead) (p : Place) (r : StepRow) → IsMove code lead p r → CarriesCode code r
   moved lead p r m = rw m.at m.instr
 
-  passed : (lead : Lead) (aim : Aim) (past : Place) (leg : List StepRow) → Passes code lead aim past leg → CarryCode code leg
+  passed : (lead : Lead) (aim : Aim) (past : Place) (leg : List StepRow) → Passes code (course_by lead aim) past leg → CarryCode code leg
   passed lead aim past [] x = All-nil (CarriesCode code)
   passed lead aim past (r ∷ leg) x = All-cons (CarriesCode code) r leg (moved lead (along code past leg) r x.1) (passed lead aim past leg x.0)
 
-  reached : (lead : Lead) (aim : Aim) (past : Place) (leg : List StepRow) → Reaches code lead aim past leg → CarryCode code leg
+  reached : (lead : Lead) (aim : Aim) (past : Place) (leg : List StepRow) → Reaches code (course_by lead aim) past leg → CarryCode code leg
   reached lead aim past [] x = elim x [ ]
   reached lead aim past (r ∷ leg) x = All-cons (CarriesCode code) r leg (moved lead (along code past leg) r x.1) (passed lead aim past leg x.0)
 
@@ -191,7 +191,7 @@ module _ (code : List ElfSegment) where
     of_route (packet ∷ earlier) [] x = elim x [ ]
     of_route (packet ∷ earlier) (leg ∷ legs) x =
         let before = place code earlier legs in
-        All-same (CarriesCode code) (place_after code packet (waiting earlier) before leg).rows (leg ++ before.rows) (rows_after code packet (waiting earlier) before leg) (All-append (CarriesCode code) leg before.rows (of_leg packet earlier legs leg x.0) (of_route earlier legs x.1))
+        All-same (CarriesCode code) (place_after code packet (meets (waiting earlier) before) leg).rows (leg ++ before.rows) (rows_after code packet (waiting earlier) before leg) (All-append (CarriesCode code) leg before.rows (of_leg packet earlier legs leg x.0) (of_route earlier legs x.1))
 
   abbrev OnChain : Place → Type 0
   OnChain p = Chain p.rows p.at
@@ -199,11 +199,11 @@ module _ (code : List ElfSegment) where
   move_on_chain : (lead : Lead) (past : Place) (r : StepRow) (leg : List StepRow) → IsMove code lead (along code past leg) r → OnChain (along code past leg) → OnChain (along code past (r ∷ leg))
   move_on_chain lead past r leg m h = (refl, rw m.at h)
 
-  passes_on_chain : (lead : Lead) (aim : Aim) (past : Place) (leg : List StepRow) → OnChain past → Passes code lead aim past leg → OnChain (along code past leg)
+  passes_on_chain : (lead : Lead) (aim : Aim) (past : Place) (leg : List StepRow) → OnChain past → Passes code (course_by lead aim) past leg → OnChain (along code past leg)
   passes_on_chain lead aim past [] h x = h
   passes_on_chain lead aim past (r ∷ leg) h x = move_on_chain lead past r leg x.1 (passes_on_chain lead aim past leg h x.0)
 
-  reach_on_chain : (lead : Lead) (aim : Aim) (past : Place) (leg : List StepRow) → OnChain past → Reaches code lead aim past leg → OnChain (along code past leg)
+  reach_on_chain : (lead : Lead) (aim : Aim) (past : Place) (leg : List StepRow) → OnChain past → Reaches code (course_by lead aim) past leg → OnChain (along code past leg)
   reach_on_chain lead aim past [] h x = elim x [ ]
   reach_on_chain lead aim past (r ∷ leg) h x = move_on_chain lead past r leg x.1 (passes_on_chain lead aim past leg h x.0)
 
@@ -213,7 +213,7 @@ module _ (code : List ElfSegment) where
       let there : along code s.place leg ≡ along code (along code s.place first) rest = ap (λ (ys : List StepRow). along code s.place ys) is ∙ along-append code s.place rest first in
       rw there (phases_on_chain (further code s first) phases rest (reach_on_chain (lead_of s phase) phase.aim s.place first h x.reaches) xs)
 
-  running_place : (packet : Packet) (p : Place) (leg : List StepRow) → place_after code packet false p leg ≡ along code p leg
+  running_place : (packet : Packet) (p : Place) (leg : List StepRow) → place_after code packet (meets false p) leg ≡ along code p leg
   running_place (Start branch privilege a) p leg = refl
   running_place (Address report) p leg = refl
   running_place (MapAddress count map report) p leg = refl
@@ -221,7 +221,7 @@ module _ (code : List ElfSegment) where
   running_place (Context privilege) p leg = refl
   running_place (Support enabled status) p leg = refl
 
-  waiting_on_chain : (packet : Packet) (met : Met) (leg : List StepRow) → OnChain met.place → WaitingLeg code packet met leg → OnChain (place_after code packet true met.place leg)
+  waiting_on_chain : (packet : Packet) (met : Met) (leg : List StepRow) → OnChain met.place → WaitingLeg code packet met leg → OnChain (place_after code packet (meets true met.place) leg)
   waiting_on_chain (Start branch privilege a) met leg h x = let g = gap_rows (stand_of met) (record { address = a; otherwise = Gap met.number met.place.at a }) leg x.0 in g.leads met.place.rows h
   waiting_on_chain (Address report) met leg h x = elim x [ ]
   waiting_on_chain (MapAddress count map report) met leg h x = elim x [ ]
@@ -229,11 +229,11 @@ module _ (code : List ElfSegment) where
   waiting_on_chain (Context privilege) met leg h x = rw x h
   waiting_on_chain (Support enabled status) met leg h x = rw x h
 
-  packet_on_chain : (packet : Packet) (waits : Bool) (met : Met) (leg : List StepRow) → OnChain met.place → LegIn code packet waits met leg → OnChain (place_after code packet waits met.place leg)
+  packet_on_chain : (packet : Packet) (waits : Bool) (met : Met) (leg : List StepRow) → OnChain met.place → LegIn code packet waits met leg → OnChain (place_after code packet (meets waits met.place) leg)
   packet_on_chain packet true met leg h x = waiting_on_chain packet met leg h x
   packet_on_chain packet false met leg h x = rw (running_place packet met.place leg) (phases_on_chain (with_bits code packet met) (phases_of packet met.marked met.reported) leg h x.legs)
 
-  first_on_chain : (packet : Packet) (leg : List StepRow) (p : Place) → p.rows ≡ [] → FirstLeg code packet leg → OnChain (place_after code packet true p leg)
+  first_on_chain : (packet : Packet) (leg : List StepRow) (p : Place) → p.rows ≡ [] → FirstLeg code packet leg → OnChain (place_after code packet (meets true p) leg)
   first_on_chain (Start branch privilege a) leg p none x = rw (x.1, none) tt
   first_on_chain (Address report) leg p none x = elim x [ ]
   first_on_chain (MapAddress count map report) leg p none x = elim x [ ]
@@ -278,7 +278,7 @@ module _ (code : List ElfSegment) where
         rw is.order (linked_from (is.last ++ before.rows) pc (crossed.leads before.rows (route_on_chain skipped (reverse (drop skipped packets)) is.legs is.route)))
 
 -- The same of the path of a trace file over a dump.
-module _ (packets : Packets) (dump : Dump) (from skipped : ℕ) (path : List StepRow) (is : IsPathOf packets dump from skipped path) where
+module _ (packets : Packets) (dump : Dump) (from skipped : ℕ) (path : List StepRow) (is : IsTraced (raw_of packets dump from) skipped path) where
   pub some_steps : 0 < length path
   some_steps = path_some (exe_of dump) is.0 from (pc_of dump) skipped path is.2
 

@@ -5,10 +5,10 @@ use Rattle.rept_path.specs.declared.aim.Aim.{Aim}
 use Rattle.rept_path.specs.declared.aim.Aim.TheVariants as aims
 use Rattle.rept_isa.specs.declared.row.StepRow.{StepRow}
 use Rattle.rept_path.specs.declared.walk.Walk.{Walk}
-use Rattle.rept_path.specs.Moves.{Place, after, along}
+use Rattle.rept_path.specs.Moves.{Place, after, along, course_by}
 use Rattle.rept_path.specs.Legs.{PhaseLeg}
 use Rattle.rept_path.specs.Route.{first_phase}
-use Rattle.rept_path.specs.State.{here, lead, Walked, WalkedAll}
+use Rattle.rept_path.specs.State.{here, lead, Walked, WalkedAll, from_to}
 use Rattle.rept_path.proofs.Loop.{Keeps-twice}
 
 pub along-append : (code : List ElfSegment) (p : Place) (rest first : List StepRow) → along code p (rest ++ first) ≡ along code (along code p first) rest
@@ -16,17 +16,17 @@ along-append code p [] first = refl
 along-append code p (row ∷ rest) first = ap (λ (q : Place). after code q row) (along-append code p rest first)
 
 -- one phase
-pub one_phase : (code : List ElfSegment) (k before : ℕ) (target : Option ℕ) (aim : Aim) (old new : Walk) → old.inferred ≡ false → Walked code (lead old k target) aim old new
-    → WalkedAll code k (first_phase old.inferred before ++ record { target = target; aim = aim } ∷ []) old new
+pub one_phase : (code : List ElfSegment) (k before : ℕ) (target : Option ℕ) (aim : Aim) (old new : Walk) → old.inferred ≡ false → Walked code (course_by (lead old k target) aim) old new
+    → WalkedAll code (first_phase old.inferred before ++ record { target = target; aim = aim } ∷ []) (from_to k old new)
 one_phase code k before target aim old new unmarked w =
-    subst (λ (b : Bool). WalkedAll code k (first_phase b before ++ record { target = target; aim = aim } ∷ []) old new) (sym unmarked) (record { leg = w.leg; goes = (w.leg, [], refl, w.goes, refl); seen = w.seen; counts = w.counts; kept = w.kept; grows = w.grows })
+    subst (λ (b : Bool). WalkedAll code (first_phase b before ++ record { target = target; aim = aim } ∷ []) (from_to k old new)) (sym unmarked) (record { leg = w.leg; goes = (w.leg, [], refl, w.goes, refl); seen = w.seen; counts = w.counts; kept = w.kept; grows = w.grows })
 
 -- the first phase, and another
-pub two_phases : (code : List ElfSegment) (k before : ℕ) (target : Option ℕ) (aim : Aim) (old mid new : Walk) → old.inferred ≡ true → Walked code (lead old k (Some before)) aims.Jumped old mid → Walked code (lead mid k target) aim mid new
-    → WalkedAll code k (first_phase old.inferred before ++ record { target = target; aim = aim } ∷ []) old new
+pub two_phases : (code : List ElfSegment) (k before : ℕ) (target : Option ℕ) (aim : Aim) (old mid new : Walk) → old.inferred ≡ true → Walked code (course_by (lead old k (Some before)) aims.Jumped) old mid → Walked code (course_by (lead mid k target) aim) mid new
+    → WalkedAll code (first_phase old.inferred before ++ record { target = target; aim = aim } ∷ []) (from_to k old new)
 two_phases code k before target aim old mid new is_marked w v =
-    let second : PhaseLeg code (lead old k target) aim (along code (here old) w.leg) v.leg = rw (← w.kept.bits, ← w.seen) v.goes in
-    subst (λ (b : Bool). WalkedAll code k (first_phase b before ++ record { target = target; aim = aim } ∷ []) old new) (sym is_marked) (record {
+    let second : PhaseLeg code (course_by (lead old k target) aim) (along code (here old) w.leg) v.leg = rw (← w.kept.bits, ← w.seen) v.goes in
+    subst (λ (b : Bool). WalkedAll code (first_phase b before ++ record { target = target; aim = aim } ∷ []) (from_to k old new)) (sym is_marked) (record {
       leg = v.leg ++ w.leg;
       goes = (w.leg, v.leg, refl, w.goes, (v.leg, [], refl, second, refl));
       seen = v.seen ∙ ap (λ (p : Place). along code p v.leg) w.seen ∙ sym (along-append code (here old) v.leg w.leg);

@@ -8,8 +8,8 @@ use Rattle.rept_path.specs.declared.fault.PathFault.{PathFault}
 use Rattle.rept_path.specs.declared.fault.PathFault.TheVariants.{BranchesLeft}
 use Rattle.rept_isa.specs.declared.instr.Instr.{Instr}
 use Rattle.rept_path.specs.Code.{look}
-use Rattle.rept_path.specs.Moves.{Lead, Place, Stand, along, next_of, IsMove, stops, misfits, unused}
-use Rattle.rept_path.specs.Legs.{Passes, Reaches, Blocked, PhaseLeg, PhaseFault}
+use Rattle.rept_path.specs.Moves.{Lead, Place, Stand, along, next_of, IsMove, stops, misfits, unused, course_by}
+use Rattle.rept_path.specs.Legs.{Passes, Reaches, PhaseLeg, PhaseFault}
 use Rattle.rept_path.specs.Route.{Phase, PhaseLegs, PhasesFault, lead_of, further}
 
 one_move : (code : List ElfSegment) (lead : Lead) (p : Place) (r s : StepRow) → IsMove code lead p r → IsMove code lead p s → r ≡ s
@@ -27,7 +27,11 @@ one_move code lead p r s x y =
     one
 
 module _ (code : List ElfSegment) (lead : Lead) (aim : Aim) (past : Place) where
-  same_passes : (a b : List StepRow) → Passes code lead aim past a → Passes code lead aim past b → length a ≡ length b → a ≡ b
+  -- no move follows the leg, which has no stop
+  abbrev Blocked : List StepRow → PathFault → Type 0
+  Blocked leg e = Passes code (course_by lead aim) past leg × (next_of code lead (along code past leg) ≡ Err e)
+
+  same_passes : (a b : List StepRow) → Passes code (course_by lead aim) past a → Passes code (course_by lead aim) past b → length a ≡ length b → a ≡ b
   same_passes [] [] x y e = refl
   same_passes [] (q ∷ b) x y e = absurd (omega arith)
   same_passes (p ∷ a) [] x y e = absurd (omega arith)
@@ -38,7 +42,7 @@ module _ (code : List ElfSegment) (lead : Lead) (aim : Aim) (past : Place) where
       cc
 
   -- a leg to a stop is not within a leg without one
-  stop_within : (q : StepRow) (a b : List StepRow) → Reaches code lead aim past (q ∷ a) → Passes code lead aim past b → length a < length b → ⊥
+  stop_within : (q : StepRow) (a b : List StepRow) → Reaches code (course_by lead aim) past (q ∷ a) → Passes code (course_by lead aim) past b → length a < length b → ⊥
   stop_within q a [] x y lt = omega arith
   stop_within q a (p ∷ b) x y lt = elim (cases_order (length a) (length b)) [
     | inl e ↦
@@ -52,7 +56,7 @@ module _ (code : List ElfSegment) (lead : Lead) (aim : Aim) (past : Place) where
     | inr (inr l) ↦ omega arith
   ]
 
-  same_reach : (a b : List StepRow) → Reaches code lead aim past a → Reaches code lead aim past b → a ≡ b
+  same_reach : (a b : List StepRow) → Reaches code (course_by lead aim) past a → Reaches code (course_by lead aim) past b → a ≡ b
   same_reach [] b x y = elim x [ ]
   same_reach (p ∷ a) [] x y = elim y [ ]
   same_reach (p ∷ a) (q ∷ b) x y = elim (cases_order (length a) (length b)) [
@@ -66,7 +70,7 @@ module _ (code : List ElfSegment) (lead : Lead) (aim : Aim) (past : Place) where
   ]
 
   -- no leg goes on past a blocked one
-  blocked_within : (a b : List StepRow) (e : PathFault) → Blocked code lead aim past a e → Passes code lead aim past b → length a < length b → ⊥
+  blocked_within : (a b : List StepRow) (e : PathFault) → Blocked a e → Passes code (course_by lead aim) past b → length a < length b → ⊥
   blocked_within a [] e x y lt = omega arith
   blocked_within a (q ∷ b) e x y lt = elim (cases_order (length a) (length b)) [
     | inl i ↦
@@ -78,7 +82,7 @@ module _ (code : List ElfSegment) (lead : Lead) (aim : Aim) (past : Place) where
     | inr (inr l) ↦ omega arith
   ]
 
-  same_block : (a b : List StepRow) (d e : PathFault) → Blocked code lead aim past a d → Blocked code lead aim past b e → d ≡ e
+  same_block : (a b : List StepRow) (d e : PathFault) → Blocked a d → Blocked b e → d ≡ e
   same_block a b d e x y = elim (cases_order (length a) (length b)) [
     | inl i ↦
         let s : a ≡ b = same_passes a b x.0 y.0 i in
@@ -89,7 +93,7 @@ module _ (code : List ElfSegment) (lead : Lead) (aim : Aim) (past : Place) where
     | inr (inr l) ↦ absurd (blocked_within b a e y x.0 l)
   ]
 
-  reach_or_block : (a b : List StepRow) (e : PathFault) → Reaches code lead aim past a → Blocked code lead aim past b e → ⊥
+  reach_or_block : (a b : List StepRow) (e : PathFault) → Reaches code (course_by lead aim) past a → Blocked b e → ⊥
   reach_or_block [] b e x y = elim x [ ]
   reach_or_block (q ∷ a) b e x y = elim (cases_order (length a) (length b)) [
     | inl i ↦
@@ -101,12 +105,12 @@ module _ (code : List ElfSegment) (lead : Lead) (aim : Aim) (past : Place) where
     | inr (inr l) ↦ blocked_within b a e y x.0 l
   ]
 
-  pub one_leg : (a b : List StepRow) → PhaseLeg code lead aim past a → PhaseLeg code lead aim past b → a ≡ b
+  pub one_leg : (a b : List StepRow) → PhaseLeg code (course_by lead aim) past a → PhaseLeg code (course_by lead aim) past b → a ≡ b
   one_leg a b x y = same_reach a b x.reaches y.reaches
 
-  pub leg_or_fault : (a : List StepRow) (e : PathFault) → PhaseLeg code lead aim past a → PhaseFault code lead aim past e → ⊥
+  pub leg_or_fault : (a : List StepRow) (e : PathFault) → PhaseLeg code (course_by lead aim) past a → PhaseFault code (course_by lead aim) past e → ⊥
   leg_or_fault a e x y = elim y [
-    | inl f ↦ reach_or_block a f.leg e x.reaches f.blocked
+    | inl f ↦ reach_or_block a f.leg e x.reaches (f.passes, f.blocked)
     | inr f ↦
         let s : a ≡ f.leg = same_reach a f.leg x.reaches f.reaches in
         let n : misfits code lead.bits aim (along code past f.leg) ≡ false = rw s at x.fits in
@@ -114,11 +118,11 @@ module _ (code : List ElfSegment) (lead : Lead) (aim : Aim) (past : Place) where
         cc
   ]
 
-  pub one_fault : (d e : PathFault) → PhaseFault code lead aim past d → PhaseFault code lead aim past e → d ≡ e
+  pub one_fault : (d e : PathFault) → PhaseFault code (course_by lead aim) past d → PhaseFault code (course_by lead aim) past e → d ≡ e
   one_fault d e x y = elim x [
-    | inl f ↦ elim y [ inl g ↦ same_block f.leg g.leg d e f.blocked g.blocked | inr g ↦ absurd (reach_or_block g.leg f.leg d g.reaches f.blocked) ]
+    | inl f ↦ elim y [ inl g ↦ same_block f.leg g.leg d e (f.passes, f.blocked) (g.passes, g.blocked) | inr g ↦ absurd (reach_or_block g.leg f.leg d g.reaches (f.passes, f.blocked)) ]
     | inr f ↦ elim y [
-      | inl g ↦ absurd (reach_or_block f.leg g.leg e f.reaches g.blocked)
+      | inl g ↦ absurd (reach_or_block f.leg g.leg e f.reaches (g.passes, g.blocked))
       | inr g ↦
           let s : f.leg ≡ g.leg = same_reach f.leg g.leg f.reaches g.reaches in
           f.fault ∙ ap (λ (leg : List StepRow). BranchesLeft lead.packet (unused lead.bits (along code past leg))) s ∙ sym g.fault

@@ -14,11 +14,11 @@ use Rattle.rept_path.specs.declared.walk.Walk.{Walk}
 use Rattle.rept_path.specs.declared.window.Begin.{Begin}
 use Rattle.rept_path.specs.declared.window.Survey.{Survey}
 use Rattle.rept_path.specs.Gap.{gap_to_end}
-use Rattle.rept_path.specs.Route.{place}
-use Rattle.rept_path.specs.State.{here, standing, Stands, Crossed}
+use Rattle.rept_path.specs.Route.{place, earlier_by}
+use Rattle.rept_path.specs.State.{here, standing, Stands, Crossed, from_to}
 use Rattle.rept_path.specs.Trace.{starts, Window, IsWindow, StopsAt}
 use Rattle.rept_path.specs.Survey.{number_in, IsThere, Surveys}
-use Rattle.rept_path.specs.Traced.{pc_of, IsPathOf, IsRefusedBy}
+use Rattle.rept_path.specs.Traced.{pc_of, IsTraced, IsRefusedBy, raw_of}
 
 pub get_drop : (xs : List Packet) (n : ℕ) → slice_get (drop n xs) 0 ≡ slice_get xs n
 get_drop [] zero = refl
@@ -54,9 +54,9 @@ module _ (packets : Packets) (from : ℕ) (list : List Packet) (s : Survey) (b :
       | inr f ↦ inr (inr (list, found.hold, inr (b.number, window, inl (subst (λ (xs : List Packet). StopsAt (exe_of dump) b.number xs e) (sym there.2) f))))
     ]
 
-    module _ (w : Walk) (stood : (later : List Packet) → Hold (rest_of b.later) later → (legs : List (List StepRow)) × Stands (exe_of dump) b.number (reverse (b.first ∷ later)) legs w) where
-      stands : (legs : List (List StepRow)) × Stands (exe_of dump) b.number (reverse (drop b.number list)) legs w
-      stands = subst (λ (xs : List Packet). (legs : List (List StepRow)) × Stands (exe_of dump) b.number (reverse xs) legs w) (sym there.2) (stood there.0 there.1)
+    module _ (w : Walk) (stood : (later : List Packet) → Hold (rest_of b.later) later → (legs : List (List StepRow)) × Stands (exe_of dump) (earlier_by b.number (reverse (b.first ∷ later)) legs) w) where
+      stands : (legs : List (List StepRow)) × Stands (exe_of dump) (earlier_by b.number (reverse (drop b.number list)) legs) w
+      stands = subst (λ (xs : List Packet). (legs : List (List StepRow)) × Stands (exe_of dump) (earlier_by b.number (reverse xs) legs) w) (sym there.2) (stood there.0 there.1)
 
       pub join_refusal : (e : PathFault) → (e ≡ OutOfMemory) ⊎ (gap_to_end (exe_of dump) (standing s.count w) (pc_of dump) ≡ Err e) → (e ≡ OutOfMemory) ⊎ IsRefusedBy packets dump from e
       join_refusal e h = elim h [
@@ -66,7 +66,7 @@ module _ (packets : Packets) (from : ℕ) (list : List Packet) (s : Survey) (b :
             inr (inr (list, found.hold, inr (b.number, window, inr (record { legs = st.0; route = st.1.route; end = rw (← st.1.seen, ← st.1.bits, ← found.count) f }))))
       ]
 
-      pub joined : (new : Walk) → Crossed (exe_of dump) s.count (record { address = pc_of dump; otherwise = End w.at (pc_of dump) }) w new → IsPathOf packets dump from b.number new.steps
+      pub joined : (new : Walk) → Crossed (exe_of dump) (record { address = pc_of dump; otherwise = End w.at (pc_of dump) }) (from_to s.count w new) → IsTraced (raw_of packets dump from) b.number new.steps
       joined new x =
           let st = stands in
           let rows : (here w).rows ≡ (place (exe_of dump) (reverse (drop b.number list)) st.0).rows = ap (λ p. p.rows) st.1.seen in (

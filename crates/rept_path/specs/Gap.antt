@@ -11,7 +11,7 @@ use Rattle.rept_path.specs.declared.flow.Flow.TheVariants.{Plain, Branch, Jump, 
 use Rattle.rept_path.specs.declared.fault.PathFault.{PathFault}
 use Rattle.rept_path.specs.declared.fault.PathFault.TheVariants.{TooLong, Gap, End}
 use Rattle.rept_path.specs.Code.{look, flow_of, is_call}
-use Rattle.rept_path.specs.Moves.{Stand, successor, ◌>>=◌}
+use Rattle.rept_path.specs.Moves.{Stand, way_by, successor, ◌>>=◌}
 
 abbrev pub row : ℕ → Instr → ℕ → Bool → StepRow
 row at instr next call = record { at = at; instr = instr; next = next; call = call }
@@ -50,7 +50,7 @@ by_flow code e next (Branch imm) = next >>= by_successor code e
 abbrev pub crossing : List ElfSegment → Stand → Goal → Instr → Result (List StepRow) PathFault
 crossing code s goal i =
     let p = s.place in
-    by_flow code (record { at = p.at; instr = i; to = goal.address; otherwise = goal.otherwise }) (successor s.packet p.at (flow_of i) (slice_get s.bits p.branches) None) (flow_of i)
+    by_flow code (record { at = p.at; instr = i; to = goal.address; otherwise = goal.otherwise }) (successor s.packet p.at (flow_of i) (way_by (slice_get s.bits p.branches) None)) (flow_of i)
 
 -- the rows of the gap, of which there must be room for each
 unfoldable pub gap : List ElfSegment → Stand → Goal → Result (List StepRow) PathFault

@@ -4,39 +4,36 @@ use Rattle.std.specs.Prelude.{◌≡◌, List, [], ◌∷◌, Err, true, false, 
 use Rattle.rept_elf.specs.Segments.{ElfSegment}
 use Rattle.rept_path.specs.declared.fault.PathFault.{PathFault}
 use Rattle.rept_path.specs.declared.fault.PathFault.TheVariants.{BranchesLeft}
-use Rattle.rept_path.specs.declared.aim.Aim.{Aim}
 use Rattle.rept_isa.specs.declared.row.StepRow.{StepRow}
-use Rattle.rept_path.specs.Moves.{Lead, Place, along, next_of, IsMove, stops, misfits, unused}
+use Rattle.rept_path.specs.Moves.{Course, Place, along, next_of, IsMove, stops, misfits, unused}
 
 -- Each row of the leg is that of a move, and none leads to a stop.
-abbrev pub Passes : List ElfSegment → Lead → Aim → Place → List StepRow → Type 0
-Passes code lead aim past [] = Unit {0}
-Passes code lead aim past (row ∷ leg) = Passes code lead aim past leg × IsMove code lead (along code past leg) row × (stops code lead.bits aim (along code past (row ∷ leg)) ≡ false)
+abbrev pub Passes : List ElfSegment → Course → Place → List StepRow → Type 0
+Passes code course past [] = Unit {0}
+Passes code course past (row ∷ leg) = Passes code course past leg × IsMove code course.lead (along code past leg) row × (stops code course.lead.bits course.aim (along code past (row ∷ leg)) ≡ false)
 
 -- The leg ends at its first stop.
-abbrev pub Reaches : List ElfSegment → Lead → Aim → Place → List StepRow → Type 0
-Reaches code lead aim past [] = ⊥
-Reaches code lead aim past (row ∷ leg) = Passes code lead aim past leg × IsMove code lead (along code past leg) row × (stops code lead.bits aim (along code past (row ∷ leg)) ≡ true)
-
--- No move follows the leg, which has no stop.
-abbrev pub Blocked : List ElfSegment → Lead → Aim → Place → List StepRow → PathFault → Type 0
-Blocked code lead aim past leg e = Passes code lead aim past leg × (next_of code lead (along code past leg) ≡ Err e)
+abbrev pub Reaches : List ElfSegment → Course → Place → List StepRow → Type 0
+Reaches code course past [] = ⊥
+Reaches code course past (row ∷ leg) = Passes code course past leg × IsMove code course.lead (along code past leg) row × (stops code course.lead.bits course.aim (along code past (row ∷ leg)) ≡ true)
 
 -- The leg is that of one phase of a packet.
-pub record PhaseLeg (code : List ElfSegment) (lead : Lead) (aim : Aim) (past : Place) (leg : List StepRow) : Type 0 where
-  pub reaches : Reaches code lead aim past leg
-  pub fits : misfits code lead.bits aim (along code past leg) ≡ false
+pub record PhaseLeg (code : List ElfSegment) (course : Course) (past : Place) (leg : List StepRow) : Type 0 where
+  pub reaches : Reaches code course past leg
+  pub fits : misfits code course.lead.bits course.aim (along code past leg) ≡ false
 
--- The phase has no leg, and this is why.
-pub record BlockedPhase (code : List ElfSegment) (lead : Lead) (aim : Aim) (past : Place) (e : PathFault) : Type 0 where
+-- The phase has no leg, since no move follows one that has no stop. This is why.
+pub record BlockedPhase (code : List ElfSegment) (course : Course) (past : Place) (e : PathFault) : Type 0 where
   pub leg : List StepRow
-  pub blocked : Blocked code lead aim past leg e
+  pub passes : Passes code course past leg
+  pub blocked : next_of code course.lead (along code past leg) ≡ Err e
 
-pub record MisfitPhase (code : List ElfSegment) (lead : Lead) (aim : Aim) (past : Place) (e : PathFault) : Type 0 where
+-- It has none, since bits are left at its stop.
+pub record MisfitPhase (code : List ElfSegment) (course : Course) (past : Place) (e : PathFault) : Type 0 where
   pub leg : List StepRow
-  pub reaches : Reaches code lead aim past leg
-  pub left : misfits code lead.bits aim (along code past leg) ≡ true
-  pub fault : e ≡ BranchesLeft lead.packet (unused lead.bits (along code past leg))
+  pub reaches : Reaches code course past leg
+  pub left : misfits code course.lead.bits course.aim (along code past leg) ≡ true
+  pub fault : e ≡ BranchesLeft course.lead.packet (unused course.lead.bits (along code past leg))
 
-abbrev pub PhaseFault : List ElfSegment → Lead → Aim → Place → PathFault → Type 0
-PhaseFault code lead aim past e = BlockedPhase code lead aim past e ⊎ MisfitPhase code lead aim past e
+abbrev pub PhaseFault : List ElfSegment → Course → Place → PathFault → Type 0
+PhaseFault code course past e = BlockedPhase code course past e ⊎ MisfitPhase code course past e

@@ -43,6 +43,22 @@ pub record Stand : Type 0 where
   pub bits : List Bool
   pub place : Place
 
+-- what leads moves, and where they stop
+pub record Course : Type 0 where
+  pub lead : Lead
+  pub aim : Aim
+
+abbrev pub course_by : Lead → Aim → Course
+course_by lead aim = record { lead = lead; aim = aim }
+
+-- what the trace says of the way on from a position: the bit of a branch there, and where an uninferable jump goes
+pub record Way : Type 0 where
+  pub bit : Option Bool
+  pub target : Option ℕ
+
+abbrev pub way_by : Option Bool → Option ℕ → Way
+way_by bit target = record { bit = bit; target = target }
+
 abbrev pub by_bit : ℕ → ℕ → ℤ → Option Bool → Result ℕ PathFault
 by_bit k p imm None = Err (NoBranchBit k p)
 by_bit k p imm (Some false) = Ok (plus p imm)
@@ -52,15 +68,15 @@ abbrev pub by_target : ℕ → ℕ → Option ℕ → Result ℕ PathFault
 by_target k p None = Err (JumpInMap k p)
 by_target k p (Some a) = Ok a
 
--- the address after p in packet k, by what stands at p, the bit of a branch there and where an uninferable jump goes
-abbrev pub successor : ℕ → ℕ → Flow → Option Bool → Option ℕ → Result ℕ PathFault
-successor k p Plain bit target = Ok (following p)
-successor k p (Jump imm) bit target = Ok (plus p imm)
-successor k p (Fixed a) bit target = Ok a
-successor k p (Branch imm) bit target = by_bit k p imm bit
-successor k p Far bit target = by_target k p target
-successor k p Call bit target = Err (Trapped k p)
-successor k p Stop bit target = Err (Trapped k p)
+-- the address after p in packet k, by what stands at p and the way on
+abbrev pub successor : ℕ → ℕ → Flow → Way → Result ℕ PathFault
+successor k p Plain way = Ok (following p)
+successor k p (Jump imm) way = Ok (plus p imm)
+successor k p (Fixed a) way = Ok a
+successor k p (Branch imm) way = by_bit k p imm way.bit
+successor k p Far way = by_target k p way.target
+successor k p Call way = Err (Trapped k p)
+successor k p Stop way = Err (Trapped k p)
 
 -- an address that becomes a position
 abbrev pub position : List ElfSegment → ℕ → Result ℕ PathFault
@@ -70,7 +86,7 @@ position code a = look code a >>= (λ i. Ok a)
 unfoldable pub next_of : List ElfSegment → Lead → Place → Result ℕ PathFault
 next_of code lead p = do
   i ← look code p.at
-  a ← successor lead.packet p.at (flow_of i) (slice_get lead.bits p.branches) lead.target
+  a ← successor lead.packet p.at (flow_of i) (way_by (slice_get lead.bits p.branches) lead.target)
   if nat_le 65536 (length p.rows) then Err (TooLong lead.packet) else position code a
 
 -- the row of a move is from a place to the position after it

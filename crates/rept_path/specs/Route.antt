@@ -12,7 +12,7 @@ use Rattle.rept_trace.specs.declared.packet.Packet.{Packet}
 use Rattle.rept_trace.specs.declared.packet.Packet.TheVariants.{Start, Context, Support, Address, Map, MapAddress}
 use Rattle.rept_path.specs.Code.{sum}
 use Rattle.rept_path.specs.Packets.{bits, bits_of, reported, reported_after, waiting, begins}
-use Rattle.rept_path.specs.Moves.{Lead, Place, Stand, along, position, is_inferred}
+use Rattle.rept_path.specs.Moves.{Lead, Course, course_by, Place, Stand, along, position, is_inferred}
 use Rattle.rept_path.specs.Legs.{PhaseLeg, PhaseFault}
 use Rattle.rept_path.specs.Gap.{gap_to_start}
 
@@ -25,6 +25,10 @@ pub record Phase : Type 0 where
 abbrev pub lead_of : Stand → Phase → Lead
 lead_of s phase = record { packet = s.packet; target = phase.target; bits = s.bits }
 
+-- the course of its moves
+abbrev pub course_of : Stand → Phase → Course
+course_of s phase = course_by (lead_of s phase) phase.aim
+
 -- the same packet and bits, after a leg
 abbrev pub further : List ElfSegment → Stand → List StepRow → Stand
 further code s leg = record { packet = s.packet; bits = s.bits; place = along code s.place leg }
@@ -32,12 +36,12 @@ further code s leg = record { packet = s.packet; bits = s.bits; place = along co
 -- The leg is made of those of the phases, each from where the one before it stopped.
 abbrev pub PhaseLegs : List ElfSegment → Stand → List Phase → List StepRow → Type 0
 PhaseLegs code s [] leg = leg ≡ []
-PhaseLegs code s (phase ∷ phases) leg = (first : List StepRow) × (rest : List StepRow) × (leg ≡ rest ++ first) × PhaseLeg code (lead_of s phase) phase.aim s.place first × PhaseLegs code (further code s first) phases rest
+PhaseLegs code s (phase ∷ phases) leg = (first : List StepRow) × (rest : List StepRow) × (leg ≡ rest ++ first) × PhaseLeg code (course_of s phase) s.place first × PhaseLegs code (further code s first) phases rest
 
 -- One of the phases has no leg, and this is why.
 abbrev pub PhasesFault : List ElfSegment → Stand → List Phase → PathFault → Type 0
 PhasesFault code s [] e = ⊥
-PhasesFault code s (phase ∷ phases) e = PhaseFault code (lead_of s phase) phase.aim s.place e ⊎ ((first : List StepRow) × PhaseLeg code (lead_of s phase) phase.aim s.place first × PhasesFault code (further code s first) phases e)
+PhasesFault code s (phase ∷ phases) e = PhaseFault code (course_of s phase) s.place e ⊎ ((first : List StepRow) × PhaseLeg code (course_of s phase) s.place first × PhasesFault code (further code s first) phases e)
 
 -- Where the last stop was inferred, the program had come to the reported address and went on to the next uninferable jump, which
 -- led there again.
@@ -71,14 +75,22 @@ mark_after code (Map map) marked x = false
 mark_after code (Context privilege) marked x = marked
 mark_after code (Support enabled status) marked x = marked
 
+-- where a packet meets the walk, and whether the trace waits there for a start packet
+pub record Meeting : Type 0 where
+  pub waits : Bool
+  pub place : Place
+
+abbrev pub meets : Bool → Place → Meeting
+meets waits place = record { waits = waits; place = place }
+
 -- the place after a packet and its leg
-abbrev pub place_after : List ElfSegment → Packet → Bool → Place → List StepRow → Place
-place_after code packet waits before leg = if begins packet waits then record { at = reported_after packet 0; rows = leg ++ before.rows; branches = 0 } else along code before leg
+abbrev pub place_after : List ElfSegment → Packet → Meeting → List StepRow → Place
+place_after code packet meeting leg = if begins packet meeting.waits then record { at = reported_after packet 0; rows = leg ++ meeting.place.rows; branches = 0 } else along code meeting.place leg
 
 unfoldable pub place : List ElfSegment → List Packet → List (List StepRow) → Place
 place code [] legs = record { at = 0; rows = []; branches = 0 }
 place code (packet ∷ earlier) [] = record { at = 0; rows = []; branches = 0 }
-place code (packet ∷ earlier) (leg ∷ legs) = place_after code packet (waiting earlier) (place code earlier legs) leg
+place code (packet ∷ earlier) (leg ∷ legs) = place_after code packet (meets (waiting earlier) (place code earlier legs)) leg
 
 -- whether the walk stands at an inferred stop
 unfoldable pub marked : List ElfSegment → List Packet → List (List StepRow) → Bool
@@ -174,6 +186,9 @@ pub record Earlier : Type 0 where
   pub packets : List Packet
   pub legs : List (List StepRow)
 
+abbrev pub earlier_by : ℕ → List Packet → List (List StepRow) → Earlier
+earlier_by skipped packets legs = record { skipped = skipped; packets = packets; legs = legs }
+
 abbrev pub met_after : List ElfSegment → Earlier → Met
 met_after code before = met_by code before.skipped before.packets before.legs
 
@@ -195,4 +210,4 @@ abbrev pub Route : List ElfSegment → ℕ → List Packet → List (List StepRo
 Route code skipped [] [] = Unit {0}
 Route code skipped [] (leg ∷ legs) = ⊥
 Route code skipped (packet ∷ earlier) [] = ⊥
-Route code skipped (packet ∷ earlier) (leg ∷ legs) = Leg code packet (record { skipped = skipped; packets = earlier; legs = legs }) leg × Route code skipped earlier legs
+Route code skipped (packet ∷ earlier) (leg ∷ legs) = Leg code packet (earlier_by skipped earlier legs) leg × Route code skipped earlier legs

@@ -9,9 +9,9 @@ use Rattle.rept_isa.specs.declared.row.StepRow.{StepRow}
 use Rattle.rept_trace.specs.declared.packet.Packet.{Packet}
 use Rattle.rept_path.specs.declared.walk.Walk.{Walk}
 use Rattle.rept_path.specs.Packets.{bits, bits_of, bits_before, reported, reported_after, waiting, waits_after}
-use Rattle.rept_path.specs.Moves.{Lead, Place, Stand, along, IsMove}
+use Rattle.rept_path.specs.Moves.{Lead, Course, Place, Stand, along, IsMove}
 use Rattle.rept_path.specs.Legs.{PhaseLeg}
-use Rattle.rept_path.specs.Route.{Phase, PhaseLegs, Met, LegBy, Arrival, mark_after, Route, place, place_after, marked}
+use Rattle.rept_path.specs.Route.{Phase, PhaseLegs, Met, LegBy, Arrival, Earlier, mark_after, meets, Route, place, place_after, marked}
 
 -- where it stands
 abbrev pub here : Walk → Place
@@ -49,22 +49,31 @@ pub record Moved (code : List ElfSegment) (how : Lead) (old new : Walk) : Type 0
   pub grows : old.used ≤ new.used
 
 -- a phase was walked
-pub record Walked (code : List ElfSegment) (how : Lead) (aim : Aim) (old new : Walk) : Type 0 where
+pub record Walked (code : List ElfSegment) (course : Course) (old new : Walk) : Type 0 where
   pub leg : List StepRow
-  pub goes : PhaseLeg code how aim (here old) leg
+  pub goes : PhaseLeg code course (here old) leg
   pub seen : here new ≡ along code (here old) leg
   pub counts : Counts new
   pub kept : Keeps old new
   pub grows : old.used ≤ new.used
 
+-- a walk before and after what it did at the packet of this number
+pub record Change : Type 0 where
+  pub packet : ℕ
+  pub old : Walk
+  pub new : Walk
+
+abbrev pub from_to : ℕ → Walk → Walk → Change
+from_to k old new = record { packet = k; old = old; new = new }
+
 -- phases were walked
-pub record WalkedAll (code : List ElfSegment) (k : ℕ) (phases : List Phase) (old new : Walk) : Type 0 where
+pub record WalkedAll (code : List ElfSegment) (phases : List Phase) (change : Change) : Type 0 where
   pub leg : List StepRow
-  pub goes : PhaseLegs code (standing k old) phases leg
-  pub seen : here new ≡ along code (here old) leg
-  pub counts : Counts new
-  pub kept : Keeps old new
-  pub grows : old.used ≤ new.used
+  pub goes : PhaseLegs code (standing change.packet change.old) phases leg
+  pub seen : here change.new ≡ along code (here change.old) leg
+  pub counts : Counts change.new
+  pub kept : Keeps change.old change.new
+  pub grows : change.old.used ≤ change.new.used
 
 -- what a packet is met by
 abbrev pub met : ℕ → Walk → Met
@@ -75,35 +84,35 @@ abbrev pub arrival : Walk → Arrival
 arrival w = record { bits = w.bits.items; reported = w.reported; place = here w }
 
 -- a packet was followed
-pub record Followed (code : List ElfSegment) (k : ℕ) (packet : Packet) (old new : Walk) : Type 0 where
+pub record Followed (code : List ElfSegment) (packet : Packet) (change : Change) : Type 0 where
   pub leg : List StepRow
-  pub goes : LegBy code packet (met k old) leg
-  pub seen : here new ≡ place_after code packet old.waiting (here old) leg
-  pub counts : Counts new
-  pub bits : new.bits.items ≡ bits_before packet old.waiting old.bits.items ++ bits_of code packet
-  pub reported : new.reported ≡ reported_after packet old.reported
-  pub waiting : new.waiting ≡ waits_after packet old.waiting
-  pub marked : new.inferred ≡ mark_after code packet old.inferred (arrival new)
-  pub rests : length new.bits.items ≤ new.used + 1
+  pub goes : LegBy code packet (met change.packet change.old) leg
+  pub seen : here change.new ≡ place_after code packet (meets change.old.waiting (here change.old)) leg
+  pub counts : Counts change.new
+  pub bits : change.new.bits.items ≡ bits_before packet change.old.waiting change.old.bits.items ++ bits_of code packet
+  pub reported : change.new.reported ≡ reported_after packet change.old.reported
+  pub waiting : change.new.waiting ≡ waits_after packet change.old.waiting
+  pub marked : change.new.inferred ≡ mark_after code packet change.old.inferred (arrival change.new)
+  pub rests : length change.new.bits.items ≤ change.new.used + 1
 
 -- the walk stands at the end of a route
-pub record Stands (code : List ElfSegment) (skipped : ℕ) (packets : List Packet) (legs : List (List StepRow)) (w : Walk) : Type 0 where
-  pub route : Route code skipped packets legs
-  pub seen : here w ≡ place code packets legs
+pub record Stands (code : List ElfSegment) (passed : Earlier) (w : Walk) : Type 0 where
+  pub route : Route code passed.skipped passed.packets passed.legs
+  pub seen : here w ≡ place code passed.packets passed.legs
   pub counts : Counts w
-  pub bits : w.bits.items ≡ bits code packets
-  pub reported : w.reported ≡ reported packets
-  pub waiting : w.waiting ≡ waiting packets
-  pub marked : w.inferred ≡ marked code packets legs
+  pub bits : w.bits.items ≡ bits code passed.packets
+  pub reported : w.reported ≡ reported passed.packets
+  pub waiting : w.waiting ≡ waiting passed.packets
+  pub marked : w.inferred ≡ marked code passed.packets passed.legs
   pub rests : length w.bits.items ≤ w.used + 1
 
 -- the rows of a gap were added
-pub record Crossed (code : List ElfSegment) (k : ℕ) (goal : Goal) (old new : Walk) : Type 0 where
+pub record Crossed (code : List ElfSegment) (goal : Goal) (change : Change) : Type 0 where
   pub rows : List StepRow
-  pub crosses : gap code (standing k old) goal ≡ Ok rows
-  pub seen : reverse new.steps ≡ rows ++ reverse old.steps
-  pub few : length new.steps ≤ 65536
-  pub linked : EndBefore new.steps goal.address
+  pub crosses : gap code (standing change.packet change.old) goal ≡ Ok rows
+  pub seen : reverse change.new.steps ≡ rows ++ reverse change.old.steps
+  pub few : length change.new.steps ≤ 65536
+  pub linked : EndBefore change.new.steps goal.address
 
 -- whether the bits fit where moves with this aim end
 abbrev pub ends_fit : Aim → Bool

@@ -4,19 +4,15 @@ use Rattle.std.specs.Prelude.{◌≡◌, ℕ, ◌+◌, ◌<◌, ◌≤◌, List,
 use Rattle.std.specs.List.{between}
 use Rattle.rept_elf.specs.Segments.{ElfSegment}
 use Rattle.rept_isa.specs.declared.row.StepRow.{StepRow}
-use Rattle.rept_dump.specs.declared.dump.Dump.{Dump}
-use Rattle.rept_dump.specs.Dump.{exe_of}
 use Rattle.rept_trace.specs.declared.packet.Packet.{Packet}
-use Rattle.rept_trace.specs.declared.packets.Packets.{Packets}
-use Rattle.rept_trace.specs.Packets.{rest_of}
 use Rattle.rept_trace.specs.Stream.{Hold}
 use Rattle.rept_path.specs.Packets.{bits_of, bits_before, reported_after, waits_after}
 use Rattle.rept_path.specs.Moves.{Stand, misfits}
 use Rattle.rept_path.specs.Index.{LeastStop}
-use Rattle.rept_path.specs.Route.{Phase, lead_of, further, with_bits, phases_of, Met, stand_of, admits, mark_after, place_after, by_waiting, WaitingLeg, FirstLeg}
+use Rattle.rept_path.specs.Route.{Phase, course_of, meets, further, with_bits, phases_of, Met, stand_of, admits, mark_after, place_after, by_waiting, WaitingLeg, FirstLeg}
 use Rattle.rept_path.specs.Gap.{gap_to_end}
 use Rattle.rept_path.specs.Trace.{Window, Run}
-use Rattle.rept_path.specs.Traced.{pc_of}
+use Rattle.rept_path.specs.Traced.{RawRun, with_packets}
 
 -- a section of a path: the rows between two of its indices
 pub record Section : Type 0 where
@@ -42,7 +38,7 @@ onward code s part = further code s (reverse (rows_in part))
 abbrev pub PhaseStops : List ElfSegment → Stand → List Phase → Section → Type 0
 PhaseStops code s [] part = part.from ≡ part.to
 PhaseStops code s (phase ∷ phases) part =
-    (stop : ℕ) × (part.from < stop) × (stop ≤ part.to) × LeastStop code (lead_of s phase) phase.aim s.place (rows_in (up_to part stop))
+    (stop : ℕ) × (part.from < stop) × (stop ≤ part.to) × LeastStop code (course_of s phase) s.place (rows_in (up_to part stop))
     × (misfits code s.bits phase.aim (onward code s (up_to part stop)).place ≡ false) × PhaseStops code (onward code s (up_to part stop)) phases (beyond part stop)
 
 -- A packet's section: its phases end there, while the trace runs, and else its rows are those of the gap.
@@ -56,7 +52,7 @@ abbrev pub left_by : List ElfSegment → Packet → Met → List StepRow → Met
 left_by code packet met rows =
     let all = bits_before packet met.waits met.bits ++ bits_of code packet in
     let r = reported_after packet met.reported in
-    let p = place_after code packet met.waits met.place (reverse rows) in
+    let p = place_after code packet (meets met.waits met.place) (reverse rows) in
     record { number = met.number + 1; bits = all; reported = r; marked = mark_after code packet met.marked (record { bits = all; reported = r; place = p }); waits = waits_after packet met.waits; place = p }
 
 -- what the first packet is met by
@@ -92,6 +88,6 @@ pub record StopIndices (run : Run) (skipped : ℕ) (path : List StepRow) (stops 
   pub start : FirstLeg run.code first []
   pub each : StopsFrom run later (record { path = path; index = 0; met = left_by run.code first (nothing skipped) [] }) stops
 
--- The packets that are left have such stops on this path, over the program of a dump and to its program counter.
-abbrev pub HaveStops : Packets → Dump → ℕ → ℕ → List StepRow → Type 0
-HaveStops packets dump from skipped path = (list : List Packet) × (stops : List ℕ) × Hold (rest_of packets) list × StopIndices (record { code = exe_of dump; packets = list; from = from; pc = pc_of dump }) skipped path stops
+-- The bytes hold whole packets, which have such stops on this path.
+abbrev pub HaveStops : RawRun → ℕ → List StepRow → Type 0
+HaveStops raw skipped path = (list : List Packet) × (stops : List ℕ) × Hold raw.bytes list × StopIndices (with_packets raw list) skipped path stops

@@ -10,7 +10,7 @@ use Rattle.rept_trace.specs.declared.packet.Packet.{Packet}
 use Rattle.rept_trace.specs.declared.packet.Packet.TheVariants.{Start, Support}
 use Rattle.rept_path.specs.Packets.{bits}
 use Rattle.rept_path.specs.Moves.{Stand}
-use Rattle.rept_path.specs.Route.{Route, Fault, place}
+use Rattle.rept_path.specs.Route.{Route, Fault, earlier_by, place}
 use Rattle.rept_path.specs.Gap.{gap_to_end}
 
 abbrev pub starts : Option Packet → Bool
@@ -73,7 +73,7 @@ pub record StopsAt (code : List ElfSegment) (skipped : ℕ) (window : List Packe
   pub cut : window ≡ reverse earlier ++ packet ∷ later
   pub legs : List (List StepRow)
   pub route : Route code skipped earlier legs
-  pub fault : Fault code packet (record { skipped = skipped; packets = earlier; legs = legs }) e
+  pub fault : Fault code packet (earlier_by skipped earlier legs) e
 
 -- There is a route of the window, and no way from it to the end.
 pub record StopsAtEnd (run : Run) (skipped : ℕ) (e : PathFault) : Type 0 where

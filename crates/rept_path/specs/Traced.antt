@@ -12,25 +12,38 @@ use Rattle.rept_trace.specs.Packets.{rest_of, number_of}
 use Rattle.rept_trace.specs.Stream.{Hold, FailsAfter}
 use Rattle.rept_path.specs.declared.fault.PathFault.{PathFault}
 use Rattle.rept_path.specs.declared.fault.PathFault.TheVariants as fault
-use Rattle.rept_path.specs.Trace.{IsPath, IsRefused}
+use Rattle.rept_path.specs.Trace.{Run, IsPath, IsRefused}
 
 -- the program counter of a dump, as its register note holds it
 abbrev pub pc_of : Dump → ℕ
 pc_of dump = word_at (registers_of dump) 72
 
--- The bytes hold whole packets, and this is their path over a program to an address.
-abbrev pub IsTraced : List ElfSegment → List ℕ → ℕ → ℕ → ℕ → List StepRow → Type 0
-IsTraced code bytes from pc skipped path = (list : List Packet) × Hold bytes list × IsPath (record { code = code; packets = list; from = from; pc = pc }) skipped path
+-- a traced run whose packets are bytes: the program, these bytes, the number from which on the window may begin, and the program
+-- counter at the end
+pub record RawRun : Type 0 where
+  pub code : List ElfSegment
+  pub bytes : List ℕ
+  pub from : ℕ
+  pub pc : ℕ
 
--- A packet is refused, of which the first has this number. Or all are whole, and they have no path to the address.
-abbrev pub IsUntraced : List ElfSegment → ℕ → List ℕ → ℕ → ℕ → PathFault → Type 0
-IsUntraced code number bytes from pc e =
-    ((list : List Packet) × (refused : TraceFault) × FailsAfter number bytes list refused × (e ≡ fault.Packet refused))
-    ⊎ ((list : List Packet) × Hold bytes list × IsRefused (record { code = code; packets = list; from = from; pc = pc }) e)
+-- the run of these packets
+abbrev pub with_packets : RawRun → List Packet → Run
+with_packets raw list = record { code = raw.code; packets = list; from = raw.from; pc = raw.pc }
 
--- the same of the packets that are left, the program of a dump and its program counter
-abbrev pub IsPathOf : Packets → Dump → ℕ → ℕ → List StepRow → Type 0
-IsPathOf packets dump from skipped path = IsTraced (exe_of dump) (rest_of packets) from (pc_of dump) skipped path
+-- The bytes hold whole packets, and this is their path over the program to the end.
+abbrev pub IsTraced : RawRun → ℕ → List StepRow → Type 0
+IsTraced raw skipped path = (list : List Packet) × Hold raw.bytes list × IsPath (with_packets raw list) skipped path
 
+-- A packet is refused, of which the first has this number. Or all are whole, and they have no path to the end.
+abbrev pub IsUntraced : RawRun → ℕ → PathFault → Type 0
+IsUntraced raw number e =
+    ((list : List Packet) × (refused : TraceFault) × FailsAfter number raw.bytes list refused × (e ≡ fault.Packet refused))
+    ⊎ ((list : List Packet) × Hold raw.bytes list × IsRefused (with_packets raw list) e)
+
+-- the run of the packets that are left, over the program of a dump to its program counter
+abbrev pub raw_of : Packets → Dump → ℕ → RawRun
+raw_of packets dump from = record { code = exe_of dump; bytes = rest_of packets; from = from; pc = pc_of dump }
+
+-- The packets that are left are no path of it, and this is why.
 abbrev pub IsRefusedBy : Packets → Dump → ℕ → PathFault → Type 0
-IsRefusedBy packets dump from e = IsUntraced (exe_of dump) (number_of packets) (rest_of packets) from (pc_of dump) e
+IsRefusedBy packets dump from e = IsUntraced (raw_of packets dump from) (number_of packets) e

@@ -10,17 +10,17 @@ ghost use Rattle.rept_trace.specs.declared.packets.Packets.{Packets};
 ghost use Rattle.rept_path.specs.declared.aim.Aim.{Aim};
 ghost use Rattle.rept_path.specs.declared.fault.PathFault.{PathFault};
 ghost use Rattle.rept_path.specs.Code.{instruction};
-ghost use Rattle.rept_path.specs.Moves.{Lead, Place};
+ghost use Rattle.rept_path.specs.Moves.{Lead, Place, course_by};
 ghost use Rattle.rept_path.specs.Legs.{Reaches};
 ghost use Rattle.rept_path.specs.Index.{LeastStop};
 ghost use Rattle.rept_path.specs.Stops.{StopIndices};
 ghost use Rattle.rept_path.specs.Trace.{Run, IsPath};
-ghost use Rattle.rept_path.specs.Traced.{IsPathOf, IsRefusedBy};
+ghost use Rattle.rept_path.specs.Traced.{IsTraced, IsRefusedBy, raw_of};
 
 /// A leg ends at the least later index at which the walk stops, and only such a leg is one.
 pub fn least_stop()
-    ensures leg { (code : List ElfSegment) (lead : Lead) (aim : Aim) (past : Place) (leg : List StepRow) → Reaches code lead aim past leg → LeastStop code lead aim past (reverse leg) }
-    ensures only { (code : List ElfSegment) (lead : Lead) (aim : Aim) (past : Place) (leg : List StepRow) → LeastStop code lead aim past (reverse leg) → Reaches code lead aim past leg }
+    ensures leg { (code : List ElfSegment) (lead : Lead) (aim : Aim) (past : Place) (leg : List StepRow) → Reaches code (course_by lead aim) past leg → LeastStop code (course_by lead aim) past (reverse leg) }
+    ensures only { (code : List ElfSegment) (lead : Lead) (aim : Aim) (past : Place) (leg : List StepRow) → LeastStop code (course_by lead aim) past (reverse leg) → Reaches code (course_by lead aim) past leg }
 {}
 
 /// In a path each packet of the window has its stop index, and only such rows are a path.
@@ -31,9 +31,9 @@ pub fn stop_indices()
 
 /// A trace has at most one path over a program, or one refusal, and never both.
 pub fn one_answer()
-    ensures path { (packets : Packets) (dump : Dump) (from : ℕ) (i j : ℕ) (a b : List StepRow) → IsPathOf packets dump from i a → IsPathOf packets dump from j b → (i ≡ j) × (a ≡ b) }
+    ensures path { (packets : Packets) (dump : Dump) (from : ℕ) (i j : ℕ) (a b : List StepRow) → IsTraced (raw_of packets dump from) i a → IsTraced (raw_of packets dump from) j b → (i ≡ j) × (a ≡ b) }
     ensures refusal { (packets : Packets) (dump : Dump) (from : ℕ) (d e : PathFault) → IsRefusedBy packets dump from d → IsRefusedBy packets dump from e → d ≡ e }
-    ensures either { (packets : Packets) (dump : Dump) (from : ℕ) (i : ℕ) (a : List StepRow) (e : PathFault) → IsPathOf packets dump from i a → IsRefusedBy packets dump from e → ⊥ }
+    ensures either { (packets : Packets) (dump : Dump) (from : ℕ) (i : ℕ) (a : List StepRow) (e : PathFault) → IsTraced (raw_of packets dump from) i a → IsRefusedBy packets dump from e → ⊥ }
 {}
 
 /// The instruction at a step of a path is the one that the word there spells.

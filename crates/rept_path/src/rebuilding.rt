@@ -11,12 +11,12 @@ ghost use Rattle.rept_trace.specs.Stream.{Hold, FailsAfter, Answers};
 ghost use Rattle.rept_steps.specs.Linked.{AreLinked, EndBefore};
 ghost use Rattle.rept_path.specs.declared.fault.PathFault.{PathFault};
 ghost use Rattle.rept_path.specs.declared.fault.PathFault.TheVariants.{OutOfMemory};
-ghost use Rattle.rept_path.specs.Route.{FirstFault};
+ghost use Rattle.rept_path.specs.Route.{FirstFault, earlier_by};
 ghost use Rattle.rept_path.specs.Rows.{CarryCode};
 ghost use Rattle.rept_path.specs.State.{Stands};
 ghost use Rattle.rept_path.specs.Stops.{HaveStops};
 ghost use Rattle.rept_path.specs.Trace.{starts, StopsAt, IsPath, IsRefused};
-ghost use Rattle.rept_path.specs.Traced.{pc_of, IsPathOf, IsRefusedBy};
+ghost use Rattle.rept_path.specs.Traced.{pc_of, IsTraced, IsRefusedBy, raw_of};
 
 use crate::bits::push_branch;
 use crate::fault::PathFault;
@@ -45,7 +45,7 @@ fn begin_walk(
     packet: Packet,
 ) -> Result<Walk, PathFault>
     requires { starts (Some packet) ≡ true }
-    ensures ok { IfOk result (λ w. (legs : List (List StepRow)) × Stands (exe_of dump.now) skipped (packet ∷ []) legs w) }
+    ensures ok { IfOk result (λ w. (legs : List (List StepRow)) × Stands (exe_of dump.now) (earlier_by skipped (packet ∷ []) legs) w) }
     ensures err { IfErr result (λ e. (e ≡ OutOfMemory) ⊎ FirstFault (exe_of dump.now) packet e) }
 {
     match packet {
@@ -87,7 +87,7 @@ fn next_packet(rest: &mut Packets<'_>) -> Option<Packet>
 fn walk_over(alloc: Global, dump: &Dump<'_>, begin: Begin<'_>) -> Result<Walk, PathFault>
     requires starts { starts (Some begin.first) ≡ true }
     requires few { (later : List Packet) × Hold (rest_of begin.later) later × (begin.number + 1 + length later < 2 ^ 32) }
-    ensures ok { (later : List Packet) → Hold (rest_of begin.entry.later) later → IfOk result (λ w. (legs : List (List StepRow)) × Stands (exe_of dump.now) begin.entry.number (reverse (begin.entry.first ∷ later)) legs w) }
+    ensures ok { (later : List Packet) → Hold (rest_of begin.entry.later) later → IfOk result (λ w. (legs : List (List StepRow)) × Stands (exe_of dump.now) (earlier_by begin.entry.number (reverse (begin.entry.first ∷ later)) legs) w) }
     ensures err { (later : List Packet) → Hold (rest_of begin.entry.later) later → IfErr result (λ e. (e ≡ OutOfMemory) ⊎ StopsAt (exe_of dump.now) begin.entry.number (begin.entry.first ∷ later) e) }
 {
     let mut walk = begin_walk(alloc, dump, begin.number, begin.first)?;
@@ -110,7 +110,7 @@ fn rebuild_once(
     from: u32,
 ) -> Result<Path, PathFault>
     requires { length (rest_of packets) < 2 ^ 32 }
-    ensures path { IfOk result (λ path. IsPathOf packets.entry dump.now from path.skipped path.steps) }
+    ensures path { IfOk result (λ path. IsTraced (raw_of packets.entry dump.now from) path.skipped path.steps) }
     ensures some { IfOk result (λ path. 0 < length path.steps) }
     ensures linked { IfOk result (λ path. AreLinked path.steps) }
     ensures ends { IfOk result (λ path. EndBefore path.steps (pc_of dump.now)) }
@@ -149,7 +149,7 @@ pub fn rebuild(
     from: u32,
 ) -> Result<Path, PathFault>
     requires { length (rest_of packets) < 2 ^ 32 }
-    ensures path { IfOk result (λ path. IsPathOf packets.entry dump.now from path.skipped path.steps) }
+    ensures path { IfOk result (λ path. IsTraced (raw_of packets.entry dump.now from) path.skipped path.steps) }
     ensures some { IfOk result (λ path. 0 < length path.steps) }
     ensures linked { IfOk result (λ path. AreLinked path.steps) }
     ensures ends { IfOk result (λ path. EndBefore path.steps (pc_of dump.now)) }
@@ -157,15 +157,15 @@ pub fn rebuild(
     ensures refusal { IfErr result (λ e. (e ≡ OutOfMemory) ⊎ IsRefusedBy packets.entry dump.now from e) }
 
     // The same by index: each packet has its stop on the path.
-    ensures stops { IfOk result (λ path. HaveStops packets.entry dump.now from path.skipped path.steps) }
+    ensures stops { IfOk result (λ path. HaveStops (raw_of packets.entry dump.now from) path.skipped path.steps) }
 
     // There is no other path, and no other refusal. Want of memory is none of the definition's.
-    ensures only_path { (skipped : ℕ) (rows : List StepRow) → IsPathOf packets.entry dump.now from skipped rows → MatchResult result (λ path. (path.skipped ≡ skipped) × (path.steps ≡ rows)) (λ e. e ≡ OutOfMemory) }
+    ensures only_path { (skipped : ℕ) (rows : List StepRow) → IsTraced (raw_of packets.entry dump.now from) skipped rows → MatchResult result (λ path. (path.skipped ≡ skipped) × (path.steps ≡ rows)) (λ e. e ≡ OutOfMemory) }
     ensures only_refusal { (fault : PathFault) → IsRefusedBy packets.entry dump.now from fault → MatchResult result (λ _. ⊥) (λ e. (e ≡ OutOfMemory) ⊎ (e ≡ fault)) }
     ensures other { (fault : PathFault) → IsRefusedBy packets.entry dump.now from fault → fault ≢ OutOfMemory }
 
     // There is a path or a refusal.
-    ensures decided { ((skipped : ℕ) × (rows : List StepRow) × IsPathOf packets.entry dump.now from skipped rows) ⊎ ((fault : PathFault) × IsRefusedBy packets.entry dump.now from fault) }
+    ensures decided { ((skipped : ℕ) × (rows : List StepRow) × IsTraced (raw_of packets.entry dump.now from) skipped rows) ⊎ ((fault : PathFault) × IsRefusedBy packets.entry dump.now from fault) }
 {
     rebuild_once(alloc, packets, dump, from)
 }

@@ -4,11 +4,11 @@ ghost use Rattle.std.specs.Prelude.{◌≡◌, ◌⊎◌, ◌+◌, ◌≤◌, �
 ghost use Rattle.rept_dump.specs.Dump.{exe_of};
 ghost use Rattle.rept_path.specs.declared.fault.PathFault.TheVariants.{OutOfMemory};
 ghost use Rattle.rept_path.specs.Code.{look, flow_of};
-ghost use Rattle.rept_path.specs.Moves.{successor, next_of, by_jump, unused, bits_fit, stops, misfits, is_inferred};
+ghost use Rattle.rept_path.specs.Moves.{successor, next_of, by_jump, unused, bits_fit, stops, misfits, is_inferred, course_by, way_by};
 ghost use Rattle.rept_path.specs.Legs.{PhaseFault};
 ghost use Rattle.rept_path.specs.Gap.{by_successor, by_flow, gap};
 ghost use Rattle.rept_path.specs.Route.{first_phase, PhasesFault, RunningFault, WaitingFault, FaultBy};
-ghost use Rattle.rept_path.specs.State.{here, standing, Counts, lead, met, Moved, Walked, WalkedAll, Followed, Crossed, ends_fit};
+ghost use Rattle.rept_path.specs.State.{here, standing, Counts, lead, met, Moved, Walked, WalkedAll, Followed, Crossed, ends_fit, from_to};
 ghost use Rattle.rept_path.specs.Crossed.{rows_of, LeadAcross};
 
 use crate::aim::Aim;
@@ -48,7 +48,7 @@ fn successor_of(
     bit: Option<bool>,
     target: Option<u32>,
 ) -> Result<u32, PathFault>
-    ensures { result ≡ successor packet at flow bit target }
+    ensures { result ≡ successor packet at flow (way_by bit target) }
 {
     match flow {
         Flow::Plain => Ok(following(at)),
@@ -111,7 +111,7 @@ fn rows_across(
     otherwise: PathFault,
     bit: Option<bool>,
 ) -> Result<(StepRow, Option<StepRow>), PathFault>
-    ensures rows { MatchResult result (λ x. by_flow (exe_of dump.now) (record { at = at; instr = instr; to = to; otherwise = otherwise }) (successor packet at (flow_of instr) bit None) (flow_of instr) ≡ Ok (rows_of x.0 x.1)) (λ e. by_flow (exe_of dump.now) (record { at = at; instr = instr; to = to; otherwise = otherwise }) (successor packet at (flow_of instr) bit None) (flow_of instr) ≡ Err e) }
+    ensures rows { MatchResult result (λ x. by_flow (exe_of dump.now) (record { at = at; instr = instr; to = to; otherwise = otherwise }) (successor packet at (flow_of instr) (way_by bit None)) (flow_of instr) ≡ Ok (rows_of x.0 x.1)) (λ e. by_flow (exe_of dump.now) (record { at = at; instr = instr; to = to; otherwise = otherwise }) (successor packet at (flow_of instr) (way_by bit None)) (flow_of instr) ≡ Err e) }
     ensures across { IfOk result (λ x. LeadAcross at to x.0 x.1) }
 {
     let flow = flow_of(&instr);
@@ -302,8 +302,8 @@ impl Walk {
         aim: Aim,
     ) -> Result<(), PathFault>
         requires { Counts self.old }
-        ensures ok { OnOk result (Walked (exe_of dump.now) (lead self.old packet target) aim self.old self.new) }
-        ensures err { IfErr result (λ e. (e ≡ OutOfMemory) ⊎ PhaseFault (exe_of dump.now) (lead self.old packet target) aim (here self.old) e) }
+        ensures ok { OnOk result (Walked (exe_of dump.now) (course_by (lead self.old packet target) aim) self.old self.new) }
+        ensures err { IfErr result (λ e. (e ≡ OutOfMemory) ⊎ PhaseFault (exe_of dump.now) (course_by (lead self.old packet target) aim) (here self.old) e) }
         ensures rests { OnOk result (ends_fit aim ≡ true → length self.new.bits.items ≤ self.new.used + 1) }
     {
         let mut near = dump.near_code(self.at);
@@ -328,7 +328,7 @@ impl Walk {
         aim: Aim,
     ) -> Result<(), PathFault>
         requires { Counts self.old }
-        ensures ok { OnOk result (WalkedAll (exe_of dump.now) packet (first_phase self.old.inferred before ++ record { target = target; aim = aim } ∷ []) self.old self.new) }
+        ensures ok { OnOk result (WalkedAll (exe_of dump.now) (first_phase self.old.inferred before ++ record { target = target; aim = aim } ∷ []) (from_to packet self.old self.new)) }
         ensures err { IfErr result (λ e. (e ≡ OutOfMemory) ⊎ PhasesFault (exe_of dump.now) (standing packet self.old) (first_phase self.old.inferred before ++ record { target = target; aim = aim } ∷ []) e) }
         ensures rests { OnOk result (ends_fit aim ≡ true → length self.new.bits.items ≤ self.new.used + 1) }
     {
@@ -347,7 +347,7 @@ impl Walk {
         otherwise: PathFault,
     ) -> Result<(), PathFault>
         requires { Counts self.old }
-        ensures ok { OnOk result (Crossed (exe_of dump.now) packet (record { address = to; otherwise = otherwise }) self.old self.new) }
+        ensures ok { OnOk result (Crossed (exe_of dump.now) (record { address = to; otherwise = otherwise }) (from_to packet self.old self.new)) }
         ensures rest { self.new ≡ record self.old { steps = self.new.steps } }
         ensures err { IfErr result (λ e. (e ≡ OutOfMemory) ⊎ (gap (exe_of dump.now) (standing packet self.old) (record { address = to; otherwise = otherwise }) ≡ Err e)) }
     {
@@ -388,7 +388,7 @@ impl Walk {
     pub fn follow(&mut self, dump: &Dump<'_>, number: u32, packet: Packet) -> Result<(), PathFault>
         requires counts { Counts self.old }
         requires rests { length self.old.bits.items ≤ self.old.used + 1 }
-        ensures ok { OnOk result (Followed (exe_of dump.now) number packet self.old self.new) }
+        ensures ok { OnOk result (Followed (exe_of dump.now) packet (from_to number self.old self.new)) }
         ensures err { IfErr result (λ e. (e ≡ OutOfMemory) ⊎ FaultBy (exe_of dump.now) packet (met number self.old) e) }
     {
         match packet {
@@ -436,7 +436,7 @@ impl Walk {
     ) -> Result<(), PathFault>
         requires counts { Counts self.old }
         requires waits { self.old.waiting ≡ true }
-        ensures ok { OnOk result ((privilege : ℕ) → Followed (exe_of dump.now) number (Packet.Start branch privilege address) self.old self.new) }
+        ensures ok { OnOk result ((privilege : ℕ) → Followed (exe_of dump.now) (Packet.Start branch privilege address) (from_to number self.old self.new)) }
         ensures err { IfErr result (λ e. (privilege : ℕ) → (e ≡ OutOfMemory) ⊎ WaitingFault (exe_of dump.now) (Packet.Start branch privilege address) (met number self.old) e) }
     {
         let otherwise = PathFault::Gap(number, self.at, address);
@@ -463,7 +463,7 @@ impl Walk {
         requires counts { Counts self.old }
         requires rests { length self.old.bits.items ≤ self.old.used + 1 }
         requires runs { self.old.waiting ≡ false }
-        ensures ok { OnOk result ((privilege : ℕ) → Followed (exe_of dump.now) number (Packet.Start branch privilege address) self.old self.new) }
+        ensures ok { OnOk result ((privilege : ℕ) → Followed (exe_of dump.now) (Packet.Start branch privilege address) (from_to number self.old self.new)) }
         ensures err { IfErr result (λ e. (privilege : ℕ) → (e ≡ OutOfMemory) ⊎ RunningFault (exe_of dump.now) (Packet.Start branch privilege address) (met number self.old) e) }
     {
         position_of(dump, address)?;
@@ -486,9 +486,9 @@ impl Walk {
         requires counts { Counts self.old }
         requires rests { length self.old.bits.items ≤ self.old.used + 1 }
         requires runs { self.old.waiting ≡ false }
-        ensures ok { OnOk result (Followed (exe_of dump.now) number (Packet.MapAddress count map report) self.old self.new) }
+        ensures ok { OnOk result (Followed (exe_of dump.now) (Packet.MapAddress count map report) (from_to number self.old self.new)) }
         ensures err { IfErr result (λ e. (e ≡ OutOfMemory) ⊎ RunningFault (exe_of dump.now) (Packet.MapAddress count map report) (met number self.old) e) }
-        ensures ok_alone { count ≡ 0 → OnOk result (Followed (exe_of dump.now) number (Packet.Address report) self.old self.new) }
+        ensures ok_alone { count ≡ 0 → OnOk result (Followed (exe_of dump.now) (Packet.Address report) (from_to number self.old self.new)) }
         ensures err_alone { count ≡ 0 → IfErr result (λ e. (e ≡ OutOfMemory) ⊎ RunningFault (exe_of dump.now) (Packet.Address report) (met number self.old) e) }
     {
         let before = self.reported;
@@ -510,7 +510,7 @@ impl Walk {
         requires counts { Counts self.old }
         requires rests { length self.old.bits.items ≤ self.old.used + 1 }
         requires runs { self.old.waiting ≡ false }
-        ensures ok { OnOk result (Followed (exe_of dump.now) number (Packet.Map map) self.old self.new) }
+        ensures ok { OnOk result (Followed (exe_of dump.now) (Packet.Map map) (from_to number self.old self.new)) }
         ensures err { IfErr result (λ e. (e ≡ OutOfMemory) ⊎ RunningFault (exe_of dump.now) (Packet.Map map) (met number self.old) e) }
     {
         push_bits(&mut self.bits, 31, map)?;
@@ -523,7 +523,7 @@ impl Walk {
     fn support(&mut self, dump: &Dump<'_>, number: u32, status: Qual) -> Result<(), PathFault>
         requires counts { Counts self.old }
         requires rests { length self.old.bits.items ≤ self.old.used + 1 }
-        ensures ok { OnOk result ((enabled : Bool) → Followed (exe_of dump.now) number (Packet.Support enabled status) self.old self.new) }
+        ensures ok { OnOk result ((enabled : Bool) → Followed (exe_of dump.now) (Packet.Support enabled status) (from_to number self.old self.new)) }
         ensures err { IfErr result (λ e. (enabled : Bool) → (e ≡ OutOfMemory) ⊎ FaultBy (exe_of dump.now) (Packet.Support enabled status) (met number self.old) e) }
     {
         match status {
@@ -547,7 +547,7 @@ impl Walk {
     /// The first phase alone.
     fn finish(&mut self, dump: &Dump<'_>, number: u32) -> Result<(), PathFault>
         requires { Counts self.old }
-        ensures ok { OnOk result (WalkedAll (exe_of dump.now) number (first_phase self.old.inferred self.old.reported) self.old self.new) }
+        ensures ok { OnOk result (WalkedAll (exe_of dump.now) (first_phase self.old.inferred self.old.reported) (from_to number self.old self.new)) }
         ensures err { IfErr result (λ e. (e ≡ OutOfMemory) ⊎ PhasesFault (exe_of dump.now) (standing number self.old) (first_phase self.old.inferred self.old.reported) e) }
     {
         if !self.inferred {

@@ -70,4 +70,4 @@ pub record Records (code : List ElfSegment) (entries : List Entry) (trace : List
   pub along : GoAlong code entries rows
   pub rest : List ℕ
   pub layout : trace ≡ header ++ rest
-  pub path : (last : Entry) → slice_get entries (length rows) ≡ Some last → IsTraced code rest 0 last.address 0 rows
+  pub path : (last : Entry) → slice_get entries (length rows) ≡ Some last → IsTraced (record { code = code; bytes = rest; from = 0; pc = last.address }) 0 rows

@@ -7,8 +7,8 @@ use Rattle.rept_trace.specs.declared.packet.Packet.{Packet}
 use Rattle.rept_trace.specs.Packets.{rest_of, number_of}
 use Rattle.rept_trace.proofs.Going.{one_list}
 use Rattle.rept_path.specs.declared.fault.PathFault.TheVariants.{OutOfMemory}
-use Rattle.rept_path.specs.State.{met, Followed, Stands}
-use Rattle.rept_path.specs.Route.{FaultBy}
+use Rattle.rept_path.specs.State.{met, Followed, Stands, from_to}
+use Rattle.rept_path.specs.Route.{FaultBy, earlier_by}
 use Rattle.rept_path.specs.Trace.{StopsAt}
 use Rattle.rept_path.proofs.Packeting.{goes_on, stops_or, none_left, arrives, room}
 use Rattle.rept_path.proofs.rebuilding.walk_over.Goals as goal
@@ -40,7 +40,7 @@ loop-packet-preserved c =
     let b = c.args.begin in
     let i = c.loop-packet.invariant in
     let a = rw c.in-Some.is at c.next_packet.ensures.some in
-    (c.near_code-near.ensures.exe ∙ i.0, i.1, i.2, i.3, goes_on code b.number (b.first ∷ i.1) c.loop-packet.number (rest_of c.loop-packet.rest) c.loop-packet.walk i.4 (number_of c.loop-packet.rest) (number_of c.next_packet.new.rest) (rest_of c.next_packet.new.rest) c.in-Some.packet c.follow.new.self a (subst (λ (cs : List ElfSegment). Followed cs c.loop-packet.number c.in-Some.packet c.loop-packet.walk c.follow.new.self) (c.near_code-near.ensures.exe ∙ i.0) c.in_ok-follow.ensures.ok))
+    (c.near_code-near.ensures.exe ∙ i.0, i.1, i.2, i.3, goes_on code b.number (b.first ∷ i.1) c.loop-packet.number (rest_of c.loop-packet.rest) c.loop-packet.walk i.4 (number_of c.loop-packet.rest) (number_of c.next_packet.new.rest) (rest_of c.next_packet.new.rest) c.in-Some.packet c.follow.new.self a (subst (λ (cs : List ElfSegment). Followed cs c.in-Some.packet (from_to c.loop-packet.number c.loop-packet.walk c.follow.new.self)) (c.near_code-near.ensures.exe ∙ i.0) c.in_ok-follow.ensures.ok))
 
 pub returns-clause-ok : goal.returns-clause-ok
 returns-clause-ok c = λ later h.
@@ -50,7 +50,7 @@ returns-clause-ok c = λ later h.
     let a = rw c.in_default.is at c.next_packet.ensures.none in
     let none = none_left (number_of c.loop-packet.rest) (number_of c.next_packet.new.rest) (rest_of c.loop-packet.rest) (rest_of c.next_packet.new.rest) i.4.more i.4.hold a in
     let all = arrives code b.number (b.first ∷ i.1) c.loop-packet.number (rest_of c.loop-packet.rest) c.loop-packet.walk i.4 none in
-    subst (λ (l : List Packet). (legs : List (List StepRow)) × Stands code b.number (reverse (b.first ∷ l)) legs c.loop-packet.walk) (one_list (rest_of b.later) i.1 later i.2 h) all
+    subst (λ (l : List Packet). (legs : List (List StepRow)) × Stands code (earlier_by b.number (reverse (b.first ∷ l)) legs) c.loop-packet.walk) (one_list (rest_of b.later) i.1 later i.2 h) all
 
 pub next_packet-requires : goal.next_packet-requires
 next_packet-requires c = let g = c.loop-packet.invariant.4 in (g.more, g.hold)
