@@ -1,9 +1,10 @@
 //! From the words and the input to the trace that is written.
 
-ghost use Rattle.std.specs.Prelude.{◌≡◌, ◌≤◌, length, IfOk, IfErr, OnOk, OnErr};
+ghost use Rattle.std.specs.Prelude.{◌≡◌, ◌≤◌, length, IfOk, IfErr, OnOk};
 ghost use Rattle.std.specs.Io.KnownBytes.{Consumes, IsAtEnd};
 ghost use Rattle.rept_ports.specs.Port.{move};
-ghost use Rattle.rept_recording.specs.Worked.{Traces, IsKept, Writes, Refuses};
+ghost use Rattle.rept_ports.specs.Shelves.{Loads};
+ghost use Rattle.rept_recording.specs.Worked.{Ends, Makes, ReadStops, Stops, Writes, inputs_of};
 
 use crate::stop::Stop;
 use rept_ports::{LoadFault, Shelf, Sink, Source, write_all};
@@ -29,6 +30,8 @@ fn read_all<S: Source>(alloc: Global, input: &mut S) -> Result<Vec<u8>, InputSto
     ensures bytes { IfOk result (λ log. Consumes (S.port input.old).bytes (S.port input.new).bytes log.items) }
     ensures all { OnOk result (IsAtEnd (S.port input.new).bytes) }
     ensures within { IfOk result (λ log. length log.items ≤ LOG_LIMIT) }
+    ensures calm { OnOk result ((S.port input.new).faults ≡ (S.port input.old).faults) }
+    ensures err { IfErr result (ReadStops (move (S.port input.old) (S.port input.new))) }
 {
     let mut log = Vec::new(alloc);
     let mut buffer = [0u8; 4096];
@@ -56,8 +59,9 @@ fn trace_of<H: Shelf, S: Source>(
     shelf: &mut H,
     input: &mut S,
 ) -> Result<Text, Stop>
-    ensures ok { IfOk result (λ trace. Traces name.now (H.port shelf.old) (S.port input.old) trace) }
-    ensures err { IfErr result (λ stop. Refuses name.now (H.port shelf.old) (S.port input.old) stop) }
+    ensures ok { IfOk result (λ trace. Makes (inputs_of name.now (move (H.port shelf.old) (H.port shelf.new)) (move (S.port input.old) (S.port input.new))) trace) }
+    ensures err { IfErr result (Stops (inputs_of name.now (move (H.port shelf.old) (H.port shelf.new)) (move (S.port input.old) (S.port input.new)))) }
+    ensures loads { Loads (H.port shelf.old) (H.port shelf.new) result }
 {
     let exe = match shelf.load(alloc, name, EXE_LIMIT) {
         Ok(exe) => exe,
@@ -83,7 +87,12 @@ fn trace_of<H: Shelf, S: Source>(
 }
 
 /// Writes the trace of the log that comes in, over the executable of a name. Nothing is written before all of it was made, and nothing
-/// where the log is refused.
+/// where no trace is made.
+///
+/// Each `Err` has its cause: `LoadFault` where the shelf counted a fault; `NoFile` and `TooLarge` where the shelf's files say so, or, of a
+/// shelf that doesn't tell them, where it counted a fault; `InputFault` and `OutputFault` where that port counted one; `TooMuchInput` where
+/// the log has more than 256 MiB; `Refused` where the log isn't that of a run of the executable. `OutOfMemory` may come at any time but
+/// after a failed read or write. No other fault is counted.
 pub fn run<H: Shelf, S: Source, K: Sink>(
     alloc: Global,
     name: &str,
@@ -91,9 +100,9 @@ pub fn run<H: Shelf, S: Source, K: Sink>(
     input: &mut S,
     out: &mut K,
 ) -> Result<(), Stop>
-    ensures ok { OnOk result (Writes name.now (H.port shelf.old) (S.port input.old) (move (K.port out.old) (K.port out.new))) }
-    ensures err { IfErr result (λ stop. Refuses name.now (H.port shelf.old) (S.port input.old) stop) }
-    ensures quiet { IfErr result (λ stop. IsKept stop (K.port out.old) (K.port out.new)) }
+    ensures ok { OnOk result (Writes (inputs_of name.now (move (H.port shelf.old) (H.port shelf.new)) (move (S.port input.old) (S.port input.new))) (move (K.port out.old) (K.port out.new))) }
+    ensures err { IfErr result (Ends (inputs_of name.now (move (H.port shelf.old) (H.port shelf.new)) (move (S.port input.old) (S.port input.new))) (move (K.port out.old) (K.port out.new))) }
+    ensures loads { Loads (H.port shelf.old) (H.port shelf.new) result }
 {
     let trace = trace_of(alloc, name, shelf, input)?;
     match write_all(out, trace.bytes()) {
