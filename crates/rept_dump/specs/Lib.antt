@@ -1,3 +1,4 @@
+pub mod Code
 pub mod Dump
 pub mod Found
 pub mod Memory

@@ -1,19 +1,19 @@
 //! An executable and the core file of its crash, as one.
 
 ghost use Rattle.std.specs.Prelude.{◌≡◌, ◌≤◌, ◌<◌, ◌&&◌, ℕ, List, Result, Some, None, length, slice_index, IfOk, if◌then◌else◌};
-ghost use Rattle.rept_elf.specs.Header.{word_at};
 ghost use Rattle.rept_elf.specs.Segments.{greatest_end};
 ghost use Rattle.rept_elf.specs.Image.{file_of, segments_of, segment_of};
 ghost use Rattle.rept_dump.specs.Memory.{byte_at, code_at, allows, holds, bytes_from};
 ghost use Rattle.rept_dump.specs.Registers.{Says, status_size};
 ghost use Rattle.rept_dump.specs.Stretch.{AnswersAlike, sought_code, sought_saved, sought_kept};
 
+use crate::code::{code_near, word_near};
 use crate::fault::CoreFault;
 use crate::notes::find_registers;
 use crate::search::{Allowed, held_bytes};
 use crate::status::{Status, read_status};
 use crate::stretch::{NOWHERE, Stretch, stretch_near};
-use rept_elf::{Image, Segment, word};
+use rept_elf::{Image, Segment};
 
 /// An executable and the core file of its crash, whose notes are whole and have the registers of one thread.
 #[derive(Clone, Copy)]
@@ -39,14 +39,6 @@ fn byte_in(segment: &Segment<'_>, allowed: Allowed, a: u32) -> Option<u8>
 {
     let bytes = held_bytes(segment, allowed, a, 1)?;
     Some(bytes[0])
-}
-
-/// The word of code at an address, if this segment has all of it.
-fn word_in(segment: &Segment<'_>, a: u32) -> Option<u32>
-    ensures { result ≡ (if allows Allowed.Executable (segment_of segment.now) && holds a 4 (segment_of segment.now) then Some (word_at (bytes_from a (segment_of segment.now)) 0) else None) }
-{
-    let bytes = held_bytes(segment, Allowed::Executable, a, 4)?;
-    Some(word(bytes, 0))
 }
 
 impl<'a> Dump<'a> {
@@ -101,10 +93,7 @@ impl<'a> Dump<'a> {
     pub fn word_of_code(&self, a: u32) -> Option<u32>
         ensures { result ≡ code_at (exe_of self.now) a }
     {
-        match self.code_near(a).segment {
-            Some(segment) => word_in(&segment, a),
-            None => None,
-        }
+        word_near(&self.exe, self.code, a)
     }
 
     /// The end of the executable's image: the greatest `vaddr + memsz` of a `PT_LOAD` segment of it, 0 without one.
@@ -121,7 +110,7 @@ impl<'a> Dump<'a> {
         ensures registers { registers_of result ≡ registers_of self.now }
     {
         let mut dump = *self;
-        dump.code = self.code_near(a);
+        dump.code = code_near(&self.exe, self.code, a);
         dump
     }
 
@@ -135,14 +124,6 @@ impl<'a> Dump<'a> {
         dump.saved = self.saved_near(a);
         dump.kept = self.kept_near(a);
         dump
-    }
-
-    /// The stretch of code of an address.
-    fn code_near(&self, a: u32) -> Stretch<'a>
-        ensures within { (result.from ≤ a) × (a < result.to) }
-        ensures alike { AnswersAlike (sought_code (exe_of self.now)) result }
-    {
-        stretch_near(self.code, &self.exe, Allowed::Executable, a, 4)
     }
 
     /// The stretch of an address among saved bytes.

@@ -2,6 +2,7 @@
 //! of code. Nothing is copied.
 #![tactic(auto)]
 
+mod code;
 mod dump;
 mod fault;
 mod notes;
@@ -9,6 +10,7 @@ mod search;
 mod status;
 mod stretch;
 
+pub use code::Code;
 pub use dump::Dump;
 pub use fault::CoreFault;
 pub use status::Status;

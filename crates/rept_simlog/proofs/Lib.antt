@@ -1,3 +1,2 @@
 pub mod Entries
 pub mod Numerals
-pub mod Searching

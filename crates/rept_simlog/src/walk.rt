@@ -2,6 +2,7 @@
 
 ghost use Rattle.std.specs.Prelude.{◌≡◌, ◌≤◌, ℕ, length, IfOk, IfErr, OnOk};
 ghost use Rattle.std.specs.List.{All};
+ghost use Rattle.rept_dump.specs.Code.{code_of};
 ghost use Rattle.rept_elf.specs.Image.{segments_of};
 ghost use Rattle.rept_steps.specs.Linked.{EndBefore};
 ghost use Rattle.rept_encode.specs.Walkable.{IsStepped, IsWalkable};
@@ -11,21 +12,22 @@ ghost use Rattle.rept_simlog.specs.Walk.{AddsRow, GoAlong};
 use crate::code::look;
 use crate::log::Entry;
 use crate::refusal::Refusal;
+use rept_dump::Code;
 use rept_elf::Image;
 use rept_encode::{StepFault, push_step};
 use rept_steps::Steps;
 use std::alloc::Global;
 
 /// Adds the step from an entry to the next one.
-fn add_step(steps: &mut Steps, image: &Image<'_>, from: &Entry, to: &Entry) -> Result<(), Refusal>
+fn add_step(steps: &mut Steps, code: &Code<'_>, from: &Entry, to: &Entry) -> Result<(), Refusal>
     requires steps { All IsStepped steps.old }
     requires ends { EndBefore steps.old from.now.address }
     ensures steps { All IsStepped steps.new }
     ensures ends { OnOk result (EndBefore steps.new to.now.address) }
-    ensures ok { OnOk result (AddsRow (segments_of image.now) steps.old steps.new from.now to.now) }
-    ensures err { IfErr result (λ refusal. IsStepRefused (segments_of image.now) from.now to.now refusal) }
+    ensures ok { OnOk result (AddsRow (code_of code.now) steps.old steps.new from.now to.now) }
+    ensures err { IfErr result (λ refusal. IsStepRefused (code_of code.now) from.now to.now refusal) }
 {
-    let instr = match look(image, from.address) {
+    let instr = match look(code, from.address) {
         Ok(instr) => instr,
         Err(fault) => return Err(Refusal::NoInstruction(from.line, fault)),
     };
@@ -46,8 +48,10 @@ pub fn steps_of(alloc: Global, image: &Image<'_>, entries: &[Entry]) -> Result<S
     ensures err { IfErr result (λ refusal. IsWalkFault (segments_of image.now) entries.now refusal) }
 {
     let mut steps = Steps::new(alloc);
+    let mut code = Code::new(*image);
     for i in 0..entries.len() - 1 {
-        if let Err(refusal) = add_step(&mut steps, image, &entries[i], &entries[i + 1]) {
+        code = code.near(entries[i].address);
+        if let Err(refusal) = add_step(&mut steps, &code, &entries[i], &entries[i + 1]) {
             return Err(refusal);
         }
     }

@@ -1,0 +1,75 @@
+//! The code of an executable, looked up by address.
+
+ghost use Rattle.std.specs.Prelude.{◌≡◌, ◌≤◌, ◌<◌, ◌&&◌, Some, None, if◌then◌else◌};
+ghost use Rattle.rept_elf.specs.Header.{word_at};
+ghost use Rattle.rept_elf.specs.Image.{segments_of, segment_of};
+ghost use Rattle.rept_dump.specs.Memory.{code_at, allows, holds, bytes_from};
+ghost use Rattle.rept_dump.specs.Stretch.{AnswersAlike, sought_code};
+
+use crate::search::{Allowed, held_bytes};
+use crate::stretch::{NOWHERE, Stretch, stretch_near};
+use rept_elf::{Image, Segment, word};
+
+/// The word of code at an address, if this segment has all of it.
+fn word_in(segment: &Segment<'_>, a: u32) -> Option<u32>
+    ensures { result ≡ (if allows Allowed.Executable (segment_of segment.now) && holds a 4 (segment_of segment.now) then Some (word_at (bytes_from a (segment_of segment.now)) 0) else None) }
+{
+    let bytes = held_bytes(segment, Allowed::Executable, a, 4)?;
+    Some(word(bytes, 0))
+}
+
+/// The stretch of code of an address: the last one where it has the address.
+pub fn code_near<'a>(exe: &Image<'a>, last: Stretch<'a>, a: u32) -> Stretch<'a>
+    requires { AnswersAlike (sought_code (segments_of exe.now)) last }
+    ensures within { (result.from ≤ a) × (a < result.to) }
+    ensures alike { AnswersAlike (sought_code (segments_of exe.now)) result }
+{
+    stretch_near(last, exe, Allowed::Executable, a, 4)
+}
+
+/// The word of code at an address, looked for in the last stretch first.
+pub fn word_near(exe: &Image<'_>, last: Stretch<'_>, a: u32) -> Option<u32>
+    requires { AnswersAlike (sought_code (segments_of exe.now)) last }
+    ensures { result ≡ code_at (segments_of exe.now) a }
+{
+    match code_near(exe, last, a).segment {
+        Some(segment) => word_in(&segment, a),
+        None => None,
+    }
+}
+
+/// The code of an executable, and where it was looked for last.
+#[derive(Clone, Copy)]
+pub struct Code<'a> {
+    exe: Image<'a>,
+    last: Stretch<'a>,
+    ghost answers: { AnswersAlike (sought_code (segments_of exe)) last },
+}
+
+impl<'a> Code<'a> {
+    ghost use Rattle.rept_dump.specs.Code.{code_of};
+
+    /// The code of this executable.
+    pub fn new(exe: Image<'a>) -> Code<'a>
+        ensures { code_of result ≡ segments_of exe.entry }
+    {
+        Code { exe, last: NOWHERE }
+    }
+
+    /// The word of code at this address: the four bytes in the first `PT_LOAD` segment with `PF_X` whose bytes in the file have all
+    /// four. None exactly where there is none.
+    pub fn word_at(&self, a: u32) -> Option<u32>
+        ensures { result ≡ code_at (code_of self.now) a }
+    {
+        word_near(&self.exe, self.last, a)
+    }
+
+    /// The same code, which finds words near this address without a search among all segments.
+    pub fn near(&self, a: u32) -> Code<'a>
+        ensures { code_of result ≡ code_of self.now }
+    {
+        let mut code = *self;
+        code.last = code_near(&self.exe, self.last, a);
+        code
+    }
+}
