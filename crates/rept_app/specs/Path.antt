@@ -11,10 +11,10 @@ use Rattle.rept_found.specs.Crash.{Crash, end_pc}
 -- The file begins with the trace's header, and the packets after it have this path over the executable: from the first packet of
 -- that number or a later one from which a path may begin, to the program counter of the register note.
 abbrev pub IsTracePath : Crash → List ℕ → ℕ → Path → Type 0
-IsTracePath crash trace from path = (bytes : List ℕ) × (trace ≡ header ++ bytes) × IsTraced crash.exe bytes from (end_pc crash.note) path.skipped path.steps
+IsTracePath crash trace from path = (bytes : List ℕ) × (trace ≡ header ++ bytes) × IsTraced (record { code = crash.exe; bytes = bytes; from = from; pc = end_pc crash.note }) path.skipped path.steps
 
 -- The file doesn't begin with the header; or a packet is refused; or the packets have no path to the program counter.
 abbrev pub HasNoPath : Crash → List ℕ → ℕ → PathFault → Type 0
 HasNoPath crash trace from fault =
     ((refused : TraceFault) × IsHeaderFault trace refused × (fault ≡ Packet refused))
-    ⊎ ((bytes : List ℕ) × (trace ≡ header ++ bytes) × IsUntraced crash.exe 0 bytes from (end_pc crash.note) fault)
+    ⊎ ((bytes : List ℕ) × (trace ≡ header ++ bytes) × IsUntraced (record { code = crash.exe; bytes = bytes; from = from; pc = end_pc crash.note }) 0 fault)
