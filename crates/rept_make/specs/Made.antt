@@ -50,5 +50,5 @@ pub record IsMade (seed steps : ℕ) (made : Made) : Type 0 where
   pub rest : List ℕ
   pub layout : made.trace ≡ header ++ rest
   pub few : length made.trace < 2 ^ 32
-  pub path : IsTraced (record { code = (segments made.exe); bytes = rest; from = 0; pc = pc }) 0 rows
+  pub path : IsTraced (record { code = segments made.exe; bytes = rest; from = 0; pc = pc }) 0 rows
   pub execution : (last : List ℕ) → length last ≡ 32 → ((r : ℕ) → 0 < r → r < 32 → slice_index last r ≡ word_at status (72 + 4 * r)) → Execution (greatest_end (segments made.exe)) rows last (byte_at (segments made.exe) (segments made.core)) (λ i. laid (bytes_of_words words) (run i))
