@@ -18,7 +18,8 @@ use Rattle.rept_app.specs.Forms.{executable_fault, core_image_fault, crash_in}
 use Rattle.rept_app.specs.Lines.{status_of}
 use Rattle.rept_app.specs.Path.{IsTracePath, HasNoPath}
 use Rattle.rept_app.specs.Study.{Studies, IsStudied, StudyHolds}
-use Rattle.rept_app.specs.Told.{Examined, NotesTold, Reads}
+use Rattle.rept_app.specs.Loading.{CrashBytes}
+use Rattle.rept_app.specs.Told.{CrashTrace, trace_in, Examined, NotesTold, Reads}
 use Rattle.rept_app.specs.declared.refusal.Refusal.TheVariants as refusal
 use Rattle.rept_app.specs.declared.status.Status.{Status}
 use Rattle.rept_app.specs.declared.status.Status.TheVariants as ends
@@ -89,8 +90,8 @@ not_input (fault.Packet p) e = cc
 not_input (fault.Trapped k a) e = cc
 not_input fault.OutOfMemory e = cc
 
-module _ (crash : Crash) (trace : List ℕ) (from : ℕ) (status : Status) where
-  pub told_walked : (source sink : Move Port) → PortsEnd source sink status → WalkTold status → WalkYields crash trace from status → IsWalked crash trace from source sink status
+module _ (t : CrashTrace) (status : Status) where
+  pub told_walked : (source sink : Move Port) → PortsEnd source sink status → WalkTold status → WalkYields t status → IsWalked t source sink status
   told_walked source sink ports so yields = record {
     ports = ports;
     yields = yields;
@@ -98,10 +99,10 @@ module _ (crash : Crash) (trace : List ℕ) (from : ℕ) (status : Status) where
   }
 
   -- a call that stopped ends so whatever the path is
-  stopped_rows : Stopped status → (path : Path) → PathYields crash path status
+  stopped_rows : Stopped status → (path : Path) → PathYields t.crash path status
   stopped_rows s path = record { conflict = λ _ _. inr s; report = λ _. inr (inr (inr s)) }
 
-  pub memory_yields : Stopped status → WalkYields crash trace from status
+  pub memory_yields : Stopped status → WalkYields t status
   memory_yields s = record {
     refused = λ _ _. inr s;
     walked = λ path _. stopped_rows s path;
@@ -116,103 +117,103 @@ module _ (crash : Crash) (trace : List ℕ) (from : ℕ) (status : Status) where
       stops (inl h) = inr h
       stops (inr h) = h
 
-  module _ (f : PathFault) (none : (path : Path) → IsTracePath crash trace from path → f ≡ fault.OutOfMemory) (one : (g : PathFault) → HasNoPath crash trace from g → (f ≡ fault.OutOfMemory) ⊎ (f ≡ g)) (no_memory : (g : PathFault) → HasNoPath crash trace from g → g ≢ fault.OutOfMemory) where
-    pub refused_told : (f ≡ fault.OutOfMemory) ⊎ HasNoPath crash trace from f → Yields (status_of (refusal.Path f)) status → WalkTold status
+  module _ (f : PathFault) (none : (path : Path) → IsTracePath t.crash t.trace t.from path → f ≡ fault.OutOfMemory) (one : (g : PathFault) → HasNoPath t.crash t.trace t.from g → (f ≡ fault.OutOfMemory) ⊎ (f ≡ g)) (no_memory : (g : PathFault) → HasNoPath t.crash t.trace t.from g → g ≢ fault.OutOfMemory) where
+    pub refused_told : (f ≡ fault.OutOfMemory) ⊎ HasNoPath t.crash t.trace t.from f → Yields (status_of (refusal.Path f)) status → WalkTold status
     refused_told (inl e) so = inr (memory_stops f e so)
     refused_told (inr has) so = trace_told f status (no_memory f has) so
 
-    pub refused_yields : (f ≡ fault.OutOfMemory) ⊎ HasNoPath crash trace from f → Yields (status_of (refusal.Path f)) status → WalkYields crash trace from status
+    pub refused_yields : (f ≡ fault.OutOfMemory) ⊎ HasNoPath t.crash t.trace t.from f → Yields (status_of (refusal.Path f)) status → WalkYields t status
     refused_yields why so = record {
       refused = λ g has. same g has (one g has);
       walked = λ path is. stopped_rows (memory_stops f (none path is) so) path;
       only = λ e. which e why;
     }
       where
-        same : (g : PathFault) → HasNoPath crash trace from g → (f ≡ fault.OutOfMemory) ⊎ (f ≡ g) → Yields ends.Trace status
+        same : (g : PathFault) → HasNoPath t.crash t.trace t.from g → (f ≡ fault.OutOfMemory) ⊎ (f ≡ g) → Yields ends.Trace status
         same g has (inl e) = inr (memory_stops f e so)
         same g has (inr e) = trace_told g status (no_memory g has) (subst (λ (x : PathFault). Yields (status_of (refusal.Path x)) status) e so)
 
-        which : status ≡ ends.Trace → (f ≡ fault.OutOfMemory) ⊎ HasNoPath crash trace from f → (g : PathFault) × HasNoPath crash trace from g
+        which : status ≡ ends.Trace → (f ≡ fault.OutOfMemory) ⊎ HasNoPath t.crash t.trace t.from f → (g : PathFault) × HasNoPath t.crash t.trace t.from g
         which e (inl m) = absurd (no_trace status (stopped_path status (memory_stops f m so)) e)
         which e (inr has) = (f, has)
 
   -- where it has a path
-  module _ (path : Path) (only : (others : Path) → IsTracePath crash trace from others → path ≡ others) (none : (f : PathFault) → HasNoPath crash trace from f → ⊥) where
-    path_yields : PathYields crash path status → (status ≡ ends.Trace → ⊥) → WalkYields crash trace from status
+  module _ (path : Path) (only : (others : Path) → IsTracePath t.crash t.trace t.from others → path ≡ others) (none : (f : PathFault) → HasNoPath t.crash t.trace t.from f → ⊥) where
+    path_yields : PathYields t.crash path status → (status ≡ ends.Trace → ⊥) → WalkYields t status
     path_yields yields never = record {
       refused = λ f has. absurd (none f has);
-      walked = λ others is. subst (λ (p : Path). PathYields crash p status) (only others is) yields;
+      walked = λ others is. subst (λ (p : Path). PathYields t.crash p status) (only others is) yields;
       only = λ e. absurd (never e);
     }
 
-    pub studied_walked : (source sink : Move Port) → IsStudied crash path source sink status → IsWalked crash trace from source sink status
+    pub studied_walked : (source sink : Move Port) → IsStudied t.crash path source sink status → IsWalked t source sink status
     studied_walked source sink s = record {
       ports = s.ports;
       yields = path_yields (record { conflict = s.conflict; report = s.report }) (no_trace status s.ends_so);
       ends_so = inr s.ends_so;
     }
 
-module _ (crash : Crash) (trace : List ℕ) (from : ℕ) (reading : Reading) (text : List ℕ) (status : Status) where
+module _ (t : CrashTrace) (reading : Reading) (text : List ℕ) (status : Status) where
   as_memory : (f : PathFault) → f ≡ fault.OutOfMemory → Says (refusal.Path f) text status → Says refusal.OutOfMemory text status
   as_memory f e h = plain (subst (λ (g : PathFault). Says (refusal.Path g) text status) e h)
     where
       plain : Says (refusal.Path fault.OutOfMemory) text status → Says refusal.OutOfMemory text status
       plain s = record { line = s.line; ending = s.ending }
 
-  pub refused_walks : (f : PathFault) → (f ≡ fault.OutOfMemory) ⊎ HasNoPath crash trace from f → Tells (refusal.Path f) text status → Walks crash trace from reading text status
+  pub refused_walks : (f : PathFault) → (f ≡ fault.OutOfMemory) ⊎ HasNoPath t.crash t.trace t.from f → Tells (refusal.Path f) text status → Walks t reading text status
   refused_walks f (inl e) (inl h) = inr (inl (as_memory f e h))
   refused_walks f (inr has) (inl h) = inl (inl (f, has, h))
   refused_walks f why (inr h) = inr (inl h)
 
-  pub studies_walk : (path : Path) → IsTracePath crash trace from path → Studies crash path reading text status → Walks crash trace from reading text status
+  pub studies_walk : (path : Path) → IsTracePath t.crash t.trace t.from path → Studies t.crash path reading text status → Walks t reading text status
   studies_walk path is (inl h) = inl (inr (path, is, inl h))
   studies_walk path is (inr (inl (a, account, inl h))) = inl (inr (path, is, inr (a, account, h)))
   studies_walk path is (inr (inl (a, account, inr h))) = inr (inr (path, a, is, account, h))
   studies_walk path is (inr (inr h)) = inr (inl h)
 
-pub path_excludes : (crash : Crash) (trace : List ℕ) (from : ℕ) (path : Path) → ((others : Path) → IsTracePath crash trace from others → path ≡ others) → HasNoExecution (setting crash path.steps) → PathExcludes crash trace from
-path_excludes crash trace from path only none others is = subst (λ (p : Path). HasNoExecution (setting crash p.steps)) (only others is) none
+pub path_excludes : (t : CrashTrace) (path : Path) → ((others : Path) → IsTracePath t.crash t.trace t.from others → path ≡ others) → HasNoExecution (setting t.crash path.steps) → PathExcludes t
+path_excludes t path only none others is = subst (λ (p : Path). HasNoExecution (setting t.crash p.steps)) (only others is) none
 
 -- where a session may have been held over a path, so it may over its trace and its files
-pub study_holds : {P : Type 0} (crash : Crash) (trace : List ℕ) (from : ℕ) (path : Path) (status : Status) → IsTracePath crash trace from path → P ⊎ StudyHolds crash path status → P ⊎ WalkHolds crash trace from status
-study_holds crash trace from path status is (inl p) = inl p
-study_holds crash trace from path status is (inr (consistent, so)) = inr ((path, is, consistent), so)
+pub study_holds : {P : Type 0} (t : CrashTrace) (path : Path) (status : Status) → IsTracePath t.crash t.trace t.from path → P ⊎ StudyHolds t.crash path status → P ⊎ WalkHolds t status
+study_holds t path status is (inl p) = inl p
+study_holds t path status is (inr (consistent, so)) = inr ((path, is, consistent), so)
 
 -- the files are accepted, and this is what the note holds
-pub reads_here : (exe core note : List ℕ) → None ≡ executable_fault exe → None ≡ core_image_fault core → NotesSay (length core) (segments core) (Ok note) → Reads exe core note
-reads_here exe core note e k says = record { exe_accepted = sym e; core_accepted = sym k; noted = says }
+pub reads_here : (bytes : CrashBytes) (note : List ℕ) → None ≡ executable_fault bytes.exe → None ≡ core_image_fault bytes.core → NotesSay (length bytes.core) (segments bytes.core) (Ok note) → Reads bytes note
+reads_here bytes note e k says = record { exe_accepted = sym e; core_accepted = sym k; noted = says }
 
-pub walk_holds : {P : Type 0} (exe core trace : List ℕ) (from : ℕ) (note : List ℕ) (status : Status) → Reads exe core note → P ⊎ WalkHolds (crash_in exe core note) trace from status → P ⊎ FilesHold exe core trace from status
-walk_holds exe core trace from note status read (inl p) = inl p
-walk_holds exe core trace from note status read (inr ((path, is, consistent), so)) = inr ((note, path, read, is, consistent), so)
+pub walk_holds : {P : Type 0} (bytes : CrashBytes) (note : List ℕ) (status : Status) → Reads bytes note → P ⊎ WalkHolds (trace_in bytes note) status → P ⊎ FilesHold bytes status
+walk_holds bytes note status read (inl p) = inl p
+walk_holds bytes note status read (inr ((path, is, consistent), so)) = inr ((note, path, read, is, consistent), so)
 
 -- the files of the examination
-module _ (exe core trace : List ℕ) (from : ℕ) (status : Status) where
+module _ (bytes : CrashBytes) (status : Status) where
   abbrev AfterExe : Option ElfFault → Type 0
-  AfterExe o = MatchOption o (MatchOption (core_image_fault core) ((said : Result (List ℕ) CoreFault) → NotesSay (length core) (segments core) said → NoteYields (crash_in exe core) trace from said status) (λ _. Yields ends.Core status)) (λ _. Yields ends.Executable status)
+  AfterExe o = MatchOption o (MatchOption (core_image_fault bytes.core) ((said : Result (List ℕ) CoreFault) → NotesSay (length bytes.core) (segments bytes.core) said → NoteYields bytes said status) (λ _. Yields ends.Core status)) (λ _. Yields ends.Executable status)
 
   abbrev AfterCore : Option ElfFault → Type 0
-  AfterCore o = MatchOption o ((said : Result (List ℕ) CoreFault) → NotesSay (length core) (segments core) said → NoteYields (crash_in exe core) trace from said status) (λ _. Yields ends.Core status)
+  AfterCore o = MatchOption o ((said : Result (List ℕ) CoreFault) → NotesSay (length bytes.core) (segments bytes.core) said → NoteYields bytes said status) (λ _. Yields ends.Core status)
 
-  pub exe_end : (fault : ElfFault) → Some fault ≡ executable_fault exe → Yields ends.Executable status → FilesEnd exe core trace from status
+  pub exe_end : (fault : ElfFault) → Some fault ≡ executable_fault bytes.exe → Yields ends.Executable status → FilesEnd bytes status
   exe_end fault e so = subst AfterExe e so
 
-  pub core_end : (fault : ElfFault) → None ≡ executable_fault exe → Some fault ≡ core_image_fault core → Yields ends.Core status → FilesEnd exe core trace from status
+  pub core_end : (fault : ElfFault) → None ≡ executable_fault bytes.exe → Some fault ≡ core_image_fault bytes.core → Yields ends.Core status → FilesEnd bytes status
   core_end fault e k so = subst AfterExe e (subst AfterCore k so)
 
-  module _ (e : None ≡ executable_fault exe) (k : None ≡ core_image_fault core) (here : Result (List ℕ) CoreFault) (only : (said : Result (List ℕ) CoreFault) → NotesSay (length core) (segments core) said → said ≡ here) where
-    pub notes_end : NoteYields (crash_in exe core) trace from here status → FilesEnd exe core trace from status
-    notes_end yields = subst AfterExe e (subst AfterCore k (λ said says. subst (λ s. NoteYields (crash_in exe core) trace from s status) (sym (only said says)) yields))
+  module _ (e : None ≡ executable_fault bytes.exe) (k : None ≡ core_image_fault bytes.core) (here : Result (List ℕ) CoreFault) (only : (said : Result (List ℕ) CoreFault) → NotesSay (length bytes.core) (segments bytes.core) said → said ≡ here) where
+    pub notes_end : NoteYields bytes here status → FilesEnd bytes status
+    notes_end yields = subst AfterExe e (subst AfterCore k (λ said says. subst (λ s. NoteYields bytes s status) (sym (only said says)) yields))
 
   -- a call that stopped ends so whatever the files are
-  pub stopped_end : Stopped status → FilesEnd exe core trace from status
-  stopped_end s = at (executable_fault exe) (core_image_fault core)
+  pub stopped_end : Stopped status → FilesEnd bytes status
+  stopped_end s = at (executable_fault bytes.exe) (core_image_fault bytes.core)
     where
-      note : (said : Result (List ℕ) CoreFault) → NoteYields (crash_in exe core) trace from said status
+      note : (said : Result (List ℕ) CoreFault) → NoteYields bytes said status
       note (Err fault) = inr s
-      note (Ok n) = memory_yields (crash_in exe core n) trace from status s
+      note (Ok n) = memory_yields (trace_in bytes n) status s
 
-      at : (a b : Option ElfFault) → MatchOption a (MatchOption b ((said : Result (List ℕ) CoreFault) → NotesSay (length core) (segments core) said → NoteYields (crash_in exe core) trace from said status) (λ _. Yields ends.Core status)) (λ _. Yields ends.Executable status)
+      at : (a b : Option ElfFault) → MatchOption a (MatchOption b ((said : Result (List ℕ) CoreFault) → NotesSay (length bytes.core) (segments bytes.core) said → NoteYields bytes said status) (λ _. Yields ends.Core status)) (λ _. Yields ends.Executable status)
       at (Some f) b = inr s
       at None (Some f) = inr s
       at None None = λ said says. note said
@@ -222,53 +223,53 @@ module _ (exe core trace : List ℕ) (from : ℕ) (status : Status) where
   all_statuses (inr (inl h)) = inr (inl h)
   all_statuses (inr (inr h)) = inr (inr (inr (stopped_path status h)))
 
-  pub told_examined : (source sink : Move Port) → PortsEnd source sink status → (status ≡ ends.Executable) ⊎ (status ≡ ends.Core) ⊎ Stopped status → FilesEnd exe core trace from status → IsExamined exe core trace from source sink status
+  pub told_examined : (source sink : Move Port) → PortsEnd source sink status → (status ≡ ends.Executable) ⊎ (status ≡ ends.Core) ⊎ Stopped status → FilesEnd bytes status → IsExamined bytes source sink status
   told_examined source sink ports so yields = record { ports = ports; yields = yields; ends_so = all_statuses so }
 
-  pub walked_examined : (note : List ℕ) → FilesEnd exe core trace from status → (source sink : Move Port) → IsWalked (crash_in exe core note) trace from source sink status → IsExamined exe core trace from source sink status
+  pub walked_examined : (note : List ℕ) → FilesEnd bytes status → (source sink : Move Port) → IsWalked (trace_in bytes note) source sink status → IsExamined bytes source sink status
   walked_examined note yields source sink w = record { ports = w.ports; yields = yields; ends_so = inr (inr w.ends_so) }
 
 -- what is written of them
-module _ (exe core trace : List ℕ) (from : ℕ) (reading : Reading) (text : List ℕ) (status : Status) where
+module _ (bytes : CrashBytes) (reading : Reading) (text : List ℕ) (status : Status) where
   abbrev TextExe : Option ElfFault → Type 0
-  TextExe o = MatchOption o (MatchOption (core_image_fault core) (NotesTold exe core trace from reading.input text status) (λ fault. Says (refusal.CoreImage fault) text status)) (λ fault. Says (refusal.Executable fault) text status)
+  TextExe o = MatchOption o (MatchOption (core_image_fault bytes.core) (NotesTold bytes reading.input text status) (λ fault. Says (refusal.CoreImage fault) text status)) (λ fault. Says (refusal.Executable fault) text status)
 
   abbrev TextCore : Option ElfFault → Type 0
-  TextCore o = MatchOption o (NotesTold exe core trace from reading.input text status) (λ fault. Says (refusal.CoreImage fault) text status)
+  TextCore o = MatchOption o (NotesTold bytes reading.input text status) (λ fault. Says (refusal.CoreImage fault) text status)
 
-  pub exe_examines : (fault : ElfFault) → Some fault ≡ executable_fault exe → Tells (refusal.Executable fault) text status → Examines exe core trace from reading text status
+  pub exe_examines : (fault : ElfFault) → Some fault ≡ executable_fault bytes.exe → Tells (refusal.Executable fault) text status → Examines bytes reading text status
   exe_examines fault e (inl h) = inl (subst TextExe e h)
   exe_examines fault e (inr h) = inr (inl h)
 
-  pub core_examines : (fault : ElfFault) → None ≡ executable_fault exe → Some fault ≡ core_image_fault core → Tells (refusal.CoreImage fault) text status → Examines exe core trace from reading text status
+  pub core_examines : (fault : ElfFault) → None ≡ executable_fault bytes.exe → Some fault ≡ core_image_fault bytes.core → Tells (refusal.CoreImage fault) text status → Examines bytes reading text status
   core_examines fault e k (inl h) = inl (subst TextExe e (subst TextCore k h))
   core_examines fault e k (inr h) = inr (inl h)
 
-  module _ (e : None ≡ executable_fault exe) (k : None ≡ core_image_fault core) where
-    notes_examine : NotesTold exe core trace from reading.input text status → Examined exe core trace from reading.input text status
+  module _ (e : None ≡ executable_fault bytes.exe) (k : None ≡ core_image_fault bytes.core) where
+    notes_examine : NotesTold bytes reading.input text status → Examined bytes reading.input text status
     notes_examine h = subst TextExe e (subst TextCore k h)
 
-    pub notes_refused : (fault : CoreFault) → NotesSay (length core) (segments core) (Err fault) → Tells (refusal.Core fault) text status → Examines exe core trace from reading text status
+    pub notes_refused : (fault : CoreFault) → NotesSay (length bytes.core) (segments bytes.core) (Err fault) → Tells (refusal.Core fault) text status → Examines bytes reading text status
     notes_refused fault says (inl h) = inl (notes_examine (Err fault, says, h))
     notes_refused fault says (inr h) = inr (inl h)
 
-    module _ (note : List ℕ) (says : NotesSay (length core) (segments core) (Ok note)) where
-      pub walks_examine : Walks (crash_in exe core note) trace from reading text status → Examines exe core trace from reading text status
+    module _ (note : List ℕ) (says : NotesSay (length bytes.core) (segments bytes.core) (Ok note)) where
+      pub walks_examine : Walks (trace_in bytes note) reading text status → Examines bytes reading text status
       walks_examine (inl h) = inl (notes_examine (Ok note, says, h))
       walks_examine (inr (inl h)) = inr (inl h)
-      walks_examine (inr (inr cut)) = inr (inr (note, reads_here exe core note e k says, cut))
+      walks_examine (inr (inr cut)) = inr (inr (note, reads_here bytes note e k says, cut))
 
 abbrev pub said_ok : List ℕ → Result (List ℕ) CoreFault
 said_ok n = Ok n
 
-module _ (exe core trace : List ℕ) (from : ℕ) (note : List ℕ) (only : (said : Result (List ℕ) CoreFault) → NotesSay (length core) (segments core) said → said ≡ Ok note) where
+module _ (bytes : CrashBytes) (note : List ℕ) (only : (said : Result (List ℕ) CoreFault) → NotesSay (length bytes.core) (segments bytes.core) said → said ≡ Ok note) where
   same_note : (n : List ℕ) → said_ok n ≡ said_ok note → n ≡ note
   same_note n e = cc
 
-  pub files_exclude : PathExcludes (crash_in exe core note) trace from → FilesExclude exe core trace from
+  pub files_exclude : PathExcludes (trace_in bytes note) → FilesExclude bytes
   files_exclude none n read =
       let same = same_note n (only (Ok n) read.noted) in
-      subst (λ m. PathExcludes (crash_in exe core m) trace from) (sym same) none
+      subst (λ m. PathExcludes (trace_in bytes m)) (sym same) none
 
 -- what is said of the bytes that an image borrows
 pub says_at : (bytes core : List ℕ) (said : Result (List ℕ) CoreFault) → bytes ≡ core → NotesSay (length bytes) (segments bytes) said → NotesSay (length core) (segments core) said

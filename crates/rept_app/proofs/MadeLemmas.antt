@@ -1,12 +1,11 @@
 -- What is written of a made run, and how it ends the call.
-use Rattle.std.proofs.Common.{◌≡◌, ◌⊎◌, ℕ, zero, suc, ◌+◌, ◌*◌, ◌<◌, ◌≤◌, ◌==◌, eqb, List, [], ◌∷◌, ◌++◌, length, map, slice_index, get_or, slice_get, Bool, true, false, cond, Option, None, Some, Result, Ok, Err, MatchOption, MatchResult, inl, inr, refl, sym, ap, subst, ◌∙◌, arith}
+use Rattle.std.proofs.Common.{◌≡◌, ℕ, zero, suc, ◌+◌, ◌*◌, ◌<◌, ◌≤◌, eqb, List, [], ◌∷◌, length, map, slice_index, get_or, Option, None, Some, Result, Ok, Err, MatchOption, inl, inr, refl, sym, ap, subst, ◌∙◌, arith}
 use Rattle.std.specs.List.{range_with_len}
 use Rattle.std.proofs.lemmas.Bool.{cond-false, ne_eqb}
 use Rattle.std.proofs.lemmas.List.FromFn.{length-range_with_len, get_or-range_with_len}
 use Rattle.rept_elf.specs.Header.{word_at}
-use Rattle.rept_elf.specs.Segments.{segments, greatest_end}
+use Rattle.rept_elf.specs.Segments.{segments}
 use Rattle.rept_elf.specs.declared.fault.ElfFault.{ElfFault}
-use Rattle.rept_dump.specs.Memory.{byte_at}
 use Rattle.rept_dump.specs.Registers.{Says as NotesSay}
 use Rattle.rept_dump.specs.declared.fault.CoreFault.{CoreFault}
 use Rattle.rept_isa.specs.declared.row.StepRow.{StepRow}
@@ -22,24 +21,21 @@ use Rattle.rept_report.specs.Closure.{ClosureHas, IsConsistent, IsReport}
 use Rattle.rept_report.specs.Setting.{Runs}
 use Rattle.rept_report.specs.Soundness.{HasNoExecution}
 use Rattle.rept_report.specs.declared.conflict.ConflictKind.{ConflictKind}
-use Rattle.rept_found.specs.Crash.{Crash, last_value, last_values, end_pc, setting}
-use Rattle.rept_found.specs.Telling.{told_of}
+use Rattle.rept_found.specs.Crash.{Crash, last_value, last_values, setting}
 use Rattle.rept_found.specs.Truth.{IsTrueReport}
 use Rattle.rept_make.specs.Files.{bytes_of_words}
 use Rattle.rept_make.specs.Laid.{laid}
 use Rattle.rept_make.specs.Made.{IsMade}
 use Rattle.rept_make.specs.declared.made.Made.{Made}
-use Rattle.rept_serve.specs.Serving.{Reading}
-use Rattle.rept_session.specs.Shown.{Told as ToldOf}
 use Rattle.rept_app.specs.Delivered.{Delivers, Says, Tells}
-use Rattle.rept_app.specs.Ends.{Stopped, Yields, EndsSession, FaultEnds, PortsEnd}
-use Rattle.rept_app.specs.Examine.{Examines, WalkYields, NoteYields, FilesEnd, IsExamined}
+use Rattle.rept_app.specs.Ends.{Yields, EndsSession, PortsEnd}
+use Rattle.rept_app.specs.Examine.{Examines, WalkYields, NoteYields, FilesEnd}
 use Rattle.rept_app.specs.Forms.{executable_fault, core_image_fault, crash_in}
-use Rattle.rept_app.specs.Held.{Replies, CutOff}
 use Rattle.rept_app.specs.Lines.{status_of}
 use Rattle.rept_app.specs.MadeRun.{Sums}
 use Rattle.rept_app.specs.Path.{IsTracePath}
-use Rattle.rept_app.specs.Told.{Examined, NotesTold, Walked, Reads, Opening, OpensMade, MadeHolds, crash_at, setting_at, summary_line}
+use Rattle.rept_app.specs.Loading.{CrashBytes}
+use Rattle.rept_app.specs.Told.{CrashTrace, trace_in, NotesTold, Walked, Reads, Opening, OpensMade, MadeHolds, made_bytes, summary_line}
 use Rattle.rept_app.specs.declared.refusal.Refusal.TheVariants as refusal
 use Rattle.rept_app.specs.declared.status.Status.{Status}
 use Rattle.rept_app.specs.declared.status.Status.TheVariants as ends
@@ -77,7 +73,7 @@ module _ (seed steps : ℕ) (made : Made) (m : IsMade seed steps made) where
   abbrev pub crash_made : Crash
   crash_made = crash_in made.exe made.core m.status
 
-  reads_made : Reads made.exe made.core m.status
+  reads_made : Reads (made_bytes made) m.status
   reads_made = record { exe_accepted = m.exe_read; core_accepted = m.core_read; noted = m.notes }
 
   path_made : IsTracePath crash_made made.trace 0 (path_of m.rows)
@@ -90,26 +86,26 @@ module _ (seed steps : ℕ) (made : Made) (m : IsMade seed steps made) where
   runs_made = m.execution (last_values m.status) (last_size m.status) (λ r above below. last_at m.status r above below)
 
   abbrev opening_made : Opening
-  opening_made = record { exe = made.exe; core = made.core; trace = made.trace; from = 0; note = m.status; path = path_of m.rows }
+  opening_made = record { bytes = made_bytes made; note = m.status; path = path_of m.rows }
 
   opens_made : OpensMade made opening_made
-  opens_made = record { exe = refl; core = refl; trace = refl; from = refl; read = reads_made; path = path_made }
+  opens_made = record { bytes = refl; read = reads_made; path = path_made }
 
   -- so the closure has no conflict
   consistent_made : ((kind : ConflictKind) → ClosureHas (setting crash_made m.rows) kind → HasNoExecution (setting crash_made m.rows)) → IsConsistent (setting crash_made m.rows)
   consistent_made none kind has = none kind has run_made runs_made
 
   abbrev AfterCore : Status → Option ElfFault → Type 0
-  AfterCore status o = MatchOption o ((said : Result (List ℕ) CoreFault) → NotesSay (length made.core) (segments made.core) said → NoteYields (crash_in made.exe made.core) made.trace 0 said status) (λ _. Yields ends.Core status)
+  AfterCore status o = MatchOption o ((said : Result (List ℕ) CoreFault) → NotesSay (length made.core) (segments made.core) said → NoteYields (made_bytes made) said status) (λ _. Yields ends.Core status)
 
   abbrev AfterExe : Status → Option ElfFault → Type 0
   AfterExe status o = MatchOption o (AfterCore status (core_image_fault made.core)) (λ _. Yields ends.Executable status)
 
-  pub session_made : ((kind : ConflictKind) → ClosureHas (setting crash_made m.rows) kind → HasNoExecution (setting crash_made m.rows)) → (status : Status) → FilesEnd made.exe made.core made.trace 0 status → EndsSession status
+  pub session_made : ((kind : ConflictKind) → ClosureHas (setting crash_made m.rows) kind → HasNoExecution (setting crash_made m.rows)) → (status : Status) → FilesEnd (made_bytes made) status → EndsSession status
   session_made none status h =
-      let notes : (said : Result (List ℕ) CoreFault) → NotesSay (length made.core) (segments made.core) said → NoteYields (crash_in made.exe made.core) made.trace 0 said status =
+      let notes : (said : Result (List ℕ) CoreFault) → NotesSay (length made.core) (segments made.core) said → NoteYields (made_bytes made) said status =
       subst (AfterCore status) m.core_read (subst (AfterExe status) m.exe_read h) in
-      let walk : WalkYields crash_made made.trace 0 status = notes (Ok m.status) m.notes in
+      let walk : WalkYields (trace_in (made_bytes made) m.status) status = notes (Ok m.status) m.notes in
       (walk.walked (path_of m.rows) path_made).report (consistent_made none)
 
 pub made_holds : (seed steps : ℕ) → ((crash : Crash) (rows : List StepRow) (known : Knowledge) → IsReport (setting crash rows) known → IsTrueReport (setting crash rows) known) → MadeHolds seed steps
@@ -117,11 +113,11 @@ made_holds seed steps true_of made m =
     (opening_made seed steps made m, opens_made seed steps made m, (run_made seed steps made m, runs_made seed steps made m), λ known report. true_of (crash_made seed steps made m) m.rows known report)
 
 -- what is written, by what is written of the files
-pub sums : (seed steps : ℕ) (made : Made) → IsMade seed steps made → (left : Option (List ℕ)) (text : List ℕ) (status : Status) → Examines made.exe made.core made.trace 0 (record { input = summary_line; left = left }) text status → Sums seed steps text status
+pub sums : (seed steps : ℕ) (made : Made) → IsMade seed steps made → (left : Option (List ℕ)) (text : List ℕ) (status : Status) → Examines (made_bytes made) (record { input = summary_line; left = left }) text status → Sums seed steps text status
 sums seed steps made m left text status (inl h) = inl (made, m, h)
 sums seed steps made m left text status (inr (inl h)) = inr (inl h)
 sums seed steps made m left text status (inr (inr (note, read, (path, a, is, account, cut)))) =
-    inr (inr (made, m, record { exe = made.exe; core = made.core; trace = made.trace; from = 0; note = note; path = path }, record { exe = refl; core = refl; trace = refl; from = refl; read = read; path = is }, a, account, left, cut))
+    inr (inr (made, m, record { bytes = made_bytes made; note = note; path = path }, record { bytes = refl; read = read; path = is }, a, account, left, cut))
 
 -- the input isn't too long
 no_path_status : (f : PathFault) → status_of (refusal.Path f) ≡ ends.TooMuchInput → ⊥
@@ -139,23 +135,23 @@ no_path_status (fault.Packet p) e = cc
 no_path_status (fault.Trapped k a) e = cc
 no_path_status fault.OutOfMemory e = cc
 
-module _ (exe core trace : List ℕ) (from : ℕ) (text : List ℕ) where
-  walked_short : (crash : Crash) → Walked crash trace from summary_line text ends.TooMuchInput → ⊥
-  walked_short crash (inl (f, has, says)) = no_path_status f (sym says.ending)
-  walked_short crash (inr (path, is, inl (kind, has, says))) = let bad : ends.TooMuchInput ≡ ends.Inconsistent = says.ending in cc
-  walked_short crash (inr (path, is, inr (a, account, (answered, over, e)))) = let long : 1048576 < 8 = over.long in omega arith
+module _ (bytes : CrashBytes) (text : List ℕ) where
+  walked_short : (t : CrashTrace) → Walked t summary_line text ends.TooMuchInput → ⊥
+  walked_short t (inl (f, has, says)) = no_path_status f (sym says.ending)
+  walked_short t (inr (path, is, inl (kind, has, says))) = let bad : ends.TooMuchInput ≡ ends.Inconsistent = says.ending in cc
+  walked_short t (inr (path, is, inr (a, account, (answered, over, e)))) = let long : 1048576 < 8 = over.long in omega arith
 
-  notes_short : NotesTold exe core trace from summary_line text ends.TooMuchInput → ⊥
-  notes_short (Ok note, said, h) = walked_short (crash_in exe core note) h
+  notes_short : NotesTold bytes summary_line text ends.TooMuchInput → ⊥
+  notes_short (Ok note, said, h) = walked_short (trace_in bytes note) h
   notes_short (Err f, said, says) = let bad : ends.TooMuchInput ≡ ends.Core = says.ending in cc
 
-  examined_short : (a b : Option ElfFault) → MatchOption a (MatchOption b (NotesTold exe core trace from summary_line text ends.TooMuchInput) (λ f. Says (refusal.CoreImage f) text ends.TooMuchInput)) (λ f. Says (refusal.Executable f) text ends.TooMuchInput) → ⊥
+  examined_short : (a b : Option ElfFault) → MatchOption a (MatchOption b (NotesTold bytes summary_line text ends.TooMuchInput) (λ f. Says (refusal.CoreImage f) text ends.TooMuchInput)) (λ f. Says (refusal.Executable f) text ends.TooMuchInput) → ⊥
   examined_short (Some f) b says = let bad : ends.TooMuchInput ≡ ends.Executable = says.ending in cc
   examined_short None (Some f) says = let bad : ends.TooMuchInput ≡ ends.Core = says.ending in cc
   examined_short None None h = notes_short h
 
-  pub never_long : (left : Option (List ℕ)) → Examines exe core trace from (record { input = summary_line; left = left }) text ends.TooMuchInput → ⊥
-  never_long left (inl h) = examined_short (executable_fault exe) (core_image_fault core) h
+  pub never_long : (left : Option (List ℕ)) → Examines bytes (record { input = summary_line; left = left }) text ends.TooMuchInput → ⊥
+  never_long left (inl h) = examined_short (executable_fault bytes.exe) (core_image_fault bytes.core) h
   never_long left (inr (inl says)) = let bad : ends.TooMuchInput ≡ ends.OutOfMemory = says.ending in cc
   never_long left (inr (inr (note, read, (path, a, is, account, cut)))) = absurd cut
 
@@ -164,14 +160,14 @@ never_failed : OneFault 0 0 → ⊥
 never_failed h = let rose : 1 ≤ 0 = h.rose in omega arith
 
 -- how the call ends, from how the session may end
-pub yields_made : (exe core trace : List ℕ) (left : Option (List ℕ)) (out : Move Port) (status : Status) → EndsSession status → (status ≡ ends.InputFault → OneFault 0 0)
-    → Delivers (Examines exe core trace 0 (record { input = summary_line; left = left })) out status → Yields ends.Ok status
-yields_made exe core trace left out status so input (inr (e, fault, rest)) = inr (inl e)
-yields_made exe core trace left out status (inl e) input (inl d) = inl e
-yields_made exe core trace left out status (inr (inl e)) input (inl d) = absurd (never_failed (input e))
-yields_made exe core trace left out status (inr (inr (inl e))) input (inl (text, goes, appended, calm)) =
-    absurd (never_long exe core trace 0 text left (subst (Examines exe core trace 0 (record { input = summary_line; left = left }) text) e goes))
-yields_made exe core trace left out status (inr (inr (inr s))) input (inl d) = inr s
+pub yields_made : (bytes : CrashBytes) (left : Option (List ℕ)) (out : Move Port) (status : Status) → EndsSession status → (status ≡ ends.InputFault → OneFault 0 0)
+    → Delivers (Examines bytes (record { input = summary_line; left = left })) out status → Yields ends.Ok status
+yields_made bytes left out status so input (inr (e, fault, rest)) = inr (inl e)
+yields_made bytes left out status (inl e) input (inl d) = inl e
+yields_made bytes left out status (inr (inl e)) input (inl d) = absurd (never_failed (input e))
+yields_made bytes left out status (inr (inr (inl e))) input (inl (text, goes, appended, calm)) =
+    absurd (never_long bytes text left (subst (Examines bytes (record { input = summary_line; left = left }) text) e goes))
+yields_made bytes left out status (inr (inr (inr s))) input (inl d) = inr s
 
 -- a call that ends so reads nothing of the input of the program
 pub ports_made : (source : Port) (inner out : Move Port) (status : Status) → Yields ends.Ok status → PortsEnd inner out status → PortsEnd (move source source) out status

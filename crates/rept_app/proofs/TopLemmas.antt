@@ -18,7 +18,7 @@ use Rattle.rept_app.specs.Ends.{Stopped, Yields, EndsSession, FaultEnds, PortsEn
 use Rattle.rept_app.specs.Held.{CutOff}
 use Rattle.rept_app.specs.Examine.{Examines, FilesEnd, IsExamined, IsWalkStatus, FilesExclude, FilesHold}
 use Rattle.rept_app.specs.Lines.{status_of}
-use Rattle.rept_app.specs.Loading.{Loading, loading, loading_by, fetched, fetched_all, limit_of, MatchLoading, Fits, FitBefore, name_of, loads_to, ComesTo, LoadRefuses, MeaningStops, LoadingStops, LoadsAll, NamesNone, IsAsked, first_packet}
+use Rattle.rept_app.specs.Loading.{CrashBytes, crash_bytes, Loading, loading, loading_by, fetched, fetched_all, limit_of, MatchLoading, Fits, FitBefore, name_of, loads_to, ComesTo, LoadRefuses, MeaningStops, LoadingStops, LoadsAll, NamesNone, IsAsked, first_packet}
 use Rattle.rept_app.specs.Loading.Loading.{Refused, Loaded, MadeRun}
 use Rattle.rept_app.specs.MadeRun.{Sums}
 use Rattle.rept_app.specs.Told.{Given, given, Examined, Summed, summary_line, Opening, Writes, Holds, ReportHolds, MadeHolds, AskedHolds, NoExecution, crash_at, setting_at}
@@ -78,7 +78,7 @@ module _ (files : Files) (names : Names) (from : ℕ) where
       ap (λ (o : Option (List ℕ)). fetched kind o next) fits.1 ∙ ap (λ (b : Bool). cond b (Refused (refusal.TooLarge kind)) (next fits.0)) (not_over (limit_of kind) (length fits.0) fits.2)
 
   after_core : List ℕ → List ℕ → Loading
-  after_core exe core = fetched file.Trace (files names.trace) (λ trace. Loaded exe core trace from)
+  after_core exe core = fetched file.Trace (files names.trace) (λ trace. Loaded (crash_bytes exe core trace from))
 
   after_exe : List ℕ → Loading
   after_exe exe = fetched file.Core (files names.core) (λ core. after_core exe core)
@@ -87,7 +87,7 @@ module _ (files : Files) (names : Names) (from : ℕ) where
   unfolding after_exe after_core
   comes_to file.Exe r before h = h after_exe
   comes_to file.Core r before h = passes file.Exe names.exe after_exe before ∙ h (after_core before.0)
-  comes_to file.Trace r before h = passes file.Exe names.exe after_exe before.0 ∙ passes file.Core names.core (after_core before.0.0) before.1 ∙ h (λ trace. Loaded before.0.0 before.1.0 trace from)
+  comes_to file.Trace r before h = passes file.Exe names.exe after_exe before.0 ∙ passes file.Core names.core (after_core before.0.0) before.1 ∙ h (λ trace. Loaded (crash_bytes before.0.0 before.1.0 trace from))
 
   lacks : (kind : FileKind) → FitBefore files names kind → files (name_of names kind) ≡ None → fetched_all files names from ≡ Refused (refusal.NoFile kind)
   lacks kind before none = comes_to kind (refusal.NoFile kind) before (λ next. ap (λ (o : Option (List ℕ)). fetched kind o next) none)
@@ -111,12 +111,12 @@ one_fetched kind (Some bytes) next h = either_loads (nat_lt (limit_of kind) (len
 
 all_fetched : (files : Files) (names : Names) (from : ℕ) → LoadsFiles (fetched_all files names from)
 all_fetched files names from =
-    one_fetched file.Exe (files names.exe) (λ exe. fetched file.Core (files names.core) (λ core. fetched file.Trace (files names.trace) (λ trace. Loaded exe core trace from)))
-    (λ exe. one_fetched file.Core (files names.core) (λ core. fetched file.Trace (files names.trace) (λ trace. Loaded exe core trace from))
-    (λ core. one_fetched file.Trace (files names.trace) (λ trace. Loaded exe core trace from) (λ trace. tt)))
+    one_fetched file.Exe (files names.exe) (λ exe. fetched file.Core (files names.core) (λ core. fetched file.Trace (files names.trace) (λ trace. Loaded (crash_bytes exe core trace from))))
+    (λ exe. one_fetched file.Core (files names.core) (λ core. fetched file.Trace (files names.trace) (λ trace. Loaded (crash_bytes exe core trace from)))
+    (λ core. one_fetched file.Trace (files names.trace) (λ trace. Loaded (crash_bytes exe core trace from)) (λ trace. tt)))
 
-abbrev pub opening : List ℕ → List ℕ → List ℕ → ℕ → List ℕ → Path → Opening
-opening exe core trace from note path = record { exe = exe; core = core; trace = trace; from = from; note = note; path = path }
+abbrev pub opening : CrashBytes → List ℕ → Path → Opening
+opening bytes note path = record { bytes = bytes; note = note; path = path }
 
 module _ (words : List (List ℕ)) (files : Files) where
   -- why no files are loaded: a load failed, memory ran out, or the files say so
@@ -146,17 +146,17 @@ module _ (words : List (List ℕ)) (files : Files) where
   stops old new r told (inr h) = words_stop old new r told (meaning_of words) refl h
 
   abbrev Ends : Status → Loading → Type 0
-  Ends status l = MatchLoading l (λ r. EndsBy (status_of r) status) (λ exe core trace from. FilesEnd exe core trace from status ⊎ (status ≡ ends.LoadFault)) (λ seed steps. Yields ends.Ok status)
+  Ends status l = MatchLoading l (λ r. EndsBy (status_of r) status) (λ bytes. FilesEnd bytes status ⊎ (status ≡ ends.LoadFault)) (λ seed steps. Yields ends.Ok status)
 
   -- a call that stopped, or that couldn't load a file
   stopped_at : (status : Status) → Stopped status → (l : Loading) → Ends status l
   stopped_at status h (Refused r) = inr (inr h)
-  stopped_at status h (Loaded exe core trace from) = inl (stopped_end exe core trace from status h)
+  stopped_at status h (Loaded bytes) = inl (stopped_end bytes status h)
   stopped_at status h (MadeRun seed steps) = inr h
 
   unloaded_at : (status : Status) → status ≡ ends.LoadFault → (l : Loading) → LoadsFiles l → Ends status l
   unloaded_at status h (Refused r) some = inr (inl h)
-  unloaded_at status h (Loaded exe core trace from) some = inr h
+  unloaded_at status h (Loaded bytes) some = inr h
   unloaded_at status h (MadeRun seed steps) some = absurd some
 
   interrupted : (status : Status) → Yields ends.LoadFault status → (l : Loading) → LoadsFiles l → Ends status l
@@ -189,7 +189,7 @@ module _ (words : List (List ℕ)) (files : Files) where
     Here = given words files shelf input source
 
     abbrev Whole : Loading → Type 0
-    Whole l = MatchLoading l (λ r. Says r text status) (λ exe core trace from. Examined exe core trace from input text status) (λ seed steps. Summed seed steps text status)
+    Whole l = MatchLoading l (λ r. Says r text status) (λ bytes. Examined bytes input text status) (λ seed steps. Summed seed steps text status)
 
     says_so : (r s : Refusal) → r ≡ s → Says r text status → Says s text status
     says_so r s e h = subst (λ (x : Refusal). Says x text status) e h
@@ -200,37 +200,32 @@ module _ (words : List (List ℕ)) (files : Files) where
     refused_writes r (inr (inl e)) (inl s) = inr (inr (inl (says_so r refusal.OutOfMemory e s)))
     refused_writes r (inr (inr h)) (inl s) = inl (subst Whole (sym h) s)
 
-    pub examined_writes : (exe core trace : List ℕ) (from : ℕ) → loading words files ≡ Loaded exe core trace from → Examines exe core trace from (record { input = input; left = source.after.bytes }) text status → Writes Here text status
-    examined_writes exe core trace from at (inl h) = inl (subst Whole (sym at) h)
-    examined_writes exe core trace from at (inr (inl h)) = inr (inr (inl h))
-    examined_writes exe core trace from at (inr (inr (note, read, (path, a, is, account, cut)))) =
-        inr (inr (inr (inl (opening exe core trace from note path, a, record { loaded = at; read = read; path = is }, account, cut))))
+    pub examined_writes : (bytes : CrashBytes) → loading words files ≡ Loaded bytes → Examines bytes (record { input = input; left = source.after.bytes }) text status → Writes Here text status
+    examined_writes bytes at (inl h) = inl (subst Whole (sym at) h)
+    examined_writes bytes at (inr (inl h)) = inr (inr (inl h))
+    examined_writes bytes at (inr (inr (note, read, (path, a, is, account, cut)))) =
+        inr (inr (inr (inl (opening bytes note path, a, record { loaded = at; read = read; path = is }, account, cut))))
 
     pub made_writes : (seed steps : ℕ) → loading words files ≡ MadeRun seed steps → meaning_of words ≡ Some (Made seed steps) → Sums seed steps text status → Writes Here text status
     made_writes seed steps at named (inl h) = inl (subst Whole (sym at) h)
     made_writes seed steps at named (inr (inl says)) = inr (inr (inl says))
     made_writes seed steps at named (inr (inr cut)) = inr (inr (inr (inr (seed, steps, named, cut))))
 
-  module _ (exe core trace : List ℕ) (from : ℕ) (at : loading words files ≡ Loaded exe core trace from) where
-    pub files_hold : (status : Status) → FilesHold exe core trace from status → Holds words files
-    files_hold status ((note, path, read, is, consistent), so) = (opening exe core trace from note path, record { loaded = at; read = read; path = is }, consistent)
+  module _ (bytes : CrashBytes) (at : loading words files ≡ Loaded bytes) where
+    pub files_hold : (status : Status) → FilesHold bytes status → Holds words files
+    files_hold status ((note, path, read, is, consistent), so) = (opening bytes note path, record { loaded = at; read = read; path = is }, consistent)
 
-    pub examined_ends : (source sink : Move Port) (status : Status) → IsExamined exe core trace from source sink status → EndsByFiles words files status
+    pub examined_ends : (source sink : Move Port) (status : Status) → IsExamined bytes source sink status → EndsByFiles words files status
     examined_ends source sink status c = subst (Ends status) (sym at) (inl c.yields)
 
-    same_files : (e c t : List ℕ) (k : ℕ) → loading words files ≡ Loaded e c t k → (exe ≡ e) × (core ≡ c) × (trace ≡ t) × (from ≡ k)
-    same_files e c t k h = by_loaded (sym at ∙ h)
+    same_files : (other : CrashBytes) → loading words files ≡ Loaded other → bytes ≡ other
+    same_files other h = by_loaded (sym at ∙ h)
       where
-        by_loaded : Loaded exe core trace from ≡ Loaded e c t k → (exe ≡ e) × (core ≡ c) × (trace ≡ t) × (from ≡ k)
-        by_loaded same = (cc, cc, cc, cc)
+        by_loaded : Loaded bytes ≡ Loaded other → bytes ≡ other
+        by_loaded same = cc
 
-    moved : (P : List ℕ → List ℕ → List ℕ → ℕ → Type 0) (e c t : List ℕ) (k : ℕ) → loading words files ≡ Loaded e c t k → P exe core trace from → P e c t k
-    moved P e c t k h p =
-        let same = same_files e c t k h in
-        subst (λ n. P e c t n) same.3 (subst (λ x. P e c x from) same.2 (subst (λ x. P e x trace from) same.1 (subst (λ x. P x core trace from) same.0 p)))
-
-    pub examined_excludes : FilesExclude exe core trace from → NoExecution words files
-    examined_excludes none o opens = moved FilesExclude o.exe o.core o.trace o.from opens.loaded none o.note opens.read o.path opens.path
+    pub examined_excludes : FilesExclude bytes → NoExecution words files
+    examined_excludes none o opens = subst (λ (b : CrashBytes). FilesExclude b) (same_files o.bytes opens.loaded) none o.note opens.read o.path opens.path
 
 -- what is told of the report of any path and crash, is told of that of the files
 pub reports_hold : (words : List (List ℕ)) (files : Files) → ((crash : Crash) (rows : List StepRow) (known : Knowledge) → IsReport (setting crash rows) known → IsTrueReport (setting crash rows) known) → ReportHolds words files
@@ -440,8 +435,8 @@ all_loads old new (Some (Made seed steps)) status h = absurd h
 all_loads old new (Some (Open names from)) status h = inl (record { last = file.Trace; before = h.before; loads = h.loads; all = inl refl })
 
 -- the causes of a call whose files were loaded
-pub examined_causes : (old new : Shelved) (exe core trace : List ℕ) (from : ℕ) (source sink : Move Port) (status : Status) → new.files ≡ old.files → new.faults ≡ old.faults → IsExamined exe core trace from source sink status → TopCauses (move old new) source sink status
-examined_causes old new exe core trace from source sink status files calm c = record {
+pub examined_causes : (old new : Shelved) (bytes : CrashBytes) (source sink : Move Port) (status : Status) → new.files ≡ old.files → new.faults ≡ old.faults → IsExamined bytes source sink status → TopCauses (move old new) source sink status
+examined_causes old new bytes source sink status files calm c = record {
   ports = c.ports;
   load = λ e. absurd (not_loading (inl e) c.ends_so);
   untold = any old.files;
@@ -496,13 +491,14 @@ of_both o p Q files input e e' h =
     let h₁ : IfSome p (Q files) = subst (λ (x : Option Files). IfSome x (λ fs. IfSome p (Q fs))) e h in
     subst (λ (x : Option (List ℕ)). IfSome x (Q files)) e' h₁
 
-pub loaded_at : (l : Loading) (exe exe' core core' trace trace' : List ℕ) (from : ℕ) → l ≡ Loaded exe core trace from → exe' ≡ exe → core' ≡ core → trace' ≡ trace → l ≡ Loaded exe' core' trace' from
-loaded_at l exe exe' core core' trace trace' from h e c t = h ∙ ap (λ x. Loaded x core trace from) (sym e) ∙ ap (λ x. Loaded exe' x trace from) (sym c) ∙ ap (λ x. Loaded exe' core' x from) (sym t)
+pub loaded_at : (l : Loading) (exe exe' core core' trace trace' : List ℕ) (from : ℕ) → l ≡ Loaded (crash_bytes exe core trace from) → exe' ≡ exe → core' ≡ core → trace' ≡ trace → l ≡ Loaded (crash_bytes exe' core' trace' from)
+loaded_at l exe exe' core core' trace trace' from h e c t =
+    h ∙ ap (λ x. Loaded (crash_bytes x core trace from)) (sym e) ∙ ap (λ x. Loaded (crash_bytes exe' x trace from)) (sym c) ∙ ap (λ x. Loaded (crash_bytes exe' core' x from)) (sym t)
 
 -- a session may have been held where the files are told
-pub holds_where : {P : Type 0} (o : Option Files) (H : Files → Type 0) (exe core trace : List ℕ) (from : ℕ) (status : Status) → ((files : Files) → o ≡ Some files → FilesHold exe core trace from status → H files) → P ⊎ FilesHold exe core trace from status → P ⊎ (EndsSession status × IfSome o H)
-holds_where o H exe core trace from status h (inl p) = inl p
-holds_where o H exe core trace from status h (inr f) = inr (f.1, where_some o H (λ files at. h files at f))
+pub holds_where : {P : Type 0} (o : Option Files) (H : Files → Type 0) (bytes : CrashBytes) (status : Status) → ((files : Files) → o ≡ Some files → FilesHold bytes status → H files) → P ⊎ FilesHold bytes status → P ⊎ (EndsSession status × IfSome o H)
+holds_where o H bytes status h (inl p) = inl p
+holds_where o H bytes status h (inr f) = inr (f.1, where_some o H (λ files at. h files at f))
   where
     where_some : (o : Option Files) (H : Files → Type 0) → ((files : Files) → o ≡ Some files → H files) → IfSome o H
     where_some None H k = tt

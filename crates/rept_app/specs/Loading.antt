@@ -11,11 +11,20 @@ use Rattle.rept_app.specs.declared.refusal.FileKind.TheVariants as file
 use Rattle.rept_app.specs.declared.refusal.Refusal.{Refusal}
 use Rattle.rept_app.specs.declared.refusal.Refusal.TheVariants as refusal
 
--- a refusal; or the bytes of the executable, the core file and the trace, and the number of the packet to begin from; or the seed and
--- the count of steps of a made run, for which nothing is loaded
+-- the bytes of the executable, the core file and the trace, and the number of the packet to begin from
+pub record CrashBytes : Type 0 where
+  pub exe : List ℕ
+  pub core : List ℕ
+  pub trace : List ℕ
+  pub from : ℕ
+
+abbrev pub crash_bytes : List ℕ → List ℕ → List ℕ → ℕ → CrashBytes
+crash_bytes exe core trace from = record { exe = exe; core = core; trace = trace; from = from }
+
+-- a refusal; or the bytes of three files; or the seed and the count of steps of a made run, for which nothing is loaded
 pub data Loading : Type 0 where
   Refused : Refusal → Loading
-  Loaded : List ℕ → List ℕ → List ℕ → ℕ → Loading
+  Loaded : CrashBytes → Loading
   MadeRun : ℕ → ℕ → Loading
 
 -- the most bytes of a file: 64 MiB, 256 MiB and 16 MiB
@@ -32,7 +41,7 @@ fetched kind (Some bytes) next = if nat_lt (limit_of kind) (length bytes) then R
 -- the three files, one after the other
 abbrev pub fetched_all : Files → Names → ℕ → Loading
 fetched_all files names from =
-    fetched file.Exe (files names.exe) (λ exe. fetched file.Core (files names.core) (λ core. fetched file.Trace (files names.trace) (λ trace. Loaded exe core trace from)))
+    fetched file.Exe (files names.exe) (λ exe. fetched file.Core (files names.core) (λ core. fetched file.Trace (files names.trace) (λ trace. Loaded (crash_bytes exe core trace from))))
 
 -- the packet to begin from: the first one, where the words name none
 abbrev pub first_packet : Option ℕ → ℕ
@@ -48,9 +57,9 @@ loading_by files (Some (Open names from)) = fetched_all files names (first_packe
 abbrev pub loading : List (List ℕ) → Files → Loading
 loading words files = loading_by files (meaning_of words)
 
-abbrev pub MatchLoading : Loading → (Refusal → Type 0) → (List ℕ → List ℕ → List ℕ → ℕ → Type 0) → (ℕ → ℕ → Type 0) → Type 0
+abbrev pub MatchLoading : Loading → (Refusal → Type 0) → (CrashBytes → Type 0) → (ℕ → ℕ → Type 0) → Type 0
 MatchLoading (Refused r) P Q R = P r
-MatchLoading (Loaded exe core trace from) P Q R = Q exe core trace from
+MatchLoading (Loaded bytes) P Q R = Q bytes
 MatchLoading (MadeRun seed steps) P Q R = R seed steps
 
 -- the file of that name is there and within the limit
@@ -129,7 +138,7 @@ LoadsAll (Some (Open names from)) old new = AllLoaded names old new
 
 -- what was loaded, or is to be made
 abbrev pub asked_for : Asked → Loading
-asked_for (asked.Files l) = Loaded l.exe.items l.core.items l.trace.items l.from
+asked_for (asked.Files l) = Loaded (crash_bytes l.exe.items l.core.items l.trace.items l.from)
 asked_for (asked.Made seed steps) = MadeRun seed steps
 
 -- All three files of the words were loaded, and the trace is within its limit; or the words ask for a made run, and the shelf is as it was.

@@ -26,7 +26,7 @@ use Rattle.rept_words.specs.Words.Meaning.{Open, Made as MadeWords}
 use Rattle.rept_app.specs.Delivered.{Says}
 use Rattle.rept_app.specs.Forms.{executable_fault, core_image_fault, crash_in}
 use Rattle.rept_app.specs.Held.{Replies, CutOff}
-use Rattle.rept_app.specs.Loading.{loading, MatchLoading, ComesTo, loads_to}
+use Rattle.rept_app.specs.Loading.{CrashBytes, crash_bytes, loading, MatchLoading, ComesTo, loads_to}
 use Rattle.rept_app.specs.Loading.Loading.{Loaded}
 use Rattle.rept_app.specs.Path.{IsTracePath, HasNoPath}
 use Rattle.rept_app.specs.declared.refusal.FileKind.{FileKind}
@@ -47,74 +47,85 @@ Analysed crash path input text status =
     ((kind : ConflictKind) × ClosureHas (setting crash path.steps) kind × Says (refusal.Inconsistent kind) text status)
     ⊎ ((a : Account) × IsAccountOf crash path a × Replies (told_of (setting crash path.steps) a) input text status)
 
+-- the bytes of a trace file, the number of the packet to begin from, and the crash in which the path ends
+pub record CrashTrace : Type 0 where
+  pub crash : Crash
+  pub trace : List ℕ
+  pub from : ℕ
+
+abbrev pub crash_trace : Crash → List ℕ → ℕ → CrashTrace
+crash_trace crash trace from = record { crash = crash; trace = trace; from = from }
+
+-- the trace of three files, of which the register note has this descriptor
+abbrev pub trace_in : CrashBytes → List ℕ → CrashTrace
+trace_in bytes note = crash_trace (crash_in bytes.exe bytes.core note) bytes.trace bytes.from
+
 -- The trace has no path, for a reason that the line tells; or the one that it has is analysed.
-abbrev pub Walked : Crash → List ℕ → ℕ → List ℕ → List ℕ → Status → Type 0
-Walked crash trace from input text status =
-    ((fault : PathFault) × HasNoPath crash trace from fault × Says (refusal.Path fault) text status)
-    ⊎ ((path : Path) × IsTracePath crash trace from path × Analysed crash path input text status)
+abbrev pub Walked : CrashTrace → List ℕ → List ℕ → Status → Type 0
+Walked t input text status =
+    ((fault : PathFault) × HasNoPath t.crash t.trace t.from fault × Says (refusal.Path fault) text status)
+    ⊎ ((path : Path) × IsTracePath t.crash t.trace t.from path × Analysed t.crash path input text status)
 
 -- The core file's notes are refused; or they give the registers, and the trace is walked.
-abbrev pub NotesTold : List ℕ → List ℕ → List ℕ → ℕ → List ℕ → List ℕ → Status → Type 0
-NotesTold exe core trace from input text status =
-    (said : Result (List ℕ) CoreFault) × NotesSay (length core) (segments core) said
-    × MatchResult said (λ note. Walked (crash_in exe core note) trace from input text status) (λ fault. Says (refusal.Core fault) text status)
+abbrev pub NotesTold : CrashBytes → List ℕ → List ℕ → Status → Type 0
+NotesTold bytes input text status =
+    (said : Result (List ℕ) CoreFault) × NotesSay (length bytes.core) (segments bytes.core) said
+    × MatchResult said (λ note. Walked (trace_in bytes note) input text status) (λ fault. Says (refusal.Core fault) text status)
 
 -- The executable is refused; or the core file is refused as an image; or its notes are read.
-abbrev pub Examined : List ℕ → List ℕ → List ℕ → ℕ → List ℕ → List ℕ → Status → Type 0
-Examined exe core trace from input text status =
-    MatchOption (executable_fault exe) (MatchOption (core_image_fault core) (NotesTold exe core trace from input text status) (λ fault. Says (refusal.CoreImage fault) text status))
+abbrev pub Examined : CrashBytes → List ℕ → List ℕ → Status → Type 0
+Examined bytes input text status =
+    MatchOption (executable_fault bytes.exe) (MatchOption (core_image_fault bytes.core) (NotesTold bytes input text status) (λ fault. Says (refusal.CoreImage fault) text status))
     (λ fault. Says (refusal.Executable fault) text status)
 
 -- the input that is answered of a made run: the command `summary`
 abbrev pub summary_line : List ℕ
 summary_line = codes "summary" ++ 10 ∷ []
 
+-- the files of a made crash, from the first packet on
+abbrev pub made_bytes : Made → CrashBytes
+made_bytes made = crash_bytes made.exe made.core made.trace 0
+
 -- what is written of a made run: what the files of its crash tell, answering `summary`
 abbrev pub Summed : ℕ → ℕ → List ℕ → Status → Type 0
-Summed seed steps text status = (made : Made) × IsMade seed steps made × Examined made.exe made.core made.trace 0 summary_line text status
+Summed seed steps text status = (made : Made) × IsMade seed steps made × Examined (made_bytes made) summary_line text status
 
 -- Words, files and input that are all there: the text that is written, and the status. The cases stand in the order in which
 -- they are looked at: the words, the files, the executable, the core file, the trace and its path, the analysis, the input.
 abbrev pub Told : List (List ℕ) → Files → List ℕ → List ℕ → Status → Type 0
 Told words files input text status =
-    MatchLoading (loading words files) (λ r. Says r text status) (λ exe core trace from. Examined exe core trace from input text status) (λ seed steps. Summed seed steps text status)
+    MatchLoading (loading words files) (λ r. Says r text status) (λ bytes. Examined bytes input text status) (λ seed steps. Summed seed steps text status)
 
 -- the executable and the core file are accepted, and this is the descriptor of the register note
-pub record Reads (exe core note : List ℕ) : Type 0 where
-  pub exe_accepted : executable_fault exe ≡ None
-  pub core_accepted : core_image_fault core ≡ None
-  pub noted : NotesSay (length core) (segments core) (Ok note)
+pub record Reads (bytes : CrashBytes) (note : List ℕ) : Type 0 where
+  pub exe_accepted : executable_fault bytes.exe ≡ None
+  pub core_accepted : core_image_fault bytes.core ≡ None
+  pub noted : NotesSay (length bytes.core) (segments bytes.core) (Ok note)
 
--- the bytes of three files, the packet to begin from, the descriptor of the register note, and a path
+-- the bytes of three files, the descriptor of the register note, and a path
 pub record Opening : Type 0 where
-  pub exe : List ℕ
-  pub core : List ℕ
-  pub trace : List ℕ
-  pub from : ℕ
+  pub bytes : CrashBytes
   pub note : List ℕ
   pub path : Path
 
 -- the crash that they tell, and its analysis
 abbrev pub crash_at : Opening → Crash
-crash_at o = crash_in o.exe o.core o.note
+crash_at o = crash_in o.bytes.exe o.bytes.core o.note
 
 abbrev pub setting_at : Opening → Setting Range
 setting_at o = setting (crash_at o) o.path.steps
 
 -- the words and the files come to it: the files are accepted, this is what the note holds, and the trace has this path
 pub record Opens (words : List (List ℕ)) (files : Files) (o : Opening) : Type 0 where
-  pub loaded : loading words files ≡ Loaded o.exe o.core o.trace o.from
-  pub read : Reads o.exe o.core o.note
-  pub path : IsTracePath (crash_at o) o.trace o.from o.path
+  pub loaded : loading words files ≡ Loaded o.bytes
+  pub read : Reads o.bytes o.note
+  pub path : IsTracePath (crash_at o) o.bytes.trace o.bytes.from o.path
 
--- the files of a made crash come to it, from the first packet on
+-- the files of a made crash come to it
 pub record OpensMade (made : Made) (o : Opening) : Type 0 where
-  pub exe : o.exe ≡ made.exe
-  pub core : o.core ≡ made.core
-  pub trace : o.trace ≡ made.trace
-  pub from : o.from ≡ 0
-  pub read : Reads o.exe o.core o.note
-  pub path : IsTracePath (crash_at o) o.trace o.from o.path
+  pub bytes : o.bytes ≡ made_bytes made
+  pub read : Reads o.bytes o.note
+  pub path : IsTracePath (crash_at o) o.bytes.trace o.bytes.from o.path
 
 -- the session over the report of a made run was cut short
 abbrev pub SumCut : ℕ → ℕ → List ℕ → Status → Type 0

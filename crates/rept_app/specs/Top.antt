@@ -55,7 +55,7 @@ EndsBy expected status = (status ≡ expected) ⊎ (status ≡ ends.LoadFault) �
 -- Each status comes where the words and the files say so: a refusal has its status; files that are there end the call by what they
 -- hold; a made run ends it well.
 abbrev pub EndsByFiles : List (List ℕ) → Files → Status → Type 0
-EndsByFiles words files status = MatchLoading (loading words files) (λ r. EndsBy (status_of r) status) (λ exe core trace from. FilesEnd exe core trace from status ⊎ (status ≡ ends.LoadFault)) (λ seed steps. Yields ends.Ok status)
+EndsByFiles words files status = MatchLoading (loading words files) (λ r. EndsBy (status_of r) status) (λ bytes. FilesEnd bytes status ⊎ (status ≡ ends.LoadFault)) (λ seed steps. Yields ends.Ok status)
 
 -- where no port counted a fault: all of the text is written, or memory ran out
 abbrev pub Completes : Given → Move Shelved → Move Port → Move Port → Status → Type 0

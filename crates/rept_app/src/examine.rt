@@ -5,6 +5,8 @@ ghost use Rattle.rept_ports.specs.Port.{move};
 ghost use Rattle.rept_found.specs.Crash.{crash_of};
 ghost use Rattle.rept_app.specs.Delivered.{Delivers};
 ghost use Rattle.rept_app.specs.Examine.{Examines, IsExamined, FilesExclude, FilesHold, Walks, IsWalked, PathExcludes, WalkHolds};
+ghost use Rattle.rept_app.specs.Loading.{crash_bytes};
+ghost use Rattle.rept_app.specs.Told.{crash_trace};
 
 use crate::path::trace_path;
 use crate::refusal::Refusal;
@@ -27,10 +29,10 @@ pub fn examine<S: Source, K: Sink>(
     out: &mut K,
 ) -> Status
     requires { length trace.now < 2 ^ 32 }
-    ensures text { IfSome (S.port input.old).bytes (λ bytes. Delivers (Examines exe.now core.now trace.now from (record { input = bytes; left = (S.port input.new).bytes })) (move (K.port out.old) (K.port out.new)) result) }
-    ensures causes { IsExamined exe.now core.now trace.now from (move (S.port input.old) (S.port input.new)) (move (K.port out.old) (K.port out.new)) result }
-    ensures stays { (input.new ≡ input.old) ⊎ FilesHold exe.now core.now trace.now from result }
-    ensures impossible { result ≡ Status.Inconsistent → FilesExclude exe.now core.now trace.now from }
+    ensures text { IfSome (S.port input.old).bytes (λ bytes. Delivers (Examines (crash_bytes exe.now core.now trace.now from) (record { input = bytes; left = (S.port input.new).bytes })) (move (K.port out.old) (K.port out.new)) result) }
+    ensures causes { IsExamined (crash_bytes exe.now core.now trace.now from) (move (S.port input.old) (S.port input.new)) (move (K.port out.old) (K.port out.new)) result }
+    ensures stays { (input.new ≡ input.old) ⊎ FilesHold (crash_bytes exe.now core.now trace.now from) result }
+    ensures impossible { result ≡ Status.Inconsistent → FilesExclude (crash_bytes exe.now core.now trace.now from) }
 {
     let exe_image = match Image::read(exe, Want::Exec) {
         Ok(image) => image,
@@ -57,10 +59,10 @@ fn walk<S: Source, K: Sink>(
     out: &mut K,
 ) -> Status
     requires { length trace.now < 2 ^ 32 }
-    ensures text { IfSome (S.port input.old).bytes (λ bytes. Delivers (Walks (crash_of dump.now) trace.now from (record { input = bytes; left = (S.port input.new).bytes })) (move (K.port out.old) (K.port out.new)) result) }
-    ensures causes { IsWalked (crash_of dump.now) trace.now from (move (S.port input.old) (S.port input.new)) (move (K.port out.old) (K.port out.new)) result }
-    ensures stays { (input.new ≡ input.old) ⊎ WalkHolds (crash_of dump.now) trace.now from result }
-    ensures impossible { result ≡ Status.Inconsistent → PathExcludes (crash_of dump.now) trace.now from }
+    ensures text { IfSome (S.port input.old).bytes (λ bytes. Delivers (Walks (crash_trace (crash_of dump.now) trace.now from) (record { input = bytes; left = (S.port input.new).bytes })) (move (K.port out.old) (K.port out.new)) result) }
+    ensures causes { IsWalked (crash_trace (crash_of dump.now) trace.now from) (move (S.port input.old) (S.port input.new)) (move (K.port out.old) (K.port out.new)) result }
+    ensures stays { (input.new ≡ input.old) ⊎ WalkHolds (crash_trace (crash_of dump.now) trace.now from) result }
+    ensures impossible { result ≡ Status.Inconsistent → PathExcludes (crash_trace (crash_of dump.now) trace.now from) }
 {
     let path = match trace_path(alloc, trace, dump, from) {
         Ok(path) => path,

@@ -5,7 +5,7 @@ ghost use Rattle.rept_ports.specs.Shelves.{Loads};
 ghost use Rattle.rept_words.specs.Words.{meaning_of};
 ghost use Rattle.rept_words.specs.Asked.{named_by};
 ghost use Rattle.rept_app.specs.declared.refusal.FileKind.{FileKind};
-ghost use Rattle.rept_app.specs.Loading.{limit_of, fetched_all, first_packet, loading, loads_to, asked_for, FitBefore, IsAsked, LoadRefuses, LoadingStops, NamesNone, ShelfMoves, StopsAt};
+ghost use Rattle.rept_app.specs.Loading.{crash_bytes, limit_of, fetched_all, first_packet, loading, loads_to, asked_for, FitBefore, IsAsked, LoadRefuses, LoadingStops, NamesNone, ShelfMoves, StopsAt};
 ghost use Rattle.rept_app.specs.Loading.Loading.{Loaded};
 
 use crate::refusal::{FileKind, Refusal};
@@ -78,7 +78,7 @@ fn load_names<H: Shelf>(
     names: FileNames<'_>,
     from: u32,
 ) -> Result<CrashFiles, Refusal>
-    ensures loaded { IfOk result (λ l. IfSome (H.port shelf.old).files (λ files. fetched_all files (named_by names.entry) from ≡ Loaded l.exe.items l.core.items l.trace.items l.from)) }
+    ensures loaded { IfOk result (λ l. IfSome (H.port shelf.old).files (λ files. fetched_all files (named_by names.entry) from ≡ Loaded (crash_bytes l.exe.items l.core.items l.trace.items l.from))) }
     ensures within { IfOk result (λ l. length l.trace.items ≤ limit_of FileKind.Trace) }
     ensures before { IsOk result → IfSome (H.port shelf.old).files (λ files. FitBefore files (named_by names.entry) FileKind.Trace) }
     ensures loads { IsOk result → (H.port shelf.new).loads ≡ loads_to FileKind.Trace (H.port shelf.old).loads }

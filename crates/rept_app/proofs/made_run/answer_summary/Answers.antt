@@ -1,13 +1,13 @@
-use Rattle.std.proofs.Common.{◌≡◌, ℕ, List, ◌++◌, [], ◌∷◌, codes, Some, refl}
-use Rattle.rept_ports.specs.Port.{Port, move}
+use Rattle.std.proofs.Common.{Some}
+use Rattle.rept_ports.specs.Port.{move}
 use Rattle.rept_found.proofs.Truths.{uses_here}
 use Rattle.rept_found.specs.Crash.{setting}
-use Rattle.rept_make.specs.Made.{IsMade}
 use Rattle.rept_app.specs.Delivered.{Delivers}
 use Rattle.rept_app.specs.Ends.{EndsSession}
 use Rattle.rept_app.specs.Examine.{Examines, FilesEnd}
+use Rattle.rept_app.specs.Loading.{crash_bytes}
 use Rattle.rept_app.specs.MadeRun.{Sums}
-use Rattle.rept_app.specs.Told.{summary_line}
+use Rattle.rept_app.specs.Told.{made_bytes, summary_line}
 use Rattle.rept_app.proofs.DeliveredLemmas.{delivers_as}
 use Rattle.rept_app.proofs.MadeLemmas.{sums, session_made, yields_made, crash_made, at_bytes}
 use Rattle.rept_app.proofs.ToldLemmas.{reading_of}
@@ -18,18 +18,18 @@ returns-clause-text g c = λ seed steps m.
     let made = c.args.made.now in
     let out = move (g.K.Sink.port c.args.out.now) (g.K.Sink.port c.examine.new.out) in
     let left = Some c.examine.new.input in
-    let here : Delivers (Examines made.exe made.core made.trace 0 (reading_of summary_line left)) out c.examine.result =
-    at_bytes (λ e k t i. Delivers (Examines e k t 0 (reading_of i left)) out c.examine.result) c.bytes-exe.ensures c.bytes-core.ensures c.bytes-trace.ensures c.new-input.ensures c.examine.ensures.text in
-    delivers_as (Examines made.exe made.core made.trace 0 (reading_of summary_line left)) (Sums seed steps) out c.examine.result (λ text status. sums seed steps made m left text status) here
+    let here : Delivers (Examines (made_bytes made) (reading_of summary_line left)) out c.examine.result =
+    at_bytes (λ e k t i. Delivers (Examines (crash_bytes e k t 0) (reading_of i left)) out c.examine.result) c.bytes-exe.ensures c.bytes-core.ensures c.bytes-trace.ensures c.new-input.ensures c.examine.ensures.text in
+    delivers_as (Examines (made_bytes made) (reading_of summary_line left)) (Sums seed steps) out c.examine.result (λ text status. sums seed steps made m left text status) here
 
 pub returns-clause-yields : goal.returns-clause-yields
 returns-clause-yields g c = λ seed steps m.
     let made = c.args.made.now in
     let out = move (g.K.Sink.port c.args.out.now) (g.K.Sink.port c.examine.new.out) in
     let left = Some c.examine.new.input in
-    let here : Delivers (Examines made.exe made.core made.trace 0 (reading_of summary_line left)) out c.examine.result =
-    at_bytes (λ e k t i. Delivers (Examines e k t 0 (reading_of i left)) out c.examine.result) c.bytes-exe.ensures c.bytes-core.ensures c.bytes-trace.ensures c.new-input.ensures c.examine.ensures.text in
-    let ends_so : FilesEnd made.exe made.core made.trace 0 c.examine.result =
-    at_bytes (λ e k t i. FilesEnd e k t 0 c.examine.result) c.bytes-exe.ensures c.bytes-core.ensures c.bytes-trace.ensures c.new-input.ensures c.examine.ensures.causes.yields in
+    let here : Delivers (Examines (made_bytes made) (reading_of summary_line left)) out c.examine.result =
+    at_bytes (λ e k t i. Delivers (Examines (crash_bytes e k t 0) (reading_of i left)) out c.examine.result) c.bytes-exe.ensures c.bytes-core.ensures c.bytes-trace.ensures c.new-input.ensures c.examine.ensures.text in
+    let ends_so : FilesEnd (made_bytes made) c.examine.result =
+    at_bytes (λ e k t i. FilesEnd (crash_bytes e k t 0) c.examine.result) c.bytes-exe.ensures c.bytes-core.ensures c.bytes-trace.ensures c.new-input.ensures c.examine.ensures.causes.yields in
     let session : EndsSession c.examine.result = session_made seed steps made m (λ kind has. c.reports_are_sound.ensures.conflict (setting (crash_made seed steps made m) m.rows) kind (uses_here (crash_made seed steps made m) m.rows) has) c.examine.result ends_so in
-    yields_made made.exe made.core made.trace left out c.examine.result session c.examine.ensures.causes.ports.input here
+    yields_made (made_bytes made) left out c.examine.result session c.examine.ensures.causes.ports.input here

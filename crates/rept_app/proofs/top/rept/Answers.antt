@@ -3,7 +3,7 @@ use Rattle.rept_ports.specs.Port.{move}
 use Rattle.rept_app.specs.Delivered.{Delivers}
 use Rattle.rept_app.specs.Examine.{Examines}
 use Rattle.rept_app.specs.Lines.{status_of}
-use Rattle.rept_app.specs.Loading.{loading, asked_for}
+use Rattle.rept_app.specs.Loading.{crash_bytes, loading, asked_for}
 use Rattle.rept_app.specs.Loading.Loading.{Loaded, MadeRun}
 use Rattle.rept_app.specs.MadeRun.{Sums}
 use Rattle.rept_app.specs.declared.load.Asked.TheVariants as asked
@@ -20,7 +20,7 @@ use Rattle.rept_app.proofs.top.rept.Goals as goal
 
 pub returns-in-Ok-Files-clause-causes : goal.returns-in-Ok-Files-clause-causes
 returns-in-Ok-Files-clause-causes g c =
-    examined_causes (g.H.Shelf.port c.args.shelf.now) (g.H.Shelf.port c.load_files.new.shelf) _ _ _ _ _ _ c.examine.result c.load_files.ensures.faults.files (done_at c.load_files.result c.in-Ok-Files.field-0 c.in-Ok-Files.is c.load_files.ensures.faults.calm) c.examine.ensures.causes
+    examined_causes (g.H.Shelf.port c.args.shelf.now) (g.H.Shelf.port c.load_files.new.shelf) _ _ _ c.examine.result c.load_files.ensures.faults.files (done_at c.load_files.result c.in-Ok-Files.field-0 c.in-Ok-Files.is c.load_files.ensures.faults.calm) c.examine.ensures.causes
 
 pub returns-in-Ok-Files-clause-loads : goal.returns-in-Ok-Files-clause-loads
 returns-in-Ok-Files-clause-loads g c = all_loads (g.H.Shelf.port c.args.shelf.now) (g.H.Shelf.port c.load_files.new.shelf) (meaning_of (map string_bytes c.args.words.now)) c.examine.result (all_at c.load_files.result c.in-Ok-Files.field-0 c.in-Ok-Files.files (meaning_of (map string_bytes c.args.words.now)) (g.H.Shelf.port c.args.shelf.now) (g.H.Shelf.port c.load_files.new.shelf) c.in-Ok-Files.is c.in-Ok-Files.field-0-is c.load_files.ensures.asked)
@@ -28,19 +28,19 @@ returns-in-Ok-Files-clause-loads g c = all_loads (g.H.Shelf.port c.args.shelf.no
 pub returns-in-Ok-Files-clause-stays : goal.returns-in-Ok-Files-clause-stays
 returns-in-Ok-Files-clause-stays g c =
     let words = map string_bytes c.args.words.now in
-    holds_where (g.H.Shelf.port c.args.shelf.now).files (Holds words) _ _ _ _ c.examine.result (λ files told.
-    let loaded : loading words files ≡ Loaded c.in-Ok-Files.files.exe.items c.in-Ok-Files.files.core.items c.in-Ok-Files.files.trace.items c.in-Ok-Files.files.from =
-    at_some (g.H.Shelf.port c.args.shelf.now).files files (λ fs. loading words fs ≡ Loaded c.in-Ok-Files.files.exe.items c.in-Ok-Files.files.core.items c.in-Ok-Files.files.trace.items c.in-Ok-Files.files.from) told (ok_at c.load_files.result c.in-Ok-Files.field-0 (asked.Files c.in-Ok-Files.files) (λ a. IfSome (g.H.Shelf.port c.args.shelf.now).files (λ fs. loading words fs ≡ asked_for a)) c.in-Ok-Files.is c.in-Ok-Files.field-0-is c.load_files.ensures.loaded) in
-    files_hold words files c.as_slice-exe.result.now c.as_slice-core.result.now c.as_slice-trace.result.now c.in-Ok-Files.files.from
+    holds_where (g.H.Shelf.port c.args.shelf.now).files (Holds words) _ c.examine.result (λ files told.
+    let loaded : loading words files ≡ Loaded (crash_bytes c.in-Ok-Files.files.exe.items c.in-Ok-Files.files.core.items c.in-Ok-Files.files.trace.items c.in-Ok-Files.files.from) =
+    at_some (g.H.Shelf.port c.args.shelf.now).files files (λ fs. loading words fs ≡ Loaded (crash_bytes c.in-Ok-Files.files.exe.items c.in-Ok-Files.files.core.items c.in-Ok-Files.files.trace.items c.in-Ok-Files.files.from)) told (ok_at c.load_files.result c.in-Ok-Files.field-0 (asked.Files c.in-Ok-Files.files) (λ a. IfSome (g.H.Shelf.port c.args.shelf.now).files (λ fs. loading words fs ≡ asked_for a)) c.in-Ok-Files.is c.in-Ok-Files.field-0-is c.load_files.ensures.loaded) in
+    files_hold words files (crash_bytes c.as_slice-exe.result.now c.as_slice-core.result.now c.as_slice-trace.result.now c.in-Ok-Files.files.from)
     (loaded_at _ _ _ _ _ _ _ _ loaded c.as_slice-exe.ensures.value c.as_slice-core.ensures.value c.as_slice-trace.ensures.value) c.examine.result) c.examine.ensures.stays
 
 pub returns-in-Ok-Files-clause-files : goal.returns-in-Ok-Files-clause-files
 returns-in-Ok-Files-clause-files g c =
     let words = map string_bytes c.args.words.now in
     where_told (g.H.Shelf.port c.args.shelf.now).files (λ files. EndsByFiles words files c.examine.result) (λ files told.
-    let loaded : loading words files ≡ Loaded c.in-Ok-Files.files.exe.items c.in-Ok-Files.files.core.items c.in-Ok-Files.files.trace.items c.in-Ok-Files.files.from =
-    at_some (g.H.Shelf.port c.args.shelf.now).files files (λ fs. loading words fs ≡ Loaded c.in-Ok-Files.files.exe.items c.in-Ok-Files.files.core.items c.in-Ok-Files.files.trace.items c.in-Ok-Files.files.from) told (ok_at c.load_files.result c.in-Ok-Files.field-0 (asked.Files c.in-Ok-Files.files) (λ a. IfSome (g.H.Shelf.port c.args.shelf.now).files (λ fs. loading words fs ≡ asked_for a)) c.in-Ok-Files.is c.in-Ok-Files.field-0-is c.load_files.ensures.loaded) in
-    examined_ends words files c.as_slice-exe.result.now c.as_slice-core.result.now c.as_slice-trace.result.now c.in-Ok-Files.files.from
+    let loaded : loading words files ≡ Loaded (crash_bytes c.in-Ok-Files.files.exe.items c.in-Ok-Files.files.core.items c.in-Ok-Files.files.trace.items c.in-Ok-Files.files.from) =
+    at_some (g.H.Shelf.port c.args.shelf.now).files files (λ fs. loading words fs ≡ Loaded (crash_bytes c.in-Ok-Files.files.exe.items c.in-Ok-Files.files.core.items c.in-Ok-Files.files.trace.items c.in-Ok-Files.files.from)) told (ok_at c.load_files.result c.in-Ok-Files.field-0 (asked.Files c.in-Ok-Files.files) (λ a. IfSome (g.H.Shelf.port c.args.shelf.now).files (λ fs. loading words fs ≡ asked_for a)) c.in-Ok-Files.is c.in-Ok-Files.field-0-is c.load_files.ensures.loaded) in
+    examined_ends words files (crash_bytes c.as_slice-exe.result.now c.as_slice-core.result.now c.as_slice-trace.result.now c.in-Ok-Files.files.from)
     (loaded_at _ _ _ _ _ _ _ _ loaded c.as_slice-exe.ensures.value c.as_slice-core.ensures.value c.as_slice-trace.ensures.value) _ _ c.examine.result c.examine.ensures.causes)
 
 pub returns-in-Ok-Files-clause-text : goal.returns-in-Ok-Files-clause-text
@@ -50,13 +50,13 @@ returns-in-Ok-Files-clause-text g c =
     let source = move (g.S.Source.port c.args.input.now) (g.S.Source.port c.examine.new.input) in
     let sink = move (g.K.Sink.port c.args.out.now) (g.K.Sink.port c.examine.new.out) in
     both (g.H.Shelf.port c.args.shelf.now).files (g.S.Source.port c.args.input.now).bytes _ (λ files told left told_left.
-    let loaded : loading words files ≡ Loaded c.in-Ok-Files.files.exe.items c.in-Ok-Files.files.core.items c.in-Ok-Files.files.trace.items c.in-Ok-Files.files.from =
-    at_some (g.H.Shelf.port c.args.shelf.now).files files (λ fs. loading words fs ≡ Loaded c.in-Ok-Files.files.exe.items c.in-Ok-Files.files.core.items c.in-Ok-Files.files.trace.items c.in-Ok-Files.files.from) told (ok_at c.load_files.result c.in-Ok-Files.field-0 (asked.Files c.in-Ok-Files.files) (λ a. IfSome (g.H.Shelf.port c.args.shelf.now).files (λ fs. loading words fs ≡ asked_for a)) c.in-Ok-Files.is c.in-Ok-Files.field-0-is c.load_files.ensures.loaded) in
+    let loaded : loading words files ≡ Loaded (crash_bytes c.in-Ok-Files.files.exe.items c.in-Ok-Files.files.core.items c.in-Ok-Files.files.trace.items c.in-Ok-Files.files.from) =
+    at_some (g.H.Shelf.port c.args.shelf.now).files files (λ fs. loading words fs ≡ Loaded (crash_bytes c.in-Ok-Files.files.exe.items c.in-Ok-Files.files.core.items c.in-Ok-Files.files.trace.items c.in-Ok-Files.files.from)) told (ok_at c.load_files.result c.in-Ok-Files.field-0 (asked.Files c.in-Ok-Files.files) (λ a. IfSome (g.H.Shelf.port c.args.shelf.now).files (λ fs. loading words fs ≡ asked_for a)) c.in-Ok-Files.is c.in-Ok-Files.field-0-is c.load_files.ensures.loaded) in
     let here = loaded_at _ _ _ _ _ _ _ _ loaded c.as_slice-exe.ensures.value c.as_slice-core.ensures.value c.as_slice-trace.ensures.value in
-    delivers_as (Examines c.as_slice-exe.result.now c.as_slice-core.result.now c.as_slice-trace.result.now c.in-Ok-Files.files.from (reading_of left source.after.bytes)) (Writes (given words files shelf left source)) sink c.examine.result
-    (λ text status. examined_writes words files shelf source left text status c.as_slice-exe.result.now c.as_slice-core.result.now c.as_slice-trace.result.now c.in-Ok-Files.files.from here)
+    delivers_as (Examines (crash_bytes c.as_slice-exe.result.now c.as_slice-core.result.now c.as_slice-trace.result.now c.in-Ok-Files.files.from) (reading_of left source.after.bytes)) (Writes (given words files shelf left source)) sink c.examine.result
+    (λ text status. examined_writes words files shelf source left text status (crash_bytes c.as_slice-exe.result.now c.as_slice-core.result.now c.as_slice-trace.result.now c.in-Ok-Files.files.from) here)
     (at_some (g.S.Source.port c.args.input.now).bytes left
-    (λ input. Delivers (Examines c.as_slice-exe.result.now c.as_slice-core.result.now c.as_slice-trace.result.now c.in-Ok-Files.files.from (reading_of input source.after.bytes)) sink c.examine.result)
+    (λ input. Delivers (Examines (crash_bytes c.as_slice-exe.result.now c.as_slice-core.result.now c.as_slice-trace.result.now c.in-Ok-Files.files.from) (reading_of input source.after.bytes)) sink c.examine.result)
     told_left c.examine.ensures.text))
 
 pub returns-in-Ok-Files-clause-complete : goal.returns-in-Ok-Files-clause-complete
@@ -77,9 +77,9 @@ pub returns-in-Ok-Files-clause-impossible : goal.returns-in-Ok-Files-clause-impo
 returns-in-Ok-Files-clause-impossible g c =
     let words = map string_bytes c.args.words.now in
     where_told (g.H.Shelf.port c.args.shelf.now).files (λ files. c.examine.result ≡ ends.Inconsistent → NoExecution words files) (λ files told ok.
-    let loaded : loading words files ≡ Loaded c.in-Ok-Files.files.exe.items c.in-Ok-Files.files.core.items c.in-Ok-Files.files.trace.items c.in-Ok-Files.files.from =
-    at_some (g.H.Shelf.port c.args.shelf.now).files files (λ fs. loading words fs ≡ Loaded c.in-Ok-Files.files.exe.items c.in-Ok-Files.files.core.items c.in-Ok-Files.files.trace.items c.in-Ok-Files.files.from) told (ok_at c.load_files.result c.in-Ok-Files.field-0 (asked.Files c.in-Ok-Files.files) (λ a. IfSome (g.H.Shelf.port c.args.shelf.now).files (λ fs. loading words fs ≡ asked_for a)) c.in-Ok-Files.is c.in-Ok-Files.field-0-is c.load_files.ensures.loaded) in
-    examined_excludes words files c.as_slice-exe.result.now c.as_slice-core.result.now c.as_slice-trace.result.now c.in-Ok-Files.files.from
+    let loaded : loading words files ≡ Loaded (crash_bytes c.in-Ok-Files.files.exe.items c.in-Ok-Files.files.core.items c.in-Ok-Files.files.trace.items c.in-Ok-Files.files.from) =
+    at_some (g.H.Shelf.port c.args.shelf.now).files files (λ fs. loading words fs ≡ Loaded (crash_bytes c.in-Ok-Files.files.exe.items c.in-Ok-Files.files.core.items c.in-Ok-Files.files.trace.items c.in-Ok-Files.files.from)) told (ok_at c.load_files.result c.in-Ok-Files.field-0 (asked.Files c.in-Ok-Files.files) (λ a. IfSome (g.H.Shelf.port c.args.shelf.now).files (λ fs. loading words fs ≡ asked_for a)) c.in-Ok-Files.is c.in-Ok-Files.field-0-is c.load_files.ensures.loaded) in
+    examined_excludes words files (crash_bytes c.as_slice-exe.result.now c.as_slice-core.result.now c.as_slice-trace.result.now c.in-Ok-Files.files.from)
     (loaded_at _ _ _ _ _ _ _ _ loaded c.as_slice-exe.ensures.value c.as_slice-core.ensures.value c.as_slice-trace.ensures.value) (c.examine.ensures.impossible ok))
 
 pub returns-in-Err-clause-causes : goal.returns-in-Err-clause-causes
