@@ -11,8 +11,6 @@ mod refusal;
 mod status;
 mod study;
 mod tell;
-#[cfg(test)]
-mod tests;
 mod texts;
 mod top;
 

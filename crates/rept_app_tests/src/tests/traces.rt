@@ -1,8 +1,9 @@
 //! Traces, with and without a path.
 
-use super::{THREE, core_file, executable, word_list};
-use crate::{Status, rept};
+use super::{THREE, word_list};
+use rept_app::{Status, rept};
 use rept_ports::{CalmShelf, CalmSource, MemSink};
+use rept_sample::{core_file, executable};
 use std::test::Fail;
 
 /// A program with each kind of instruction that a path may meet.
@@ -69,8 +70,8 @@ fn traces_are_told(rt: HostRuntime) -> Result<(), Fail> {
     let alloc = rt.alloc();
     for case in TRACES {
         let mut shelf = CalmShelf::new(alloc);
-        shelf.put("e", executable(alloc, case.code)?.as_slice())?;
-        shelf.put("c", core_file(alloc, case.pc, 7, 10, 17)?.as_slice())?;
+        shelf.put("e", executable(alloc, 0x10000, case.code)?.as_slice())?;
+        shelf.put("c", core_file(alloc, case.pc, [7, 10, 17])?.as_slice())?;
         shelf.put("t", case.trace)?;
         let words = word_list(alloc, &["open", "e", "c", "t", case.from])?;
         let mut source = CalmSource::new(b"goto 0\n");

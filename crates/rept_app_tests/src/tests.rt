@@ -5,52 +5,11 @@ mod made_runs;
 mod order;
 mod traces;
 
-use crate::{Status, rept, tell_no_memory};
+use rept_app::{Status, rept, tell_no_memory};
 use rept_ports::{CalmShelf, CalmSource, MemShelf, MemSink, MemSource};
+use rept_sample::{core_file, executable};
 use std::alloc::{AllocError, Global};
 use std::test::Fail;
-
-/// An executable of one code segment at 0x10000, by the ELF specification.
-fn executable(alloc: Global, words: &[u32]) -> Result<Vec<u8>, AllocError> {
-    let Ok(count) = u32::try_from(words.len()) else {
-        return Err(AllocError);
-    };
-    let size = count.wrapping_mul(4).to_le_bytes();
-    let mut file = Vec::from_slice(
-        alloc,
-        b"\x7fELF\x01\x01\x01\0\0\0\0\0\0\0\0\0\x02\0\xf3\0\x01\0\0\0\0\0\x01\0\x34\0\0\0\0\0\0\0\0\0\0\0\x34\0\x20\0\x01\0\0\0\0\0\0\0",
-    )?;
-    file.extend_from_slice(b"\x01\0\0\0\x54\0\0\0\0\0\x01\0\0\0\x01\0")?;
-    file.extend_from_slice(&size)?;
-    file.extend_from_slice(&size)?;
-    file.extend_from_slice(b"\x05\0\0\0\x04\0\0\0")?;
-    for word in words {
-        file.extend_from_slice(&word.to_le_bytes())?;
-    }
-    Ok(file)
-}
-
-/// A core file of one status note: the program counter, x5, x6 and x7; all other registers are 0.
-fn core_file(alloc: Global, pc: u32, x5: u32, x6: u32, x7: u32) -> Result<Vec<u8>, AllocError> {
-    let mut file = Vec::from_slice(
-        alloc,
-        b"\x7fELF\x01\x01\x01\0\0\0\0\0\0\0\0\0\x04\0\xf3\0\x01\0\0\0\0\0\0\0\x34\0\0\0\0\0\0\0\0\0\0\0\x34\0\x20\0\x01\0\0\0\0\0\0\0",
-    )?;
-    file.extend_from_slice(
-        b"\x04\0\0\0\x54\0\0\0\0\0\0\0\0\0\0\0\xe0\0\0\0\0\0\0\0\0\0\0\0\0\0\0\0",
-    )?;
-    file.extend_from_slice(b"\x05\0\0\0\xcc\0\0\0\x01\0\0\0CORE\0\0\0\0")?;
-    file.extend_from_slice(&[0; 12])?;
-    file.extend_from_slice(b"\x0b\0\0\0\0\0\0\0\0\0\0\0\x01\0\0\0")?;
-    file.extend_from_slice(&[0; 44])?;
-    file.extend_from_slice(&pc.to_le_bytes())?;
-    file.extend_from_slice(&[0; 16])?;
-    for value in [x5, x6, x7] {
-        file.extend_from_slice(&value.to_le_bytes())?;
-    }
-    file.extend_from_slice(&[0; 100])?;
-    Ok(file)
-}
 
 /// A trace of so many steps after the first one, by Efficient Trace: a start packet, an address packet and a support packet.
 fn trace_file(alloc: Global, difference: u8) -> Result<Vec<u8>, AllocError> {
@@ -258,10 +217,9 @@ const CASES: &[Case] = &[
 fn crashes_are_told(rt: HostRuntime) -> Result<(), Fail> {
     let alloc = rt.alloc();
     for case in CASES {
-        let [x5, x6, x7] = case.registers;
         let mut shelf = CalmShelf::new(alloc);
-        shelf.put("e", executable(alloc, case.code)?.as_slice())?;
-        shelf.put("c", core_file(alloc, case.pc, x5, x6, x7)?.as_slice())?;
+        shelf.put("e", executable(alloc, 0x10000, case.code)?.as_slice())?;
+        shelf.put("c", core_file(alloc, case.pc, case.registers)?.as_slice())?;
         shelf.put("t", trace_file(alloc, case.difference)?.as_slice())?;
         if case.status == Status::TooLarge {
             shelf.put("large", vec![in alloc; 0u8; 16777217]?.as_slice())?;
@@ -388,8 +346,8 @@ fn failing_ports_are_told(rt: HostRuntime) -> Result<(), Fail> {
     let words = word_list(alloc, OPEN)?;
     for case in FAILING {
         let mut shelf = MemShelf::new(alloc, case.loads)?;
-        shelf.put("e", executable(alloc, THREE)?.as_slice())?;
-        shelf.put("c", core_file(alloc, 0x1000c, 7, 10, 17)?.as_slice())?;
+        shelf.put("e", executable(alloc, 0x10000, THREE)?.as_slice())?;
+        shelf.put("c", core_file(alloc, 0x1000c, [7, 10, 17])?.as_slice())?;
         shelf.put("t", trace_file(alloc, 0x0a)?.as_slice())?;
         let mut source = MemSource::new(alloc, case.input.as_bytes(), case.reads)?;
         let mut sink = MemSink::new(alloc, 2000, case.writes)?;
@@ -403,8 +361,8 @@ fn failing_ports_are_told(rt: HostRuntime) -> Result<(), Fail> {
 /// A shelf with the files of the first crash.
 fn first_crash(alloc: Global) -> Result<CalmShelf, Fail> {
     let mut shelf = CalmShelf::new(alloc);
-    shelf.put("e", executable(alloc, THREE)?.as_slice())?;
-    shelf.put("c", core_file(alloc, 0x1000c, 7, 10, 17)?.as_slice())?;
+    shelf.put("e", executable(alloc, 0x10000, THREE)?.as_slice())?;
+    shelf.put("c", core_file(alloc, 0x1000c, [7, 10, 17])?.as_slice())?;
     shelf.put("t", trace_file(alloc, 0x0a)?.as_slice())?;
     Ok(shelf)
 }

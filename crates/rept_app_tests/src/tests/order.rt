@@ -1,7 +1,7 @@
 //! In which order lines are read and answers written.
 
 use super::{OPEN, first_crash, word_list};
-use crate::{Status, rept};
+use rept_app::{Status, rept};
 use rept_ports::{Failed, Sink, Source};
 use std::cell::Cell;
 use std::test::Fail;

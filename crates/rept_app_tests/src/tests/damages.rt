@@ -1,8 +1,9 @@
 //! Damaged executables and core files.
 
-use super::{OPEN, THREE, core_file, executable, trace_file, word_list};
-use crate::{Status, rept};
+use super::{OPEN, THREE, trace_file, word_list};
+use rept_app::{Status, rept};
 use rept_ports::{CalmShelf, CalmSource, MemSink};
+use rept_sample::{core_file, executable};
 use std::alloc::{AllocError, Global};
 use std::test::Fail;
 
@@ -138,8 +139,8 @@ fn damaged_files_are_told(rt: HostRuntime) -> Result<(), Fail> {
     let alloc = rt.alloc();
     let words = word_list(alloc, OPEN)?;
     for damage in DAMAGES {
-        let exe = executable(alloc, THREE)?;
-        let core = core_file(alloc, 0x1000c, 7, 10, 17)?;
+        let exe = executable(alloc, 0x10000, THREE)?;
+        let core = core_file(alloc, 0x1000c, [7, 10, 17])?;
         let mut shelf = CalmShelf::new(alloc);
         shelf.put("e", exe.as_slice())?;
         shelf.put("c", core.as_slice())?;

@@ -1,7 +1,7 @@
 //! Summaries of made runs, and words out of range.
 
 use super::word_list;
-use crate::{Status, rept};
+use rept_app::{Status, rept};
 use rept_ports::{MemShelf, MemSink, MemSource};
 use std::test::Fail;
 
