@@ -7,7 +7,7 @@ use Rattle.std.proofs.lemmas.Bool.{cases_lt}
 use Rattle.std.proofs.lemmas.Option.{slice_get_within, slice_get-get_or}
 use Rattle.rept_alias.specs.Accesses.{call_hits}
 use Rattle.rept_writing.specs.declared.list.Writing.{Writing}
-use Rattle.rept_writing.specs.Hits.{hits_at, may_write, IsHitBefore, IsPastHit}
+use Rattle.rept_writing.specs.Hits.{hits_at, may_write, IsHitBefore, IsPastHit, IsSplitAt}
 use Rattle.rept_writing.specs.Filed.{IsPast}
 
 -- the rows before index k are those of lower numbers
@@ -29,6 +29,13 @@ stands (Some x) a h = (x, refl, h)
 
 read : (list : List Writing) (j : ℕ) (w : Writing) → slice_get list j ≡ Some w → get_or list j w ≡ w
 read list j w is = let e = slice_get-get_or list j w (slice_get_within list j w is) in cc
+
+pub split_at : (list : List Writing) (row k : ℕ) → IsCutAt list row k → IsSplitAt list row k
+split_at list row k cut = record {
+  bound = cut.bound;
+  below = λ j w is lt. subst (λ (x : Writing). x.row < row) (read list j w is) (cut.below j w lt);
+  above = λ j w is le. subst (λ (x : Writing). row ≤ x.row) (read list j w is) (cut.above j w le (slice_get_within list j w is));
+}
 
 hit_before : (list : List Writing) (row k a j : ℕ) → IsCutAt list row k → j < k → hits_at list j a ≡ true → IsHitBefore list row a j
 hit_before list row k a j cut lt h =

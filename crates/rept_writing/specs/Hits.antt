@@ -33,6 +33,12 @@ IsNextHit list k a (Some h) = IsFirstHit list k a h
 abbrev pub AreInOrder : List Writing → Type 0
 AreInOrder list = IsNonDecreasingBy (λ w. w.row) list
 
+-- the rows before index k are those of lower numbers than the given one
+pub record IsSplitAt (list : List Writing) (row k : ℕ) : Type 0 where
+  pub bound : k ≤ length list
+  pub below : (j : ℕ) (w : Writing) → slice_get list j ≡ Some w → j < k → w.row < row
+  pub above : (j : ℕ) (w : Writing) → slice_get list j ≡ Some w → k ≤ j → row ≤ w.row
+
 -- the row at index j has a lower number than the given one, and may write the address
 pub record IsHitBefore (list : List Writing) (row a j : ℕ) : Type 0 where
   pub writing : Writing

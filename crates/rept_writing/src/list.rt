@@ -1,7 +1,7 @@
 //! The list of rows that may write, with what finds them by address.
 
 ghost use Rattle.std.specs.Prelude.{◌≡◌, ◌+◌, ◌<◌, ◌≤◌, [], ◌∷◌, ◌++◌, IfOk, Some, length, slice_get};
-ghost use Rattle.rept_writing.specs.Hits.{IsNextHit, IsPastHit, AreInOrder};
+ghost use Rattle.rept_writing.specs.Hits.{IsNextHit, IsPastHit, IsSplitAt, AreInOrder};
 ghost use Rattle.rept_writing.specs.Filed.{sooner};
 
 use crate::narrow::{Hit, file, next_narrow, past_narrow};
@@ -121,6 +121,16 @@ impl Writings {
         } else {
             scan(list, k, a)
         }
+    }
+
+    /// How many rows have a lower number. The rows must stand in the order of their numbers; where they don't, it is some index, up
+    /// to the number of rows.
+    pub fn before(&self, row: u32) -> usize
+        ensures bound { result ≤ length self.now.list }
+        ensures split { AreInOrder self.now.list → IsSplitAt self.now.list row result }
+    {
+        let list = self.list.as_slice();
+        list.partition_point(|w| w.row < row)
     }
 
     /// The index after the last row with a lower number that may write the address, or 0 where there is none. The rows must stand

@@ -78,7 +78,7 @@ fn look(rt: &impl Abort, writings: &Writings) {
     }
 }
 
-/// Looks up the place after the last row with a lower number that may write an address.
+/// Looks up the place after the last row with a lower number that may write an address, and how many rows have lower ones.
 fn look_back(rt: &impl Abort, writings: &Writings) {
     for (row, a, expected) in [
         (10, 100, 0),
@@ -94,6 +94,9 @@ fn look_back(rt: &impl Abort, writings: &Writings) {
         (16, 0xffff_fffd, 0),
     ] {
         assert_eq!(rt; writings.past_hit(row, a), expected);
+    }
+    for (row, expected) in [(0, 0), (10, 0), (11, 1), (13, 3), (15, 5), (16, 6), (99, 6)] {
+        assert_eq!(rt; writings.before(row), expected);
     }
 }
 

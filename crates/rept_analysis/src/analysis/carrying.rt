@@ -19,6 +19,9 @@ use rept_view::RowRules;
 use rept_writing::Writing;
 use std::alloc::AllocError as OutOfMemory;
 
+/// So many rows of the list are looked at before a load.
+const NEAR: usize = 8;
+
 /// Whether an access has no address.
 fn is_none(access: &CallAccess) -> bool
     ensures { result ≡ true → (a : ℕ) → call_hits access.now a ≡ false }
@@ -131,6 +134,28 @@ impl<'a, B: ByteFacts, W: Transfer, R: RowRules> Analysis<'a, B, W, R> {
         ensures { result ≤ length self.now.work.writing }
     {
         self.writing.past_hit(point, a)
+    }
+
+    /// How many rows of that list stand before row i.
+    fn listed_before(&self, i: u32) -> usize
+        ensures { result ≤ length self.now.work.writing }
+    {
+        self.writing.before(i)
+    }
+
+    /// Whether the nearest row before row i that may write the byte by the list may not by what is known by now. Only the last few
+    /// rows of the list are looked at, so that a path on which many rows may write something takes no longer.
+    pub(super) fn is_freed(&self, i: u32, a: u32) -> bool
+        requires writings { AreWritings (state_of W.sets W.moves R.rules B.store self.now) }
+    {
+        let end = self.listed_before(i);
+        for k in (end.saturating_sub(NEAR)..end).rev() {
+            let near = self.writing_at(k);
+            if near.access.may_hit(a) {
+                return self.is_spared(near.row, a);
+            }
+        }
+        false
     }
 
     /// The row after the one before an index in that list, or the first one.

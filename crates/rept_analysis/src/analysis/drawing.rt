@@ -328,18 +328,25 @@ impl<'a, B: ByteFacts, W: Transfer, R: RowRules> Analysis<'a, B, W, R> {
         }
     }
 
-    /// Whether row i loads a value that isn't known.
-    fn loads_unknown(&self, i: u32, row: &StepRow) -> bool
-        requires { i < length self.now.rows }
+    /// Whether row i loads a value that isn't known, over a row that doesn't write the first of its bytes, as is known only now.
+    fn loads_over(&self, i: u32, row: &StepRow) -> bool
+        requires inside { i < length self.now.rows }
+        requires writings { AreWritings (state_of W.sets W.moves R.rules B.store self.now) }
     {
+        let Instr::Load { rd, rs1, .. } = row.instr else {
+            return false;
+        };
         let _count = self.count();
-        match row.instr {
-            Instr::Load { rd, .. } => is_same(self.known(i + 1, rd), Flat::Unknown),
-            _ => false,
+        if !is_same(self.known(i + 1, rd), Flat::Unknown) {
+            return false;
+        }
+        match self.known(i, rs1) {
+            Flat::Unknown => false,
+            Flat::Known(base) => self.is_freed(i, address(base, &row.instr)),
         }
     }
 
-    /// The bytes of a load whose value isn't known, carried to it, so that its rules are drawn with them.
+    /// The bytes of such a load, carried to it, so that its rules are drawn with them.
     fn fetch(&mut self, i: u32, row: &StepRow) -> Result<bool, Halt>
         requires inside { i < length self.old.rows }
         requires writings { AreWritings (state_of W.sets W.moves R.rules B.store self.old) }
@@ -348,7 +355,7 @@ impl<'a, B: ByteFacts, W: Transfer, R: RowRules> Analysis<'a, B, W, R> {
         ensures drew { IfOk result (λ learnt. Drew (state_of W.sets W.moves R.rules B.store self.old) (state_of W.sets W.moves R.rules B.store self.new) learnt (λ _. ⊤)) }
         ensures halt { IfErr result (λ h. IsHalt (state_of W.sets W.moves R.rules B.store self.new) h) }
     {
-        if !self.loads_unknown(i, row) {
+        if !self.loads_over(i, row) {
             return Ok(false);
         }
         self.carry_row(i, row)
