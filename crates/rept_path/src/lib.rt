@@ -12,4 +12,5 @@ mod walk;
 mod window;
 
 pub use fault::PathFault;
+pub use look::instruction_at;
 pub use rebuilding::{Path, rebuild};
