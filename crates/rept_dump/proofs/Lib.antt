@@ -1,3 +1,4 @@
+pub mod Leaping
 pub mod NoteLemmas
 pub mod SearchLemmas
 pub mod Stretches

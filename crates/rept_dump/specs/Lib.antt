@@ -1,3 +1,4 @@
+pub mod Ahead
 pub mod Code
 pub mod Dump
 pub mod Found

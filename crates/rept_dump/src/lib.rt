@@ -2,9 +2,11 @@
 //! of code. Nothing is copied.
 #![tactic(auto)]
 
+mod ahead;
 mod code;
 mod dump;
 mod fault;
+mod note;
 mod notes;
 mod search;
 mod status;

@@ -95,6 +95,61 @@ fn names_of_notes(rt: HostRuntime) -> Result<(), Fail> {
     Ok(())
 }
 
+// The header of a core file of three note segments, from 148 on.
+const THREE: [u8; 52] = *b"\x7fELF\x01\x01\x01\0\0\0\0\0\0\0\0\0\
+    \x04\0\xf3\0\x01\0\0\0\0\0\0\0\x34\0\0\0\0\0\0\0\0\0\0\0\x34\0\x20\0\x03\0\0\0\0\0\0\0";
+
+/// A core file of three note segments at these offsets and of these sizes. Five hundred empty notes stand from 148 on, a
+/// register note from 6148 up to 6372.
+fn overlapping(alloc: Global, segments: &[(u16, u16)]) -> Result<Vec<u8>, AllocError> {
+    let mut file = Vec::from_slice(alloc, THREE.as_slice())?;
+    for (offset, size) in segments {
+        file.extend_from_slice(&[4, 0, 0, 0])?;
+        file.extend_from_slice(&offset.to_le_bytes())?;
+        file.extend_from_slice(&[0; 10])?;
+        file.extend_from_slice(&size.to_le_bytes())?;
+        file.extend_from_slice(&[0; 14])?;
+    }
+    file.extend_from_slice(&[0; 6000])?;
+    file.extend_from_slice(&NOTE)?;
+    file.extend_from_slice(&[0; 204])?;
+    Ok(file)
+}
+
+// Each segment has its own notes, also where others have the same bytes. Worked out by hand.
+#[test]
+fn notes_of_several_segments(rt: HostRuntime) -> Result<(), Fail> {
+    let exe = Image::read(SMALL.as_slice(), Want::Exec)?;
+    let cases: [([(u16, u16); 3], Option<CoreFault>); 6] = [
+        ([(148, 6224), (148, 6000), (160, 5988)], None),
+        (
+            [(148, 6224), (160, 6212), (148, 6000)],
+            Some(CoreFault::SeveralThreads(2)),
+        ),
+        (
+            [(148, 6224), (160, 6212), (6148, 224)],
+            Some(CoreFault::SeveralThreads(3)),
+        ),
+        (
+            [(148, 6224), (160, 6211), (148, 6000)],
+            Some(CoreFault::NotePastEnd(6148)),
+        ),
+        ([(148, 6011), (148, 6224), (160, 5988)], None),
+        (
+            [(148, 6012), (148, 6224), (160, 6212)],
+            Some(CoreFault::NotePastEnd(6148)),
+        ),
+    ];
+    for (segments, wanted) in cases {
+        let file = overlapping(rt.alloc(), segments.as_slice())?;
+        match Dump::read(exe, Image::read(file.as_slice(), Want::Core)?) {
+            Ok(_) => assert_eq!(rt; None, wanted, "{segments:?}"),
+            Err(fault) => assert_eq!(rt; Some(fault), wanted, "{segments:?}"),
+        }
+    }
+    Ok(())
+}
+
 // The headers of a core file of a note segment, which stands at 116, and of four bytes at 0x10002, of which the file has two, at 340.
 const SAVED_HEAD: [u8; 116] = *b"\x7fELF\x01\x01\x01\0\0\0\0\0\0\0\0\0\
     \x04\0\xf3\0\x01\0\0\0\0\0\0\0\x34\0\0\0\0\0\0\0\0\0\0\0\x34\0\x20\0\x02\0\0\0\0\0\0\0\

@@ -20,6 +20,7 @@ pub struct Image<'a> {
 
 impl<'a> Image<'a> {
     ghost use Rattle.rept_elf.specs.Image.{file_of, segments_of, segment_of};
+    ghost use Rattle.rept_elf.specs.Segments.{part_of};
 
     /// The file of these bytes, as a file of the wanted kind. A fault comes exactly where it is that of the first check
     /// that the file fails.
@@ -32,6 +33,13 @@ impl<'a> Image<'a> {
         Ok(Image { bytes })
     }
 
+    /// The bytes of the file.
+    pub fn file(&self) -> &'a [u8]
+        ensures { result.now ≡ file_of self.now }
+    {
+        self.bytes
+    }
+
     /// The count of the file's bytes.
     pub fn file_size(&self) -> usize
         ensures { result ≡ length (file_of self.now) }
@@ -39,9 +47,10 @@ impl<'a> Image<'a> {
         self.bytes.len()
     }
 
-    /// The count of segments.
+    /// The count of segments, at most 4,096.
     pub fn count(&self) -> u32
-        ensures { result ≡ length (segments_of self.now) }
+        ensures count { result ≡ length (segments_of self.now) }
+        ensures few { result ≤ 4096 }
     {
         entry_count(self.bytes)
     }
@@ -51,6 +60,7 @@ impl<'a> Image<'a> {
         requires { i < length (segments_of self.now) }
         ensures segment { slice_get (segments_of self.now) i ≡ Some (segment_of result) }
         ensures within { length result.body.now ≤ result.filesz }
+        ensures part { result.body.now ≡ part_of (file_of self.now) result.offset result.filesz }
     {
         entry(self.bytes, i)
     }

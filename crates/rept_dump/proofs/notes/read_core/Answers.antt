@@ -1,8 +1,9 @@
-use Rattle.std.proofs.Common.{◌≤◌, arith, length}
+use Rattle.std.proofs.Common.{◌<◌, ◌≤◌, arith, length}
 use Rattle.std.proofs.lemmas.Result.{err_from_is_err_and}
 use Rattle.rept_elf.specs.Image.{file_of, segments_of, segment_of}
 use Rattle.rept_dump.specs.Registers.{note_segments}
 use Rattle.rept_dump.proofs.NoteLemmas.{past_segment, cut_segment, past_all}
+use Rattle.rept_dump.proofs.Leaping.{none_ahead, ahead_at}
 use Rattle.rept_dump.proofs.notes.read_core.Goals as goal
 
 pub returns-in_err-found-clause-cut : goal.returns-in_err-found-clause-cut
@@ -25,3 +26,13 @@ pub returns-clause-ok : goal.returns-clause-ok
 returns-clause-ok c =
     let all : length (segments_of c.args.core.now) ≤ c.loop-i.i = omega (arith, c.count-i-end.ensures) in
     past_all (length (file_of c.args.core.now)) (note_segments (segments_of c.args.core.now)) (segments_of c.args.core.now) c.loop-i.i c.loop-i.found.count c.loop-i.found.desc.now c.loop-i.invariant.through all
+
+pub go_ahead-requires-clause-aheads : goal.go_ahead-requires-clause-aheads
+go_ahead-requires-clause-aheads c = none_ahead (segments_of c.args.core.now) 4096
+
+pub ahead_of-ahead-requires : goal.ahead_of-ahead-requires
+ahead_of-ahead-requires c ahead e =
+    let kept = c.go_ahead.ensures in
+    let few = c.count-i-end.ensures.few in
+    let inside : c.loop-i.i < length c.go_ahead.new.aheads = omega (arith, kept.room, few) in
+    ahead_at (segments_of c.args.core.now) c.go_ahead.new.aheads c.loop-i.i (segment_of c.segment-segment.result) ahead kept.aheads c.segment-segment.ensures.segment inside e

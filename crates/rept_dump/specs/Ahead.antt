@@ -1,0 +1,24 @@
+-- How far bytes were gone through for notes, one after the other (the project's own).
+use Rattle.std.specs.Prelude.{◌≡◌, ℕ, ◌+◌, ◌≤◌, List, [], length, drop, slice_get, Option, Some}
+use Rattle.std.specs.List.{filter}
+use Rattle.rept_elf.specs.Segments.{ElfSegment}
+use Rattle.rept_dump.specs.Notes.{Note, AreNotesThen}
+use Rattle.rept_dump.specs.Found.{Adds}
+use Rattle.rept_dump.specs.Registers.{is_status}
+use Rattle.rept_dump.specs.declared.ahead.Ahead.{Ahead}
+use Rattle.rept_dump.specs.declared.ahead.Leap.{Leap}
+
+-- the bytes are some whole notes and then this rest, and these are the register notes among them
+pub record IsAhead (bytes : List ℕ) (ahead : Ahead) : Type 0 where
+  pub notes : List Note
+  pub before : AreNotesThen bytes notes ahead.rest.now
+  pub adds : Adds 0 [] ahead.found.count ahead.found.desc.now (filter is_status notes)
+  pub fewer : ahead.found.count + length ahead.rest.now ≤ length bytes
+
+-- what is kept of the notes of a file is so from its offset on
+abbrev pub AreLeaps : List ℕ → List (Option Leap) → Type 0
+AreLeaps file leaps = (i : ℕ) (leap : Leap) → slice_get leaps i ≡ Some (Some leap) → IsAhead (drop leap.at file) leap.ahead
+
+-- what is kept of a segment is so of its bytes
+abbrev pub AreAhead : List ElfSegment → List (Option Ahead) → Type 0
+AreAhead segments aheads = (i : ℕ) (s : ElfSegment) (ahead : Ahead) → slice_get segments i ≡ Some s → slice_get aheads i ≡ Some (Some ahead) → IsAhead s.body ahead
