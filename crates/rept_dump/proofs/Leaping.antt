@@ -8,34 +8,32 @@ use Rattle.std.specs.List.{filter}
 use Rattle.rept_elf.specs.Header.{word_at}
 use Rattle.rept_elf.specs.Segments.{ElfSegment, part_of}
 use Rattle.rept_dump.specs.Notes.{Note, HoldsNote, AreNotesThen, first_note, after_note, desc_offset, desc_size, padded}
-use Rattle.rept_dump.specs.Found.{Adds}
+use Rattle.rept_dump.specs.Found.{AreFound, Adds}
 use Rattle.rept_dump.specs.Registers.{is_status}
 use Rattle.rept_dump.specs.Ahead.{IsAhead, AreLeaps, AreAhead}
 use Rattle.rept_dump.specs.declared.ahead.Ahead.{Ahead}
-use Rattle.rept_dump.proofs.NoteLemmas.{SoFar, one_more_note, Adds-nothing, Adds-then}
+use Rattle.rept_dump.specs.declared.note.Found.{Found}
+use Rattle.rept_dump.proofs.NoteLemmas.{SoFar, one_more, at_most_one, shrinks, AreFound-then}
 
 -- what was found, and what was found after
-pub joined : (count : ℕ) (desc : List ℕ) (more : ℕ) (last : List ℕ) → more ≢ 0 → (statuses : List Note) → Adds 0 [] more last statuses → Adds count desc (count + more) last statuses
-joined count desc more last some [] a = absurd (some (omega (arith, a.counted)))
-joined count desc more last some (note ∷ notes) a = record { counted = omega (arith, a.counted); last = a.last }
-
-pub so_far_of : (bytes : List ℕ) (ahead : Ahead) → IsAhead bytes ahead → SoFar bytes ahead.rest.now 0 [] ahead.found.count ahead.found.desc.now
-so_far_of bytes ahead a = record { notes = a.notes; before = a.before; adds = a.adds; fewer = omega (arith, a.fewer); shorter = omega (arith, a.fewer) }
-
-pub ahead_of_so_far : (bytes : List ℕ) (ahead : Ahead) → SoFar bytes ahead.rest.now 0 [] ahead.found.count ahead.found.desc.now → IsAhead bytes ahead
-ahead_of_so_far bytes ahead s = record { notes = s.notes; before = s.before; adds = s.adds; fewer = omega (arith, s.fewer) }
+pub joined : (found more : Found) → more.count ≢ 0 → (statuses : List Note) → AreFound more statuses → Adds found (record { count = found.count + more.count; desc = more.desc }) statuses
+joined found more some [] a = absurd (some (omega (arith, a.counted)))
+joined found more some (note ∷ notes) a = record { counted = omega (arith, a.counted); last = a.last }
 
 pub one_more_ahead : (bytes : List ℕ) (ahead ahead' : Ahead) (note : Note) → IsAhead bytes ahead → HoldsNote ahead.rest.now → first_note ahead.rest.now ≡ note → ahead'.rest.now ≡ after_note ahead.rest.now
-    → Adds ahead.found.count ahead.found.desc.now ahead'.found.count ahead'.found.desc.now (filter is_status (note ∷ [])) → IsAhead bytes ahead'
-one_more_ahead bytes ahead ahead' note a h n e more =
-    ahead_of_so_far bytes ahead' (one_more_note bytes ahead.rest.now ahead'.rest.now 0 [] ahead.found.count ahead.found.desc.now ahead'.found.count ahead'.found.desc.now note (so_far_of bytes ahead a) h n e more)
+    → Adds ahead.found ahead'.found (filter is_status (note ∷ [])) → IsAhead bytes ahead'
+one_more_ahead bytes ahead ahead' note a h n e more = record {
+  notes = a.notes ++ note ∷ [];
+  before = subst (λ r. AreNotesThen bytes (a.notes ++ note ∷ []) r) (sym e) (one_more bytes a.notes ahead.rest.now note a.before h n);
+  found = AreFound-then ahead.found ahead'.found a.notes (note ∷ []) a.found more;
+  fewer = omega (arith, a.fewer, shrinks ahead.rest.now ahead'.rest.now h e, more.counted, at_most_one note);
+}
 
 -- what was read ahead of a segment, after what was found before
-pub so_far_joined : (bytes : List ℕ) (ahead : Ahead) (count : ℕ) (desc : List ℕ) (count' : ℕ) (desc' : List ℕ) → IsAhead bytes ahead
-    → ((statuses : List Note) → Adds 0 [] ahead.found.count ahead.found.desc.now statuses → Adds count desc count' desc' statuses) → SoFar bytes ahead.rest.now count desc count' desc'
-so_far_joined bytes ahead count desc count' desc' a join =
-    let more = join (filter is_status a.notes) a.adds in
-    record { notes = a.notes; before = a.before; adds = more; fewer = omega (arith, a.fewer, a.adds.counted, more.counted); shorter = omega (arith, a.fewer) }
+pub so_far_joined : (bytes : List ℕ) (ahead : Ahead) (found found' : Found) → IsAhead bytes ahead → ((statuses : List Note) → AreFound ahead.found statuses → Adds found found' statuses) → SoFar bytes ahead.rest.now found found'
+so_far_joined bytes ahead found found' a join =
+    let more = join (filter is_status a.notes) a.found in
+    record { notes = a.notes; before = a.before; adds = more; fewer = omega (arith, a.fewer, a.found.counted, more.counted); shorter = omega (arith, a.fewer) }
 
 -- the bytes that a note has, with its padding
 abbrev step : List ℕ → ℕ
@@ -127,7 +125,7 @@ front_notes (note ∷ notes) bytes k m h lt le =
 
 pub passed : (segment bytes : List ℕ) (ahead leap ahead' : Ahead) → IsAhead segment ahead → IsAhead bytes leap → ahead.rest.now ≡ take (length ahead.rest.now) bytes
     → (length bytes - length leap.rest.now) + 12 ≤ length ahead.rest.now → ahead'.rest.now ≡ drop (length bytes - length leap.rest.now) ahead.rest.now
-    → ((statuses : List Note) → Adds 0 [] leap.found.count leap.found.desc.now statuses → Adds ahead.found.count ahead.found.desc.now ahead'.found.count ahead'.found.desc.now statuses)
+    → ((statuses : List Note) → AreFound leap.found statuses → Adds ahead.found ahead'.found statuses)
     → IsAhead segment ahead'
 passed segment bytes ahead leap ahead' a b front fits rest join =
     let m = length ahead.rest.now in
@@ -136,12 +134,12 @@ passed segment bytes ahead leap ahead' a b front fits rest join =
     let then_rest : AreNotesThen bytes b.notes (drop p bytes) = subst (λ r. AreNotesThen bytes b.notes r) (rest_of bytes b.notes leap.rest.now b.before) b.before in
     let in_front : AreNotesThen (take m bytes) b.notes (drop p (take m bytes)) = front_notes b.notes bytes p m then_rest fits le in
     let in_rest : AreNotesThen ahead.rest.now b.notes ahead'.rest.now = subst (λ r. AreNotesThen ahead.rest.now b.notes r) (sym rest) (subst (λ bs. AreNotesThen bs b.notes (drop p bs)) (sym front) in_front) in
-    let more = join (filter is_status b.notes) b.adds in
+    let more = join (filter is_status b.notes) b.found in
     record {
       notes = a.notes ++ b.notes;
       before = then_more segment a.notes b.notes ahead.rest.now ahead'.rest.now a.before in_rest;
-      adds = Adds-then 0 [] ahead.found.count ahead.found.desc.now ahead'.found.count ahead'.found.desc.now a.notes b.notes a.adds more;
-      fewer = (let l = ap length rest ∙ length-drop p ahead.rest.now in omega (arith, l, fits, a.fewer, b.fewer, b.adds.counted, more.counted));
+      found = AreFound-then ahead.found ahead'.found a.notes b.notes a.found more;
+      fewer = (let l = ap length rest ∙ length-drop p ahead.rest.now in omega (arith, l, fits, a.fewer, b.fewer, b.found.counted, more.counted));
     }
 
 some_same : {X : Type 0} {x y : X} → Some x ≡ Some y → x ≡ y

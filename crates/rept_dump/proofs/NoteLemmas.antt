@@ -1,14 +1,15 @@
 -- Notes one by one, segments one by one, and that both are determined.
-use Rattle.std.proofs.Common.{◌≡◌, ◌≢◌, ℕ, ◌+◌, ◌-◌, ◌<◌, ◌≤◌, inl, inr, List, [], ◌∷◌, ◌++◌, length, drop, Bool, true, false, cond, arith, rules, refl, sym, ◌∙◌, ap, subst, append_assoc, length-append, length-drop}
+use Rattle.std.proofs.Common.{◌≡◌, ℕ, ◌+◌, ◌<◌, ◌≤◌, inl, inr, List, [], ◌∷◌, ◌++◌, length, drop, Bool, true, false, cond, arith, refl, sym, ◌∙◌, ap, subst, append_assoc, length-append, length-drop}
 use Rattle.std.proofs.lemmas.List.{append-nil, at_drop_all}
 use Rattle.std.proofs.lemmas.List.Elements.{filter-append}
-use Rattle.std.specs.Prelude.{Result, Ok, Err, Some, slice_get, MatchBool, nat_lt}
+use Rattle.std.specs.Prelude.{Result, Err, Some, slice_get, MatchBool}
 use Rattle.std.specs.List.{filter}
 use Rattle.rept_elf.specs.Segments.{ElfSegment, is_note}
 use Rattle.rept_elf.proofs.SegmentLemmas.{drop-slice_get}
-use Rattle.rept_dump.specs.Notes.{Note, HoldsNote, AreNotesThen, AreNotes, CutsNote, HaveNotes, AreCutAt, IsCutAt, IsInFile, first_note, after_note, note_header, desc_offset, desc_size}
-use Rattle.rept_dump.specs.Found.{Adds, last_desc, PassesSegment, CutsSegment}
-use Rattle.rept_dump.specs.Registers.{Says, only_registers, is_status, note_segments, status_size}
+use Rattle.rept_dump.specs.Notes.{Note, HoldsNote, AreNotesThen, AreNotes, CutsNote, HaveNotes, AreCutAt, IsCutAt, IsInFile, first_note, after_note, note_header}
+use Rattle.rept_dump.specs.Found.{AreFound, Adds, last_desc, PassesSegment, CutsSegment}
+use Rattle.rept_dump.specs.Registers.{Says, only_registers, is_status, note_segments}
+use Rattle.rept_dump.specs.declared.note.Found.{Found}
 use Rattle.rept_dump.specs.declared.fault.CoreFault.{CoreFault}
 use Rattle.rept_dump.specs.declared.fault.CoreFault.TheVariants as fault
 
@@ -20,29 +21,31 @@ pub last_desc-append : (desc : List ℕ) (front after : List Note) → last_desc
 last_desc-append desc [] after = refl
 last_desc-append desc (note ∷ front) after = last_desc-append note.desc front after
 
-pub Adds-nothing : (count : ℕ) (desc : List ℕ) → Adds count desc count desc []
-Adds-nothing count desc = record { counted = omega arith; last = refl }
+pub Adds-nothing : (found : Found) → Adds found found []
+Adds-nothing found = record { counted = omega arith; last = refl }
 
-pub Adds-then : (count : ℕ) (desc : List ℕ) (count' : ℕ) (desc' : List ℕ) (count'' : ℕ) (desc'' : List ℕ) (front after : List Note)
-    → Adds count desc count' desc' (filter is_status front) → Adds count' desc' count'' desc'' (filter is_status after) → Adds count desc count'' desc'' (filter is_status (front ++ after))
-Adds-then count desc count' desc' count'' desc'' front after a b = rw filter-append (record {
-  counted = omega (arith, a.counted, b.counted, length-append (filter is_status front) (filter is_status after));
-  last = b.last ∙ ap (λ d. last_desc d (filter is_status after)) a.last ∙ sym (last_desc-append desc (filter is_status front) (filter is_status after));
+pub Adds-then : (a b c : Found) (front after : List Note) → Adds a b (filter is_status front) → Adds b c (filter is_status after) → Adds a c (filter is_status (front ++ after))
+Adds-then a b c front after p q = rw filter-append (record {
+  counted = omega (arith, p.counted, q.counted, length-append (filter is_status front) (filter is_status after));
+  last = q.last ∙ ap (λ d. last_desc d (filter is_status after)) p.last ∙ sym (last_desc-append a.desc.now (filter is_status front) (filter is_status after));
+})
+
+pub AreFound-then : (a b : Found) (front after : List Note) → AreFound a (filter is_status front) → Adds a b (filter is_status after) → AreFound b (filter is_status (front ++ after))
+AreFound-then a b front after p q = rw filter-append (record {
+  counted = omega (arith, p.counted, q.counted, length-append (filter is_status front) (filter is_status after));
+  last = q.last ∙ ap (λ d. last_desc d (filter is_status after)) p.last ∙ sym (last_desc-append [] (filter is_status front) (filter is_status after));
 })
 
 -- the notes of a segment so far
-pub record SoFar (bytes rest : List ℕ) (count : ℕ) (desc : List ℕ) (count' : ℕ) (desc' : List ℕ) : Type 0 where
+pub record SoFar (bytes rest : List ℕ) (found found' : Found) : Type 0 where
   pub notes : List Note
   pub before : AreNotesThen bytes notes rest
-  pub adds : Adds count desc count' desc' (filter is_status notes)
-  pub fewer : count' + length rest ≤ count + length bytes
+  pub adds : Adds found found' (filter is_status notes)
+  pub fewer : found'.count + length rest ≤ found.count + length bytes
   pub shorter : length rest ≤ length bytes
 
-pub at_start : (bytes : List ℕ) (count : ℕ) (desc : List ℕ) → SoFar bytes bytes count desc count desc
-at_start bytes count desc = record { notes = []; before = refl; adds = Adds-nothing count desc; fewer = omega arith; shorter = omega arith }
-
 -- at most one of one note is of registers
-at_most_one : (note : Note) → length (filter is_status (note ∷ [])) ≤ 1
+pub at_most_one : (note : Note) → length (filter is_status (note ∷ [])) ≤ 1
 at_most_one note = either (is_status note)
   where
     either : (b : Bool) → length (cond b (note ∷ []) []) ≤ 1
@@ -52,89 +55,54 @@ at_most_one note = either (is_status note)
 pub shrinks : (rest rest' : List ℕ) → HoldsNote rest → rest' ≡ after_note rest → length rest' + 12 ≤ length rest
 shrinks rest rest' h e = rw (e, length-drop) (omega (arith, h.header))
 
-pub one_more_note : (bytes rest rest' : List ℕ) (count : ℕ) (desc : List ℕ) (count' : ℕ) (desc' : List ℕ) (count'' : ℕ) (desc'' : List ℕ) (note : Note)
-    → SoFar bytes rest count desc count' desc' → HoldsNote rest → first_note rest ≡ note → rest' ≡ after_note rest → Adds count' desc' count'' desc'' (filter is_status (note ∷ [])) → SoFar bytes rest' count desc count'' desc''
-one_more_note bytes rest rest' count desc count' desc' count'' desc'' note s h n e a = record {
+pub one_more_note : (bytes rest rest' : List ℕ) (a b c : Found) (note : Note)
+    → SoFar bytes rest a b → HoldsNote rest → first_note rest ≡ note → rest' ≡ after_note rest → Adds b c (filter is_status (note ∷ [])) → SoFar bytes rest' a c
+one_more_note bytes rest rest' a b c note s h n e more = record {
   notes = s.notes ++ note ∷ [];
   before = subst (λ r. AreNotesThen bytes (s.notes ++ note ∷ []) r) (sym e) (one_more bytes s.notes rest note s.before h n);
-  adds = Adds-then count desc count' desc' count'' desc'' s.notes (note ∷ []) s.adds a;
-  fewer = omega (arith, s.fewer, shrinks rest rest' h e, a.counted, at_most_one note);
+  adds = Adds-then a b c s.notes (note ∷ []) s.adds more;
+  fewer = omega (arith, s.fewer, shrinks rest rest' h e, more.counted, at_most_one note);
   shorter = omega (arith, s.shorter, shrinks rest rest' h e);
 }
 
-pub all_notes : (bytes rest : List ℕ) (count : ℕ) (desc : List ℕ) (count' : ℕ) (desc' : List ℕ) → SoFar bytes rest count desc count' desc' → length rest < note_header → (notes : List Note) × AreNotes bytes notes × Adds count desc count' desc' (filter is_status notes)
-all_notes bytes rest count desc count' desc' s h = (s.notes, (rest, s.before, h), s.adds)
-
-pub cut_note : (bytes rest : List ℕ) (count : ℕ) (desc : List ℕ) (count' : ℕ) (desc' : List ℕ) → SoFar bytes rest count desc count' desc' → note_header ≤ length rest → length rest < desc_offset rest + desc_size rest → CutsNote bytes (length bytes - length rest)
-cut_note bytes rest count desc count' desc' s h p = record { notes = s.notes; rest = rest; before = s.before; header = h; past = p; at = omega (arith, s.shorter) }
-
 -- the segments that are left, and the notes of those before
-pub record Through (size : ℕ) (all left : List ElfSegment) (count : ℕ) (desc : List ℕ) : Type 0 where
+pub record Through (size : ℕ) (all left : List ElfSegment) (found : Found) : Type 0 where
   pub notes : List Note
   pub have : (later : List Note) → HaveNotes size left later → HaveNotes size all (notes ++ later)
   pub cut : (offset : ℕ) → AreCutAt size left offset → AreCutAt size all offset
-  pub adds : Adds 0 [] count desc (filter is_status notes)
+  pub are : AreFound found (filter is_status notes)
 
-pub from_first : (size : ℕ) (all : List ElfSegment) → Through size all all 0 []
-from_first size all = record { notes = []; have = λ later h. h; cut = λ offset h. h; adds = Adds-nothing 0 [] }
-
-pub past_one : (size : ℕ) (all : List ElfSegment) (s : ElfSegment) (left : List ElfSegment) (count : ℕ) (desc : List ℕ) (count' : ℕ) (desc' : List ℕ) (front : List Note)
-    → Through size all (s ∷ left) count desc → IsInFile size s → AreNotes s.body front → Adds count desc count' desc' (filter is_status front) → Through size all left count' desc'
-past_one size all s left count desc count' desc' front t inside are adds = record {
+pub past_one : (size : ℕ) (all : List ElfSegment) (s : ElfSegment) (left : List ElfSegment) (found found' : Found) (front : List Note)
+    → Through size all (s ∷ left) found → IsInFile size s → AreNotes s.body front → Adds found found' (filter is_status front) → Through size all left found'
+past_one size all s left found found' front t inside are adds = record {
   notes = t.notes ++ front;
   have = λ later h. rw append_assoc (t.have (front ++ later) (front, later, refl, inside, are, h));
   cut = λ offset h. t.cut offset (inr (inside, (front, are), h));
-  adds = Adds-then 0 [] count desc count' desc' t.notes front t.adds adds;
+  are = AreFound-then found found' t.notes front t.are adds;
 }
 
-pub past_segment : (size : ℕ) (all segs : List ElfSegment) (i : ℕ) (s : ElfSegment) (count : ℕ) (desc : List ℕ) (count' : ℕ) (desc' : List ℕ)
-    → Through size all (note_segments (drop i segs)) count desc → slice_get segs i ≡ Some s → PassesSegment size s count desc count' desc' → Through size all (note_segments (drop (i + 1) segs)) count' desc'
-past_segment size all segs i s count desc count' desc' t at p = either (is_note s) (subst (λ ss. Through size all (note_segments ss) count desc) (drop-slice_get segs i s at) t) p
+pub past_segment : (size : ℕ) (all segs : List ElfSegment) (i : ℕ) (s : ElfSegment) (found found' : Found)
+    → Through size all (note_segments (drop i segs)) found → slice_get segs i ≡ Some s → PassesSegment size s found found' → Through size all (note_segments (drop (i + 1) segs)) found'
+past_segment size all segs i s found found' t at p = either (is_note s) (subst (λ ss. Through size all (note_segments ss) found) (drop-slice_get segs i s at) t) p
   where
-    either : (b : Bool) → Through size all (cond b (s ∷ note_segments (drop (i + 1) segs)) (note_segments (drop (i + 1) segs))) count desc
-        → MatchBool b (IsInFile size s × ((notes : List Note) × AreNotes s.body notes × Adds count desc count' desc' (filter is_status notes))) ((count' ≡ count) × (desc' ≡ desc))
-        → Through size all (note_segments (drop (i + 1) segs)) count' desc'
-    either true u q = past_one size all s (note_segments (drop (i + 1) segs)) count desc count' desc' q.1.0 u q.0 q.1.1 q.1.2
-    either false u q = subst (λ n. Through size all (note_segments (drop (i + 1) segs)) n desc') (sym q.0) (subst (λ d. Through size all (note_segments (drop (i + 1) segs)) count d) (sym q.1) u)
+    either : (b : Bool) → Through size all (cond b (s ∷ note_segments (drop (i + 1) segs)) (note_segments (drop (i + 1) segs))) found
+        → MatchBool b (IsInFile size s × ((notes : List Note) × AreNotes s.body notes × Adds found found' (filter is_status notes))) (found' ≡ found)
+        → Through size all (note_segments (drop (i + 1) segs)) found'
+    either true u q = past_one size all s (note_segments (drop (i + 1) segs)) found found' q.1.0 u q.0 q.1.1 q.1.2
+    either false u q = subst (Through size all (note_segments (drop (i + 1) segs))) (sym q) u
 
-pub cut_segment : (size : ℕ) (all segs : List ElfSegment) (i : ℕ) (s : ElfSegment) (count : ℕ) (desc : List ℕ) (offset : ℕ)
-    → Through size all (note_segments (drop i segs)) count desc → slice_get segs i ≡ Some s → CutsSegment size s offset → AreCutAt size all offset
-cut_segment size all segs i s count desc offset t at c = either (is_note s) c.0 (subst (λ ss. Through size all (note_segments ss) count desc) (drop-slice_get segs i s at) t)
+pub cut_segment : (size : ℕ) (all segs : List ElfSegment) (i : ℕ) (s : ElfSegment) (found : Found) (offset : ℕ)
+    → Through size all (note_segments (drop i segs)) found → slice_get segs i ≡ Some s → CutsSegment size s offset → AreCutAt size all offset
+cut_segment size all segs i s found offset t at c = either (is_note s) c.0 (subst (λ ss. Through size all (note_segments ss) found) (drop-slice_get segs i s at) t)
   where
-    either : (b : Bool) → b ≡ true → Through size all (cond b (s ∷ note_segments (drop (i + 1) segs)) (note_segments (drop (i + 1) segs))) count desc → AreCutAt size all offset
+    either : (b : Bool) → b ≡ true → Through size all (cond b (s ∷ note_segments (drop (i + 1) segs)) (note_segments (drop (i + 1) segs))) found → AreCutAt size all offset
     either true e u = u.cut offset (inl c.1)
     either false e u = cc
 
-pub past_all : (size : ℕ) (all segs : List ElfSegment) (i : ℕ) (count : ℕ) (desc : List ℕ) → Through size all (note_segments (drop i segs)) count desc → length segs ≤ i
-    → (notes : List Note) × HaveNotes size all notes × Adds 0 [] count desc (filter is_status notes)
-past_all size all segs i count desc t h =
-    let u : Through size all [] count desc = subst (λ left. Through size all left count desc) (at_drop_all note_segments segs i h) t in (u.notes, rw append-nil at (u.have [] refl), u.adds)
-
--- what the count and the last descriptor say of the register notes
-pub no_registers : (count : ℕ) (desc : List ℕ) (statuses : List Note) → Adds 0 [] count desc statuses → count ≡ 0 → Err fault.NoStatus ≡ only_registers statuses
-no_registers count desc [] a e = refl
-no_registers count desc (note ∷ notes) a e = absurd (omega (arith, a.counted))
-
-pub many_registers : (count : ℕ) (desc : List ℕ) (statuses : List Note) → Adds 0 [] count desc statuses → 1 < count → Err (fault.SeveralThreads count) ≡ only_registers statuses
-many_registers count desc [] a h = absurd (omega (arith, a.counted))
-many_registers count desc (note ∷ []) a h = absurd (omega (arith, a.counted))
-many_registers count desc (note ∷ (other ∷ notes)) a h =
-    let e : count ≡ length (note ∷ (other ∷ notes)) = omega (arith, a.counted) in ap (λ n. Err (fault.SeveralThreads n)) e
-
--- what is said of one note by its descriptor
-abbrev pub said_of_desc : List ℕ → Result (List ℕ) CoreFault
-said_of_desc desc = cond (nat_lt (length desc) status_size) (Err (fault.ShortStatus (length desc))) (Ok desc)
-
-pub one_registers : (count : ℕ) (desc : List ℕ) (statuses : List Note) → Adds 0 [] count desc statuses → count ≢ 0 → count ≤ 1 → said_of_desc desc ≡ only_registers statuses
-one_registers count desc [] a h k = absurd (h (omega (arith, a.counted)))
-one_registers count desc (note ∷ []) a h k = ap said_of_desc a.last
-one_registers count desc (note ∷ (other ∷ notes)) a h k = absurd (omega (arith, a.counted))
-
-pub short_registers : (count : ℕ) (desc : List ℕ) (statuses : List Note) → Adds 0 [] count desc statuses → count ≢ 0 → count ≤ 1 → length desc < status_size → Err (fault.ShortStatus (length desc)) ≡ only_registers statuses
-short_registers count desc statuses a h k s = (let e : nat_lt (length desc) status_size ≡ true = search rules in sym (ap (λ b. cond b (Err (fault.ShortStatus (length desc))) (Ok desc)) e)) ∙ one_registers count desc statuses a h k
-
-pub whole_registers : (count : ℕ) (desc : List ℕ) (statuses : List Note) → Adds 0 [] count desc statuses → count ≢ 0 → count ≤ 1 → status_size ≤ length desc → Ok desc ≡ only_registers statuses
-whole_registers count desc statuses a h k s = (let e : nat_lt (length desc) status_size ≡ false = search rules in sym (ap (λ b. cond b (Err (fault.ShortStatus (length desc))) (Ok desc)) e)) ∙ one_registers count desc statuses a h k
+pub past_all : (size : ℕ) (all segs : List ElfSegment) (i : ℕ) (found : Found) → Through size all (note_segments (drop i segs)) found → length segs ≤ i
+    → (notes : List Note) × HaveNotes size all notes × AreFound found (filter is_status notes)
+past_all size all segs i found t h =
+    let u : Through size all [] found = subst (λ left. Through size all left found) (at_drop_all note_segments segs i h) t in (u.notes, rw append-nil at (u.have [] refl), u.are)
 
 -- notes are determined by their bytes
 ends_same : (bytes : List ℕ) (notes notes' : List Note) (rest rest' : List ℕ) → AreNotesThen bytes notes rest → AreNotesThen bytes notes' rest' → (HoldsNote rest → ⊥) → (HoldsNote rest' → ⊥) → (notes ≡ notes') × (rest ≡ rest')

@@ -1,9 +1,9 @@
 -- How far bytes were gone through for notes, one after the other (the project's own).
-use Rattle.std.specs.Prelude.{◌≡◌, ℕ, ◌+◌, ◌≤◌, List, [], length, drop, slice_get, Option, Some}
+use Rattle.std.specs.Prelude.{◌≡◌, ℕ, ◌+◌, ◌≤◌, List, length, drop, slice_get, Option, Some}
 use Rattle.std.specs.List.{filter}
 use Rattle.rept_elf.specs.Segments.{ElfSegment}
 use Rattle.rept_dump.specs.Notes.{Note, AreNotesThen}
-use Rattle.rept_dump.specs.Found.{Adds}
+use Rattle.rept_dump.specs.Found.{AreFound}
 use Rattle.rept_dump.specs.Registers.{is_status}
 use Rattle.rept_dump.specs.declared.ahead.Ahead.{Ahead}
 use Rattle.rept_dump.specs.declared.ahead.Leap.{Leap}
@@ -12,7 +12,7 @@ use Rattle.rept_dump.specs.declared.ahead.Leap.{Leap}
 pub record IsAhead (bytes : List ℕ) (ahead : Ahead) : Type 0 where
   pub notes : List Note
   pub before : AreNotesThen bytes notes ahead.rest.now
-  pub adds : Adds 0 [] ahead.found.count ahead.found.desc.now (filter is_status notes)
+  pub found : AreFound ahead.found (filter is_status notes)
   pub fewer : ahead.found.count + length ahead.rest.now ≤ length bytes
 
 -- what is kept of the notes of a file is so from its offset on

@@ -2,12 +2,13 @@
 use Rattle.std.specs.Prelude.{ℕ, List, Result, Ok, Err}
 use Rattle.rept_elf.specs.Segments.{ElfSegment}
 use Rattle.rept_elf.specs.Image.{segments_of}
+use Rattle.rept_dump.specs.Code.{code_of}
 use Rattle.rept_dump.specs.declared.fault.CoreFault.{CoreFault}
 use Rattle.rept_dump.specs.declared.dump.Dump.{Dump}
 
 -- the segments of the executable
 abbrev pub exe_of : Dump → List ElfSegment
-exe_of dump = segments_of dump.exe
+exe_of dump = code_of dump.code
 
 -- the segments of the core file
 abbrev pub core_of : Dump → List ElfSegment

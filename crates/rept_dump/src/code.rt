@@ -18,26 +18,6 @@ fn word_in(segment: &Segment<'_>, a: u32) -> Option<u32>
     Some(word(bytes, 0))
 }
 
-/// The stretch of code of an address: the last one where it has the address.
-pub fn code_near<'a>(exe: &Image<'a>, last: Stretch<'a>, a: u32) -> Stretch<'a>
-    requires { AnswersAlike (sought_code (segments_of exe.now)) last }
-    ensures within { (result.from ≤ a) × (a < result.to) }
-    ensures alike { AnswersAlike (sought_code (segments_of exe.now)) result }
-{
-    stretch_near(last, exe, Allowed::Executable, a, 4)
-}
-
-/// The word of code at an address, looked for in the last stretch first.
-pub fn word_near(exe: &Image<'_>, last: Stretch<'_>, a: u32) -> Option<u32>
-    requires { AnswersAlike (sought_code (segments_of exe.now)) last }
-    ensures { result ≡ code_at (segments_of exe.now) a }
-{
-    match code_near(exe, last, a).segment {
-        Some(segment) => word_in(&segment, a),
-        None => None,
-    }
-}
-
 /// The code of an executable, and where it was looked for last.
 #[derive(Clone, Copy)]
 pub struct Code<'a> {
@@ -48,6 +28,13 @@ pub struct Code<'a> {
 
 impl<'a> Code<'a> {
     ghost use Rattle.rept_dump.specs.Code.{code_of};
+
+    /// The executable.
+    pub fn image(&self) -> Image<'a>
+        ensures { segments_of result ≡ code_of self.now }
+    {
+        self.exe
+    }
 
     /// The code of this executable.
     pub fn new(exe: Image<'a>) -> Code<'a>
@@ -61,7 +48,10 @@ impl<'a> Code<'a> {
     pub fn word_at(&self, a: u32) -> Option<u32>
         ensures { result ≡ code_at (code_of self.now) a }
     {
-        word_near(&self.exe, self.last, a)
+        match self.stretch(a).segment {
+            Some(segment) => word_in(&segment, a),
+            None => None,
+        }
     }
 
     /// The same code, which finds words near this address without a search among all segments.
@@ -69,7 +59,15 @@ impl<'a> Code<'a> {
         ensures { code_of result ≡ code_of self.now }
     {
         let mut code = *self;
-        code.last = code_near(&self.exe, self.last, a);
+        code.last = self.stretch(a);
         code
+    }
+
+    /// The stretch of code of an address: the last one where it has the address.
+    fn stretch(&self, a: u32) -> Stretch<'a>
+        ensures within { (result.from ≤ a) × (a < result.to) }
+        ensures alike { AnswersAlike (sought_code (code_of self.now)) result }
+    {
+        stretch_near(self.last, &self.exe, Allowed::Executable, a, 4)
     }
 }

@@ -3,11 +3,12 @@
 ghost use Rattle.std.specs.Prelude.{◌≡◌, ◌≤◌, ◌<◌, ◌&&◌, ℕ, List, Result, Some, None, length, slice_index, IfOk, if◌then◌else◌};
 ghost use Rattle.rept_elf.specs.Segments.{greatest_end};
 ghost use Rattle.rept_elf.specs.Image.{file_of, segments_of, segment_of};
+ghost use Rattle.rept_dump.specs.Code.{code_of};
 ghost use Rattle.rept_dump.specs.Memory.{byte_at, code_at, allows, holds, bytes_from};
 ghost use Rattle.rept_dump.specs.Registers.{Says, status_size};
-ghost use Rattle.rept_dump.specs.Stretch.{AnswersAlike, sought_code, sought_saved, sought_kept};
+ghost use Rattle.rept_dump.specs.Stretch.{AnswersAlike, sought_saved, sought_kept};
 
-use crate::code::{code_near, word_near};
+use crate::code::Code;
 use crate::fault::CoreFault;
 use crate::notes::find_registers;
 use crate::search::{Allowed, held_bytes};
@@ -18,19 +19,17 @@ use rept_elf::{Image, Segment};
 /// An executable and the core file of its crash, whose notes are whole and have the registers of one thread.
 #[derive(Clone, Copy)]
 pub struct Dump<'a> {
-    exe: Image<'a>,
+    code: Code<'a>,
     core: Image<'a>,
     registers: &'a [u8],
     image_end: u64,
-    // Where code, saved bytes and bytes of the executable were looked for last.
-    code: Stretch<'a>,
+    // Where saved bytes and bytes of the executable were looked for last.
     saved: Stretch<'a>,
     kept: Stretch<'a>,
     ghost has_registers: { status_size ≤ length registers.now },
-    ghost ends: { image_end ≡ greatest_end (segments_of exe) },
-    ghost code_answers: { AnswersAlike (sought_code (segments_of exe)) code },
+    ghost ends: { image_end ≡ greatest_end (code_of code) },
     ghost saved_answers: { AnswersAlike (sought_saved (segments_of core)) saved },
-    ghost kept_answers: { AnswersAlike (sought_kept (segments_of exe)) kept },
+    ghost kept_answers: { AnswersAlike (sought_kept (code_of code)) kept },
 }
 
 /// The byte at an address, if this segment has it.
@@ -56,11 +55,10 @@ impl<'a> Dump<'a> {
         let registers = find_registers(&core)?;
         let image_end = exe.image_end();
         Ok(Dump {
-            exe,
+            code: Code::new(exe),
             core,
             registers,
             image_end,
-            code: NOWHERE,
             saved: NOWHERE,
             kept: NOWHERE,
         })
@@ -93,7 +91,7 @@ impl<'a> Dump<'a> {
     pub fn word_of_code(&self, a: u32) -> Option<u32>
         ensures { result ≡ code_at (exe_of self.now) a }
     {
-        word_near(&self.exe, self.code, a)
+        self.code.word_at(a)
     }
 
     /// The end of the executable's image: the greatest `vaddr + memsz` of a `PT_LOAD` segment of it, 0 without one.
@@ -110,7 +108,7 @@ impl<'a> Dump<'a> {
         ensures registers { registers_of result ≡ registers_of self.now }
     {
         let mut dump = *self;
-        dump.code = code_near(&self.exe, self.code, a);
+        dump.code = self.code.near(a);
         dump
     }
 
@@ -139,6 +137,6 @@ impl<'a> Dump<'a> {
         ensures within { (result.from ≤ a) × (a < result.to) }
         ensures alike { AnswersAlike (sought_kept (exe_of self.now)) result }
     {
-        stretch_near(self.kept, &self.exe, Allowed::ReadOnly, a, 1)
+        stretch_near(self.kept, &self.code.image(), Allowed::ReadOnly, a, 1)
     }
 }

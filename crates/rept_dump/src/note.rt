@@ -2,7 +2,7 @@
 
 ghost use Rattle.std.specs.Prelude.{◌≡◌, ◌≤◌, ◌<◌, ◌+◌, ◌^◌, ◌==◌, List, [], ◌∷◌, length, drop, MatchOption};
 ghost use Rattle.std.specs.List.{filter, list_all};
-ghost use Rattle.rept_dump.specs.Found.{Adds};
+ghost use Rattle.rept_dump.specs.Found.{AreFound, Adds};
 ghost use Rattle.rept_dump.specs.Notes.{Note as NoteOf, HoldsNote, first_note as note_of, after_note, desc_offset, desc_size, note_header, padded as padded_size};
 ghost use Rattle.rept_dump.specs.Registers.{is_core_name, is_status};
 
@@ -93,7 +93,7 @@ pub const NOTHING: Found<'static> = Found {
 /// What was found, and this note if it is one of registers.
 pub fn add_note<'a>(found: Found<'a>, note: &Note<'a>) -> Found<'a>
     requires { found.count + 1 < 2 ^ 64 }
-    ensures { Adds found.entry.count found.entry.desc.now result.count result.desc.now (filter is_status (record { kind = note.now.kind; name = note.now.name.now; desc = note.now.desc.now } ∷ [])) }
+    ensures { Adds found.entry result (filter is_status (record { kind = note.now.kind; name = note.now.name.now; desc = note.now.desc.now } ∷ [])) }
 {
     if note.kind == NT_PRSTATUS && is_core(note.name) {
         Found {
@@ -108,7 +108,7 @@ pub fn add_note<'a>(found: Found<'a>, note: &Note<'a>) -> Found<'a>
 /// What was found, and what was found in the notes after.
 pub fn join<'a>(found: Found<'a>, more: Found<'a>) -> Found<'a>
     requires { found.count + more.count < 2 ^ 64 }
-    ensures { (statuses : List NoteOf) → Adds 0 [] more.entry.count more.entry.desc.now statuses → Adds found.entry.count found.entry.desc.now result.count result.desc.now statuses }
+    ensures { (statuses : List NoteOf) → AreFound more.entry statuses → Adds found.entry result statuses }
 {
     if more.count == 0 {
         return found;

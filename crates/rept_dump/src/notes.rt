@@ -5,7 +5,7 @@ ghost use Rattle.std.specs.List.{filter};
 ghost use Rattle.std.specs.Result.{result_map_both};
 ghost use Rattle.rept_elf.specs.Image.{file_of, segments_of, segment_of};
 ghost use Rattle.rept_dump.specs.Ahead.{IsAhead};
-ghost use Rattle.rept_dump.specs.Found.{Adds, PassesSegment, CutsSegment};
+ghost use Rattle.rept_dump.specs.Found.{AreFound, Adds, PassesSegment, CutsSegment};
 ghost use Rattle.rept_dump.specs.Notes.{Note as NoteOf, AreNotes, CutsNote, HaveNotes, AreCutAt};
 ghost use Rattle.rept_dump.specs.Registers.{Says, status_size, is_status, note_segments, only_registers};
 
@@ -31,7 +31,7 @@ fn read_notes<'a>(
     requires size { length bytes.now < 2 ^ 32 }
     requires ahead { IsAhead bytes.now ahead }
     requires room { found.count + length bytes.now < 2 ^ 64 }
-    ensures ok { IfOk result (λ now. (notes : List NoteOf) × AreNotes bytes.now notes × Adds found.entry.count found.entry.desc.now now.count now.desc.now (filter is_status notes)) }
+    ensures ok { IfOk result (λ now. (notes : List NoteOf) × AreNotes bytes.now notes × Adds found.entry now (filter is_status notes)) }
     ensures few { IfOk result (λ now. now.count ≤ found.entry.count + length bytes.now) }
     ensures cut { IfErr result (λ fault. (place : ℕ) × CutsNote bytes.now place × (fault ≡ CoreFault.NotePastEnd (offset + place))) }
 {
@@ -59,7 +59,7 @@ fn read_segment<'a>(
     requires size { length segment.now.body.now < 2 ^ 32 }
     requires ahead { IsAhead segment.now.body.now ahead }
     requires room { found.count + length segment.now.body.now < 2 ^ 64 }
-    ensures ok { IfOk result (λ now. PassesSegment size (segment_of segment.now) found.entry.count found.entry.desc.now now.count now.desc.now) }
+    ensures ok { IfOk result (λ now. PassesSegment size (segment_of segment.now) found.entry now) }
     ensures few { IfOk result (λ now. now.count ≤ found.entry.count + length segment.now.body.now) }
     ensures cut { IfErr result (λ fault. (offset : ℕ) × CutsSegment size (segment_of segment.now) offset × (fault ≡ CoreFault.NotePastEnd offset)) }
 {
@@ -75,7 +75,7 @@ fn read_segment<'a>(
 
 /// The register notes of a core file.
 fn read_core<'a>(core: &Image<'a>) -> Result<Found<'a>, CoreFault>
-    ensures ok { IfOk result (λ found. (notes : List NoteOf) × HaveNotes (length (file_of core.now)) (note_segments (segments_of core.now)) notes × Adds 0 [] found.count found.desc.now (filter is_status notes)) }
+    ensures ok { IfOk result (λ found. (notes : List NoteOf) × HaveNotes (length (file_of core.now)) (note_segments (segments_of core.now)) notes × AreFound found (filter is_status notes)) }
     ensures cut { IfErr result (λ fault. (offset : ℕ) × AreCutAt (length (file_of core.now)) (note_segments (segments_of core.now)) offset × (fault ≡ CoreFault.NotePastEnd offset)) }
 {
     let mut aheads = [None; MOST_SEGMENTS];
@@ -91,7 +91,7 @@ fn read_core<'a>(core: &Image<'a>) -> Result<Found<'a>, CoreFault>
 
 /// The descriptor of the only register note that was found, if it has all registers.
 fn only_one(found: Found<'_>) -> Result<&[u8], CoreFault>
-    ensures said { (statuses : List NoteOf) → Adds 0 [] found.entry.count found.entry.desc.now statuses → result_map_both (λ b. b.now) (λ e. e) result ≡ only_registers statuses }
+    ensures said { (statuses : List NoteOf) → AreFound found.entry statuses → result_map_both (λ b. b.now) (λ e. e) result ≡ only_registers statuses }
     ensures enough { IfOk result (λ b. status_size ≤ length b.now) }
 {
     if found.count == 0 {

@@ -12,20 +12,20 @@ returns-in_err-found-clause-cut c =
     let q = rw c.file_size.ensures at c.in_err-found.ensures.cut in
     let size = length (file_of c.args.core.now) in
     let segs = segments_of c.args.core.now in
-    rw (p.1, p.2) (q.0, cut_segment size (note_segments segs) segs c.loop-i.i (segment_of c.segment-segment.result) c.loop-i.found.count c.loop-i.found.desc.now q.0 c.loop-i.invariant.through c.segment-segment.ensures.segment q.1, q.2)
+    rw (p.1, p.2) (q.0, cut_segment size (note_segments segs) segs c.loop-i.i (segment_of c.segment-segment.result) c.loop-i.found q.0 c.loop-i.invariant.through c.segment-segment.ensures.segment q.1, q.2)
 
 pub loop-i-preserved : goal.loop-i-preserved
 loop-i-preserved c = record {
   few = omega (arith, c.loop-i.invariant.few, c.in_ok-found.ensures.few, c.segment-segment.ensures.within);
   through =
-      past_segment (length (file_of c.args.core.now)) (note_segments (segments_of c.args.core.now)) (segments_of c.args.core.now) c.loop-i.i (segment_of c.segment-segment.result) c.loop-i.found.count c.loop-i.found.desc.now
-      c.in_ok-found.found.count c.in_ok-found.found.desc.now c.loop-i.invariant.through c.segment-segment.ensures.segment (rw c.file_size.ensures at c.in_ok-found.ensures.ok);
+      past_segment (length (file_of c.args.core.now)) (note_segments (segments_of c.args.core.now)) (segments_of c.args.core.now) c.loop-i.i (segment_of c.segment-segment.result) c.loop-i.found
+      c.in_ok-found.found c.loop-i.invariant.through c.segment-segment.ensures.segment (rw c.file_size.ensures at c.in_ok-found.ensures.ok);
 }
 
 pub returns-clause-ok : goal.returns-clause-ok
 returns-clause-ok c =
     let all : length (segments_of c.args.core.now) ≤ c.loop-i.i = omega (arith, c.count-i-end.ensures) in
-    past_all (length (file_of c.args.core.now)) (note_segments (segments_of c.args.core.now)) (segments_of c.args.core.now) c.loop-i.i c.loop-i.found.count c.loop-i.found.desc.now c.loop-i.invariant.through all
+    past_all (length (file_of c.args.core.now)) (note_segments (segments_of c.args.core.now)) (segments_of c.args.core.now) c.loop-i.i c.loop-i.found c.loop-i.invariant.through all
 
 pub go_ahead-requires-clause-aheads : goal.go_ahead-requires-clause-aheads
 go_ahead-requires-clause-aheads c = none_ahead (segments_of c.args.core.now) 4096

@@ -7,5 +7,5 @@ use Rattle.rept_dump.proofs.notes.read_core.Given as goal
 abbrev pub invariant-loop-i : goal.invariant-loop-i
 invariant-loop-i l = record {
   few : l.found.count ≤ l.i * 4294967296;
-  through : Through (length (file_of l.core)) (note_segments (segments_of l.core)) (note_segments (drop l.i (segments_of l.core))) l.found.count l.found.desc.now;
+  through : Through (length (file_of l.core)) (note_segments (segments_of l.core)) (note_segments (drop l.i (segments_of l.core))) l.found;
 }

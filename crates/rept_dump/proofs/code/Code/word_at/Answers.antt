@@ -5,16 +5,16 @@ use Rattle.rept_elf.specs.Image.{segments_of, segment_of}
 use Rattle.rept_dump.specs.Memory.{bytes_from}
 use Rattle.rept_dump.specs.Stretch.{sought_code, fits}
 use Rattle.rept_dump.proofs.Stretches.{read_found}
-use Rattle.rept_dump.proofs.code.word_near.Goals as goal
+use Rattle.rept_dump.proofs.code.Code.word_at.Goals as goal
 
 pub returns-in-Some : goal.returns-in-Some
 returns-in-Some c =
-    let exe = segments_of c.args.exe.now in
+    let exe = segments_of c.args.self.now.exe in
     let a = c.args.a in
     read_found (fits (sought_code exe) a) (λ s. word_at (bytes_from a s) 0) exe (segment_of c.in-Some.segment) c.word_in.result
-    (rw c.in-Some.is at c.code_near.ensures.alike a c.code_near.ensures.within.0 c.code_near.ensures.within.1) c.word_in.ensures
+    (rw c.in-Some.is at c.stretch.ensures.alike a c.stretch.ensures.within.0 c.stretch.ensures.within.1) c.word_in.ensures
 
 pub returns-in-None : goal.returns-in-None
 returns-in-None c =
     let a = c.args.a in
-    sym (ap (option_map (λ s. word_at (bytes_from a s) 0)) (rw c.in-None.is at c.code_near.ensures.alike a c.code_near.ensures.within.0 c.code_near.ensures.within.1))
+    sym (ap (option_map (λ s. word_at (bytes_from a s) 0)) (rw c.in-None.is at c.stretch.ensures.alike a c.stretch.ensures.within.0 c.stretch.ensures.within.1))
