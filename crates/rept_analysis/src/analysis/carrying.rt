@@ -1,6 +1,6 @@
 //! The carrying of bytes over rows that may not write them.
 
-ghost use Rattle.std.specs.Prelude.{◌≡◌, ◌∷◌, ◌++◌, [], ◌+◌, ◌^◌, ◌<◌, ◌≤◌, ℕ, length, true, false, Some, None, IfOk, IfErr, slice_get, ⊤};
+ghost use Rattle.std.specs.Prelude.{◌≡◌, ◌↔◌, ◌∷◌, ◌++◌, [], ◌+◌, ◌^◌, ◌<◌, ◌≤◌, ℕ, length, true, false, Some, None, IsTrue, IfOk, IfErr, slice_get, ⊤};
 ghost use Rattle.rept_alias.specs.Accesses.{call_hits};
 ghost use Rattle.rept_reason.specs.declared.fact.Cell.TheVariants.{Byte};
 ghost use Rattle.rept_versions.specs.Facts.{Nexts};
@@ -223,18 +223,22 @@ impl<'a, B: ByteFacts, W: Transfer, R: RowRules> Analysis<'a, B, W, R> {
         k
     }
 
-    /// The value of a byte over the rows around a point that may not write it; nothing in the first round, in which the addresses
-    /// of most stores become known, so that a byte isn't carried in pieces.
-    pub(super) fn carry_around(&mut self, a: u32, point: u32) -> Result<bool, Halt>
+    /// Whether this is the first round: the sets are those of no facts. The addresses of most stores become known in it, so that bytes
+    /// are carried only after it, and not in pieces.
+    fn is_first_round(&self) -> bool
+        ensures { IsTrue result ↔ (self.now.filled ≡ 0) }
+    {
+        self.filled == 0
+    }
+
+    /// The value of a byte over the rows around a point that may not write it.
+    fn carry_around(&mut self, a: u32, point: u32) -> Result<bool, Halt>
         requires writings { AreWritings (state_of W.sets W.moves R.rules B.store self.old) }
         requires open { self.old.complete ≡ false }
         ensures grows { Grows (state_of W.sets W.moves R.rules B.store self.old) (state_of W.sets W.moves R.rules B.store self.new) }
         ensures drew { IfOk result (λ learnt. Drew (state_of W.sets W.moves R.rules B.store self.old) (state_of W.sets W.moves R.rules B.store self.new) learnt (λ _. ⊤)) }
         ensures halt { IfErr result (λ h. IsHalt (state_of W.sets W.moves R.rules B.store self.new) h) }
     {
-        if self.filled == 0 {
-            return Ok(false);
-        }
         let k = self.past_writer(point, a);
         let from = self.row_past(k);
         let to = self.next_spared(k, a);
@@ -242,7 +246,7 @@ impl<'a, B: ByteFacts, W: Transfer, R: RowRules> Analysis<'a, B, W, R> {
         Ok(learnt)
     }
 
-    /// So for so many bytes from an address on.
+    /// So for so many bytes from an address on; nothing in the first round.
     pub(super) fn carry_bytes(&mut self, point: u32, start: u32, count: u32) -> Result<bool, Halt>
         requires writings { AreWritings (state_of W.sets W.moves R.rules B.store self.old) }
         requires open { self.old.complete ≡ false }
@@ -250,6 +254,9 @@ impl<'a, B: ByteFacts, W: Transfer, R: RowRules> Analysis<'a, B, W, R> {
         ensures drew { IfOk result (λ learnt. Drew (state_of W.sets W.moves R.rules B.store self.old) (state_of W.sets W.moves R.rules B.store self.new) learnt (λ _. ⊤)) }
         ensures halt { IfErr result (λ h. IsHalt (state_of W.sets W.moves R.rules B.store self.new) h) }
     {
+        if self.is_first_round() {
+            return Ok(false);
+        }
         let mut learnt = false;
         for k in 0..count {
             let a = start.wrapping_add(k);
@@ -268,7 +275,7 @@ impl<'a, B: ByteFacts, W: Transfer, R: RowRules> Analysis<'a, B, W, R> {
         ensures drew { IfOk result (λ learnt. Drew (state_of W.sets W.moves R.rules B.store self.old) (state_of W.sets W.moves R.rules B.store self.new) learnt (λ _. ⊤)) }
         ensures halt { IfErr result (λ h. IsHalt (state_of W.sets W.moves R.rules B.store self.new) h) }
     {
-        if self.filled == 0 {
+        if self.is_first_round() {
             return Ok(false);
         }
         let point = self.count();

@@ -1,6 +1,6 @@
 use Rattle.rept_analysis.specs.State.{State, state_of}
 use Rattle.rept_analysis.specs.Drawing.{IsCarriedFrom}
-use Rattle.rept_analysis.proofs.Drawn.{Drew_as, Drew_same}
+use Rattle.rept_analysis.proofs.Drawn.{Drew_as}
 use Rattle.rept_analysis.proofs.analysis.Analysis.carry_around.Goals as goal
 
 pub carry_segment-requires-clause-spared : goal.carry_segment-requires-clause-spared
@@ -8,9 +8,6 @@ carry_segment-requires-clause-spared g c = rw c.row_past-from.ensures c.next_spa
 
 pub carry_segment-requires-clause-order : goal.carry_segment-requires-clause-order
 carry_segment-requires-clause-order g c = rw c.row_past-from.ensures c.next_spared-to.ensures.order
-
-pub returns-then-self-eq0-clause-drew : goal.returns-then-self-eq0-clause-drew
-returns-then-self-eq0-clause-drew g c = Drew_same (state_of g.W.Partial.sets g.W.Transfer.moves g.R.RowRules.rules g.B.ByteFacts.store c.args.self.now) (λ (x : State g.row.W.Denot). Unit {0}) tt
 
 pub returns-clause-drew : goal.returns-clause-drew
 returns-clause-drew g c = Drew_as (state_of g.W.Partial.sets g.W.Transfer.moves g.R.RowRules.rules g.B.ByteFacts.store c.args.self.now) _ c.in_ok-learnt.learnt (IsCarriedFrom c.args.a c.row_past-from.result c.next_spared-to.result) (λ (x : State g.row.W.Denot). Unit {0}) c.in_ok-learnt.ensures.drew (λ h. tt)

@@ -1,5 +1,5 @@
 use Rattle.rept_analysis.specs.State.{State, state_of}
-use Rattle.rept_analysis.proofs.Drawn.{Drew_both, Grows_trans}
+use Rattle.rept_analysis.proofs.Drawn.{Drew_both, Drew_same, Grows_trans}
 use Rattle.rept_analysis.proofs.Listing.{writings_after}
 use Rattle.rept_analysis.proofs.analysis.Analysis.carry_bytes.Goals as goal
 
@@ -15,3 +15,6 @@ loop-k-preserved g c = record {
   drew = Drew_both (state_of g.W.Partial.sets g.W.Transfer.moves g.R.RowRules.rules g.B.ByteFacts.store c.args.self.now) (state_of g.W.Partial.sets g.W.Transfer.moves g.R.RowRules.rules g.B.ByteFacts.store c.loop-k.self) _ c.loop-k.learnt c.in_ok-new.new (λ (x : State g.row.W.Denot). Unit {0}) (λ (x : State g.row.W.Denot). Unit {0}) (λ (x : State g.row.W.Denot). Unit {0})
       c.loop-k.invariant.grows c.in_ok-new.ensures.grows c.loop-k.invariant.drew c.in_ok-new.ensures.drew (λ p q. tt);
 }
+
+pub returns-then-is_first_round-clause-drew : goal.returns-then-is_first_round-clause-drew
+returns-then-is_first_round-clause-drew g c = Drew_same (state_of g.W.Partial.sets g.W.Transfer.moves g.R.RowRules.rules g.B.ByteFacts.store c.args.self.now) (λ (x : State g.row.W.Denot). Unit {0}) tt
