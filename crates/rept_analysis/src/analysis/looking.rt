@@ -28,30 +28,12 @@ use rept_versions::ByteFacts;
 use rept_view::RowRules;
 
 impl<'a, B: ByteFacts, W: Transfer, R: RowRules> Analysis<'a, B, W, R> {
-    /// The bytes that row i may write, by the facts of which the sets are.
-    pub(super) fn access(&self, i: u32, row: &StepRow) -> CallAccess
-        requires inside { i < length self.now.rows }
-        requires row { slice_get self.now.rows i ≡ Some row.now }
-        requires fitted { IsFitted (state_of W.sets W.moves R.rules B.store self.now) }
-        ensures { IsAccess i result (state_of W.sets W.moves R.rules B.store self.now) }
+    /// The bytes that row i may write, by the facts at places below the limit and the sets as they were filled.
+    fn access_below(&self, limit: u32, i: u32, row: &StepRow) -> CallAccess
+        requires { i < length self.now.rows }
+        ensures { (a : ℕ) → a < 2 ^ 32 → call_hits result a ≡ R.rules.touched row.now (moment W.sets (oldest limit self.now.known.log) self.now.spans i) (greatest_end self.now.exe) a }
     {
         let _len = self.known.len();
-        let image_end = self.dump.image_end();
-        let view = Moment {
-            facts: &self.known,
-            spans: &self.spans,
-            limit: self.filled,
-            row: i,
-        };
-        R::touched(row, &view, image_end)
-    }
-
-    /// The bytes that row i may write, by all facts that are known by now and the sets as they were filled.
-    fn access_now(&self, i: u32, row: &StepRow) -> CallAccess
-        requires { i < length self.now.rows }
-        ensures { (a : ℕ) → a < 2 ^ 32 → call_hits result a ≡ R.rules.touched row.now (moment W.sets self.now.known.log self.now.spans i) (greatest_end self.now.exe) a }
-    {
-        let limit = self.known.len();
         let image_end = self.dump.image_end();
         let view = Moment {
             facts: &self.known,
@@ -60,6 +42,16 @@ impl<'a, B: ByteFacts, W: Transfer, R: RowRules> Analysis<'a, B, W, R> {
             row: i,
         };
         R::touched(row, &view, image_end)
+    }
+
+    /// The bytes that row i may write, by the facts of which the sets are.
+    pub(super) fn access(&self, i: u32, row: &StepRow) -> CallAccess
+        requires inside { i < length self.now.rows }
+        requires row { slice_get self.now.rows i ≡ Some row.now }
+        requires fitted { IsFitted (state_of W.sets W.moves R.rules B.store self.now) }
+        ensures { IsAccess i result (state_of W.sets W.moves R.rules B.store self.now) }
+    {
+        self.access_below(self.filled, i, row)
     }
 
     /// Whether row i may not write the byte, by all facts that are known by now and the sets as they were filled. No is said where
@@ -71,7 +63,7 @@ impl<'a, B: ByteFacts, W: Transfer, R: RowRules> Analysis<'a, B, W, R> {
     {
         self.held();
         let row = self.row(i);
-        let access = self.access_now(i, &row);
+        let access = self.access_below(self.len(), i, &row);
         !access.may_hit(a)
     }
 

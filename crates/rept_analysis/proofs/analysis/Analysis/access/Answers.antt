@@ -1,26 +1,15 @@
-use Rattle.std.proofs.Common.{◌≡◌, ◌<◌, ℕ, length, Some, sym, subst, slice_get, arith}
-use Rattle.rept_dump.specs.Dump.{exe_of, core_of}
+use Rattle.std.proofs.Common.{◌≡◌, ℕ, ap, subst}
+use Rattle.rept_elf.specs.Segments.{greatest_end}
 use Rattle.rept_alias.specs.Accesses.{call_hits}
 use Rattle.rept_report.specs.Log.{oldest}
 use Rattle.rept_analysis.specs.Moments.{moment}
-use Rattle.rept_analysis.specs.Work.{work_of}
 use Rattle.rept_analysis.specs.State.{Whole, state_of}
-use Rattle.rept_analysis.specs.Drawing.{IsFitted}
-use Rattle.rept_analysis.proofs.Following.{access_is, words_below}
+use Rattle.rept_analysis.proofs.Following.{access_is}
 use Rattle.rept_analysis.proofs.analysis.Analysis.access.Goals as goal
-
-pub invariant_of-view : goal.invariant_of-view
-invariant_of-view g c =
-    let a : Whole g.row.B.Denot g.row.W.Denot g.row.R.Denot = record { rows = c.self.inside.rows.now; last = c.self.inside.last.items; exe = exe_of c.self.inside.dump; core = core_of c.self.inside.dump; known = c.self.inside.known; spans = c.self.inside.spans; filled = c.self.inside.filled; rules = c.self.inside.rules; shown = c.self.inside.shown; complete = c.self.inside.complete; conflict = c.self.inside.conflict; work = work_of g.B.ByteFacts.JOINS (g.R.RowRules.draws c.self.inside.rules) c.self.inside.writing c.self.inside.drawn } in
-    let inside = subst (λ (x : Whole g.row.B.Denot g.row.W.Denot g.row.R.Denot). c.args.i < length x.rows) (sym c.self.view_is) c.requires.inside in
-    let last_is = c.self.invariant.last_is in
-    let sized = c.self.invariant.sized in
-    record { inside = omega (arith, inside, last_is); near = c.len-len.ensures.near; sized = omega (arith, sized, last_is); words = words_below (state_of g.W.Partial.sets g.W.Transfer.moves g.R.RowRules.rules g.B.ByteFacts.store a) c.self.inside.filled c.len-len.ensures.once c.len-len.ensures.words }
 
 pub returns : goal.returns
 returns g c =
-    let a : Whole g.row.B.Denot g.row.W.Denot g.row.R.Denot = record { rows = c.self.inside.rows.now; last = c.self.inside.last.items; exe = exe_of c.self.inside.dump; core = core_of c.self.inside.dump; known = c.self.inside.known; spans = c.self.inside.spans; filled = c.self.inside.filled; rules = c.self.inside.rules; shown = c.self.inside.shown; complete = c.self.inside.complete; conflict = c.self.inside.conflict; work = work_of g.B.ByteFacts.JOINS (g.R.RowRules.draws c.self.inside.rules) c.self.inside.writing c.self.inside.drawn } in
-    let inside = subst (λ (x : Whole g.row.B.Denot g.row.W.Denot g.row.R.Denot). c.args.i < length x.rows) (sym c.self.view_is) c.requires.inside in
-    let row = subst (λ (x : Whole g.row.B.Denot g.row.W.Denot g.row.R.Denot). slice_get x.rows c.args.i ≡ Some c.args.row.now) (sym c.self.view_is) c.requires.row in
-    let fitted = subst (λ (x : Whole g.row.B.Denot g.row.W.Denot g.row.R.Denot). IsFitted (state_of g.W.Partial.sets g.W.Transfer.moves g.R.RowRules.rules g.B.ByteFacts.store x)) (sym c.self.view_is) c.requires.fitted in
-    rw (← c.self.view_is) (access_is (state_of g.W.Partial.sets g.W.Transfer.moves g.R.RowRules.rules g.B.ByteFacts.store a) c.args.i inside fitted c.args.row.now c.touched.result row (λ x small. subst (λ (e : ℕ). call_hits c.touched.result x ≡ g.R.RowRules.rules.touched c.args.row.now (moment g.W.Partial.sets (oldest c.self.inside.filled c.self.inside.known.log) c.self.inside.spans c.args.i) e x) c.image_end-image_end.ensures (c.touched.ensures x small)))
+    let s = state_of g.W.Partial.sets g.W.Transfer.moves g.R.RowRules.rules g.B.ByteFacts.store c.args.self.now in
+    let now = c.args.self.now in
+    let filled = ap (λ (x : Whole g.row.B.Denot g.row.W.Denot g.row.R.Denot). x.filled) c.self.view_is in
+    access_is s c.args.i c.requires.inside c.requires.fitted c.args.row.now c.access_below.result c.requires.row (λ a small. subst (λ (limit : ℕ). call_hits c.access_below.result a ≡ g.R.RowRules.rules.touched c.args.row.now (moment g.W.Partial.sets (oldest limit now.known.log) now.spans c.args.i) (greatest_end now.exe) a) filled (c.access_below.ensures a small))

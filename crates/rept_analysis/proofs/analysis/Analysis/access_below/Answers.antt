@@ -1,15 +1,12 @@
-use Rattle.std.proofs.Common.{◌≡◌, ◌<◌, ℕ, List, length, sym, subst, arith}
-use Rattle.rept_elf.specs.Segments.{greatest_end}
+use Rattle.std.proofs.Common.{◌≡◌, ◌<◌, ℕ, length, sym, subst, arith}
 use Rattle.rept_dump.specs.Dump.{exe_of, core_of}
 use Rattle.rept_alias.specs.Accesses.{call_hits}
-use Rattle.rept_reason.specs.declared.fact.Fact.{Fact}
-use Rattle.rept_report.proofs.Places.{oldest_all}
 use Rattle.rept_report.specs.Log.{oldest}
 use Rattle.rept_analysis.specs.Moments.{moment}
 use Rattle.rept_analysis.specs.Work.{work_of}
 use Rattle.rept_analysis.specs.State.{Whole, state_of}
 use Rattle.rept_analysis.proofs.Following.{words_below}
-use Rattle.rept_analysis.proofs.analysis.Analysis.access_now.Goals as goal
+use Rattle.rept_analysis.proofs.analysis.Analysis.access_below.Goals as goal
 
 pub invariant_of-view : goal.invariant_of-view
 invariant_of-view g c =
@@ -17,12 +14,9 @@ invariant_of-view g c =
     let inside = subst (λ (x : Whole g.row.B.Denot g.row.W.Denot g.row.R.Denot). c.args.i < length x.rows) (sym c.self.view_is) c.requires in
     let last_is = c.self.invariant.last_is in
     let sized = c.self.invariant.sized in
-    record { inside = omega (arith, inside, last_is); near = c.len-limit.ensures.near; sized = omega (arith, sized, last_is); words = words_below (state_of g.W.Partial.sets g.W.Transfer.moves g.R.RowRules.rules g.B.ByteFacts.store a) c.len-limit.result c.len-limit.ensures.once c.len-limit.ensures.words }
+    record { inside = omega (arith, inside, last_is); near = c.len-len.ensures.near; sized = omega (arith, sized, last_is); words = words_below (state_of g.W.Partial.sets g.W.Transfer.moves g.R.RowRules.rules g.B.ByteFacts.store a) c.args.limit c.len-len.ensures.once c.len-len.ensures.words }
 
 pub returns : goal.returns
 returns g c =
-    let long = c.len-limit.ensures.value in
-    let all = oldest_all c.len-limit.result c.self.inside.known.log (omega (arith, long)) in
     let log = c.self.inside.known.log in
-    rw (← c.self.view_is) (λ x small. subst (λ (l : List Fact). call_hits c.touched.result x ≡ g.R.RowRules.rules.touched c.args.row.now (moment g.W.Partial.sets l c.self.inside.spans c.args.i) (greatest_end (exe_of c.self.inside.dump)) x) all
-    (subst (λ (e : ℕ). call_hits c.touched.result x ≡ g.R.RowRules.rules.touched c.args.row.now (moment g.W.Partial.sets (oldest c.len-limit.result log) c.self.inside.spans c.args.i) e x) c.image_end-image_end.ensures (c.touched.ensures x small)))
+    rw (← c.self.view_is) (λ x small. subst (λ (e : ℕ). call_hits c.touched.result x ≡ g.R.RowRules.rules.touched c.args.row.now (moment g.W.Partial.sets (oldest c.args.limit log) c.self.inside.spans c.args.i) e x) c.image_end-image_end.ensures (c.touched.ensures x small))
