@@ -22,6 +22,9 @@ use std::alloc::AllocError as OutOfMemory;
 /// So many rows of the list are looked at before a load.
 const NEAR: usize = 8;
 
+/// So many rows are passed over where a byte is carried that may write it by the list, and may not by what is known by now.
+const PASSED: u32 = 1;
+
 /// Whether an access has no address.
 fn is_none(access: &CallAccess) -> bool
     ensures { result ≡ true → (a : ℕ) → call_hits access.now a ≡ false }
@@ -172,22 +175,9 @@ impl<'a, B: ByteFacts, W: Transfer, R: RowRules> Analysis<'a, B, W, R> {
         row + 1
     }
 
-    /// The number of the first row from an index of the list on that may write the byte, or the number of rows.
-    fn next_writer(&self, k: usize, a: u32) -> u32
-        requires writings { AreWritings (state_of W.sets W.moves R.rules B.store self.now) }
-        requires within { k ≤ length self.now.work.writing }
-        ensures last { result ≤ length self.now.rows }
-        ensures order { past self.now.work.writing k ≤ result }
-        ensures spared { IsSparedBetween (past self.now.work.writing k) result a (state_of W.sets W.moves R.rules B.store self.now) }
-    {
-        match self.next_hit(k, a) {
-            None => self.count(),
-            Some(hit) => self.writing_at(hit).row,
-        }
-    }
-
-    /// The same, past one row at most that may write the byte by the list, and may not by what is known by now.
-    fn next_spared(&self, k: usize, a: u32) -> u32
+    /// The number of the first row from an index of the list on that may write the byte, or the number of rows. It goes past so many
+    /// rows at most that may write the byte by the list, and may not by what is known by now.
+    fn next_writer(&self, k: usize, a: u32, most: u32) -> u32
         requires writings { AreWritings (state_of W.sets W.moves R.rules B.store self.now) }
         requires within { k ≤ length self.now.work.writing }
         ensures last { result ≤ length self.now.rows }
@@ -198,8 +188,8 @@ impl<'a, B: ByteFacts, W: Transfer, R: RowRules> Analysis<'a, B, W, R> {
             None => self.count(),
             Some(hit) => {
                 let row = self.writing_at(hit).row;
-                if self.is_spared(row, a) {
-                    return self.next_writer(hit + 1, a);
+                if most > 0 && self.is_spared(row, a) {
+                    return self.next_writer(hit + 1, a, most - 1);
                 }
                 row
             }
@@ -241,7 +231,7 @@ impl<'a, B: ByteFacts, W: Transfer, R: RowRules> Analysis<'a, B, W, R> {
     {
         let k = self.past_writer(point, a);
         let from = self.row_past(k);
-        let to = self.next_spared(k, a);
+        let to = self.next_writer(k, a, PASSED);
         let learnt = self.carry_segment(a, from, to)?;
         Ok(learnt)
     }
