@@ -1,8 +1,8 @@
 -- What learning one fact does to an analysis, by the answer. This project's own.
 use Rattle.std.specs.Prelude.{◌≡◌, ◌≢◌, ℕ, Bool, true, false, Result, Ok, Err}
 use Rattle.std.specs.declared.alloc.AllocError.{AllocError}
-use Rattle.rept_reason.specs.declared.fact.Cell.{Cell}
-use Rattle.rept_reason.specs.declared.fact.Cell.TheVariants.{Register, Byte}
+use Rattle.rept_reason.specs.declared.fact.Fact.{Fact}
+use Rattle.rept_reason.specs.declared.fact.Cell.TheVariants.{Byte}
 use Rattle.rept_log.specs.declared.answer.Answer.{Answer}
 use Rattle.rept_log.specs.declared.answer.Answer.TheVariants.{Old, New, Clash}
 use Rattle.rept_analysis.specs.State.{State}
@@ -11,24 +11,23 @@ use Rattle.rept_versions.specs.declared.facts.Carried.TheVariants.{Same, More, S
 use Rattle.rept_versions.specs.Facts.{Course}
 use Rattle.rept_analysis.specs.Drawing.{Knows, IsTracked, Grows, HasNews, IsClash, IsSpreadTo}
 
--- the value is known now, and wasn't
-pub record IsTold {W : Type 0} (old new : State W) (p : ℕ) (c : Cell) (v : ℕ) : Type 0 where
+-- the fact is known now, and wasn't
+pub record IsTold {W : Type 0} (old new : State W) (f : Fact) : Type 0 where
   pub grows : Grows old new
   pub news : HasNews old new
-  pub here : Knows p c v new
+  pub here : Knows f.point f.cell f.value new
   pub still : new.work ≡ old.work
 
-abbrev pub Tells : {W : Type 0} → State W → State W → ℕ → Cell → ℕ → Answer → Type 0
-Tells old new p c v Old = (new ≡ old) × Knows p c v old
-Tells old new p c v New = IsTold old new p c v
-Tells old new p c v (Clash w) = (new ≡ old) × Knows p c w old × (w ≢ v)
+-- what learning it did, by the answer: it was known, it was new, or another value of its cell was known
+abbrev pub Tells : {W : Type 0} → State W → State W → Fact → Answer → Type 0
+Tells old new f Old = (new ≡ old) × Knows f.point f.cell f.value old
+Tells old new f New = IsTold old new f
+Tells old new f (Clash w) = (new ≡ old) × Knows f.point f.cell w old × (w ≢ f.value)
 
-abbrev pub TellsRegister : {W : Type 0} → State W → State W → ℕ → ℕ → ℕ → Answer → Type 0
-TellsRegister old new p r v answer = Tells old new p (Register r) v answer
-
-abbrev pub TellsByte : {W : Type 0} → State W → State W → ℕ → ℕ → ℕ → Result Answer AllocError → Type 0
-TellsByte old new p a v (Ok answer) = Tells old new p (Byte a) v answer
-TellsByte old new p a v (Err e) = (new ≡ old) × (new.work.joins ≡ false)
+-- the same of a fact on a byte, for which memory may run out
+abbrev pub TellsByte : {W : Type 0} → State W → State W → Fact → Result Answer AllocError → Type 0
+TellsByte old new f (Ok answer) = Tells old new f answer
+TellsByte old new f (Err e) = (new ≡ old) × (new.work.joins ≡ false)
 
 -- the address is tracked now
 abbrev pub Tracks : {W : Type 0} → State W → State W → ℕ → Result Bool AllocError → Type 0

@@ -5,7 +5,7 @@ ghost use Rattle.rept_reason.specs.declared.fact.Cell.{Cell};
 ghost use Rattle.rept_reason.specs.declared.fact.Cell.TheVariants.{Register, Byte};
 ghost use Rattle.rept_analysis.specs.State.{state_of};
 ghost use Rattle.rept_analysis.specs.Drawing.{fact_at, Knows, IsTracked, Grows, Drew, IsFollowing, IsBrought, IsHalt, IsLearntAt, IsRowAddress, HasPlace};
-ghost use Rattle.rept_analysis.specs.Told.{TellsRegister, TellsByte, Tracks};
+ghost use Rattle.rept_analysis.specs.Told.{Tells, TellsByte, Tracks};
 
 use super::Analysis;
 use crate::halt::Halt;
@@ -25,7 +25,7 @@ impl<'a, B: ByteFacts, W: Transfer, R: RowRules> Analysis<'a, B, W, R> {
         requires named { 0 < r }
         requires follows { value < 2 ^ 32 → IsFollowing (state_of W.sets W.moves R.rules B.store self.old) (fact_at point (Register r) value) }
         requires open { self.old.complete ≡ false }
-        ensures { TellsRegister (state_of W.sets W.moves R.rules B.store self.old) (state_of W.sets W.moves R.rules B.store self.new) point r value result }
+        ensures { Tells (state_of W.sets W.moves R.rules B.store self.old) (state_of W.sets W.moves R.rules B.store self.new) (fact_at point (Register r) value) result }
     {
         let _number = r.number();
         let answer = self.known.learn_register(point, r, value);
@@ -47,7 +47,7 @@ impl<'a, B: ByteFacts, W: Transfer, R: RowRules> Analysis<'a, B, W, R> {
         requires brought { keep ≡ false → IsBrought (state_of W.sets W.moves R.rules B.store self.old) (fact_at point (Byte a) value) }
         requires place { HasPlace keep point a (state_of W.sets W.moves R.rules B.store self.old) }
         requires open { self.old.complete ≡ false }
-        ensures { TellsByte (state_of W.sets W.moves R.rules B.store self.old) (state_of W.sets W.moves R.rules B.store self.new) point a value result }
+        ensures { TellsByte (state_of W.sets W.moves R.rules B.store self.old) (state_of W.sets W.moves R.rules B.store self.new) (fact_at point (Byte a) value) result }
     {
         let answer = self.known.learn_byte(point, a, value, keep);
         let _len = self.known.len();
