@@ -45,7 +45,7 @@ module _ {W : Type 0} (s : State W) (laws : HasLaws s.setting) (kept : IsKept s)
   shown_conflict t quiet kind shows = least_conflict s.setting laws kept.traced.entries kept.traced.trace t (λ u below. rw kept.traced.logged (quiet u below)) kind (rw kept.traced.logged shows)
 
   -- so is a clash on a quiet log
-  pub clash_conflict : (p : ℕ) (c : Cell) (known value : ℕ) → IsQuiet s.setting (all_known s) → IsClash s p c known value → ClosureHas s.setting (clash_kind p c known value)
+  pub clash_conflict : (p : ℕ) (c : Cell) (known value : ℕ) → IsQuiet s.setting (all_known s) → IsClash s (record { point = p; cell = c; value = value }) known → ClosureHas s.setting (clash_kind p c known value)
   clash_conflict p c known value quiet clash =
       let same = trace_known s kept in
       let calm = subst (λ (K : Knowledge). IsQuiet s.setting K) (sym same) quiet in

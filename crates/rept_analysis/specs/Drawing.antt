@@ -83,15 +83,15 @@ IsFollowing s f = IsQuiet s.setting (all_known s) → Concludes s.setting (all_k
 abbrev pub IsBrought : {W : Type 0} → State W → Fact → Type 0
 IsBrought s f = IsQuiet s.setting (all_known s) → IsCarried s.setting (all_known s) f
 
--- a value that follows, where another is known
-pub record IsClash {W : Type 0} (s : State W) (p : ℕ) (c : Cell) (known value : ℕ) : Type 0 where
-  pub is_known : Knows p c known s
-  pub differs : known ≢ value
-  pub follows : IsFollowing s (fact_at p c value)
+-- a fact that follows, where another value of its cell is known
+pub record IsClash {W : Type 0} (s : State W) (f : Fact) (known : ℕ) : Type 0 where
+  pub is_known : Knows f.point f.cell known s
+  pub differs : known ≢ f.value
+  pub follows : IsFollowing s f
 
 -- Why a conclusion wasn't learnt is so: memory runs out only where not all was taken at first.
 abbrev pub IsHalt : {W : Type 0} → State W → Halt → Type 0
-IsHalt s (Clash p c known value) = IsClash s p c known value
+IsHalt s (Clash p c known value) = IsClash s (fact_at p c value) known
 IsHalt s OutOfMemory = s.work.joins ≡ false
 
 -- the sets are those of some of the facts
