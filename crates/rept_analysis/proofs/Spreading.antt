@@ -356,7 +356,7 @@ module _ {W : Type 0} (s : State W) (laws : HasLaws s.setting) (kept : IsKept s)
   sent k log (Err e) h = let both = spread k log h.reaches.before h.reaches.toward h.reaches.spreads in (both.0, (both.1, h.plain))
 
 -- a segment in which no row may write the byte
-pub segment_spread : {W : Type 0} (s : State W) (a from to at v : ℕ) → from ≤ at → at ≤ to → IsSpreadTo a at to v s → IsSpreadTo a at from v s → IsCarriedFrom a from to s
+pub segment_spread : {W : Type 0} (s : State W) (a from to at v : ℕ) → from ≤ at → at ≤ to → IsSpreadTo (record { address = a; from = at; to = to; value = v }) s → IsSpreadTo (record { address = a; from = at; to = from; value = v }) s → IsCarriedFrom a from to s
 segment_spread s a from to at v low high right left i le lt = record {
   onward = λ w spared h. each (i + 1) (omega (arith, le)) (omega (arith, lt)) ∙ ap Some (same_some (sym (each i le (omega (arith, lt))) ∙ h));
   back = λ w spared h. each i le (omega (arith, lt)) ∙ ap Some (same_some (sym (each (i + 1) (omega (arith, le)) (omega (arith, lt))) ∙ h));

@@ -2,7 +2,7 @@
 use Rattle.std.specs.Prelude.{◌≡◌, ◌≢◌, ℕ, zero, suc, ◌+◌, ◌<◌, ◌≤◌, ◌^◌, ◌⊎◌, Bool, true, false, List, length, Some, None, Contains, slice_get}
 use Rattle.rept_isa.specs.declared.row.StepRow.{StepRow}
 use Rattle.rept_isa.specs.Operands.{written_by}
-use Rattle.rept_versions.specs.Facts.{Between}
+use Rattle.rept_versions.specs.Facts.{Between, Course}
 use Rattle.rept_alias.specs.declared.addresses.CallAccess.{CallAccess}
 use Rattle.rept_alias.specs.Accesses.{call_hits}
 use Rattle.rept_machine.specs.Arithmetic.{beside}
@@ -264,9 +264,9 @@ IsSpared i a s = IsSparedAt i a s ⊎ IsSparedNow i a s
 abbrev pub IsSparedBetween : {W : Type 0} → ℕ → ℕ → ℕ → State W → Type 0
 IsSparedBetween from to a s = (i : ℕ) → ((from ≤ i) × (i < to)) ⊎ ((to ≤ i) × (i < from)) → IsSpared i a s
 
--- the byte has the value at each point from one to another
-abbrev pub IsSpreadTo : {W : Type 0} → ℕ → ℕ → ℕ → ℕ → State W → Type 0
-IsSpreadTo a from to v s = (q : ℕ) → Between from to q → Knows q (Byte a) v s
+-- the byte has the value at each point of a course
+abbrev pub IsSpreadTo : {W : Type 0} → Course → State W → Type 0
+IsSpreadTo course s = (q : ℕ) → Between course.from course.to q → Knows q (Byte course.address) course.value s
 
 -- the byte is carried over each of the rows from one to before another that may not write it
 abbrev pub IsCarriedFrom : {W : Type 0} → ℕ → ℕ → ℕ → State W → Type 0

@@ -37,7 +37,7 @@ Tracks old new a (Err e) = (new ≡ old) × (new.work.joins ≡ false)
 
 -- what carrying a byte's value from a point to another one does, by the answer
 abbrev pub Sends : {W : Type 0} → State W → State W → Course → Result Carried AllocError → Type 0
-Sends old new course (Ok Same) = (new ≡ old) × IsSpreadTo course.address course.from course.to course.value old
+Sends old new course (Ok Same) = (new ≡ old) × IsSpreadTo course old
 Sends old new course (Ok More) = Grows old new × HasNews old new × (new.work ≡ old.work)
 Sends old new course (Ok (Stop p known found)) = Grows old new × IsClash new (fact_at p (Byte course.address) course.value) found × (known ≡ course.value)
 Sends old new course (Err e) = Grows old new × (new.work.joins ≡ false)

@@ -61,7 +61,7 @@ impl<'a, B: ByteFacts, W: Transfer, R: RowRules> Analysis<'a, B, W, R> {
         requires spared { IsSparedBetween from to a (state_of W.sets W.moves R.rules B.store self.old) }
         requires open { self.old.complete ≡ false }
         ensures grows { Grows (state_of W.sets W.moves R.rules B.store self.old) (state_of W.sets W.moves R.rules B.store self.new) }
-        ensures drew { IfOk result (λ learnt. Drew (state_of W.sets W.moves R.rules B.store self.old) (state_of W.sets W.moves R.rules B.store self.new) learnt (IsSpreadTo a from to value)) }
+        ensures drew { IfOk result (λ learnt. Drew (state_of W.sets W.moves R.rules B.store self.old) (state_of W.sets W.moves R.rules B.store self.new) learnt (IsSpreadTo (record { address = a; from = from; to = to; value = value }))) }
         ensures halt { IfErr result (λ h. IsHalt (state_of W.sets W.moves R.rules B.store self.new) h) }
     {
         match self.send(a, from, to, value) {

@@ -18,7 +18,7 @@ returns-in_ok-left-in-Some-clause-drew g c =
     let ordered = next_at c.args.from c.args.to c.max-at.result c.in-Some.stretch.first c.requires.order c.if-to-stretch.false c.max-at.ensures in
     let at = c.max-at.result in
     let v = c.in-Some.stretch.value in
-    Drew_both s (state_of g.W.Partial.sets g.W.Transfer.moves g.R.RowRules.rules g.B.ByteFacts.store c.spread.new.self) _ c.in_ok-right-in-Some.right c.in_ok-left-in-Some.left (IsSpreadTo c.args.a at c.args.to v) (IsSpreadTo c.args.a at c.args.from v) (IsCarriedFrom c.args.a c.args.from c.args.to)
+    Drew_both s (state_of g.W.Partial.sets g.W.Transfer.moves g.R.RowRules.rules g.B.ByteFacts.store c.spread.new.self) _ c.in_ok-right-in-Some.right c.in_ok-left-in-Some.left (IsSpreadTo (record { address = c.args.a; from = at; to = c.args.to; value = v })) (IsSpreadTo (record { address = c.args.a; from = at; to = c.args.from; value = v })) (IsCarriedFrom c.args.a c.args.from c.args.to)
     c.in_ok-right-in-Some.ensures.grows c.in_ok-left-in-Some.ensures.grows c.in_ok-right-in-Some.ensures.drew c.in_ok-left-in-Some.ensures.drew
     (λ p q. segment_spread s c.args.a c.args.from c.args.to at v ordered.0 ordered.1 p q)
 

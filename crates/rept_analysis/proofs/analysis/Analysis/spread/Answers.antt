@@ -5,4 +5,4 @@ use Rattle.rept_analysis.proofs.analysis.Analysis.spread.Goals as goal
 pub returns-in-Ok-More-clause-drew : goal.returns-in-Ok-More-clause-drew
 returns-in-Ok-More-clause-drew g c =
     let sent = rw c.in-Ok-More.field-0-is at c.in-Ok-More.ensures in
-    Drew_new _ _ (IsSpreadTo c.args.a c.args.from c.args.to c.args.value) sent.1 sent.2
+    Drew_new _ _ (IsSpreadTo (record { address = c.args.a; from = c.args.from; to = c.args.to; value = c.args.value })) sent.1 sent.2
