@@ -39,8 +39,8 @@ use Rattle.rept_analysis.specs.Cells.{bytes_from, bytes_known, base_known}
 use Rattle.rept_log.specs.Known.{Known as LogKnown}
 use Rattle.rept_analysis.specs.State.{State, all_known}
 use Rattle.rept_analysis.specs.Moments.{filled_range, moment, moment_lawful}
-use Rattle.rept_analysis.specs.Room.{IsDrawnByte, IsOwnByte}
-use Rattle.rept_analysis.proofs.Reserve.{drawn_byte_more, own_byte_more}
+use Rattle.rept_analysis.specs.Room.{IsDrawable, IsOwnByte}
+use Rattle.rept_analysis.proofs.Reserve.{drawable_more, own_byte_more}
 use Rattle.rept_analysis.specs.Drawing.{Knows, IsTracked, Grows, IsFollowing, IsBrought, fact_at, IsLearntAt, IsKeptAt, LastKnown, IsFitted, IsAccess, IsCarriedAt, AreTrackedFrom, IsRowTracked, IsConclusion, IsBroughtTo, KeptBelow, DrawnKnown, IsRowDrawn, IsRowClosed, LastByteKnown, SingleKnown, AreRowAddresses}
 
 pub flat_known : (x : Option ℕ) (v : ℕ) → flat x ≡ Known v → x ≡ Some v
@@ -139,8 +139,8 @@ module _ {W : Type 0} (s : State W) (laws : HasLaws s.setting) (words : HasWords
   point_early Before = omega (arith, inside)
   point_early After = omega (arith, inside)
 
-  drawn_here : (d : Drawn) (a : ℕ) → Contains (s.setting.rules.draw row (around s.known i)) d → d.cell ≡ Byte a → IsRowByte s.setting.rules row (around s.known i) a → IsDrawnByte s.setting s.known.log i d a
-  drawn_here d a h is own = record { row = row; found = found; view = around s.known i; lawful = around_lawful s.known i log_words; drawn = h; cell = is; base_register = own.base_register; base = own.base; read = own.read; seen = own.base_known; known = own.base_known }
+  drawn_here : (d : Drawn) (a : ℕ) → Contains (s.setting.rules.draw row (around s.known i)) d → IsRowByte s.setting.rules row (around s.known i) a → IsDrawable s.setting s.known.log i d
+  drawn_here d a h own = record { row = row; found = found; view = around s.known i; lawful = around_lawful s.known i log_words; drawn = h; base_register = own.base_register; base = own.base; read = own.read; seen = own.base_known; known = own.base_known }
 
   pub drawn_conclusion : IsRowTracked row i s → (d : Drawn) → Contains (s.setting.rules.draw row (around s.known i)) d → IsConclusion i d s
   drawn_conclusion tracked d h =
@@ -150,11 +150,11 @@ module _ {W : Type 0} (s : State W) (laws : HasLaws s.setting) (words : HasWords
         fits = own.2;
         follows = λ small quiet. record { early = point_early d.when; cell = own.1; word = word_fits d.cell d.value small; by = drawn i row d found (drawn_seen d h) refl refl refl };
         tracked = λ a is. tracked a (subst (λ (c : Cell). IsRowCell s.setting.rules row (around s.known i) d.when c) is own.0);
-        byte = λ a is. drawn_here d a h is (subst (λ (c : Cell). IsRowCell s.setting.rules row (around s.known i) d.when c) is own.0);
+        byte = λ a is. drawn_here d a h (subst (λ (c : Cell). IsRowCell s.setting.rules row (around s.known i) d.when c) is own.0);
       }
 
 pub conclusion_more : {W : Type 0} (s t : State W) → HasLaws s.setting → Grows s t → HasWords (all_known t) → (i : ℕ) (d : Drawn) → IsConclusion i d s → IsConclusion i d t
-conclusion_more s t laws g words i d h = record { cell = h.cell; fits = h.fits; follows = λ small. follows_more s t laws g words _ (h.follows small); tracked = λ a is. g.tracked a (h.tracked a is); byte = λ a is. subst (λ (S : Setting _). IsDrawnByte S t.known.log i d a) (sym g.setting) (drawn_byte_more s.setting s.known.log t.known.log (λ p r v e. g.more p (Register r) v e) i d a (h.byte a is)) }
+conclusion_more s t laws g words i d h = record { cell = h.cell; fits = h.fits; follows = λ small. follows_more s t laws g words _ (h.follows small); tracked = λ a is. g.tracked a (h.tracked a is); byte = λ a is. subst (λ (S : Setting _). IsDrawable S t.known.log i d) (sym g.setting) (drawable_more s.setting s.known.log t.known.log (λ p r v e. g.more p (Register r) v e) i d (h.byte a is)) }
 
 -- the sets of a moment are the ranges
 module _ {W : Type 0} (s : State W) (i : ℕ) (inside : i < length s.setting.rows) (fitted : IsFitted s) where

@@ -25,7 +25,7 @@ use Rattle.rept_report.proofs.ViewLaws.{known_more}
 use Rattle.rept_versions.specs.Facts.{Told}
 use Rattle.rept_log.specs.Known.{Known, knows, AddsByte, HasNoRoom, TracksMore}
 use Rattle.rept_analysis.specs.Sums.{one_if, count_true, sum_to}
-use Rattle.rept_analysis.specs.Room.{places_of, places_at, bytes_at, marked, unread, IsDrawnByte, IsDrawnAt, IsSlotLearnt, IsOwnByte, IsByteTracked, HasRoom}
+use Rattle.rept_analysis.specs.Room.{places_of, places_at, bytes_at, marked, unread, IsDrawable, IsDrawnAt, IsSlotLearnt, IsOwnByte, IsByteTracked, HasRoom}
 use Rattle.rept_analysis.proofs.Sums.{count_le, count_less, sum_le, sum_less}
 
 -- the same marks but one
@@ -123,14 +123,13 @@ same_byte : {a b : ℕ} → Byte a ≡ Byte b → a ≡ b
 same_byte e = cc
 
 module _ {W : Type 0} (S : Setting W) (old new : List Fact) (more : (p r v : ℕ) → told old p (Register r) ≡ Some v → told new p (Register r) ≡ Some v) where
-  pub drawn_byte_more : (i : ℕ) (d : Drawn) (a : ℕ) → IsDrawnByte S old i d a → IsDrawnByte S new i d a
-  drawn_byte_more i d a h = record {
+  pub drawable_more : (i : ℕ) (d : Drawn) → IsDrawable S old i d → IsDrawable S new i d
+  drawable_more i d h = record {
     row = h.row;
     found = h.found;
     view = h.view;
     lawful = h.lawful;
     drawn = h.drawn;
-    cell = h.cell;
     base_register = h.base_register;
     base = h.base;
     read = h.read;
@@ -152,8 +151,8 @@ module _ {W : Type 0} (S : Setting W) (old new : List Fact) (more : (p r v : ℕ
   }
 
 -- two conclusions of one slot are on one byte at one point
-slot_same : {W : Type 0} (S : Setting W) → HasLaws S → (log : List Fact) (i : ℕ) (d e : Drawn) (a b : ℕ) → IsDrawnByte S log i d a → IsDrawnByte S log i e b → d.slot ≡ e.slot → (d.when ≡ e.when) × (a ≡ b)
-slot_same S laws log i d e a b h g slot =
+slot_same : {W : Type 0} (S : Setting W) → HasLaws S → (log : List Fact) (i : ℕ) (d e : Drawn) (a b : ℕ) → IsDrawable S log i d → d.cell ≡ Byte a → IsDrawable S log i e → e.cell ≡ Byte b → d.slot ≡ e.slot → (d.when ≡ e.when) × (a ≡ b)
+slot_same S laws log i d e a b h on_a g on_b slot =
     let row : h.row ≡ g.row = same_row (sym h.found ∙ g.found) in
     let drawn = subst (λ (x : StepRow). Contains (S.rules.draw x h.view) d) row h.drawn in
     let read = subst (λ (x : StepRow). first_read x.instr ≡ Some h.base_register) row h.read in
@@ -161,7 +160,7 @@ slot_same S laws log i d e a b h g slot =
     let seen = subst (λ (r : ℕ). h.view.register Before r ≡ Some h.base) register h.seen in
     let known = subst (λ (r : ℕ). register_known (told log) i r ≡ Some h.base) register h.known in
     let base : h.base ≡ g.base = same_some (sym known ∙ g.known) in
-    laws.rules.slot_once g.row h.view g.view d e a b g.base_register h.lawful g.lawful drawn g.drawn h.cell g.cell g.read (seen ∙ ap Some base ∙ sym g.seen) slot
+    laws.rules.slot_once g.row h.view g.view d e a b g.base_register h.lawful g.lawful drawn g.drawn on_a on_b g.read (seen ∙ ap Some base ∙ sym g.seen) slot
 
 -- one byte of a row has one address
 own_same : {W : Type 0} (S : Setting W) (log : List Fact) (i j a b : ℕ) → IsOwnByte S log i j a → IsOwnByte S log i j b → a ≡ b
@@ -178,9 +177,9 @@ row_places : {W : Type 0} (S : Setting W) (i : ℕ) (row : StepRow) → slice_ge
 row_places S i row found = ap (λ (x : Option StepRow). places_of S.rules x) found
 
 -- a slot of a row, and a byte of it
-drawn_slot : {W : Type 0} (S : Setting W) → HasLaws S → (log : List Fact) (i : ℕ) (d : Drawn) (a : ℕ) → IsDrawnByte S log i d a → (i < length S.rows) × (d.slot < places_at S i)
-drawn_slot S laws log i d a h =
-    let below = laws.rules.slot_inside h.row h.view d a h.lawful h.drawn h.cell in
+drawn_slot : {W : Type 0} (S : Setting W) → HasLaws S → (log : List Fact) (i : ℕ) (d : Drawn) (a : ℕ) → IsDrawable S log i d → d.cell ≡ Byte a → (i < length S.rows) × (d.slot < places_at S i)
+drawn_slot S laws log i d a h on_a =
+    let below = laws.rules.slot_inside h.row h.view d a h.lawful h.drawn on_a in
     let places = row_places S i h.row h.found in
     (slice_get_within S.rows i h.row h.found, omega (arith, below, places))
 
@@ -198,7 +197,8 @@ module _ {W : Type 0} (S : Setting W) (old new : Known) (more : (p : ℕ) (c : C
     address = h.address;
     value = h.value;
     slot = h.slot;
-    drawn = drawn_byte_more S old.log new.log (λ p r v e. more p (Register r) v e) i h.conclusion h.address h.drawn;
+    cell = h.cell;
+    drawn = drawable_more S old.log new.log (λ p r v e. more p (Register r) v e) i h.conclusion h.drawn;
     byte = more (point_of i h.conclusion.when) (Byte h.address) h.value h.byte;
   }
 
@@ -254,9 +254,9 @@ module _ {W : Type 0} (S : Setting W) (old new : Known) (more : (p : ℕ) (c : C
       }
 
 -- a slot that isn't marked is of a byte that is known
-slot_known : {W : Type 0} (S : Setting W) → HasLaws S → (k : Known) → (i : ℕ) (d : Drawn) (a : ℕ) → IsDrawnByte S k.log i d a → IsSlotLearnt S k i d.slot → (v : ℕ) × (k.store.fact (point_of i d.when) a ≡ Some v)
-slot_known S laws k i d a h l =
-    let same = slot_same S laws k.log i l.conclusion d l.address a l.drawn h l.slot in
+slot_known : {W : Type 0} (S : Setting W) → HasLaws S → (k : Known) → (i : ℕ) (d : Drawn) (a : ℕ) → IsDrawable S k.log i d → d.cell ≡ Byte a → IsSlotLearnt S k i d.slot → (v : ℕ) × (k.store.fact (point_of i d.when) a ≡ Some v)
+slot_known S laws k i d a h on_a l =
+    let same = slot_same S laws k.log i l.conclusion d l.address a l.drawn l.cell h on_a l.slot in
     let point = subst (λ (w : When). k.store.fact (point_of i w) l.address ≡ Some l.value) same.0 l.byte in
     (l.value, subst (λ (x : ℕ). k.store.fact (point_of i d.when) x ≡ Some l.value) same.1 point)
 
@@ -266,7 +266,7 @@ slot_marked S laws k r p a place none =
     elim (cases_Bool (r.unlearnt place.number place.conclusion.slot)) [
       | inl is ↦ is
       | inr isnt ↦
-          let known = slot_known S laws k place.number place.conclusion a place.drawn (r.learnt place.number place.conclusion.slot isnt) in
+          let known = slot_known S laws k place.number place.conclusion a place.drawn place.cell (r.learnt place.number place.conclusion.slot isnt) in
           let here : k.store.fact p a ≡ Some known.0 = subst (λ (q : ℕ). k.store.fact q a ≡ Some known.0) (sym place.point) known.1 in
           absurd (none_some (sym none ∙ here))
     ]
@@ -281,7 +281,7 @@ module _ {W : Type 0} (S : Setting W) (laws : HasLaws S) (old new : Known) (more
 
   fewer : marked (places_at S) (unmark r.unlearnt i slot) (length S.rows) < marked (places_at S) r.unlearnt (length S.rows)
   fewer =
-      let inside = drawn_slot S laws old.log i place.conclusion a place.drawn in
+      let inside = drawn_slot S laws old.log i place.conclusion a place.drawn place.cell in
       unmark_fewer r.unlearnt i slot (places_at S) (length S.rows) inside.0 inside.1 (slot_marked S laws old r p a place adds.store.none)
 
   here : IsSlotLearnt S new i slot
@@ -290,7 +290,8 @@ module _ {W : Type 0} (S : Setting W) (laws : HasLaws S) (old new : Known) (more
     address = a;
     value = v;
     slot = refl;
-    drawn = drawn_byte_more S old.log new.log (λ q s w e. more q (Register s) w e) i place.conclusion a place.drawn;
+    cell = place.cell;
+    drawn = drawable_more S old.log new.log (λ q s w e. more q (Register s) w e) i place.conclusion place.drawn;
     byte = subst (λ (q : ℕ). new.store.fact q a ≡ Some v) place.point adds.store.here;
   }
 
@@ -374,7 +375,7 @@ module _ {W : Type 0} (S : Setting W) (old : Known) (r : HasRoom S old) (i j a :
 -- there is room for a byte that rows let one conclude
 pub room_to_draw : {W : Type 0} (S : Setting W) → HasLaws S → (k : Known) → HasRoom S k → (p a : ℕ) → IsDrawnAt S k.log p a → HasNoRoom k p a true → ⊥
 room_to_draw S laws k r p a place full =
-    let inside = drawn_slot S laws k.log place.number place.conclusion a place.drawn in
+    let inside = drawn_slot S laws k.log place.number place.conclusion a place.drawn place.cell in
     let less = unmark_fewer r.unlearnt place.number place.conclusion.slot (places_at S) (length S.rows) inside.0 inside.1 (slot_marked S laws k r p a place full.none) in
     let spare = r.spare in
     let log = r.log in

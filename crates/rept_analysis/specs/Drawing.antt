@@ -26,7 +26,7 @@ use Rattle.rept_analysis.specs.declared.halt.Halt.TheVariants.{Clash, OutOfMemor
 use Rattle.rept_writing.specs.declared.list.Writing.{Writing}
 use Rattle.rept_analysis.specs.declared.pass.Pass.TheVariants.{Cut}
 use Rattle.rept_analysis.specs.Work.{left, row_past}
-use Rattle.rept_analysis.specs.Room.{IsDrawnByte, IsDrawnAt, IsOwnByte}
+use Rattle.rept_analysis.specs.Room.{IsDrawable, IsDrawnAt, IsOwnByte}
 use Rattle.rept_analysis.specs.State.{State, all_known}
 
 abbrev pub fact_at : ℕ → Cell → ℕ → Fact
@@ -230,7 +230,7 @@ pub record IsConclusion {W : Type 0} (i : ℕ) (d : Drawn) (s : State W) : Type 
   pub fits : Fits d.cell d.value
   pub follows : d.value < 2 ^ 32 → IsFollowing s (fact_at (point_of i d.when) d.cell d.value)
   pub tracked : (a : ℕ) → d.cell ≡ Byte a → IsTracked a s
-  pub byte : (a : ℕ) → d.cell ≡ Byte a → IsDrawnByte s.setting s.known.log i d a
+  pub byte : (a : ℕ) → d.cell ≡ Byte a → IsDrawable s.setting s.known.log i d
 
 abbrev pub AreConclusions : {W : Type 0} → ℕ → List Drawn → State W → Type 0
 AreConclusions i list s = (k : ℕ) (d : Drawn) → slice_get list k ≡ Some d → IsConclusion i d s

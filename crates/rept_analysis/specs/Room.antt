@@ -39,26 +39,26 @@ marked width marks n = sum_to (λ i. count_true (marks i) (width i)) n
 abbrev pub unread : ℕ → Known → ℕ
 unread last k = sum_by (λ a. one_if (is_none (k.store.fact last a))) k.store.tracked
 
--- a byte that row i's rules let one conclude, from something that was seen around the row, in which its base was what is known now
-pub record IsDrawnByte {W : Type 0} (S : Setting W) (log : List Fact) (i : ℕ) (d : Drawn) (a : ℕ) : Type 0 where
+-- a conclusion that row i's rules let one draw, from something that was seen around the row, in which its base was what is known now
+pub record IsDrawable {W : Type 0} (S : Setting W) (log : List Fact) (i : ℕ) (d : Drawn) : Type 0 where
   pub row : StepRow
   pub found : slice_get S.rows i ≡ Some row
   pub view : Seen
   pub lawful : IsLawful view
   pub drawn : Contains (S.rules.draw row view) d
-  pub cell : d.cell ≡ Byte a
   pub base_register : ℕ
   pub base : ℕ
   pub read : first_read row.instr ≡ Some base_register
   pub seen : view.register Before base_register ≡ Some base
   pub known : register_known (told log) i base_register ≡ Some base
 
--- a conclusion on this byte at this point
+-- such a conclusion on this byte at this point
 pub record IsDrawnAt {W : Type 0} (S : Setting W) (log : List Fact) (p a : ℕ) : Type 0 where
   pub number : ℕ
   pub conclusion : Drawn
   pub point : p ≡ point_of number conclusion.when
-  pub drawn : IsDrawnByte S log number conclusion a
+  pub cell : conclusion.cell ≡ Byte a
+  pub drawn : IsDrawable S log number conclusion
 
 -- the byte of row i's slot j is known
 pub record IsSlotLearnt {W : Type 0} (S : Setting W) (k : Known) (i j : ℕ) : Type 0 where
@@ -66,7 +66,8 @@ pub record IsSlotLearnt {W : Type 0} (S : Setting W) (k : Known) (i j : ℕ) : T
   pub address : ℕ
   pub value : ℕ
   pub slot : conclusion.slot ≡ j
-  pub drawn : IsDrawnByte S k.log i conclusion address
+  pub cell : conclusion.cell ≡ Byte address
+  pub drawn : IsDrawable S k.log i conclusion
   pub byte : k.store.fact (point_of i conclusion.when) address ≡ Some value
 
 -- byte j of those that row i's rules look at, whose base is known

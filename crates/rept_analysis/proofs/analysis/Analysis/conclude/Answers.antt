@@ -32,4 +32,4 @@ returns-in_ok-learnt-in-Byte-clause-drew g c =
     (λ h. subst (λ (x : Cell). Knows (point_of c.args.i c.args.drawn.now.when) x c.args.drawn.now.value (state_of g.W.Partial.sets g.W.Transfer.moves g.R.RowRules.rules g.B.ByteFacts.store c.args.self.now)) (sym c.in-Byte.is) (subst (λ (p : ℕ). Knows p (Byte c.in-Byte.a) c.args.drawn.now.value (state_of g.W.Partial.sets g.W.Transfer.moves g.R.RowRules.rules g.B.ByteFacts.store c.args.self.now)) c.point_at-point.ensures h))
 
 pub learn_byte-requires-clause-place : goal.learn_byte-requires-clause-place
-learn_byte-requires-clause-place g c = record { number = c.args.i; conclusion = c.args.drawn.now; point = c.point_at-point.ensures; drawn = c.requires.conclusion.byte c.in-Byte.a c.in-Byte.is }
+learn_byte-requires-clause-place g c = record { number = c.args.i; conclusion = c.args.drawn.now; point = c.point_at-point.ensures; cell = c.in-Byte.is; drawn = c.requires.conclusion.byte c.in-Byte.a c.in-Byte.is }
