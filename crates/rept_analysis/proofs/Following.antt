@@ -39,7 +39,7 @@ use Rattle.rept_analysis.specs.Cells.{bytes_from, bytes_known, base_known}
 use Rattle.rept_log.specs.Known.{Known as LogKnown}
 use Rattle.rept_analysis.specs.State.{State, all_known}
 use Rattle.rept_analysis.specs.Moments.{filled_range, moment, moment_lawful}
-use Rattle.rept_analysis.specs.Room.{IsDrawable, IsOwnByte}
+use Rattle.rept_analysis.specs.Room.{IsDrawable, own_at, IsOwnByte}
 use Rattle.rept_analysis.proofs.Reserve.{drawable_more, own_byte_more}
 use Rattle.rept_analysis.specs.Drawing.{Knows, IsTracked, Grows, IsFollowing, IsBrought, fact_at, IsLearntAt, IsKeptAt, LastKnown, IsFitted, IsAccess, IsCarriedAt, AreTrackedFrom, IsRowTracked, IsConclusion, IsBroughtTo, KeptBelow, DrawnKnown, IsRowDrawn, IsRowClosed, LastByteKnown, SingleKnown, AreRowAddresses}
 
@@ -293,4 +293,4 @@ row_addresses s i row r base start count x found reads read is from few k lt =
 pub addresses_after : {W : Type 0} (s t : State W) (start count : ℕ) → Grows s t → AreRowAddresses start count s → AreRowAddresses start count t
 addresses_after s t start count g h k lt =
     let a = h k lt in
-    (a.0, a.1, subst (λ (S : Setting _). IsOwnByte S t.known.log a.0 a.1 (beside start k)) (sym g.setting) (own_byte_more s.setting s.known.log t.known.log (λ p r v e. g.more p (Register r) v e) a.0 a.1 (beside start k) a.2))
+    (a.0, a.1, subst (λ (S : Setting _). IsOwnByte S t.known.log (own_at a.0 a.1 (beside start k))) (sym g.setting) (own_byte_more s.setting s.known.log t.known.log (λ p r v e. g.more p (Register r) v e) (own_at a.0 a.1 (beside start k)) a.2))

@@ -25,7 +25,7 @@ use Rattle.rept_report.proofs.ViewLaws.{known_more}
 use Rattle.rept_versions.specs.Facts.{Told}
 use Rattle.rept_log.specs.Known.{Known, knows, AddsByte, HasNoRoom, TracksMore}
 use Rattle.rept_analysis.specs.Sums.{one_if, count_true, sum_to}
-use Rattle.rept_analysis.specs.Room.{places_of, places_at, bytes_at, marked, unread, IsDrawable, IsDrawnAt, IsSlotLearnt, IsOwnByte, IsByteTracked, HasRoom}
+use Rattle.rept_analysis.specs.Room.{places_of, places_at, bytes_at, marked, unread, IsDrawable, IsDrawnAt, IsSlotLearnt, OwnByte, own_at, IsOwnByte, IsByteTracked, HasRoom}
 use Rattle.rept_analysis.proofs.Sums.{count_le, count_less, sum_le, sum_less}
 
 -- the same marks but one
@@ -137,14 +137,14 @@ module _ {W : Type 0} (S : Setting W) (old new : List Fact) (more : (p r v : ℕ
     known = known_more (told old) (told new) more i h.base_register h.base h.known;
   }
 
-  pub own_byte_more : (i j a : ℕ) → IsOwnByte S old i j a → IsOwnByte S new i j a
-  own_byte_more i j a h = record {
+  pub own_byte_more : (b : OwnByte) → IsOwnByte S old b → IsOwnByte S new b
+  own_byte_more b h = record {
     row = h.row;
     found = h.found;
     base_register = h.base_register;
     base = h.base;
     read = h.read;
-    known = known_more (told old) (told new) more i h.base_register h.base h.known;
+    known = known_more (told old) (told new) more b.row h.base_register h.base h.known;
     below_places = h.below_places;
     below_four = h.below_four;
     address = h.address;
@@ -163,7 +163,7 @@ slot_same S laws log i d e a b h on_a g on_b slot =
     laws.rules.slot_once g.row h.view g.view d e a b g.base_register h.lawful g.lawful drawn g.drawn on_a on_b g.read (seen ∙ ap Some base ∙ sym g.seen) slot
 
 -- one byte of a row has one address
-own_same : {W : Type 0} (S : Setting W) (log : List Fact) (i j a b : ℕ) → IsOwnByte S log i j a → IsOwnByte S log i j b → a ≡ b
+own_same : {W : Type 0} (S : Setting W) (log : List Fact) (i j a b : ℕ) → IsOwnByte S log (own_at i j a) → IsOwnByte S log (own_at i j b) → a ≡ b
 own_same S log i j a b h g =
     let row : h.row ≡ g.row = same_row (sym h.found ∙ g.found) in
     let read = subst (λ (x : StepRow). first_read x.instr ≡ Some h.base_register) row h.read in
@@ -183,10 +183,10 @@ drawn_slot S laws log i d a h on_a =
     let places = row_places S i h.row h.found in
     (slice_get_within S.rows i h.row h.found, omega (arith, below, places))
 
-own_byte : {W : Type 0} (S : Setting W) (log : List Fact) (i j a : ℕ) → IsOwnByte S log i j a → (i < length S.rows) × (j < bytes_at S i)
+own_byte : {W : Type 0} (S : Setting W) (log : List Fact) (i j a : ℕ) → IsOwnByte S log (own_at i j a) → (i < length S.rows) × (j < bytes_at S i)
 own_byte S log i j a h =
-    let below = h.below_places in
-    let four = h.below_four in
+    let below : j < S.rules.places h.row = h.below_places in
+    let four : j < 4 = h.below_four in
     let places = row_places S i h.row h.found in
     (slice_get_within S.rows i h.row h.found, omega (arith, below, four, places))
 
@@ -205,7 +205,7 @@ module _ {W : Type 0} (S : Setting W) (old new : Known) (more : (p : ℕ) (c : C
   byte_more : ((a : ℕ) → Contains old.store.tracked a → Contains new.store.tracked a) → (i j : ℕ) → IsByteTracked S old i j → IsByteTracked S new i j
   byte_more stays i j h = record {
     address = h.address;
-    own = own_byte_more S old.log new.log (λ p r v e. more p (Register r) v e) i j h.address h.own;
+    own = own_byte_more S old.log new.log (λ p r v e. more p (Register r) v e) (own_at i j h.address) h.own;
     tracked = stays h.address h.tracked;
   }
 
@@ -320,7 +320,7 @@ module _ {W : Type 0} (S : Setting W) (laws : HasLaws S) (old new : Known) (more
       }
 
 -- a byte of a row was tracked
-module _ {W : Type 0} (S : Setting W) (old : Known) (r : HasRoom S old) (i j a : ℕ) (own : IsOwnByte S old.log i j a) (was_not : Contains old.store.tracked a → ⊥) where
+module _ {W : Type 0} (S : Setting W) (old : Known) (r : HasRoom S old) (i j a : ℕ) (own : IsOwnByte S old.log (own_at i j a)) (was_not : Contains old.store.tracked a → ⊥) where
   byte_marked : r.untracked i j ≡ true
   byte_marked =
       elim (cases_Bool (r.untracked i j)) [

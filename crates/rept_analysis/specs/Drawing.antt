@@ -26,7 +26,7 @@ use Rattle.rept_analysis.specs.declared.halt.Halt.TheVariants.{Clash, OutOfMemor
 use Rattle.rept_writing.specs.declared.list.Writing.{Writing}
 use Rattle.rept_analysis.specs.declared.pass.Pass.TheVariants.{Cut}
 use Rattle.rept_analysis.specs.Work.{left, row_past}
-use Rattle.rept_analysis.specs.Room.{IsDrawable, IsDrawnAt, IsOwnByte}
+use Rattle.rept_analysis.specs.Room.{IsDrawable, IsDrawnAt, own_at, IsOwnByte}
 use Rattle.rept_analysis.specs.State.{State, all_known}
 
 abbrev pub fact_at : ℕ → Cell → ℕ → Fact
@@ -213,7 +213,7 @@ AreTrackedFrom start n s = (k : ℕ) → k < n → IsTracked (beside start k) s
 
 -- one of the bytes that a row's rules look at, whose base is known
 abbrev pub IsRowAddress : {W : Type 0} → ℕ → State W → Type 0
-IsRowAddress a s = (i : ℕ) × (j : ℕ) × IsOwnByte s.setting s.known.log i j a
+IsRowAddress a s = (i : ℕ) × (j : ℕ) × IsOwnByte s.setting s.known.log (own_at i j a)
 
 -- so are those from an address on
 abbrev pub AreRowAddresses : {W : Type 0} → ℕ → ℕ → State W → Type 0

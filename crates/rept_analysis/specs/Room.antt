@@ -70,22 +70,31 @@ pub record IsSlotLearnt {W : Type 0} (S : Setting W) (k : Known) (i j : ℕ) : T
   pub drawn : IsDrawable S k.log i conclusion
   pub byte : k.store.fact (point_of i conclusion.when) address ≡ Some value
 
--- byte j of those that row i's rules look at, whose base is known
-pub record IsOwnByte {W : Type 0} (S : Setting W) (log : List Fact) (i j a : ℕ) : Type 0 where
+-- a byte of a row: its number among those that the rules of the row look at, and its address
+pub record OwnByte : Type 0 where
+  pub row : ℕ
+  pub number : ℕ
+  pub address : ℕ
+
+abbrev pub own_at : ℕ → ℕ → ℕ → OwnByte
+own_at i j a = record { row = i; number = j; address = a }
+
+-- that it is one of the row, whose base is known
+pub record IsOwnByte {W : Type 0} (S : Setting W) (log : List Fact) (b : OwnByte) : Type 0 where
   pub row : StepRow
-  pub found : slice_get S.rows i ≡ Some row
+  pub found : slice_get S.rows b.row ≡ Some row
   pub base_register : ℕ
   pub base : ℕ
   pub read : first_read row.instr ≡ Some base_register
-  pub known : register_known (told log) i base_register ≡ Some base
-  pub below_places : j < S.rules.places row
-  pub below_four : j < 4
-  pub address : a ≡ beside (plus base (offset_of row.instr)) j
+  pub known : register_known (told log) b.row base_register ≡ Some base
+  pub below_places : b.number < S.rules.places row
+  pub below_four : b.number < 4
+  pub address : b.address ≡ beside (plus base (offset_of row.instr)) b.number
 
 -- it is tracked
 pub record IsByteTracked {W : Type 0} (S : Setting W) (k : Known) (i j : ℕ) : Type 0 where
   pub address : ℕ
-  pub own : IsOwnByte S k.log i j address
+  pub own : IsOwnByte S k.log (own_at i j address)
   pub tracked : Contains k.store.tracked address
 
 -- The room that is left is enough for each slot whose byte isn't known, for each byte of a row that isn't tracked, and for the byte of
