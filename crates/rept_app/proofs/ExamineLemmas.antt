@@ -19,7 +19,7 @@ use Rattle.rept_app.specs.Lines.{status_of}
 use Rattle.rept_app.specs.Path.{IsTracePath, HasNoPath}
 use Rattle.rept_app.specs.Study.{Studies, IsStudied, StudyHolds}
 use Rattle.rept_app.specs.Loading.{CrashBytes}
-use Rattle.rept_app.specs.Told.{CrashTrace, trace_in, Examined, NotesTold, Reads}
+use Rattle.rept_app.specs.Told.{crash_path, CrashTrace, trace_in, Examined, NotesTold, Reads}
 use Rattle.rept_app.specs.declared.refusal.Refusal.TheVariants as refusal
 use Rattle.rept_app.specs.declared.status.Status.{Status}
 use Rattle.rept_app.specs.declared.status.Status.TheVariants as ends
@@ -99,7 +99,7 @@ module _ (t : CrashTrace) (status : Status) where
   }
 
   -- a call that stopped ends so whatever the path is
-  stopped_rows : Stopped status → (path : Path) → PathYields t.crash path status
+  stopped_rows : Stopped status → (path : Path) → PathYields (crash_path t.crash path) status
   stopped_rows s path = record { conflict = λ _ _. inr s; report = λ _. inr (inr (inr s)) }
 
   pub memory_yields : Stopped status → WalkYields t status
@@ -139,14 +139,14 @@ module _ (t : CrashTrace) (status : Status) where
 
   -- where it has a path
   module _ (path : Path) (only : (others : Path) → IsTracePath t.crash t.trace t.from others → path ≡ others) (none : (f : PathFault) → HasNoPath t.crash t.trace t.from f → ⊥) where
-    path_yields : PathYields t.crash path status → (status ≡ ends.Trace → ⊥) → WalkYields t status
+    path_yields : PathYields (crash_path t.crash path) status → (status ≡ ends.Trace → ⊥) → WalkYields t status
     path_yields yields never = record {
       refused = λ f has. absurd (none f has);
-      walked = λ others is. subst (λ (p : Path). PathYields t.crash p status) (only others is) yields;
+      walked = λ others is. subst (λ (p : Path). PathYields (crash_path t.crash p) status) (only others is) yields;
       only = λ e. absurd (never e);
     }
 
-    pub studied_walked : (source sink : Move Port) → IsStudied t.crash path source sink status → IsWalked t source sink status
+    pub studied_walked : (source sink : Move Port) → IsStudied (crash_path t.crash path) source sink status → IsWalked t source sink status
     studied_walked source sink s = record {
       ports = s.ports;
       yields = path_yields (record { conflict = s.conflict; report = s.report }) (no_trace status s.ends_so);
@@ -165,7 +165,7 @@ module _ (t : CrashTrace) (reading : Reading) (text : List ℕ) (status : Status
   refused_walks f (inr has) (inl h) = inl (inl (f, has, h))
   refused_walks f why (inr h) = inr (inl h)
 
-  pub studies_walk : (path : Path) → IsTracePath t.crash t.trace t.from path → Studies t.crash path reading text status → Walks t reading text status
+  pub studies_walk : (path : Path) → IsTracePath t.crash t.trace t.from path → Studies (crash_path t.crash path) reading text status → Walks t reading text status
   studies_walk path is (inl h) = inl (inr (path, is, inl h))
   studies_walk path is (inr (inl (a, account, inl h))) = inl (inr (path, is, inr (a, account, h)))
   studies_walk path is (inr (inl (a, account, inr h))) = inr (inr (path, a, is, account, h))
@@ -175,7 +175,7 @@ pub path_excludes : (t : CrashTrace) (path : Path) → ((others : Path) → IsTr
 path_excludes t path only none others is = subst (λ (p : Path). HasNoExecution (setting t.crash p.steps)) (only others is) none
 
 -- where a session may have been held over a path, so it may over its trace and its files
-pub study_holds : {P : Type 0} (t : CrashTrace) (path : Path) (status : Status) → IsTracePath t.crash t.trace t.from path → P ⊎ StudyHolds t.crash path status → P ⊎ WalkHolds t status
+pub study_holds : {P : Type 0} (t : CrashTrace) (path : Path) (status : Status) → IsTracePath t.crash t.trace t.from path → P ⊎ StudyHolds (crash_path t.crash path) status → P ⊎ WalkHolds t status
 study_holds t path status is (inl p) = inl p
 study_holds t path status is (inr (consistent, so)) = inr ((path, is, consistent), so)
 

@@ -1,6 +1,7 @@
 -- Why a file isn't loaded, seen from before the loads of those before it.
 use Rattle.std.proofs.Common.{◌≡◌, ℕ, ◌≤◌, List, length, Option, None, Some, IfSome, MatchOption, subst, ap, ◌∙◌}
 use Rattle.rept_ports.specs.Causes.{Rose, next_count}
+use Rattle.rept_ports.specs.Port.{move}
 use Rattle.rept_ports.specs.Shelves.{Files, Shelved, IsOver}
 use Rattle.rept_app.specs.Loading.{Fits, LoadRefuses, StopsAt, limit_of}
 use Rattle.rept_words.specs.Words.{Names}
@@ -19,7 +20,7 @@ module _ (old mid new : Shelved) (name : List ℕ) (kind : FileKind) (files : mi
       let R : Option Files → Type 0 = λ o. MatchOption o (Rose old.faults new.faults) (λ fs. P fs × (new.faults ≡ old.faults)) in
       subst R files (subst Q calm h)
 
-  pub refuses_before : (r : Refusal) → LoadRefuses mid new name kind r → LoadRefuses old new name kind r
+  pub refuses_before : (r : Refusal) → LoadRefuses (move mid new) name kind r → LoadRefuses (move old new) name kind r
   refuses_before (refusal.LoadFault k) h = (h.0, rose h.1)
   refuses_before (refusal.NoFile k) h = (h.0, by_files (λ fs. fs name ≡ None) h.1)
   refuses_before (refusal.TooLarge k) h = (h.0, by_files (λ fs. IsOver fs name (limit_of kind)) h.1)
@@ -46,7 +47,7 @@ two (Some fs) P Q h k = (h, k)
 pub trace_stops : (a b c d : Shelved) (names : Names) (exe core : List ℕ) (r : Refusal) → b.files ≡ a.files → c.files ≡ b.files → b.faults ≡ a.faults → c.faults ≡ b.faults
     → b.loads ≡ next_count a.loads → c.loads ≡ next_count b.loads → d.loads ≡ next_count c.loads
     → length exe ≤ limit_of file.Exe → IfSome a.files (λ fs. fs names.exe ≡ Some exe) → length core ≤ limit_of file.Core → IfSome b.files (λ fs. fs names.core ≡ Some core)
-    → LoadRefuses c d names.trace file.Trace r → StopsAt a d names file.Trace r
+    → LoadRefuses (move c d) names.trace file.Trace r → StopsAt (move a d) names file.Trace r
 trace_stops a b c d names exe core r e f calm calmer one two_ three short here shorter there h = record {
   before = two a.files (λ fs. Fits fs file.Exe names.exe) (λ fs. Fits fs file.Core names.core) (fits a.files file.Exe names.exe exe short here)
       (fits a.files file.Core names.core core shorter (let P : Option Files → Type 0 = λ o. IfSome o (λ fs. fs names.core ≡ Some core) in subst P e there));

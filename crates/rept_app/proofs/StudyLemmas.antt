@@ -15,16 +15,17 @@ use Rattle.rept_app.specs.Delivered.{Tells}
 use Rattle.rept_app.specs.Ends.{Stopped, Yields, EndsSession, IsCaused, PortsEnd}
 use Rattle.rept_app.specs.Held.{Holds}
 use Rattle.rept_app.specs.Study.{Studies, IsStudied}
+use Rattle.rept_app.specs.Told.{crash_path}
 use Rattle.rept_app.specs.declared.refusal.Refusal.TheVariants as refusal
 use Rattle.rept_app.specs.declared.status.Status.{Status}
 use Rattle.rept_app.specs.declared.status.Status.TheVariants as ends
 
 module _ (crash : Crash) (path : Path) (reading : Reading) where
-  pub no_memory_studies : (text : List ℕ) (status : Status) → Tells refusal.OutOfMemory text status → Studies crash path reading text status
+  pub no_memory_studies : (text : List ℕ) (status : Status) → Tells refusal.OutOfMemory text status → Studies (crash_path crash path) reading text status
   no_memory_studies text status (inl h) = inr (inr h)
   no_memory_studies text status (inr h) = inr (inr h)
 
-  pub conflict_studies : (kind : ConflictKind) → ClosureHas (setting crash path.steps) kind → (text : List ℕ) (status : Status) → Tells (refusal.Inconsistent kind) text status → Studies crash path reading text status
+  pub conflict_studies : (kind : ConflictKind) → ClosureHas (setting crash path.steps) kind → (text : List ℕ) (status : Status) → Tells (refusal.Inconsistent kind) text status → Studies (crash_path crash path) reading text status
   conflict_studies kind has text status (inl h) = inl (kind, has, h)
   conflict_studies kind has text status (inr h) = inr (inr h)
 
@@ -33,12 +34,12 @@ module _ (v : View) (crash : Crash) (path : Path) (found : IsFoundIn (setting cr
   abbrev pub account_of : Account
   account_of = record { known = answers (state_in v); log = (state_in v).known.log; end_pc = v.end_pc; skipped = path.skipped }
 
-  pub held_studies : (reading : Reading) (text : List ℕ) (status : Status) → Holds (told_of (state_in v).setting account_of) reading text status → Studies crash path reading text status
+  pub held_studies : (reading : Reading) (text : List ℕ) (status : Status) → Holds (told_of (state_in v).setting account_of) reading text status → Studies (crash_path crash path) reading text status
   held_studies reading text status h =
       inr (inl (account_of, record { report = found.report; log = found.log; ends = found.ends; skipped = refl }, subst (λ (S : Setting Range). Holds (told_of S account_of) reading text status) found.setting h))
 
 -- where the closure is consistent, a session is held
-pub held_causes : (crash : Crash) (path : Path) (source sink : Move Port) (status : Status) → IsConsistent (setting crash path.steps) → IsCaused source sink status → IsStudied crash path source sink status
+pub held_causes : (crash : Crash) (path : Path) (source sink : Move Port) (status : Status) → IsConsistent (setting crash path.steps) → IsCaused source sink status → IsStudied (crash_path crash path) source sink status
 held_causes crash path source sink status consistent c = record {
   ports = c.ports;
   conflict = λ kind has. absurd (consistent kind has);
@@ -47,7 +48,7 @@ held_causes crash path source sink status consistent c = record {
 }
 
 -- where it has a conflict, one is told
-pub told_causes : (crash : Crash) (path : Path) (source sink : Move Port) (status : Status) (kind : ConflictKind) → ClosureHas (setting crash path.steps) kind → PortsEnd source sink status → Yields ends.Inconsistent status → IsStudied crash path source sink status
+pub told_causes : (crash : Crash) (path : Path) (source sink : Move Port) (status : Status) (kind : ConflictKind) → ClosureHas (setting crash path.steps) kind → PortsEnd source sink status → Yields ends.Inconsistent status → IsStudied (crash_path crash path) source sink status
 told_causes crash path source sink status kind has ports so = record {
   ports = ports;
   conflict = λ _ _. so;
@@ -60,7 +61,7 @@ told_causes crash path source sink status kind has ports so = record {
     to_all (inr h) = inr (inr (inr (inr h)))
 
 -- where there was no memory for the analysis
-pub memory_causes : (crash : Crash) (path : Path) (source sink : Move Port) (status : Status) → PortsEnd source sink status → Yields ends.OutOfMemory status → IsStudied crash path source sink status
+pub memory_causes : (crash : Crash) (path : Path) (source sink : Move Port) (status : Status) → PortsEnd source sink status → Yields ends.OutOfMemory status → IsStudied (crash_path crash path) source sink status
 memory_causes crash path source sink status ports so = record {
   ports = ports;
   conflict = λ _ _. inr (stops so);

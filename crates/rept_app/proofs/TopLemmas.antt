@@ -22,7 +22,7 @@ use Rattle.rept_app.specs.Loading.{CrashBytes, crash_bytes, Loading, loading, lo
 use Rattle.rept_app.specs.Loading.Loading.{Refused, Loaded, MadeRun}
 use Rattle.rept_app.specs.MadeRun.{Sums}
 use Rattle.rept_app.specs.Told.{Given, given, Examined, Summed, summary_line, Opening, Writes, Holds, ReportHolds, MadeHolds, AskedHolds, NoExecution, crash_at, setting_at}
-use Rattle.rept_app.specs.Top.{TopCauses, LacksFile, LoadEnds, LoadsOf, EndsBy, EndsByFiles, AskedEnds, Completes}
+use Rattle.rept_app.specs.Top.{TopCauses, LacksFile, LoadEnds, LoadsOf, EndsBy, EndsByFiles, AskedEnds, NoneFails, Completes}
 use Rattle.rept_words.specs.Words.{Names, Meaning, meaning_of}
 use Rattle.rept_words.specs.Words.Meaning.{Open, Made}
 use Rattle.rept_app.specs.declared.load.Asked.{Asked}
@@ -44,7 +44,7 @@ Why old new name kind r =
     ⊎ ((r ≡ refusal.TooLarge kind) × MatchOption old.files (Rose old.faults new.faults) (λ files. IsOver files name (limit_of kind) × (new.faults ≡ old.faults)))
     ⊎ (r ≡ refusal.OutOfMemory)
 
-why : (old new : Shelved) (name : List ℕ) (kind : FileKind) (r : Refusal) → LoadRefuses old new name kind r → Why old new name kind r
+why : (old new : Shelved) (name : List ℕ) (kind : FileKind) (r : Refusal) → LoadRefuses (move old new) name kind r → Why old new name kind r
 why old new name kind (refusal.LoadFault k) h = inl (ap refusal.LoadFault h.0, h.1)
 why old new name kind (refusal.NoFile k) h = inr (inl (ap refusal.NoFile h.0, h.1))
 why old new name kind (refusal.TooLarge k) h = inr (inr (inl (ap refusal.TooLarge h.0, h.1)))
@@ -135,13 +135,13 @@ module _ (words : List (List ℕ)) (files : Files) where
       inr (inr (ap (loading_by files) named ∙ over files names (first_packet from) kind before (at_told old.files _ (λ fs. IsOver fs (name_of names kind) (limit_of kind) × (new.faults ≡ old.faults)) files told h.1).0 ∙ ap Refused (sym h.0)))
   names_stop old new names from kind r told named before loads (inr (inr (inr h))) = inr (inl h)
 
-  words_stop : (old new : Shelved) (r : Refusal) → old.files ≡ Some files → (m : Option Meaning) → meaning_of words ≡ m → MeaningStops m old new r → Stops old new r
+  words_stop : (old new : Shelved) (r : Refusal) → old.files ≡ Some files → (m : Option Meaning) → meaning_of words ≡ m → MeaningStops m (move old new) r → Stops old new r
   words_stop old new r told None e h = inr (inr (ap (loading_by files) e ∙ ap Refused (sym h.0)))
   words_stop old new r told (Some (Made seed steps)) e h = absurd h
   words_stop old new r told (Some (Open names from)) e (kind, s) =
       names_stop old new names from kind r told e (at_files old.files (λ fs. FitBefore fs names kind) files told s.before) s.loads (why old new (name_of names kind) kind r s.why)
 
-  pub stops : (old new : Shelved) (r : Refusal) → old.files ≡ Some files → LoadingStops (meaning_of words) old new r → Stops old new r
+  pub stops : (old new : Shelved) (r : Refusal) → old.files ≡ Some files → LoadingStops (meaning_of words) (move old new) r → Stops old new r
   stops old new r told (inl h) = inr (inl h.0)
   stops old new r told (inr h) = words_stop old new r told (meaning_of words) refl h
 
@@ -186,7 +186,7 @@ module _ (words : List (List ℕ)) (files : Files) where
 
   module _ (shelf : Move Shelved) (source : Move Port) (input text : List ℕ) (status : Status) where
     abbrev Here : Given
-    Here = given words files shelf input source
+    Here = given words files shelf (record { input = input; left = source.after.bytes })
 
     abbrev Whole : Loading → Type 0
     Whole l = MatchLoading l (λ r. Says r text status) (λ bytes. Examined bytes input text status) (λ seed steps. Summed seed steps text status)
@@ -248,15 +248,15 @@ cut_ends t reading text ends.OutputFault h = absurd h
 cut_ends t reading text ends.TooMuchInput h = absurd h
 
 -- what is written where no count rose
-pub completed : (g : Given) (shelf : Move Shelved) (source sink : Move Port) (status : Status) → TopCauses shelf source sink status → Delivers (Writes g) sink status → Completes g shelf source sink status
-completed g shelf source sink status c (inr h) no_load no_read no_write = absurd (no_write h.1.rose)
-completed g shelf source sink status c (inl (text, inl h, appended, calm)) no_load no_read no_write = inr (text, h, appended)
-completed g shelf source sink status c (inl (text, inr (inl (kind, comes, loads, says)), appended, calm)) no_load no_read no_write = absurd (no_load (c.load says.ending).rose)
-completed g shelf source sink status c (inl (text, inr (inr (inl says)), appended, calm)) no_load no_read no_write = inl says.ending
-completed g shelf source sink status c (inl (text, inr (inr (inr (inl (o, a, opens, account, cut)))), appended, calm)) no_load no_read no_write =
-    elim (cut_ends (told_of (setting_at o) a) g.reading text status cut) [ inl e ↦ absurd (no_read (c.ports.input e).rose) | inr e ↦ inl e ]
-completed g shelf source sink status c (inl (text, inr (inr (inr (inr (seed, steps, named, (made, is, o, opens, a, account, left, cut))))), appended, calm)) no_load no_read no_write =
-    elim (cut_ends (told_of (setting_at o) a) (record { input = summary_line; left = left }) text status cut) [ inl e ↦ absurd (no_read (c.ports.input e).rose) | inr e ↦ inl e ]
+pub completed : (g : Given) (shelf : Move Shelved) (source sink : Move Port) (status : Status) → TopCauses shelf source sink status → Delivers (Writes g) sink status → NoneFails shelf source sink → Completes g sink status
+completed g shelf source sink status c (inr h) calm_ports = absurd (calm_ports.written h.1.rose)
+completed g shelf source sink status c (inl (text, inl h, appended, calm)) calm_ports = inr (text, h, appended)
+completed g shelf source sink status c (inl (text, inr (inl (kind, comes, loads, says)), appended, calm)) calm_ports = absurd (calm_ports.loaded (c.load says.ending).rose)
+completed g shelf source sink status c (inl (text, inr (inr (inl says)), appended, calm)) calm_ports = inl says.ending
+completed g shelf source sink status c (inl (text, inr (inr (inr (inl (o, a, opens, account, cut)))), appended, calm)) calm_ports =
+    elim (cut_ends (told_of (setting_at o) a) g.reading text status cut) [ inl e ↦ absurd (calm_ports.read (c.ports.input e).rose) | inr e ↦ inl e ]
+completed g shelf source sink status c (inl (text, inr (inr (inr (inr (seed, steps, named, (made, is, o, opens, a, account, left, cut))))), appended, calm)) calm_ports =
+    elim (cut_ends (told_of (setting_at o) a) (record { input = summary_line; left = left }) text status cut) [ inl e ↦ absurd (calm_ports.read (c.ports.input e).rose) | inr e ↦ inl e ]
 
 -- a count that rose by at most one stands as it was, or one fault was counted
 counted : (before now : ℕ) → before ≤ now → now ≤ before + 1 → (now ≡ before) ⊎ OneFault before now
@@ -356,7 +356,7 @@ module _ (old new : Shelved) (source : Port) (sink : Move Port) (status : Status
   file_causes name kind r (inr (inr (inl h))) so = lacks_causes (λ fs. IsOver fs name (limit_of kind)) (as_large (by r (refusal.TooLarge kind) h.0 so)) h.1
   file_causes name kind r (inr (inr (inr h))) so = let s = memory (by r refusal.OutOfMemory h so) in stopped_causes s (either_way (inr (inr s)))
 
-  meaning_causes : (m : Option Meaning) (r : Refusal) → MeaningStops m old new r → Yields (status_of r) status → TopCauses (move old new) (move source source) sink status
+  meaning_causes : (m : Option Meaning) (r : Refusal) → MeaningStops m (move old new) r → Yields (status_of r) status → TopCauses (move old new) (move source source) sink status
   meaning_causes None r h so =
       idle_causes ends.Usage (λ (e : ends.Usage ≡ ends.LoadFault). cc) (λ (e : ends.Usage ≡ ends.NoFile). cc) (λ (e : ends.Usage ≡ ends.TooLarge). cc) (ap (λ (s : Shelved). s.faults) h.1) (by r refusal.Usage h.0 so)
   meaning_causes (Some (Made seed steps)) r h so = absurd h
@@ -366,7 +366,7 @@ module _ (old new : Shelved) (source : Port) (sink : Move Port) (status : Status
   pub made_causes : new.faults ≡ old.faults → Yields ends.Ok status → TopCauses (move old new) (move source source) sink status
   made_causes calm so = idle_causes ends.Ok (λ (e : ends.Ok ≡ ends.LoadFault). cc) (λ (e : ends.Ok ≡ ends.NoFile). cc) (λ (e : ends.Ok ≡ ends.TooLarge). cc) calm so
 
-  pub refused_causes : (m : Option Meaning) (r : Refusal) → LoadingStops m old new r → Yields (status_of r) status → TopCauses (move old new) (move source source) sink status
+  pub refused_causes : (m : Option Meaning) (r : Refusal) → LoadingStops m (move old new) r → Yields (status_of r) status → TopCauses (move old new) (move source source) sink status
   refused_causes m r (inl h) so = stopped_causes (memory (by r refusal.OutOfMemory h.0 so)) (inl (ap (λ (s : Shelved). s.faults) h.1))
   refused_causes m r (inr h) so = meaning_causes m r h so
 
@@ -377,7 +377,7 @@ module _ (old new : Shelved) (source : Port) (sink : Move Port) (status : Status
   ends_loading name kind r (inr (inr (inl h))) so = inr (as_large (by r (refusal.TooLarge kind) h.0 so))
   ends_loading name kind r (inr (inr (inr h))) so = inr (inr (memory (by r refusal.OutOfMemory h so)))
 
-  meaning_loads : (m : Option Meaning) (r : Refusal) → MeaningStops m old new r → Yields (status_of r) status → LoadsOf m (move old new) status
+  meaning_loads : (m : Option Meaning) (r : Refusal) → MeaningStops m (move old new) r → Yields (status_of r) status → LoadsOf m (move old new) status
   meaning_loads None r h so = tt
   meaning_loads (Some (Made seed steps)) r h so = absurd h
   meaning_loads (Some (Open names from)) r (kind, s) so = inl (record {
@@ -392,7 +392,7 @@ module _ (old new : Shelved) (source : Port) (sink : Move Port) (status : Status
   none_loads (Some (Made seed steps)) same stopped = tt
   none_loads (Some (Open names from)) same stopped = inr (same, stopped)
 
-  pub refused_loads : (m : Option Meaning) (r : Refusal) → LoadingStops m old new r → Yields (status_of r) status → LoadsOf m (move old new) status
+  pub refused_loads : (m : Option Meaning) (r : Refusal) → LoadingStops m (move old new) r → Yields (status_of r) status → LoadsOf m (move old new) status
   refused_loads m r (inl h) so = none_loads m h.1 (memory (by r refusal.OutOfMemory h.0 so))
   refused_loads m r (inr h) so = meaning_loads m r h so
 
@@ -419,17 +419,17 @@ file_status old new name kind r other is (inr (inl h)) e = is.missing (ap status
 file_status old new name kind r other is (inr (inr (inl h))) e = is.large (ap status_of (sym h.0) ∙ e)
 file_status old new name kind r other is (inr (inr (inr h))) e = is.memory (ap status_of (sym h) ∙ e)
 
-meaning_status : (old new : Shelved) (m : Option Meaning) (r : Refusal) (other : Status) → IsOther other → MeaningStops m old new r → status_of r ≡ other → ⊥
+meaning_status : (old new : Shelved) (m : Option Meaning) (r : Refusal) (other : Status) → IsOther other → MeaningStops m (move old new) r → status_of r ≡ other → ⊥
 meaning_status old new None r other is h e = is.usage (ap status_of (sym h.0) ∙ e)
 meaning_status old new (Some (Made seed steps)) r other is h e = absurd h
 meaning_status old new (Some (Open names from)) r other is (kind, s) e = file_status old new (name_of names kind) kind r other is (why old new (name_of names kind) kind r s.why) e
 
-pub no_status : (old new : Shelved) (m : Option Meaning) (r : Refusal) (other : Status) → IsOther other → LoadingStops m old new r → status_of r ≡ other → ⊥
+pub no_status : (old new : Shelved) (m : Option Meaning) (r : Refusal) (other : Status) → IsOther other → LoadingStops m (move old new) r → status_of r ≡ other → ⊥
 no_status old new m r other is (inl h) e = is.memory (ap status_of (sym h.0) ∙ e)
 no_status old new m r other is (inr h) e = meaning_status old new m r other is h e
 
 -- all files were loaded
-pub all_loads : (old new : Shelved) (m : Option Meaning) (status : Status) → LoadsAll m old new → LoadsOf m (move old new) status
+pub all_loads : (old new : Shelved) (m : Option Meaning) (status : Status) → LoadsAll m (move old new) → LoadsOf m (move old new) status
 all_loads old new None status h = absurd h
 all_loads old new (Some (Made seed steps)) status h = absurd h
 all_loads old new (Some (Open names from)) status h = inl (record { last = file.Trace; before = h.before; loads = h.loads; all = inl refl })
@@ -510,12 +510,12 @@ asked_holds None h = tt
 asked_holds (Some (Open names from)) h = tt
 asked_holds (Some (Made seed steps)) h = h seed steps
 
-pub loaded_asks : (m : Option Meaning) (old new : Shelved) (status : Status) → LoadsAll m old new → AskedEnds m status
+pub loaded_asks : (m : Option Meaning) (old new : Shelved) (status : Status) → LoadsAll m (move old new) → AskedEnds m status
 loaded_asks None old new status h = tt
 loaded_asks (Some (Open names from)) old new status h = tt
 loaded_asks (Some (Made seed steps)) old new status h = absurd h
 
-pub loads_named : {P : Type 0} (m : Option Meaning) (old new : Shelved) → LoadsAll m old new → NamesNone m → P
+pub loads_named : {P : Type 0} (m : Option Meaning) (old new : Shelved) → LoadsAll m (move old new) → NamesNone m → P
 loads_named None old new h none = absurd h
 loads_named (Some (Open names from)) old new h none = absurd none
 loads_named (Some (Made seed steps)) old new h none = absurd h
@@ -527,7 +527,7 @@ memory_ends r status e so = stop (subst (λ (x : Refusal). Yields (status_of x) 
     stop (inl h) = inr (inr h)
     stop (inr h) = inr h
 
-pub refused_asks : (m : Option Meaning) (old new : Shelved) (r : Refusal) (status : Status) → LoadingStops m old new r → Yields (status_of r) status → AskedEnds m status
+pub refused_asks : (m : Option Meaning) (old new : Shelved) (r : Refusal) (status : Status) → LoadingStops m (move old new) r → Yields (status_of r) status → AskedEnds m status
 refused_asks None old new r status h so = tt
 refused_asks (Some (Open names from)) old new r status h so = tt
 refused_asks (Some (Made seed steps)) old new r status (inl h) so = memory_ends r status h.0 so
@@ -560,8 +560,8 @@ pub done_at : {T E : Type 0} {P : Type 0} (r : Result T E) (a : T) → r ≡ Ok 
 done_at {T} {E} {P} r a e h = subst (λ (x : Result T E). OnOk x P) e h
 
 module _ (r : Result Asked Refusal) (a : Asked) where
-  pub all_at : (l : CrashFiles) (m : Option Meaning) (old new : Shelved) → r ≡ Ok a → a ≡ asked.Files l → IfOk r (λ x. IsAsked x m old new) → LoadsAll m old new
-  all_at l m old new e same h = (ok_at r a (asked.Files l) (λ x. IsAsked x m old new) e same h).0
+  pub all_at : (l : CrashFiles) (m : Option Meaning) (old new : Shelved) → r ≡ Ok a → a ≡ asked.Files l → IfOk r (λ x. IsAsked x m (move old new)) → LoadsAll m (move old new)
+  all_at l m old new e same h = (ok_at r a (asked.Files l) (λ x. IsAsked x m (move old new)) e same h).0
 
-  pub made_at : (seed steps : ℕ) (m : Option Meaning) (old new : Shelved) → r ≡ Ok a → a ≡ asked.Made seed steps → IfOk r (λ x. IsAsked x m old new) → m ≡ Some (Made seed steps)
-  made_at seed steps m old new e same h = (ok_at r a (asked.Made seed steps) (λ x. IsAsked x m old new) e same h).0
+  pub made_at : (seed steps : ℕ) (m : Option Meaning) (old new : Shelved) → r ≡ Ok a → a ≡ asked.Made seed steps → IfOk r (λ x. IsAsked x m (move old new)) → m ≡ Some (Made seed steps)
+  made_at seed steps m old new e same h = (ok_at r a (asked.Made seed steps) (λ x. IsAsked x m (move old new)) e same h).0

@@ -9,7 +9,7 @@ use Rattle.rept_ports.specs.Port.{Port, Move}
 use Rattle.rept_report.specs.Closure.{ClosureHas, IsConsistent}
 use Rattle.rept_report.specs.Soundness.{HasNoExecution}
 use Rattle.rept_report.specs.declared.conflict.ConflictKind.{ConflictKind}
-use Rattle.rept_found.specs.Crash.{Crash, setting}
+use Rattle.rept_found.specs.Crash.{setting}
 use Rattle.rept_found.specs.Telling.{Account, told_of}
 use Rattle.rept_serve.specs.Serving.{Reading}
 use Rattle.rept_app.specs.Delivered.{Says}
@@ -18,7 +18,7 @@ use Rattle.rept_app.specs.Forms.{executable_fault, core_image_fault, crash_in}
 use Rattle.rept_app.specs.Held.{CutOff}
 use Rattle.rept_app.specs.Path.{IsTracePath, HasNoPath}
 use Rattle.rept_app.specs.Loading.{CrashBytes}
-use Rattle.rept_app.specs.Told.{CrashTrace, trace_in, Walked, Examined, Reads, IsAccountOf}
+use Rattle.rept_app.specs.Told.{CrashPath, crash_path, setting_of, CrashTrace, trace_in, Walked, Examined, Reads, IsAccountOf}
 use Rattle.rept_app.specs.declared.refusal.Refusal.TheVariants as refusal
 use Rattle.rept_app.specs.declared.status.Status.{Status}
 use Rattle.rept_app.specs.declared.status.Status.TheVariants as ends
@@ -26,7 +26,7 @@ use Rattle.rept_app.specs.declared.status.Status.TheVariants as ends
 -- the session over the path's report was cut short
 abbrev pub WalkCut : CrashTrace → Reading → List ℕ → Status → Type 0
 WalkCut t reading text status =
-    (path : Path) × (a : Account) × IsTracePath t.crash t.trace t.from path × IsAccountOf t.crash path a × CutOff (told_of (setting t.crash path.steps) a) reading text status
+    (path : Path) × (a : Account) × IsTracePath t.crash t.trace t.from path × IsAccountOf (crash_path t.crash path) a × CutOff (told_of (setting t.crash path.steps) a) reading text status
 
 -- all of it; or memory ran out; or the session was cut short
 abbrev pub Walks : CrashTrace → Reading → List ℕ → Status → Type 0
@@ -38,14 +38,14 @@ Examines bytes reading text status =
     ⊎ ((note : List ℕ) × Reads bytes note × WalkCut (trace_in bytes note) reading text status)
 
 -- how the analysis of a path ends the call
-pub record PathYields (crash : Crash) (path : Path) (status : Status) : Type 0 where
-  pub conflict : (kind : ConflictKind) → ClosureHas (setting crash path.steps) kind → Yields ends.Inconsistent status
-  pub report : IsConsistent (setting crash path.steps) → EndsSession status
+pub record PathYields (p : CrashPath) (status : Status) : Type 0 where
+  pub conflict : (kind : ConflictKind) → ClosureHas (setting_of p) kind → Yields ends.Inconsistent status
+  pub report : IsConsistent (setting_of p) → EndsSession status
 
 -- How a trace ends the call, whatever the input is. Its status comes only where it has no path.
 pub record WalkYields (t : CrashTrace) (status : Status) : Type 0 where
   pub refused : (fault : PathFault) → HasNoPath t.crash t.trace t.from fault → Yields ends.Trace status
-  pub walked : (path : Path) → IsTracePath t.crash t.trace t.from path → PathYields t.crash path status
+  pub walked : (path : Path) → IsTracePath t.crash t.trace t.from path → PathYields (crash_path t.crash path) status
   pub only : status ≡ ends.Trace → (fault : PathFault) × HasNoPath t.crash t.trace t.from fault
 
 -- how what the notes say ends the call

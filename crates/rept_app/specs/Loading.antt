@@ -1,6 +1,7 @@
 -- What the words and the files come to, before the files are read.
 use Rattle.std.specs.Prelude.{◌≡◌, ◌⊎◌, ℕ, ◌+◌, ◌≤◌, List, length, Option, None, Some, MatchOption, IfSome, Result, OnOk, nat_lt, if◌then◌else◌}
 use Rattle.rept_ports.specs.Causes.{Rose, next_count}
+use Rattle.rept_ports.specs.Port.{Move}
 use Rattle.rept_ports.specs.Shelves.{Files, Shelved, IsOver}
 use Rattle.rept_words.specs.Words.{Names, Meaning, meaning_of}
 use Rattle.rept_words.specs.Words.Meaning.{Open, Made}
@@ -89,28 +90,30 @@ abbrev pub ComesTo : List (List ℕ) → Files → FileKind → Type 0
 ComesTo words files kind = (names : Names) × (from : Option ℕ) × (meaning_of words ≡ Some (Open names from)) × FitBefore files names kind
 
 -- Why this file isn't loaded: by the files where they are told, and otherwise by the count of the shelf's faults.
-abbrev pub LoadRefuses : Shelved → Shelved → List ℕ → FileKind → Refusal → Type 0
-LoadRefuses old new name kind (refusal.LoadFault k) = (k ≡ kind) × Rose old.faults new.faults
-LoadRefuses old new name kind (refusal.NoFile k) = (k ≡ kind) × MatchOption old.files (Rose old.faults new.faults) (λ files. (files name ≡ None) × (new.faults ≡ old.faults))
-LoadRefuses old new name kind (refusal.TooLarge k) = (k ≡ kind) × MatchOption old.files (Rose old.faults new.faults) (λ files. IsOver files name (limit_of kind) × (new.faults ≡ old.faults))
-LoadRefuses old new name kind refusal.OutOfMemory = Unit {0}
-LoadRefuses old new name kind other = ⊥
+abbrev pub LoadRefuses : Move Shelved → List ℕ → FileKind → Refusal → Type 0
+LoadRefuses shelf name kind (refusal.LoadFault k) = (k ≡ kind) × Rose shelf.before.faults shelf.after.faults
+LoadRefuses shelf name kind (refusal.NoFile k) =
+    (k ≡ kind) × MatchOption shelf.before.files (Rose shelf.before.faults shelf.after.faults) (λ files. (files name ≡ None) × (shelf.after.faults ≡ shelf.before.faults))
+LoadRefuses shelf name kind (refusal.TooLarge k) =
+    (k ≡ kind) × MatchOption shelf.before.files (Rose shelf.before.faults shelf.after.faults) (λ files. IsOver files name (limit_of kind) × (shelf.after.faults ≡ shelf.before.faults))
+LoadRefuses shelf name kind refusal.OutOfMemory = Unit {0}
+LoadRefuses shelf name kind other = ⊥
 
 -- The last load was that of this file: those before it were loaded, and it is refused.
-pub record StopsAt (old new : Shelved) (names : Names) (kind : FileKind) (r : Refusal) : Type 0 where
-  pub before : IfSome old.files (λ files. FitBefore files names kind)
-  pub loads : new.loads ≡ loads_to kind old.loads
-  pub why : LoadRefuses old new (name_of names kind) kind r
+pub record StopsAt (shelf : Move Shelved) (names : Names) (kind : FileKind) (r : Refusal) : Type 0 where
+  pub before : IfSome shelf.before.files (λ files. FitBefore files names kind)
+  pub loads : shelf.after.loads ≡ loads_to kind shelf.before.loads
+  pub why : LoadRefuses shelf (name_of names kind) kind r
 
 -- why the words or the files that they name don't come to three files: by the words, or by the file whose load was the last
-abbrev pub MeaningStops : Option Meaning → Shelved → Shelved → Refusal → Type 0
-MeaningStops None old new r = (r ≡ refusal.Usage) × (new ≡ old)
-MeaningStops (Some (Made seed steps)) old new r = ⊥
-MeaningStops (Some (Open names from)) old new r = (kind : FileKind) × StopsAt old new names kind r
+abbrev pub MeaningStops : Option Meaning → Move Shelved → Refusal → Type 0
+MeaningStops None shelf r = (r ≡ refusal.Usage) × (shelf.after ≡ shelf.before)
+MeaningStops (Some (Made seed steps)) shelf r = ⊥
+MeaningStops (Some (Open names from)) shelf r = (kind : FileKind) × StopsAt shelf names kind r
 
 -- why no files are loaded: there was no memory to read the words, or by these
-abbrev pub LoadingStops : Option Meaning → Shelved → Shelved → Refusal → Type 0
-LoadingStops m old new r = ((r ≡ refusal.OutOfMemory) × (new ≡ old)) ⊎ MeaningStops m old new r
+abbrev pub LoadingStops : Option Meaning → Move Shelved → Refusal → Type 0
+LoadingStops m shelf r = ((r ≡ refusal.OutOfMemory) × (shelf.after ≡ shelf.before)) ⊎ MeaningStops m shelf r
 
 -- words that name no files, for which no load is made
 abbrev pub NamesNone : Option Meaning → Type 0
@@ -119,22 +122,22 @@ NamesNone (Some (Made seed steps)) = Unit {0}
 NamesNone (Some (Open names from)) = ⊥
 
 -- what all loads do to a shelf: its files stay, at most one fault is counted, and none where all files are loaded
-pub record ShelfMoves {T E : Type 0} (old new : Shelved) (result : Result T E) : Type 0 where
-  pub files : new.files ≡ old.files
-  pub later : old.faults ≤ new.faults
-  pub once : new.faults ≤ old.faults + 1
-  pub calm : OnOk result (new.faults ≡ old.faults)
+pub record ShelfMoves {T E : Type 0} (shelf : Move Shelved) (result : Result T E) : Type 0 where
+  pub files : shelf.after.files ≡ shelf.before.files
+  pub later : shelf.before.faults ≤ shelf.after.faults
+  pub once : shelf.after.faults ≤ shelf.before.faults + 1
+  pub calm : OnOk result (shelf.after.faults ≡ shelf.before.faults)
 
 -- all three files were loaded
-pub record AllLoaded (names : Names) (old new : Shelved) : Type 0 where
-  pub before : IfSome old.files (λ files. FitBefore files names file.Trace)
-  pub loads : new.loads ≡ loads_to file.Trace old.loads
+pub record AllLoaded (names : Names) (shelf : Move Shelved) : Type 0 where
+  pub before : IfSome shelf.before.files (λ files. FitBefore files names file.Trace)
+  pub loads : shelf.after.loads ≡ loads_to file.Trace shelf.before.loads
 
 -- the words name files, and all of them were loaded
-abbrev pub LoadsAll : Option Meaning → Shelved → Shelved → Type 0
-LoadsAll None old new = ⊥
-LoadsAll (Some (Made seed steps)) old new = ⊥
-LoadsAll (Some (Open names from)) old new = AllLoaded names old new
+abbrev pub LoadsAll : Option Meaning → Move Shelved → Type 0
+LoadsAll None shelf = ⊥
+LoadsAll (Some (Made seed steps)) shelf = ⊥
+LoadsAll (Some (Open names from)) shelf = AllLoaded names shelf
 
 -- what was loaded, or is to be made
 abbrev pub asked_for : Asked → Loading
@@ -142,6 +145,6 @@ asked_for (asked.Files l) = Loaded (crash_bytes l.exe.items l.core.items l.trace
 asked_for (asked.Made seed steps) = MadeRun seed steps
 
 -- All three files of the words were loaded, and the trace is within its limit; or the words ask for a made run, and the shelf is as it was.
-abbrev pub IsAsked : Asked → Option Meaning → Shelved → Shelved → Type 0
-IsAsked (asked.Files l) m old new = LoadsAll m old new × (length l.trace.items ≤ limit_of file.Trace)
-IsAsked (asked.Made seed steps) m old new = (m ≡ Some (Made seed steps)) × (new ≡ old)
+abbrev pub IsAsked : Asked → Option Meaning → Move Shelved → Type 0
+IsAsked (asked.Files l) m shelf = LoadsAll m shelf × (length l.trace.items ≤ limit_of file.Trace)
+IsAsked (asked.Made seed steps) m shelf = (m ≡ Some (Made seed steps)) × (shelf.after ≡ shelf.before)

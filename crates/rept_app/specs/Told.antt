@@ -6,7 +6,7 @@ use Rattle.rept_dump.specs.declared.fault.CoreFault.{CoreFault}
 use Rattle.rept_partial.specs.declared.range.Range.{Range}
 use Rattle.rept_path.specs.declared.fault.PathFault.{PathFault}
 use Rattle.rept_path.specs.declared.rebuilding.Path.{Path}
-use Rattle.rept_ports.specs.Port.{Port, Move, move}
+use Rattle.rept_ports.specs.Port.{Move, move}
 use Rattle.rept_ports.specs.Shelves.{Files, Shelved}
 use Rattle.rept_machine.specs.State.{State}
 use Rattle.rept_reason.specs.Facts.{Knowledge}
@@ -33,19 +33,31 @@ use Rattle.rept_app.specs.declared.refusal.FileKind.{FileKind}
 use Rattle.rept_app.specs.declared.refusal.Refusal.TheVariants as refusal
 use Rattle.rept_app.specs.declared.status.Status.{Status}
 
+-- a path, and the crash in which it ends
+pub record CrashPath : Type 0 where
+  pub crash : Crash
+  pub path : Path
+
+abbrev pub crash_path : Crash → Path → CrashPath
+crash_path crash path = record { crash = crash; path = path }
+
+-- the analysis of the path
+abbrev pub setting_of : CrashPath → Setting Range
+setting_of p = setting p.crash p.path.steps
+
 -- what a session tells by: the report of the path, an order in which it was learnt, the program counter of the note, and the count of
 -- packets that were left out
-pub record IsAccountOf (crash : Crash) (path : Path) (a : Account) : Type 0 where
-  pub report : IsReport (setting crash path.steps) a.known
-  pub log : IsLogOf (setting crash path.steps) a.known a.log
-  pub ends : a.end_pc ≡ end_pc crash.note
-  pub skipped : a.skipped ≡ path.skipped
+pub record IsAccountOf (p : CrashPath) (a : Account) : Type 0 where
+  pub report : IsReport (setting_of p) a.known
+  pub log : IsLogOf (setting_of p) a.known a.log
+  pub ends : a.end_pc ≡ end_pc p.crash.note
+  pub skipped : a.skipped ≡ p.path.skipped
 
 -- The closure of the path and the crash has a conflict, of which the line tells one; or its report answers the input.
-abbrev pub Analysed : Crash → Path → List ℕ → List ℕ → Status → Type 0
-Analysed crash path input text status =
-    ((kind : ConflictKind) × ClosureHas (setting crash path.steps) kind × Says (refusal.Inconsistent kind) text status)
-    ⊎ ((a : Account) × IsAccountOf crash path a × Replies (told_of (setting crash path.steps) a) input text status)
+abbrev pub Analysed : CrashPath → List ℕ → List ℕ → Status → Type 0
+Analysed p input text status =
+    ((kind : ConflictKind) × ClosureHas (setting_of p) kind × Says (refusal.Inconsistent kind) text status)
+    ⊎ ((a : Account) × IsAccountOf p a × Replies (told_of (setting_of p) a) input text status)
 
 -- the bytes of a trace file, the number of the packet to begin from, and the crash in which the path ends
 pub record CrashTrace : Type 0 where
@@ -64,7 +76,7 @@ trace_in bytes note = crash_trace (crash_in bytes.exe bytes.core note) bytes.tra
 abbrev pub Walked : CrashTrace → List ℕ → List ℕ → Status → Type 0
 Walked t input text status =
     ((fault : PathFault) × HasNoPath t.crash t.trace t.from fault × Says (refusal.Path fault) text status)
-    ⊎ ((path : Path) × IsTracePath t.crash t.trace t.from path × Analysed t.crash path input text status)
+    ⊎ ((path : Path) × IsTracePath t.crash t.trace t.from path × Analysed (crash_path t.crash path) input text status)
 
 -- The core file's notes are refused; or they give the registers, and the trace is walked.
 abbrev pub NotesTold : CrashBytes → List ℕ → List ℕ → Status → Type 0
@@ -90,12 +102,6 @@ made_bytes made = crash_bytes made.exe made.core made.trace 0
 abbrev pub Summed : ℕ → ℕ → List ℕ → Status → Type 0
 Summed seed steps text status = (made : Made) × IsMade seed steps made × Examined (made_bytes made) summary_line text status
 
--- Words, files and input that are all there: the text that is written, and the status. The cases stand in the order in which
--- they are looked at: the words, the files, the executable, the core file, the trace and its path, the analysis, the input.
-abbrev pub Told : List (List ℕ) → Files → List ℕ → List ℕ → Status → Type 0
-Told words files input text status =
-    MatchLoading (loading words files) (λ r. Says r text status) (λ bytes. Examined bytes input text status) (λ seed steps. Summed seed steps text status)
-
 -- the executable and the core file are accepted, and this is the descriptor of the register note
 pub record Reads (bytes : CrashBytes) (note : List ℕ) : Type 0 where
   pub exe_accepted : executable_fault bytes.exe ≡ None
@@ -108,12 +114,15 @@ pub record Opening : Type 0 where
   pub note : List ℕ
   pub path : Path
 
--- the crash that they tell, and its analysis
+-- the crash that they tell, the path that ends in it, and its analysis
 abbrev pub crash_at : Opening → Crash
 crash_at o = crash_in o.bytes.exe o.bytes.core o.note
 
+abbrev pub path_at : Opening → CrashPath
+path_at o = crash_path (crash_at o) o.path
+
 abbrev pub setting_at : Opening → Setting Range
-setting_at o = setting (crash_at o) o.path.steps
+setting_at o = setting_of (path_at o)
 
 -- the words and the files come to it: the files are accepted, this is what the note holds, and the trace has this path
 pub record Opens (words : List (List ℕ)) (files : Files) (o : Opening) : Type 0 where
@@ -130,7 +139,7 @@ pub record OpensMade (made : Made) (o : Opening) : Type 0 where
 -- the session over the report of a made run was cut short
 abbrev pub SumCut : ℕ → ℕ → List ℕ → Status → Type 0
 SumCut seed steps text status =
-    (made : Made) × IsMade seed steps made × (o : Opening) × OpensMade made o × (a : Account) × IsAccountOf (crash_at o) o.path a
+    (made : Made) × IsMade seed steps made × (o : Opening) × OpensMade made o × (a : Account) × IsAccountOf (path_at o) a
     × (left : Option (List ℕ)) × CutOff (told_of (setting_at o) a) (record { input = summary_line; left = left }) text status
 
 -- What a call was given, where its ports tell it: its words, the files, how many loads the shelf was asked for before the call and
@@ -141,13 +150,19 @@ pub record Given : Type 0 where
   pub loads : Move ℕ
   pub reading : Reading
 
-abbrev pub given : List (List ℕ) → Files → Move Shelved → List ℕ → Move Port → Given
-given words files shelf input source = record {
+abbrev pub given : List (List ℕ) → Files → Move Shelved → Reading → Given
+given words files shelf reading = record {
   words = words;
   files = files;
   loads = move shelf.before.loads shelf.after.loads;
-  reading = record { input = input; left = source.after.bytes };
+  reading = reading;
 }
+
+-- Words, files and input that are all there: the text that is written, and the status. The cases stand in the order in which
+-- they are looked at: the words, the files, the executable, the core file, the trace and its path, the analysis, the input.
+abbrev pub Told : Given → List ℕ → Status → Type 0
+Told g text status =
+    MatchLoading (loading g.words g.files) (λ r. Says r text status) (λ bytes. Examined bytes g.reading.input text status) (λ seed steps. Summed seed steps text status)
 
 -- A call that was cut short: a load failed, which is that of the file that the line names, and those before it are there and within
 -- their limits; memory ran out; or, where all came to a report, the session was cut short; or that over a made run was.
@@ -155,12 +170,12 @@ abbrev pub Interrupted : Given → List ℕ → Status → Type 0
 Interrupted g text status =
     ((kind : FileKind) × ComesTo g.words g.files kind × (g.loads.after ≡ loads_to kind g.loads.before) × Says (refusal.LoadFault kind) text status)
     ⊎ Says refusal.OutOfMemory text status
-    ⊎ ((o : Opening) × (a : Account) × Opens g.words g.files o × IsAccountOf (crash_at o) o.path a × CutOff (told_of (setting_at o) a) g.reading text status)
+    ⊎ ((o : Opening) × (a : Account) × Opens g.words g.files o × IsAccountOf (path_at o) a × CutOff (told_of (setting_at o) a) g.reading text status)
     ⊎ ((seed : ℕ) × (steps : ℕ) × (meaning_of g.words ≡ Some (MadeWords seed steps)) × SumCut seed steps text status)
 
 -- what is written where the output doesn't fail
 abbrev pub Writes : Given → List ℕ → Status → Type 0
-Writes g text status = Told g.words g.files g.reading.input text status ⊎ Interrupted g text status
+Writes g text status = Told g text status ⊎ Interrupted g text status
 
 -- the words and the files come to a path whose closure has no conflict
 abbrev pub Holds : List (List ℕ) → Files → Type 0

@@ -57,11 +57,15 @@ EndsBy expected status = (status ≡ expected) ⊎ (status ≡ ends.LoadFault) �
 abbrev pub EndsByFiles : List (List ℕ) → Files → Status → Type 0
 EndsByFiles words files status = MatchLoading (loading words files) (λ r. EndsBy (status_of r) status) (λ bytes. FilesEnd bytes status ⊎ (status ≡ ends.LoadFault)) (λ seed steps. Yields ends.Ok status)
 
--- where no port counted a fault: all of the text is written, or memory ran out
-abbrev pub Completes : Given → Move Shelved → Move Port → Move Port → Status → Type 0
-Completes g shelf source sink status =
-    (Rose shelf.before.faults shelf.after.faults → ⊥) → (Rose source.before.faults source.after.faults → ⊥) → (Rose sink.before.faults sink.after.faults → ⊥)
-    → (status ≡ ends.OutOfMemory) ⊎ ((text : List ℕ) × Told g.words g.files g.reading.input text status × Appends sink.before.bytes sink.after.bytes text)
+-- no port counted a fault
+pub record NoneFails (shelf : Move Shelved) (source sink : Move Port) : Type 0 where
+  pub loaded : Rose shelf.before.faults shelf.after.faults → ⊥
+  pub read : Rose source.before.faults source.after.faults → ⊥
+  pub written : Rose sink.before.faults sink.after.faults → ⊥
+
+-- all of the text is written, or memory ran out
+abbrev pub Completes : Given → Move Port → Status → Type 0
+Completes g sink status = (status ≡ ends.OutOfMemory) ⊎ ((text : List ℕ) × Told g text status × Appends sink.before.bytes sink.after.bytes text)
 
 -- how words that ask for a made run end the call: well, whatever the ports are, unless the output fails or memory runs out
 abbrev pub AskedEnds : Option Meaning → Status → Type 0

@@ -1,6 +1,7 @@
 //! Loading the three files.
 
 ghost use Rattle.std.specs.Prelude.{◌≡◌, ◌⊎◌, ◌≤◌, map, length, string_bytes, IsOk, IfOk, IfErr, IfSome, Some, None, Err};
+ghost use Rattle.rept_ports.specs.Port.{move};
 ghost use Rattle.rept_ports.specs.Shelves.{Loads};
 ghost use Rattle.rept_words.specs.Words.{meaning_of};
 ghost use Rattle.rept_words.specs.Asked.{named_by};
@@ -50,7 +51,7 @@ fn load_file<H: Shelf>(
     ensures bytes { IfOk result (λ v. IfSome (H.port shelf.old).files (λ files. files name.now ≡ Some v.items)) }
     ensures within { IfOk result (λ v. length v.items ≤ limit_of kind) }
     ensures loads { Loads (H.port shelf.old) (H.port shelf.new) result }
-    ensures err { IfErr result (LoadRefuses (H.port shelf.old) (H.port shelf.new) name.now kind) }
+    ensures err { IfErr result (LoadRefuses (move (H.port shelf.old) (H.port shelf.new)) name.now kind) }
 {
     match shelf.load(alloc, name, limit(kind)) {
         Ok(bytes) => Ok(bytes),
@@ -82,8 +83,8 @@ fn load_names<H: Shelf>(
     ensures within { IfOk result (λ l. length l.trace.items ≤ limit_of FileKind.Trace) }
     ensures before { IsOk result → IfSome (H.port shelf.old).files (λ files. FitBefore files (named_by names.entry) FileKind.Trace) }
     ensures loads { IsOk result → (H.port shelf.new).loads ≡ loads_to FileKind.Trace (H.port shelf.old).loads }
-    ensures faults { ShelfMoves (H.port shelf.old) (H.port shelf.new) result }
-    ensures refused { IfErr result (λ r. (kind : FileKind) × StopsAt (H.port shelf.old) (H.port shelf.new) (named_by names.entry) kind r) }
+    ensures faults { ShelfMoves (move (H.port shelf.old) (H.port shelf.new)) result }
+    ensures refused { IfErr result (λ r. (kind : FileKind) × StopsAt (move (H.port shelf.old) (H.port shelf.new)) (named_by names.entry) kind r) }
 {
     let exe = match load_file(alloc, shelf, names.exe, FileKind::Exe) {
         Ok(exe) => exe,
@@ -111,9 +112,9 @@ pub fn load_files<H: Shelf>(
     shelf: &mut H,
 ) -> Result<Asked, Refusal>
     ensures loaded { IfOk result (λ asked. IfSome (H.port shelf.old).files (λ files. loading (map string_bytes words.now) files ≡ asked_for asked)) }
-    ensures asked { IfOk result (λ asked. IsAsked asked (meaning_of (map string_bytes words.now)) (H.port shelf.old) (H.port shelf.new)) }
-    ensures faults { ShelfMoves (H.port shelf.old) (H.port shelf.new) result }
-    ensures refused { IfErr result (LoadingStops (meaning_of (map string_bytes words.now)) (H.port shelf.old) (H.port shelf.new)) }
+    ensures asked { IfOk result (λ asked. IsAsked asked (meaning_of (map string_bytes words.now)) (move (H.port shelf.old) (H.port shelf.new))) }
+    ensures faults { ShelfMoves (move (H.port shelf.old) (H.port shelf.new)) result }
+    ensures refused { IfErr result (LoadingStops (meaning_of (map string_bytes words.now)) (move (H.port shelf.old) (H.port shelf.new))) }
     ensures idle { NamesNone (meaning_of (map string_bytes words.now)) → shelf.new ≡ shelf.old }
     ensures usage { result ≡ Err Refusal.Usage → meaning_of (map string_bytes words.now) ≡ None }
     ensures no_meaning { meaning_of (map string_bytes words.now) ≡ None → (result ≡ Err Refusal.Usage) ⊎ (result ≡ Err Refusal.OutOfMemory) }

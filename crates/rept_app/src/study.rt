@@ -8,6 +8,7 @@ ghost use Rattle.rept_steps.specs.Linked.{EndBefore};
 ghost use Rattle.rept_found.specs.Crash.{crash_of, end_pc, setting};
 ghost use Rattle.rept_app.specs.Delivered.{Delivers};
 ghost use Rattle.rept_app.specs.Study.{Studies, IsStudied, StudyHolds};
+ghost use Rattle.rept_app.specs.Told.{crash_path};
 
 use crate::hold::hold;
 use crate::refusal::Refusal;
@@ -29,9 +30,9 @@ pub fn study<S: Source, K: Sink>(
 ) -> Status
     requires some { 0 < length path.now.steps }
     requires ends { EndBefore path.now.steps (end_pc (registers_of dump.now)) }
-    ensures text { IfSome (S.port input.old).bytes (λ bytes. Delivers (Studies (crash_of dump.now) path.now (record { input = bytes; left = (S.port input.new).bytes })) (move (K.port out.old) (K.port out.new)) result) }
-    ensures causes { IsStudied (crash_of dump.now) path.now (move (S.port input.old) (S.port input.new)) (move (K.port out.old) (K.port out.new)) result }
-    ensures stays { (input.new ≡ input.old) ⊎ StudyHolds (crash_of dump.now) path.now result }
+    ensures text { IfSome (S.port input.old).bytes (λ bytes. Delivers (Studies (crash_path (crash_of dump.now) path.now) (record { input = bytes; left = (S.port input.new).bytes })) (move (K.port out.old) (K.port out.new)) result) }
+    ensures causes { IsStudied (crash_path (crash_of dump.now) path.now) (move (S.port input.old) (S.port input.new)) (move (K.port out.old) (K.port out.new)) result }
+    ensures stays { (input.new ≡ input.old) ⊎ StudyHolds (crash_path (crash_of dump.now) path.now) result }
     ensures impossible { result ≡ Status.Inconsistent → HasNoExecution (setting (crash_of dump.now) path.now.steps) }
 {
     match search(alloc, &path.steps, dump) {

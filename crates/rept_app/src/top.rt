@@ -6,7 +6,7 @@ ghost use Rattle.rept_app.specs.Delivered.{Delivers};
 ghost use Rattle.rept_app.specs.Ends.{EndsSession};
 ghost use Rattle.rept_app.specs.Loading.{NamesNone};
 ghost use Rattle.rept_app.specs.Told.{AskedHolds, Writes, Holds, ReportHolds, NoExecution, given};
-ghost use Rattle.rept_app.specs.Top.{AskedEnds, TopCauses, LoadsOf, EndsByFiles, Completes};
+ghost use Rattle.rept_app.specs.Top.{AskedEnds, TopCauses, LoadsOf, EndsByFiles, NoneFails, Completes};
 ghost use Rattle.rept_words.specs.Words.{meaning_of};
 
 use crate::examine::examine;
@@ -52,11 +52,11 @@ pub fn rept<H: Shelf, S: Source, K: Sink>(
 
     // What is written, where files and input tell their bytes.
     ensures text { IfSome (H.port shelf.old).files (λ files. IfSome (S.port input.old).bytes (λ left.
-        Delivers (Writes (given (map string_bytes words.now) files (move (H.port shelf.old) (H.port shelf.new)) left (move (S.port input.old) (S.port input.new)))) (move (K.port out.old) (K.port out.new)) result)) }
+        Delivers (Writes (given (map string_bytes words.now) files (move (H.port shelf.old) (H.port shelf.new)) (record { input = left; left = (S.port input.new).bytes }))) (move (K.port out.old) (K.port out.new)) result)) }
 
     // Where no count rose, all of it is written, or memory ran out.
     ensures complete { IfSome (H.port shelf.old).files (λ files. IfSome (S.port input.old).bytes (λ left.
-        Completes (given (map string_bytes words.now) files (move (H.port shelf.old) (H.port shelf.new)) left (move (S.port input.old) (S.port input.new))) (move (H.port shelf.old) (H.port shelf.new)) (move (S.port input.old) (S.port input.new)) (move (K.port out.old) (K.port out.new)) result)) }
+        NoneFails (move (H.port shelf.old) (H.port shelf.new)) (move (S.port input.old) (S.port input.new)) (move (K.port out.old) (K.port out.new)) → Completes (given (map string_bytes words.now) files (move (H.port shelf.old) (H.port shelf.new)) (record { input = left; left = (S.port input.new).bytes })) (move (K.port out.old) (K.port out.new)) result)) }
 
     // A made run: nothing is loaded or read, and the status is `Ok` unless the output fails or memory runs out. An execution of its
     // path ends in the dump, and what is told holds in it.

@@ -62,7 +62,7 @@ pub fn answer<H: Shelf, S: Source, K: Sink>(
     ensures usage { result ≡ Status.Usage → meaning_of (read_words (map string_bytes words.now) unreadable) ≡ None }
     ensures files { AreRead unreadable → IfSome (H.port shelf.old).files (λ files. EndsByFiles (read_words (map string_bytes words.now) unreadable) files result) }
     ensures text { AreRead unreadable → IfSome (H.port shelf.old).files (λ files. IfSome (S.port input.old).bytes (λ left.
-        Delivers (Writes (given (read_words (map string_bytes words.now) unreadable) files (move (H.port shelf.old) (H.port shelf.new)) left (move (S.port input.old) (S.port input.new)))) (move (K.port out.old) (K.port out.new)) result)) }
+        Delivers (Writes (given (read_words (map string_bytes words.now) unreadable) files (move (H.port shelf.old) (H.port shelf.new)) (record { input = left; left = (S.port input.new).bytes }))) (move (K.port out.old) (K.port out.new)) result)) }
 
     // Without memory for the words.
     ensures memory { unreadable ≡ Some Unreadable.OutOfMemory → Delivers (Says refusal.OutOfMemory) (move (K.port out.old) (K.port out.new)) result }

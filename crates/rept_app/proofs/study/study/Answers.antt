@@ -2,6 +2,7 @@ use Rattle.std.proofs.Common.{◌≡◌, inr}
 use Rattle.rept_found.specs.Crash.{crash_of}
 use Rattle.rept_found.proofs.Settings.{stop_is}
 use Rattle.rept_app.specs.Study.{Studies}
+use Rattle.rept_app.specs.Told.{crash_path}
 use Rattle.rept_app.specs.declared.refusal.Refusal.TheVariants as refusal
 use Rattle.rept_app.specs.declared.status.Status.TheVariants as ends
 use Rattle.rept_app.proofs.DeliveredLemmas.{delivers_as, ends_told, told_ports}
@@ -11,7 +12,7 @@ use Rattle.rept_app.proofs.study.study.Goals as goal
 
 pub returns-in-Ok-clause-text : goal.returns-in-Ok-clause-text
 returns-in-Ok-clause-text g c =
-    where_told _ _ (λ left told. delivers_as _ (Studies (crash_of c.args.dump.now) c.args.path.now (reading_of left (g.S.Source.port c.hold.new.input).bytes)) _ _
+    where_told _ _ (λ left told. delivers_as _ (Studies (crash_path (crash_of c.args.dump.now) c.args.path.now) (reading_of left (g.S.Source.port c.hold.new.input).bytes)) _ _
     (held_studies c.in-Ok.found (crash_of c.args.dump.now) c.args.path.now c.in-Ok.ensures.found (reading_of left (g.S.Source.port c.hold.new.input).bytes))
     (at_some (g.S.Source.port c.args.input.now).bytes left _ told c.hold.ensures.text))
 
@@ -27,7 +28,7 @@ returns-in-Ok-clause-impossible g c e = absurd (not_inconsistent c.hold.result c
 pub returns-in-Err-Conflict-clause-text : goal.returns-in-Err-Conflict-clause-text
 returns-in-Err-Conflict-clause-text g c =
     let has = c.search.ensures.conflict c.in-Err-Conflict.kind (stop_is c.search.result c.in-Err-Conflict.field-0 c.in-Err-Conflict.kind c.in-Err-Conflict.is c.in-Err-Conflict.field-0-is) in
-    where_told _ _ (λ left told. delivers_as _ (Studies (crash_of c.args.dump.now) c.args.path.now (reading_of left (g.S.Source.port c.args.input.now).bytes)) _ _
+    where_told _ _ (λ left told. delivers_as _ (Studies (crash_path (crash_of c.args.dump.now) c.args.path.now) (reading_of left (g.S.Source.port c.args.input.now).bytes)) _ _
     (conflict_studies (crash_of c.args.dump.now) c.args.path.now (reading_of left (g.S.Source.port c.args.input.now).bytes) c.in-Err-Conflict.kind has) c.tell.ensures)
 
 pub returns-in-Err-Conflict-clause-causes : goal.returns-in-Err-Conflict-clause-causes
@@ -43,5 +44,5 @@ returns-in-Err-Conflict-clause-impossible g c _ =
 
 pub returns-in-Err-OutOfMemory-clause-text : goal.returns-in-Err-OutOfMemory-clause-text
 returns-in-Err-OutOfMemory-clause-text g c =
-    where_told _ _ (λ left told. delivers_as _ (Studies (crash_of c.args.dump.now) c.args.path.now (reading_of left (g.S.Source.port c.args.input.now).bytes)) _ _
+    where_told _ _ (λ left told. delivers_as _ (Studies (crash_path (crash_of c.args.dump.now) c.args.path.now) (reading_of left (g.S.Source.port c.args.input.now).bytes)) _ _
     (no_memory_studies (crash_of c.args.dump.now) c.args.path.now (reading_of left (g.S.Source.port c.args.input.now).bytes)) c.tell-in-Err-OutOfMemory.ensures)

@@ -53,7 +53,7 @@ returns-in-Ok-Files-clause-text g c =
     let loaded : loading words files ≡ Loaded (crash_bytes c.in-Ok-Files.files.exe.items c.in-Ok-Files.files.core.items c.in-Ok-Files.files.trace.items c.in-Ok-Files.files.from) =
     at_some (g.H.Shelf.port c.args.shelf.now).files files (λ fs. loading words fs ≡ Loaded (crash_bytes c.in-Ok-Files.files.exe.items c.in-Ok-Files.files.core.items c.in-Ok-Files.files.trace.items c.in-Ok-Files.files.from)) told (ok_at c.load_files.result c.in-Ok-Files.field-0 (asked.Files c.in-Ok-Files.files) (λ a. IfSome (g.H.Shelf.port c.args.shelf.now).files (λ fs. loading words fs ≡ asked_for a)) c.in-Ok-Files.is c.in-Ok-Files.field-0-is c.load_files.ensures.loaded) in
     let here = loaded_at _ _ _ _ _ _ _ _ loaded c.as_slice-exe.ensures.value c.as_slice-core.ensures.value c.as_slice-trace.ensures.value in
-    delivers_as (Examines (crash_bytes c.as_slice-exe.result.now c.as_slice-core.result.now c.as_slice-trace.result.now c.in-Ok-Files.files.from) (reading_of left source.after.bytes)) (Writes (given words files shelf left source)) sink c.examine.result
+    delivers_as (Examines (crash_bytes c.as_slice-exe.result.now c.as_slice-core.result.now c.as_slice-trace.result.now c.in-Ok-Files.files.from) (reading_of left source.after.bytes)) (Writes (given words files shelf (reading_of left source.after.bytes))) sink c.examine.result
     (λ text status. examined_writes words files shelf source left text status (crash_bytes c.as_slice-exe.result.now c.as_slice-core.result.now c.as_slice-trace.result.now c.in-Ok-Files.files.from) here)
     (at_some (g.S.Source.port c.args.input.now).bytes left
     (λ input. Delivers (Examines (crash_bytes c.as_slice-exe.result.now c.as_slice-core.result.now c.as_slice-trace.result.now c.in-Ok-Files.files.from) (reading_of input source.after.bytes)) sink c.examine.result)
@@ -66,8 +66,8 @@ returns-in-Ok-Files-clause-complete g c =
     let source = move (g.S.Source.port c.args.input.now) (g.S.Source.port c.examine.new.input) in
     let sink = move (g.K.Sink.port c.args.out.now) (g.K.Sink.port c.examine.new.out) in
     both (g.H.Shelf.port c.args.shelf.now).files (g.S.Source.port c.args.input.now).bytes _ (λ files told left told_left.
-    completed (given words files shelf left source) shelf source sink c.examine.result (returns-in-Ok-Files-clause-causes g c)
-    (of_both (g.H.Shelf.port c.args.shelf.now).files (g.S.Source.port c.args.input.now).bytes (λ fs input. Delivers (Writes (given words fs shelf input source)) sink c.examine.result) files left told told_left
+    completed (given words files shelf (reading_of left source.after.bytes)) shelf source sink c.examine.result (returns-in-Ok-Files-clause-causes g c)
+    (of_both (g.H.Shelf.port c.args.shelf.now).files (g.S.Source.port c.args.input.now).bytes (λ fs input. Delivers (Writes (given words fs shelf (reading_of input source.after.bytes))) sink c.examine.result) files left told told_left
     (returns-in-Ok-Files-clause-text g c)))
 
 pub returns-in-Ok-Files-clause-sound : goal.returns-in-Ok-Files-clause-sound
@@ -127,7 +127,7 @@ returns-in-Err-clause-text g c =
     let new = g.H.Shelf.port c.load_files.new.shelf in
     let source = move (g.S.Source.port c.args.input.now) (g.S.Source.port c.args.input.now) in
     both old.files (g.S.Source.port c.args.input.now).bytes _ (λ files at left at_left.
-    delivers_as _ (Writes (given words files (move old new) left source)) _ _ (λ text status. refused_writes words files (move old new) source left text status c.in-Err.refusal (stops words files old new c.in-Err.refusal at c.in-Err.ensures.refused)) c.tell.ensures)
+    delivers_as _ (Writes (given words files (move old new) (reading_of left source.after.bytes))) _ _ (λ text status. refused_writes words files (move old new) source left text status c.in-Err.refusal (stops words files old new c.in-Err.refusal at c.in-Err.ensures.refused)) c.tell.ensures)
 
 pub returns-in-Err-clause-complete : goal.returns-in-Err-clause-complete
 returns-in-Err-clause-complete g c =
@@ -136,8 +136,8 @@ returns-in-Err-clause-complete g c =
     let source = move (g.S.Source.port c.args.input.now) (g.S.Source.port c.args.input.now) in
     let sink = move (g.K.Sink.port c.args.out.now) (g.K.Sink.port c.tell.new.out) in
     both (g.H.Shelf.port c.args.shelf.now).files (g.S.Source.port c.args.input.now).bytes _ (λ files at left at_left.
-    completed (given words files shelf left source) shelf source sink c.tell.result (returns-in-Err-clause-causes g c)
-    (of_both (g.H.Shelf.port c.args.shelf.now).files (g.S.Source.port c.args.input.now).bytes (λ fs input. Delivers (Writes (given words fs shelf input source)) sink c.tell.result) files left at at_left
+    completed (given words files shelf (reading_of left source.after.bytes)) shelf source sink c.tell.result (returns-in-Err-clause-causes g c)
+    (of_both (g.H.Shelf.port c.args.shelf.now).files (g.S.Source.port c.args.input.now).bytes (λ fs input. Delivers (Writes (given words fs shelf (reading_of input source.after.bytes))) sink c.tell.result) files left at at_left
     (returns-in-Err-clause-text g c)))
 
 pub returns-in-Err-clause-sound : goal.returns-in-Err-clause-sound
@@ -209,7 +209,7 @@ returns-in-Ok-Made-clause-text g c =
     let shelf = move (g.H.Shelf.port c.args.shelf.now) (g.H.Shelf.port c.load_files.new.shelf) in
     let source = move (g.S.Source.port c.args.input.now) (g.S.Source.port c.args.input.now) in
     both (g.H.Shelf.port c.args.shelf.now).files (g.S.Source.port c.args.input.now).bytes _ (λ files told left told_left.
-    delivers_as (Sums c.in-Ok-Made.seed c.in-Ok-Made.steps) (Writes (given words files shelf left source)) _ c.tell_made_run.result
+    delivers_as (Sums c.in-Ok-Made.seed c.in-Ok-Made.steps) (Writes (given words files shelf (reading_of left source.after.bytes))) _ c.tell_made_run.result
     (λ text status. made_writes words files shelf source left text status c.in-Ok-Made.seed c.in-Ok-Made.steps
     (at_some (g.H.Shelf.port c.args.shelf.now).files files (λ fs. loading words fs ≡ MadeRun c.in-Ok-Made.seed c.in-Ok-Made.steps) told (ok_at c.load_files.result c.in-Ok-Made.field-0 (asked.Made c.in-Ok-Made.seed c.in-Ok-Made.steps) (λ a. IfSome (g.H.Shelf.port c.args.shelf.now).files (λ fs. loading words fs ≡ asked_for a)) c.in-Ok-Made.is c.in-Ok-Made.field-0-is c.load_files.ensures.loaded)) (made_at c.load_files.result c.in-Ok-Made.field-0 c.in-Ok-Made.seed c.in-Ok-Made.steps (meaning_of (map string_bytes c.args.words.now)) (g.H.Shelf.port c.args.shelf.now) (g.H.Shelf.port c.load_files.new.shelf) c.in-Ok-Made.is c.in-Ok-Made.field-0-is c.load_files.ensures.asked)) c.tell_made_run.ensures.text)
 
@@ -220,6 +220,6 @@ returns-in-Ok-Made-clause-complete g c =
     let source = move (g.S.Source.port c.args.input.now) (g.S.Source.port c.args.input.now) in
     let sink = move (g.K.Sink.port c.args.out.now) (g.K.Sink.port c.tell_made_run.new.out) in
     both (g.H.Shelf.port c.args.shelf.now).files (g.S.Source.port c.args.input.now).bytes _ (λ files told left told_left.
-    completed (given words files shelf left source) shelf source sink c.tell_made_run.result (returns-in-Ok-Made-clause-causes g c)
-    (of_both (g.H.Shelf.port c.args.shelf.now).files (g.S.Source.port c.args.input.now).bytes (λ fs input. Delivers (Writes (given words fs shelf input source)) sink c.tell_made_run.result) files left told told_left
+    completed (given words files shelf (reading_of left source.after.bytes)) shelf source sink c.tell_made_run.result (returns-in-Ok-Made-clause-causes g c)
+    (of_both (g.H.Shelf.port c.args.shelf.now).files (g.S.Source.port c.args.input.now).bytes (λ fs input. Delivers (Writes (given words fs shelf (reading_of input source.after.bytes))) sink c.tell_made_run.result) files left told told_left
     (returns-in-Ok-Made-clause-text g c)))
