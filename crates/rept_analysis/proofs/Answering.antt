@@ -19,6 +19,7 @@ use Rattle.rept_report.specs.Views.{may_write, is_sure}
 use Rattle.rept_report.specs.Closure.{Derivation, InClosure}
 use Rattle.rept_report.specs.Log.{oldest}
 use Rattle.rept_report.specs.Implied.{untouched, implied}
+use Rattle.rept_report.specs.Spots.{spot, passage}
 use Rattle.rept_report.specs.Writers.{NoneMayWrite, MayWriteLast, IsWriter}
 use Rattle.rept_report.proofs.Told.{none_some}
 use Rattle.rept_report.proofs.Places.{oldest_all}
@@ -65,27 +66,27 @@ pub sure_is : {W : Type 0} (s : State W) (i : ℕ) → i < length s.setting.rows
 sure_is s i inside fitted row found = rw found (ap (λ (v : Seen). s.setting.rules.sure row v) (moment_is s i inside fitted))
 
 -- what is said of a writer looks at registers alone
-pub writer_same : {W : Type 0} (S : Setting W) (K L : Knowledge) → SameRegisters K L → (p a : ℕ) (w : Writer) → IsWriter S K p a w → IsWriter S L p a w
+pub writer_same : {W : Type 0} (S : Setting W) (K L : Knowledge) → SameRegisters K L → (p a : ℕ) (w : Writer) → IsWriter S K (spot p a) w → IsWriter S L (spot p a) w
 writer_same S K L same p a (writers.TheVariants.Writes j) h = (last_same S K L same p a j h.0, sym (is_sure_same S K L same j) ∙ h.1)
   where
-    last_same : {W : Type 0} (S : Setting W) (K L : Knowledge) → SameRegisters K L → (p a j : ℕ) → MayWriteLast S K p a j → MayWriteLast S L p a j
+    last_same : {W : Type 0} (S : Setting W) (K L : Knowledge) → SameRegisters K L → (p a j : ℕ) → MayWriteLast S K (spot p a) j → MayWriteLast S L (spot p a) j
     last_same S K L same p a j h = record { earlier = h.earlier; may = sym (may_write_same S K L same j a) ∙ h.may; later = λ k low high. sym (may_write_same S K L same k a) ∙ h.later k low high }
 writer_same S K L same p a (writers.TheVariants.MayWrite j) h = (record { earlier = h.0.earlier; may = sym (may_write_same S K L same j a) ∙ h.0.may; later = λ k low high. sym (may_write_same S K L same k a) ∙ h.0.later k low high }, sym (is_sure_same S K L same j) ∙ h.1)
 writer_same S K L same p a writers.TheVariants.None h = λ k low high. sym (may_write_same S K L same k a) ∙ h k low high
 
 module _ {W : Type 0} (S : Setting W) (K : Knowledge) (p a : ℕ) where
   -- one step less to look at
-  pub spared_too : (j : ℕ) → NoneMayWrite S K a (j + 1) p → may_write S K j a ≡ false → NoneMayWrite S K a j p
+  pub spared_too : (j : ℕ) → NoneMayWrite S K (passage a (j + 1) p) → may_write S K j a ≡ false → NoneMayWrite S K (passage a j p)
   spared_too j h out k low high = elim (cases_eq k j) [ inl is ↦ rw is out | inr later ↦ h k (omega (arith, low, later)) high ]
 
-  pub spared_none : NoneMayWrite S K a p p
+  pub spared_none : NoneMayWrite S K (passage a p p)
   spared_none k low high = absurd (omega (arith, low, high))
 
   -- the step that was found
-  pub writes_last : (j : ℕ) → j < p → NoneMayWrite S K a (j + 1) p → may_write S K j a ≡ true → MayWriteLast S K p a j
+  pub writes_last : (j : ℕ) → j < p → NoneMayWrite S K (passage a (j + 1) p) → may_write S K j a ≡ true → MayWriteLast S K (spot p a) j
   writes_last j inside h may = record { earlier = inside; may = may; later = λ k low high. h k (omega (arith, low)) high }
 
-  pub writer_found : (j : ℕ) → j < p → NoneMayWrite S K a (j + 1) p → may_write S K j a ≡ true → (sure : Bool) → is_sure S K j ≡ sure → IsWriter S K p a (cond sure (writers.TheVariants.Writes j) (writers.TheVariants.MayWrite j))
+  pub writer_found : (j : ℕ) → j < p → NoneMayWrite S K (passage a (j + 1) p) → may_write S K j a ≡ true → (sure : Bool) → is_sure S K j ≡ sure → IsWriter S K (spot p a) (cond sure (writers.TheVariants.Writes j) (writers.TheVariants.MayWrite j))
   writer_found j inside h may true is = (writes_last j inside h may, is)
   writer_found j inside h may false is = (writes_last j inside h may, is)
 
@@ -135,7 +136,7 @@ module _ {W : Type 0} (s : State W) (settled : IsSettled s) where
       of None e = absurd (settled.quiet.full p r early in_file (range_same s.setting (all_known s) (answers s) (λ q t. refl) p r ∙ e))
 
   -- what is found by the sets is said of what is answered
-  pub writer_answers : (p a : ℕ) (w : Writer) → IsWriter s.setting (told (oldest s.filled s.known.log)) p a w → IsWriter s.setting (answers s) p a w
+  pub writer_answers : (p a : ℕ) (w : Writer) → IsWriter s.setting (told (oldest s.filled s.known.log)) (spot p a) w → IsWriter s.setting (answers s) (spot p a) w
   writer_answers p a w h = writer_same s.setting (told (oldest s.filled s.known.log)) (answers s) filled_answers p a w h
 
   pub implied_answers : (p a : ℕ) → implied s.setting (told (oldest s.filled s.known.log)) p a ≡ implied s.setting (all_known s) p a

@@ -5,6 +5,7 @@ use Rattle.rept_partial.specs.declared.range.Range.{Range}
 use Rattle.rept_reason.specs.declared.fact.Fact.{Fact}
 use Rattle.rept_reason.specs.Facts.{Knowledge}
 use Rattle.rept_report.specs.Setting.{Setting, Runs}
+use Rattle.rept_report.specs.Spots.{spot}
 use Rattle.rept_report.specs.Soundness.{WriterHolds}
 use Rattle.rept_report.specs.Why.{Because, IsReason, IsGiven, RangeAlwaysHolds}
 use Rattle.rept_analysis.specs.Logged.{IsLogOf}
@@ -18,7 +19,7 @@ pub record IsTrueOf (S : Setting Range) (s : Shown) (run : ℕ → State) : Type
   pub registers : (p r v : ℕ) → p ≤ length S.rows → s.register p r ≡ Some v → (run p).register r ≡ v
   pub ranges : (p r : ℕ) → p ≤ length S.rows → ((s.range p r).lo ≤ (run p).register r) × ((run p).register r ≤ (s.range p r).hi)
   pub bytes : (p a v : ℕ) → s.byte p a ≡ Some v → (run p).memory a ≡ v
-  pub writers : (p a : ℕ) → p ≤ length S.rows → a < 2 ^ 32 → WriterHolds S run p a (s.writer p a)
+  pub writers : (p a : ℕ) → p ≤ length S.rows → a < 2 ^ 32 → WriterHolds S run (spot p a) (s.writer p a)
 
 -- Of a reason: the facts that it rests on are of the report, and the ranges that it lists hold in every execution.
 pub record IsTrueReason (S : Setting Range) (K : Knowledge) (why : Because) : Type 0 where

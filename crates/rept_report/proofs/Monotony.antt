@@ -7,7 +7,7 @@ use Rattle.rept_isa.specs.declared.instr.Instr.TheVariants.{Jalr, Branch}
 use Rattle.rept_isa.specs.declared.instr.BranchOp.{BranchOp}
 use Rattle.rept_isa.specs.declared.class.Turn.{Turn}
 use Rattle.rept_isa.specs.declared.row.StepRow.{StepRow}
-use Rattle.rept_isa.specs.Operands.{first_read, second_read, turn_of}
+use Rattle.rept_isa.specs.Operands.{first_read, second_read}
 use Rattle.rept_partial.specs.declared.flat.Flat.{Flat}
 use Rattle.rept_partial.specs.declared.flat.Flat.TheVariants.{Unknown, Known}
 use Rattle.rept_reason.specs.declared.fact.Fact.{Fact}
@@ -25,7 +25,7 @@ use Rattle.rept_report.specs.Views.{seen_at, registers_at, touched_by, may_write
 use Rattle.rept_report.specs.Conclusions.{HasWords, IsCarried, Follows, Concludes}
 use Rattle.rept_report.specs.Conclusions.IsCarried.{last_byte, onward, back}
 use Rattle.rept_report.specs.Conclusions.Follows.{last_value, kept_onward, kept_back, carried, drawn, only_value}
-use Rattle.rept_report.specs.Conflicts.{branch_against, jump_against, goes_against, IsWrongTurn, IsQuiet}
+use Rattle.rept_report.specs.Conflicts.{branch_against, jump_against, Exit, exit_of, goes_against, IsWrongTurn, IsQuiet}
 use Rattle.rept_span.proofs.RangeLaws.{range_narrower, empty_more, single_more}
 use Rattle.rept_report.proofs.ViewLaws.{known_more, seen_at_lawful, registers_at_lawful, registers_at_more, seen_at_more}
 
@@ -45,10 +45,10 @@ jump_more : (imm : ℤ) (next : ℕ) (a a' : Flat) → FlatMore a a' → jump_ag
 jump_more imm next (Known a) a' h e = rw (h a refl) e
 jump_more imm next Unknown a' h e = absurd (false≢true e)
 
-against_more : (instr : Instr) (turn : Turn) (next : ℕ) (a b a' b' : Flat) → FlatMore a a' → FlatMore b b' → goes_against instr turn next a b ≡ true → goes_against instr turn next a' b' ≡ true
-against_more (Branch op rs1 rs2 imm) turn next a b a' b' h k e = branch_more op turn a b a' b' h k e
-against_more (Jalr rd rs1 imm) turn next a b a' b' h k e = jump_more imm next a a' h e
-against_more _ turn next a b a' b' h k e = absurd (false≢true e)
+against_more : (instr : Instr) (exit : Exit) (a b a' b' : Flat) → FlatMore a a' → FlatMore b b' → goes_against instr exit a b ≡ true → goes_against instr exit a' b' ≡ true
+against_more (Branch op rs1 rs2 imm) exit a b a' b' h k e = branch_more op exit.turn a b a' b' h k e
+against_more (Jalr rd rs1 imm) exit a b a' b' h k e = jump_more imm exit.next a a' h e
+against_more _ exit a b a' b' h k e = absurd (false≢true e)
 
 flat_more : (k l : Option ℕ) → ((v : ℕ) → k ≡ Some v → l ≡ Some v) → FlatMore (flat k) (flat l)
 flat_more None l h v e = absurd (unknown_known e)
@@ -102,7 +102,7 @@ module _ {W : Type 0} (S : Setting W) (laws : HasLaws S) (K L : Knowledge) (more
   wrong_turn_more i h = record {
     row = h.row;
     is_row = h.is_row;
-    wrong = against_more h.row.instr (turn_of h.row) h.row.next _ _ _ _ (operand_more K L more i (first_read h.row.instr)) (operand_more K L more i (second_read h.row.instr)) h.wrong;
+    wrong = against_more h.row.instr (exit_of h.row) _ _ _ _ (operand_more K L more i (first_read h.row.instr)) (operand_more K L more i (second_read h.row.instr)) h.wrong;
   }
 
   -- what is quiet is quiet where less is known

@@ -29,6 +29,7 @@ use Rattle.rept_report.specs.Conclusions.IsCarried.{last_byte, onward, back}
 use Rattle.rept_report.specs.Conclusions.Follows.{last_value, kept_onward, kept_back, carried, drawn, only_value}
 use Rattle.rept_report.specs.Conflicts.{IsQuiet}
 use Rattle.rept_report.specs.Closure.{Derivation, InClosure, ClosureHas, IsReport}
+use Rattle.rept_report.specs.Spots.{spot}
 use Rattle.rept_report.specs.Writers.{IsWriter}
 use Rattle.rept_report.specs.Soundness.{AlwaysHolds, StepWrites, WriterHolds, IsSound, HasNoExecution}
 use Rattle.rept_report.proofs.Told.{told_in, same_some, none_some}
@@ -162,7 +163,7 @@ module _ {W : Type 0} (S : Setting W) (laws : HasLaws S) (run : ℕ → State) (
     }
 
     -- and what is said of a writer holds
-    pub writer_sound : (p a : ℕ) → a < 2 ^ 32 → (writer : Writer) → IsWriter S K p a writer → WriterHolds S run p a writer
+    pub writer_sound : (p a : ℕ) → a < 2 ^ 32 → (writer : Writer) → IsWriter S K (spot p a) writer → WriterHolds S run (spot p a) writer
     writer_sound p a small (writers.TheVariants.Writes j) h = (sure_writes j a small h.0.may h.1, λ k above below w. false≢true (sym (h.0.later k above below) ∙ written_may k a w.row small w.is_row w.writes))
     writer_sound p a small (writers.TheVariants.MayWrite j) h = λ k above below w. false≢true (sym (h.0.later k above below) ∙ written_may k a w.row small w.is_row w.writes)
     writer_sound p a small writers.TheVariants.None h = λ k below w. false≢true (sym (h k (omega arith) below) ∙ written_may k a w.row small w.is_row w.writes)

@@ -5,11 +5,12 @@ use Rattle.rept_reason.specs.Facts.{Knowledge}
 use Rattle.rept_report.specs.declared.writer.Writer.{Writer}
 use Rattle.rept_report.specs.declared.writer.Writer as writers
 use Rattle.rept_report.specs.Setting.{Setting}
+use Rattle.rept_report.specs.Spots.{passage, spot}
 use Rattle.rept_report.specs.Views.{is_sure}
 use Rattle.rept_report.specs.Writers.{NoneMayWrite, MayWriteLast, IsWriter}
 
 module _ {W : Type 0} (S : Setting W) (K : Knowledge) (p a : ℕ) where
-  one_last : (i j : ℕ) → MayWriteLast S K p a i → MayWriteLast S K p a j → i ≡ j
+  one_last : (i j : ℕ) → MayWriteLast S K (spot p a) i → MayWriteLast S K (spot p a) j → i ≡ j
   one_last i j h k =
       elim (cases_order i j) [
         | inl same ↦ same
@@ -17,10 +18,10 @@ module _ {W : Type 0} (S : Setting W) (K : Knowledge) (p a : ℕ) where
         | inr (inr more) ↦ absurd (false≢true (sym (k.later i more h.earlier) ∙ h.may))
       ]
 
-  none_last : (j : ℕ) → NoneMayWrite S K a 0 p → MayWriteLast S K p a j → ⊥
+  none_last : (j : ℕ) → NoneMayWrite S K (passage a 0 p) → MayWriteLast S K (spot p a) j → ⊥
   none_last j h k = false≢true (sym (h j (omega arith) k.earlier) ∙ k.may)
 
-  pub one_writer : (v w : Writer) → IsWriter S K p a v → IsWriter S K p a w → v ≡ w
+  pub one_writer : (v w : Writer) → IsWriter S K (spot p a) v → IsWriter S K (spot p a) w → v ≡ w
   one_writer (writers.TheVariants.Writes i) (writers.TheVariants.Writes j) h k = ap (λ (n : ℕ). writers.TheVariants.Writes n) (one_last i j h.0 k.0)
   one_writer (writers.TheVariants.Writes i) (writers.TheVariants.MayWrite j) h k = absurd (false≢true (sym k.1 ∙ ap (λ (n : ℕ). is_sure S K n) (sym (one_last i j h.0 k.0)) ∙ h.1))
   one_writer (writers.TheVariants.Writes i) writers.TheVariants.None h k = absurd (none_last i k h.0)

@@ -36,14 +36,23 @@ abbrev pub jump_against : ℤ → ℕ → Flat → Bool
 jump_against imm next (Known base) = not (next == far_target base imm)
 jump_against imm next Unknown = false
 
-abbrev pub goes_against : Instr → Turn → ℕ → Flat → Flat → Bool
-goes_against (Branch op rs1 rs2 imm) turn next first second = branch_against op turn first second
-goes_against (Jalr rd rs1 imm) turn next first second = jump_against imm next first
-goes_against _ turn next first second = false
+-- how a row was left: the way that a branch went, and the address of the next row
+pub record Exit : Type 0 where
+  pub turn : Turn
+  pub next : ℕ
+
+abbrev pub exit_of : StepRow → Exit
+exit_of row = record { turn = turn_of row; next = row.next }
+
+-- whether that speaks against the instruction with what is known of its operands
+abbrev pub goes_against : Instr → Exit → Flat → Flat → Bool
+goes_against (Branch op rs1 rs2 imm) exit first second = branch_against op exit.turn first second
+goes_against (Jalr rd rs1 imm) exit first second = jump_against imm exit.next first
+goes_against _ exit first second = false
 
 -- whether the row went another way than the registers in the places of rs1 and rs2 say, as far as they are known
 abbrev pub is_wrong_turn : StepRow → Flat → Flat → Bool
-is_wrong_turn row first second = goes_against row.instr (turn_of row) row.next first second
+is_wrong_turn row first second = goes_against row.instr (exit_of row) first second
 
 -- row i did, by what is known before it
 pub record IsWrongTurn {W : Type 0} (S : Setting W) (K : Knowledge) (i : ℕ) : Type 0 where

@@ -1,5 +1,6 @@
 pub mod Setting
 pub mod Knowing
+pub mod Spots
 pub mod Views
 pub mod Conclusions
 pub mod Conflicts

@@ -10,6 +10,7 @@ use Rattle.rept_span.specs.Ranges.{range}
 use Rattle.rept_report.specs.declared.writer.Writer.{Writer}
 use Rattle.rept_report.specs.declared.writer.Writer as writers
 use Rattle.rept_report.specs.Setting.{Setting, Runs, way_of}
+use Rattle.rept_report.specs.Spots.{Spot, spot}
 use Rattle.rept_report.specs.Writers.{IsWriter}
 
 -- the cell has this value at this point of every execution
@@ -28,19 +29,19 @@ pub record StepWrites {W : Type 0} (S : Setting W) (run : ℕ → State) (j a : 
 
 -- Of an execution: step j writes the byte, and no later step before the point does; or no step after j and before the point
 -- does; or no step before the point does.
-abbrev pub WriterHolds : {W : Type 0} → Setting W → (ℕ → State) → ℕ → ℕ → Writer → Type 0
-WriterHolds S run p a (writers.TheVariants.Writes j) = StepWrites S run j a × ((k : ℕ) → j < k → k < p → StepWrites S run k a → ⊥)
-WriterHolds S run p a (writers.TheVariants.MayWrite j) = (k : ℕ) → j < k → k < p → StepWrites S run k a → ⊥
-WriterHolds S run p a writers.TheVariants.None = (k : ℕ) → k < p → StepWrites S run k a → ⊥
+abbrev pub WriterHolds : {W : Type 0} → Setting W → (ℕ → State) → Spot → Writer → Type 0
+WriterHolds S run x (writers.TheVariants.Writes j) = StepWrites S run j x.address × ((k : ℕ) → j < k → k < x.point → StepWrites S run k x.address → ⊥)
+WriterHolds S run x (writers.TheVariants.MayWrite j) = (k : ℕ) → j < k → k < x.point → StepWrites S run k x.address → ⊥
+WriterHolds S run x writers.TheVariants.None = (k : ℕ) → k < x.point → StepWrites S run k x.address → ⊥
 
-abbrev pub WriterAlwaysHolds : {W : Type 0} → Setting W → ℕ → ℕ → Writer → Type 0
-WriterAlwaysHolds S p a writer = (run : ℕ → State) → Runs S run → WriterHolds S run p a writer
+abbrev pub WriterAlwaysHolds : {W : Type 0} → Setting W → Spot → Writer → Type 0
+WriterAlwaysHolds S x writer = (run : ℕ → State) → Runs S run → WriterHolds S run x writer
 
 -- What is known holds: each value, each range by it, and each writer by it, at each point of every execution.
 pub record IsSound {W : Type 0} (S : Setting W) (K : Knowledge) : Type 0 where
   pub facts : (p : ℕ) (c : Cell) (v : ℕ) → K p c ≡ Some v → AlwaysHolds S p c v
   pub ranges : (p r : ℕ) (set : W) → p ≤ length S.rows → range (way_of S) K p r ≡ Some set → AlwaysLiesIn S p r set
-  pub writers : (p a : ℕ) (writer : Writer) → p ≤ length S.rows → a < 2 ^ 32 → IsWriter S K p a writer → WriterAlwaysHolds S p a writer
+  pub writers : (p a : ℕ) (writer : Writer) → p ≤ length S.rows → a < 2 ^ 32 → IsWriter S K (spot p a) writer → WriterAlwaysHolds S (spot p a) writer
 
 -- no execution of the path ends in the dump
 abbrev pub HasNoExecution : {W : Type 0} → Setting W → Type 0

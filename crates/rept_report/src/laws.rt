@@ -7,6 +7,7 @@ ghost use Rattle.rept_reason.specs.Facts.{Knowledge, In, told};
 ghost use Rattle.rept_report.specs.declared.conflict.ConflictKind.{ConflictKind};
 ghost use Rattle.rept_report.specs.declared.writer.Writer.{Writer};
 ghost use Rattle.rept_report.specs.Setting.{Setting, Uses};
+ghost use Rattle.rept_report.specs.Spots.{spot};
 ghost use Rattle.rept_report.specs.Knowing.{Extends, RegistersExtend};
 ghost use Rattle.rept_report.specs.Views.{may_write};
 ghost use Rattle.rept_report.specs.Conclusions.{HasWords, Concludes};
@@ -90,5 +91,5 @@ pub fn facts_have_reasons<W: Transfer, R: RowRules>()
 
 /// Of each byte and point one thing alone is said of the step that last wrote the byte before the point.
 pub fn writers_are_unique<W: Transfer>()
-    ensures { (S : Setting W) (K : Knowledge) (p a : ℕ) (v w : Writer) → IsWriter S K p a v → IsWriter S K p a w → v ≡ w }
+    ensures { (S : Setting W) (K : Knowledge) (p a : ℕ) (v w : Writer) → IsWriter S K (spot p a) v → IsWriter S K (spot p a) w → v ≡ w }
 {}

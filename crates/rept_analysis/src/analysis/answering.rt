@@ -9,6 +9,7 @@ ghost use Rattle.rept_report.specs.Setting.{way_of};
 ghost use Rattle.rept_report.specs.Views.{may_write, is_sure};
 ghost use Rattle.rept_report.specs.Closure.{InClosure};
 ghost use Rattle.rept_report.specs.Implied.{untouched, implied};
+ghost use Rattle.rept_report.specs.Spots.{spot};
 ghost use Rattle.rept_report.specs.Writers.{IsWriter};
 ghost use Rattle.rept_report.specs.Log.{oldest};
 ghost use Rattle.rept_analysis.specs.State.{setting_of, state_of};
@@ -105,7 +106,7 @@ impl<'a, B: ByteFacts, W: Transfer, R: RowRules> Analysis<'a, B, W, R> {
     fn last_writer(&self, point: u32, a: u32) -> Writer
         requires point { point ≤ length self.now.rows }
         requires fitted { IsFitted (state_of W.sets W.moves R.rules B.store self.now) }
-        ensures { IsWriter (setting_of W.sets W.moves R.rules self.now) (told (oldest self.now.filled self.now.known.log)) point a result }
+        ensures { IsWriter (setting_of W.sets W.moves R.rules self.now) (told (oldest self.now.filled self.now.known.log)) (spot point a) result }
     {
         for i in (0..point).rev() {
             if self.may_write(i, a) {
@@ -152,7 +153,7 @@ impl<'a, B: ByteFacts, W: Transfer, R: RowRules> Analysis<'a, B, W, R> {
     /// is learnt.
     pub fn writer(&self, point: u32, a: u32) -> Writer
         requires { point ≤ length self.now.rows }
-        ensures ended { self.now.complete ≡ true → IsWriter (setting_of W.sets W.moves R.rules self.now) (answers (state_of W.sets W.moves R.rules B.store self.now)) point a result }
+        ensures ended { self.now.complete ≡ true → IsWriter (setting_of W.sets W.moves R.rules self.now) (answers (state_of W.sets W.moves R.rules B.store self.now)) (spot point a) result }
         ensures open { self.now.complete ≡ false → result ≡ unsaid point }
     {
         if self.ended() {

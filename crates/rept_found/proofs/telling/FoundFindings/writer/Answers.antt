@@ -1,4 +1,5 @@
 use Rattle.std.proofs.Common.{subst}
+use Rattle.rept_report.specs.Spots.{spot}
 use Rattle.rept_report.specs.Writers.{IsWriter}
 use Rattle.rept_analysis.specs.Kept.{answers}
 use Rattle.rept_found.specs.View.{View, state_in}
@@ -8,4 +9,4 @@ use Rattle.rept_found.proofs.telling.FoundFindings.writer.Goals as goal
 pub returns : goal.returns
 returns c =
     writer_is (state_in c.args.self.now).setting (answers (state_in c.args.self.now)) c.args.point c.args.address c.writer.result
-    (subst (λ (v : View). IsWriter (state_in v).setting (answers (state_in v)) c.args.point c.args.address c.writer.result) c.self.view_is (c.writer.ensures.ended c.self.invariant.0))
+    (subst (λ (v : View). IsWriter (state_in v).setting (answers (state_in v)) (spot c.args.point c.args.address) c.writer.result) c.self.view_is (c.writer.ensures.ended c.self.invariant.0))
