@@ -16,9 +16,10 @@ use Rattle.rept_report.specs.declared.conflict.ConflictKind.{ConflictKind}
 use Rattle.rept_report.proofs.Told.{told_new, told_old, told_more, speaks_is, none_some}
 use Rattle.rept_report.proofs.Places.{oldest_new}
 use Rattle.rept_report.proofs.Traces.{trace_words, words_of}
+use Rattle.rept_versions.specs.Facts.{ByteFact}
 use Rattle.rept_log.specs.declared.answer.Answer.{Answer}
 use Rattle.rept_log.specs.declared.answer.Answer.TheVariants.{Old, New, Clash}
-use Rattle.rept_log.specs.Known.{Known, knows, with_entry, IsNew, register_fact_of, LearnsRegister, AddsByte, LearnsByte, HasNoRoom, TracksMore, TracksByte}
+use Rattle.rept_log.specs.Known.{Known, knows, known_change, with_entry, IsNew, LearnsRegister, AddsByte, LearnsByte, HasNoRoom, TracksMore, TracksByte}
 use Rattle.rept_analysis.specs.State.{State, all_known}
 use Rattle.rept_analysis.specs.Drawing.{fact_at, IsTracked, Grows, IsFollowing, IsBrought, IsRowAddress, HasPlace}
 use Rattle.rept_analysis.specs.Sums.{sum_to}
@@ -174,11 +175,11 @@ module _ {W : Type 0} (s : State W) (kept : IsKept s) (f : Fact) (keep : Bool) (
 
 -- a register
 module _ {W : Type 0} (s : State W) (kept : IsKept s) (p r v : ℕ) (early : p ≤ length s.setting.rows) (named : 0 < r) (in_file : r < 32) (small : v < 2 ^ 32) (open_ : s.complete ≡ false) (follows : IsFollowing s (fact_at p (Register r) v)) where
-  register_agrees : (q : ℕ) (c : Cell) → told (register_fact_of p r v ∷ facts_of kept.traced.entries) q c ≡ knows (with_entry s.known (register_fact_of p r v)) q c
-  register_agrees q (Register t) = ap (λ (x : Option ℕ). cond (speaks (register_fact_of p r v) q (Register t)) (Some v) x) (kept.traced.agree q (Register t))
-  register_agrees q (Byte a) = told_old (register_fact_of p r v) (facts_of kept.traced.entries) q (Byte a) (false_from_ne_true (speaks (register_fact_of p r v) q (Byte a)) (λ e. register_differs (speaks_is (register_fact_of p r v) q (Byte a) e).1)) ∙ kept.traced.agree q (Byte a)
+  register_agrees : (q : ℕ) (c : Cell) → told (fact_at p (Register r) v ∷ facts_of kept.traced.entries) q c ≡ knows (with_entry s.known (fact_at p (Register r) v)) q c
+  register_agrees q (Register t) = ap (λ (x : Option ℕ). cond (speaks (fact_at p (Register r) v) q (Register t)) (Some v) x) (kept.traced.agree q (Register t))
+  register_agrees q (Byte a) = told_old (fact_at p (Register r) v) (facts_of kept.traced.entries) q (Byte a) (false_from_ne_true (speaks (fact_at p (Register r) v) q (Byte a)) (λ e. register_differs (speaks_is (fact_at p (Register r) v) q (Byte a) e).1)) ∙ kept.traced.agree q (Byte a)
 
-  register_next : OnceEach (register_fact_of p r v ∷ s.known.log) → told s.known.log p (Register r) ≡ None → IsNext s kept (register_fact_of p r v) true (with_entry s.known (register_fact_of p r v))
+  register_next : OnceEach (fact_at p (Register r) v ∷ s.known.log) → told s.known.log p (Register r) ≡ None → IsNext s kept (fact_at p (Register r) v) true (with_entry s.known (fact_at p (Register r) v))
   register_next once none = record {
     early = early;
     cell = (named, in_file);
@@ -192,11 +193,11 @@ module _ {W : Type 0} (s : State W) (kept : IsKept s) (p r v : ℕ) (early : p �
     once = once;
     tracked = refl;
     listed = λ q a w e. kept.listed q a w e;
-    roomy = λ more j. room_like s.setting s.known (with_entry s.known (register_fact_of p r v)) more (omega arith) (omega arith) refl refl (kept.roomy j);
+    roomy = λ more j. room_like s.setting s.known (with_entry s.known (fact_at p (Register r) v)) more (omega arith) (omega arith) refl refl (kept.roomy j);
     agree = register_agrees;
   }
 
-  pub told_register : (k : Known) → OnceEach k.log → (answer : Answer) → LearnsRegister s.known k p r v answer → IsKept (with_known s k) × Tells s (with_known s k) (fact_at p (Register r) v) answer
+  pub told_register : (k : Known) → OnceEach k.log → (answer : Answer) → LearnsRegister s.known k (fact_at p (Register r) v) answer → IsKept (with_known s k) × Tells s (with_known s k) (fact_at p (Register r) v) answer
   told_register k once Old (same, known) = (kept_same s k same kept, (same_known s k same, known))
   told_register k once (Clash w) (same, known, differs) = (kept_same s k same kept, (same_known s k same, known, differs))
   told_register k once New (same, none) =
@@ -208,7 +209,10 @@ module _ {W : Type 0} (s : State W) (kept : IsKept s) (joins : Bool) (p a v : �
   abbrev f : Fact
   f = fact_at p (Byte a) v
 
-  module _ (k : Known) (adds : AddsByte joins s.known k f a keep) where
+  abbrev on_byte : ByteFact
+  on_byte = record { point = p; address = a; value = v }
+
+  module _ (k : Known) (adds : AddsByte (known_change joins s.known k) on_byte keep) where
     silent : (q r : ℕ) → speaks f q (Register r) ≡ false
     silent q r = false_from_ne_true (speaks f q (Register r)) (λ e. byte_differs (speaks_is f q (Register r) e).1)
 
@@ -272,7 +276,10 @@ module _ {W : Type 0} (s : State W) (laws : HasLaws s.setting) (kept : IsKept s)
   abbrev g : Fact
   g = fact_at p (Byte a) v
 
-  byte_room : (keep : Bool) → HasPlace keep p a s → (k : Known) → AddsByte joins s.known k g a keep → ((q : ℕ) (c : Cell) (w : ℕ) → all_known s q c ≡ Some w → knows k q c ≡ Some w) → s.work.joins ≡ true → HasRoom s.setting k
+  abbrev byte_learnt : ByteFact
+  byte_learnt = record { point = p; address = a; value = v }
+
+  byte_room : (keep : Bool) → HasPlace keep p a s → (k : Known) → AddsByte (known_change joins s.known k) byte_learnt keep → ((q : ℕ) (c : Cell) (w : ℕ) → all_known s q c ≡ Some w → knows k q c ≡ Some w) → s.work.joins ≡ true → HasRoom s.setting k
   byte_room true place k adds more j = room_drawn s.setting laws s.known k more joins p a v place adds (kept.roomy j)
   byte_room false place k adds more j = room_last s.setting s.known k more joins p a v place tracked adds (kept.roomy j)
 
@@ -280,7 +287,7 @@ module _ {W : Type 0} (s : State W) (laws : HasLaws s.setting) (kept : IsKept s)
   byte_full true place full = false_from_ne_true s.work.joins (λ j. room_to_draw s.setting laws s.known (kept.roomy j) p a place full)
   byte_full false place full = false_from_ne_true s.work.joins (λ j. room_to_read s.setting s.known (kept.roomy j) p a place tracked full)
 
-  pub told_byte : (keep : Bool) → (keep ≡ false → IsBrought s g) → HasPlace keep p a s → (k : Known) → OnceEach k.log → (r : Result Answer AllocError) → LearnsByte joins s.known k g a keep r → IsKept (with_known s k) × TellsByte s (with_known s k) g r
+  pub told_byte : (keep : Bool) → (keep ≡ false → IsBrought s g) → HasPlace keep p a s → (k : Known) → OnceEach k.log → (r : Result Answer AllocError) → LearnsByte (known_change joins s.known k) byte_learnt keep r → IsKept (with_known s k) × TellsByte s (with_known s k) g r
   told_byte keep brought place k once (Err e) (same, full) = (kept_same s k same kept, (same_known s k same, byte_full keep place full))
   told_byte keep brought place k once (Ok Old) (same, known) = (kept_same s k same kept, (same_known s k same, known))
   told_byte keep brought place k once (Ok (Clash w)) (same, known, differs) = (kept_same s k same kept, (same_known s k same, known, differs))
@@ -342,7 +349,7 @@ module _ {W : Type 0} (s : State W) (kept : IsKept s) (a : ℕ) (small : a < 2 ^
   never_full : (IsTracked a s → ⊥) → (s.work.joins ≡ true → s.known.store.places ≤ length s.known.store.tracked) → s.work.joins ≡ false
   never_full was_not full = false_from_ne_true s.work.joins (λ j. let free = room_to_track s.setting s.known (kept.roomy j) row.0 row.1 a row.2 was_not in let none = full j in omega (arith, free, none))
 
-  pub tracked_byte : (k : Known) (r : Result Bool AllocError) → TracksByte s.work.joins s.known k a r → IsKept (with_known s k) × Tracks s (with_known s k) a r
+  pub tracked_byte : (k : Known) (r : Result Bool AllocError) → TracksByte (known_change s.work.joins s.known k) a r → IsKept (with_known s k) × Tracks s (with_known s k) a r
   tracked_byte k (Err e) (same, was_not, full) = (kept_same s k same kept, (same_known s k same, never_full was_not full))
   tracked_byte k (Ok false) (same, there) = (kept_same s k same kept, (same_known s k same, there))
   tracked_byte k (Ok true) h = (track_kept k h, (track_grows k h, address a small h.was_not (now_tracked k h), now_tracked k h, h.log, h.fact, refl))

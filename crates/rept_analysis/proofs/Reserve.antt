@@ -23,7 +23,7 @@ use Rattle.rept_report.specs.Views.{point_of}
 use Rattle.rept_report.proofs.Told.{same_some, none_some}
 use Rattle.rept_report.proofs.ViewLaws.{known_more}
 use Rattle.rept_versions.specs.Facts.{Told}
-use Rattle.rept_log.specs.Known.{Known, knows, AddsByte, HasNoRoom, TracksMore}
+use Rattle.rept_log.specs.Known.{Known, knows, known_change, AddsByte, HasNoRoom, TracksMore}
 use Rattle.rept_analysis.specs.Sums.{one_if, count_true, sum_to}
 use Rattle.rept_analysis.specs.Room.{places_of, places_at, bytes_at, marked, unread, IsDrawable, IsDrawnAt, IsSlotLearnt, OwnByte, own_at, IsOwnByte, IsByteTracked, HasRoom}
 use Rattle.rept_analysis.proofs.Sums.{count_le, count_less, sum_le, sum_less}
@@ -231,7 +231,7 @@ module _ {W : Type 0} (S : Setting W) (old new : Known) (more : (p : ℕ) (c : C
       }
 
   -- the byte of the dump was learnt
-  pub room_last : (joins : Bool) (p a v : ℕ) → p ≡ length S.rows → Contains old.store.tracked a → AddsByte joins old new (record { point = p; cell = Byte a; value = v }) a false → HasRoom S old → HasRoom S new
+  pub room_last : (joins : Bool) (p a v : ℕ) → p ≡ length S.rows → Contains old.store.tracked a → AddsByte (known_change joins old new) (record { point = p; address = a; value = v }) false → HasRoom S old → HasRoom S new
   room_last joins p a v end tracked adds r =
       let was : old.store.fact (length S.rows) a ≡ None = subst (λ (q : ℕ). old.store.fact q a ≡ None) end adds.store.none in
       let is : new.store.fact (length S.rows) a ≡ Some v = subst (λ (q : ℕ). new.store.fact q a ≡ Some v) end adds.store.here in
@@ -272,7 +272,7 @@ slot_marked S laws k r p a place none =
     ]
 
 -- a byte that rows let one conclude was learnt
-module _ {W : Type 0} (S : Setting W) (laws : HasLaws S) (old new : Known) (more : (p : ℕ) (c : Cell) (v : ℕ) → knows old p c ≡ Some v → knows new p c ≡ Some v) (joins : Bool) (p a v : ℕ) (place : IsDrawnAt S old.log p a) (adds : AddsByte joins old new (record { point = p; cell = Byte a; value = v }) a true) (r : HasRoom S old) where
+module _ {W : Type 0} (S : Setting W) (laws : HasLaws S) (old new : Known) (more : (p : ℕ) (c : Cell) (v : ℕ) → knows old p c ≡ Some v → knows new p c ≡ Some v) (joins : Bool) (p a v : ℕ) (place : IsDrawnAt S old.log p a) (adds : AddsByte (known_change joins old new) (record { point = p; address = a; value = v }) true) (r : HasRoom S old) where
   abbrev i : ℕ
   i = place.number
 

@@ -22,7 +22,7 @@ use Rattle.rept_alias.specs.Accesses.{call_hits}
 use Rattle.rept_versions.specs.declared.facts.Stretch.{Stretch}
 use Rattle.rept_versions.specs.Facts.{Told, Store, change, Between, Spreads, Carries as StoreCarries, Nexts}
 use Rattle.rept_log.proofs.Stores.{stays_same}
-use Rattle.rept_log.specs.Known.{Known, knows, AddsByte, SameLog}
+use Rattle.rept_log.specs.Known.{Known, knows, known_change, AddsByte, SameLog}
 use Rattle.rept_analysis.specs.State.{State, all_known}
 use Rattle.rept_analysis.specs.Drawing.{fact_at, Knows, IsTracked, Grows, IsBrought, IsSpared, IsSparedBetween, IsSpreadTo, IsCarriedFrom, IsCarriedAt, IsAccess}
 use Rattle.rept_analysis.specs.Drawing.HasNews.{fact}
@@ -108,7 +108,7 @@ module _ {W : Type 0} (s : State W) (laws : HasLaws s.setting) (kept : IsKept s)
             ]
           ]
 
-  adds : (k : Known) (p : ℕ) → k.store.fact p a ≡ None → AddsByte true k (with_fact k p) (fact_at p (Byte a) v) a false
+  adds : (k : Known) (p : ℕ) → k.store.fact p a ≡ None → AddsByte (known_change true k (with_fact k p)) (record { point = p; address = a; value = v }) false
   adds k p none = record {
     last = refl;
     log = refl;
