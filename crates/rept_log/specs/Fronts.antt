@@ -134,6 +134,12 @@ IsNotBack f x r = IsKept f x.point r (fact_of (x.point + 1) x.cell x.value) → 
 abbrev pub IsNotLast : {W : Type 0} → FrontView W → Fact → ℕ → Type 0
 IsNotLast f x r = x.point ≡ length f.setting.rows → slice_get f.setting.last r ≡ Some x.value → ⊥
 
+-- The fact has no reason by the register's own value, neither by its last one nor by that on the other side of a row.
+pub record IsNotKept {W : Type 0} (f : FrontView W) (x : Fact) (r : ℕ) : Type 0 where
+  pub last : IsNotLast f x r
+  pub onward : IsNotOnward f x r
+  pub back : IsNotBack f x r
+
 -- nor by the only value of its set
 abbrev pub IsNotOnly : {W : Type 0} → FrontView W → Fact → ℕ → Type 0
 IsNotOnly {W} f x r = (set : W) → range (way_of f.setting) (told f.facts) x.point r ≡ Some set → f.setting.sets.as_exact set ≡ Some x.value → ⊥

@@ -6,7 +6,7 @@ ghost use Rattle.rept_reason.specs.Facts.{told};
 ghost use Rattle.rept_view.specs.declared.drawn.Drawn.{Drawn};
 ghost use Rattle.rept_report.specs.Views.{point_of};
 ghost use Rattle.rept_report.specs.Why.{Because, because, fact_of, looked, looked_across, told_by_row, tells_writes, premise_of, IsDrawnBecause, IsKnownBecause, IsCarriedBecause};
-ghost use Rattle.rept_log.specs.Fronts.{front_of, stands, seen_in, told_by, IsKept, IsNotOnward, IsNotBack, IsNotLast, IsNotOnly, IsNotDrawnBy, Gives};
+ghost use Rattle.rept_log.specs.Fronts.{front_of, stands, seen_in, told_by, IsKept, IsNotOnward, IsNotBack, IsNotLast, IsNotKept, IsNotOnly, IsNotDrawnBy, Gives};
 
 use super::Front;
 use super::views::Standing;
@@ -305,6 +305,25 @@ impl<'k, 'd, B: ByteFacts, W: Transfer, R: RowRules> Front<'k, 'd, B, W, R> {
         self.drawn_after(rules, alloc, fact)
     }
 
+    /// The reason by a register's own value: its last one, or that before or after a row that doesn't write it.
+    fn own(&self, alloc: Global, fact: &Fact, r: Reg) -> Result<Option<Reason>, OutOfMemory>
+        requires point { fact.now.point ≤ length self.now.rows }
+        requires cell { fact.now.cell ≡ Register r }
+        requires named { 0 < r }
+        ensures found { IfOk result (λ found. IfSome found (λ reason. IsKnownBecause (front_of W.sets W.moves R.rules self.now).setting (stands (front_of W.sets W.moves R.rules self.now)) fact.now (told_by reason))) }
+        ensures none { IfOk result (λ found. IfNone found (IsNotKept (front_of W.sets W.moves R.rules self.now) fact.now r)) }
+    {
+        let found = self.last(alloc, fact, r);
+        if found.is_some() {
+            return Ok(found);
+        }
+        let found = self.kept_onward(alloc, fact, r)?;
+        if found.is_some() {
+            return Ok(found);
+        }
+        self.kept_back(alloc, fact, r)
+    }
+
     /// The reason by which what stands in the prefix makes a register's value known. `OutOfMemory` says that its room
     /// can't be had.
     pub fn of_register(
@@ -320,15 +339,7 @@ impl<'k, 'd, B: ByteFacts, W: Transfer, R: RowRules> Front<'k, 'd, B, W, R> {
         ensures found { IfOk result (λ found. IfSome found (λ reason. IsKnownBecause (front_of W.sets W.moves R.rules self.now).setting (stands (front_of W.sets W.moves R.rules self.now)) fact.now (told_by reason))) }
         ensures none { IfOk result (λ found. IfNone found ((why : Because) → IsKnownBecause (front_of W.sets W.moves R.rules self.now).setting (stands (front_of W.sets W.moves R.rules self.now)) fact.now why → ⊥)) }
     {
-        let found = self.last(alloc, fact, r);
-        if found.is_some() {
-            return Ok(found);
-        }
-        let found = self.kept_onward(alloc, fact, r)?;
-        if found.is_some() {
-            return Ok(found);
-        }
-        let found = self.kept_back(alloc, fact, r)?;
+        let found = self.own(alloc, fact, r)?;
         if found.is_some() {
             return Ok(found);
         }
