@@ -25,6 +25,7 @@ use Rattle.rept_view.specs.Seen.{Seen, KnowsMore, seen_cell}
 use Rattle.rept_view.specs.Rules.{offset_of, IsRowByte, IsRowCell, Rules}
 use Rattle.rept_log.specs.Around.{around, around_lawful}
 use Rattle.rept_report.specs.Setting.{Setting, HasLaws, way_of}
+use Rattle.rept_report.specs.Spots.{passage}
 use Rattle.rept_report.specs.Views.{point_of, all_words, bounds, register_range, known_or, seen_at, registers_at, may_write, Carries}
 use Rattle.rept_report.specs.Conclusions.{IsWordOf, HasWords, Concludes}
 use Rattle.rept_report.specs.Conclusions.IsCarried.{last_byte, onward, back}
@@ -202,7 +203,7 @@ module _ {W : Type 0} (s : State W) (i : ℕ) (inside : i < length s.setting.row
 
 -- what a row may not write is carried over it
 module _ {W : Type 0} (s : State W) (laws : HasLaws s.setting) (words : HasWords (all_known s)) (once : OnceEach s.known.log) (i a v : ℕ) (inside : i < length s.setting.rows) (small : a < 2 ^ 32) (access : CallAccess) (is_access : IsAccess i access s) (spared : call_hits access a ≡ false) where
-  carries : IsQuiet s.setting (all_known s) → Carries s.setting (all_known s) a i (i + 1)
+  carries : IsQuiet s.setting (all_known s) → Carries s.setting (all_known s) (passage a i (i + 1))
   carries quiet = record { inside = inside; next = refl; spared = spared_more s.setting laws (told (oldest s.filled s.known.log)) (all_known s) (λ p r w e. oldest_less s.filled s.known.log once p (Register r) w e) words quiet i a small (sym (is_access a small) ∙ spared) }
 
   pub onward_brought : Knows i (Byte a) v s → IsBrought s (fact_at (i + 1) (Byte a) v)

@@ -6,6 +6,7 @@ use Rattle.rept_reason.specs.declared.fact.Cell.{Cell}
 use Rattle.rept_reason.specs.declared.fact.Cell.TheVariants.{Register, Byte}
 use Rattle.rept_reason.specs.Facts.{told}
 use Rattle.rept_report.specs.Setting.{Setting, HasLaws}
+use Rattle.rept_report.specs.Spots.{passage}
 use Rattle.rept_report.specs.Views.{Carries, may_write}
 use Rattle.rept_report.specs.Conclusions.IsCarried.{onward, back}
 use Rattle.rept_report.specs.Conflicts.{IsQuiet}
@@ -62,7 +63,7 @@ kept_like s k k' last log facts tracked open_ roomy kept = record {
 
 -- a byte that a row may not write is brought over it
 module _ {W : Type 0} (s : State W) (laws : HasLaws s.setting) (kept : IsKept s) (i a v : ℕ) (inside : i < length s.setting.rows) (small : a < 2 ^ 32) (spared : IsSpared i a s) where
-  carries : IsQuiet s.setting (all_known s) → Carries s.setting (all_known s) a i (i + 1)
+  carries : IsQuiet s.setting (all_known s) → Carries s.setting (all_known s) (passage a i (i + 1))
   carries quiet = record { inside = inside; next = refl; spared = missed spared }
     where
       missed : IsSpared i a s → may_write s.setting (all_known s) i a ≡ false

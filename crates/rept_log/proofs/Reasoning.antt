@@ -15,6 +15,7 @@ use Rattle.rept_view.specs.declared.drawn.When.{When}
 use Rattle.rept_view.specs.declared.drawn.When.TheVariants.{Before, After}
 use Rattle.rept_view.specs.declared.drawn.Drawn.{Drawn}
 use Rattle.rept_report.specs.Setting.{way_of}
+use Rattle.rept_report.specs.Spots.{spot}
 use Rattle.rept_report.specs.Views.{point_of}
 use Rattle.rept_report.specs.Why.{Because, because, fact_of, looked, looked_across, IsDrawnBecause, IsKnownBecause, IsOrigin, IsNearest, IsCarriedBecause}
 use Rattle.rept_report.specs.Why.IsCarriedBecause.{last_byte as by_dump, onward as by_onward, back as by_back}
@@ -110,38 +111,38 @@ module _ {W : Type 0} (f : FrontView W) (x : Fact) (a : ℕ) (cell : x.cell ≡ 
   pub dump_because : x.point ≡ length f.setting.rows → f.setting.dump a ≡ Some x.value → (why : Because) → why ≡ because 2 [] [] → IsCarriedBecause f.setting f.facts x why
   dump_because at byte why is = by_dump a at cell byte is
 
-  pub across_onward : (i q : ℕ) → x.point ≡ i + 1 → IsNearest f.setting f.facts a x.point q → q < x.point → (premise : Fact) → premise ≡ fact_of i x.cell x.value → (ranges : List Looked) → ranges ≡ looked_across f.setting (told f.facts) i → (why : Because) → why ≡ because 5 (premise ∷ []) ranges → IsCarriedBecause f.setting f.facts x why
+  pub across_onward : (i q : ℕ) → x.point ≡ i + 1 → IsNearest f.setting f.facts (spot x.point a) q → q < x.point → (premise : Fact) → premise ≡ fact_of i x.cell x.value → (ranges : List Looked) → ranges ≡ looked_across f.setting (told f.facts) i → (why : Because) → why ≡ because 5 (premise ∷ []) ranges → IsCarriedBecause f.setting f.facts x why
   across_onward i q at near before premise same ranges listed why is =
-      let near' : IsNearest f.setting f.facts a (i + 1) q = rw at at near in
+      let near' : IsNearest f.setting f.facts (spot (i + 1) a) q = rw at at near in
       by_onward a i q at cell near' (omega arith) (is ∙ ap (λ (l : List Looked). because 5 (premise ∷ []) l) listed ∙ ap (λ (y : Fact). because 5 (y ∷ []) (looked_across f.setting (told f.facts) i)) (same ∙ ap (λ (c : Cell). fact_of i c x.value) cell))
 
-  pub across_back : (q : ℕ) → IsNearest f.setting f.facts a x.point q → x.point < q → (premise : Fact) → premise ≡ fact_of (x.point + 1) x.cell x.value → (ranges : List Looked) → ranges ≡ looked_across f.setting (told f.facts) x.point → (why : Because) → why ≡ because 6 (premise ∷ []) ranges → IsCarriedBecause f.setting f.facts x why
+  pub across_back : (q : ℕ) → IsNearest f.setting f.facts (spot x.point a) q → x.point < q → (premise : Fact) → premise ≡ fact_of (x.point + 1) x.cell x.value → (ranges : List Looked) → ranges ≡ looked_across f.setting (told f.facts) x.point → (why : Because) → why ≡ because 6 (premise ∷ []) ranges → IsCarriedBecause f.setting f.facts x why
   across_back q near after premise same ranges listed why is =
       by_back a x.point q refl cell near after (is ∙ ap (λ (l : List Looked). because 6 (premise ∷ []) l) listed ∙ ap (λ (y : Fact). because 6 (y ∷ []) (looked_across f.setting (told f.facts) x.point)) (same ∙ ap (λ (c : Cell). fact_of (x.point + 1) c x.value) cell))
 
   -- a point with a byte is an origin of itself
-  own_origin : x.point ≡ length f.setting.rows → f.setting.dump a ≡ Some x.value → IsOrigin f.setting f.facts a x.point x.point
+  own_origin : x.point ≡ length f.setting.rows → f.setting.dump a ≡ Some x.value → IsOrigin f.setting f.facts (spot x.point a) x.point
   own_origin at byte = go (told f.facts x.point (Byte a)) refl
     where
-      go : (y : Option ℕ) → told f.facts x.point (Byte a) ≡ y → IsOrigin f.setting f.facts a x.point x.point
+      go : (y : Option ℕ) → told f.facts x.point (Byte a) ≡ y → IsOrigin f.setting f.facts (spot x.point a) x.point
       go (Some v) e = record { byte = v; early = omega arith; has = rw e refl; spared = λ i z. elim z [ inl (l, u) ↦ absurd (omega arith) | inr (l, u) ↦ absurd (omega arith) ] }
       go None e = record { byte = x.value; early = omega arith; has = rw e (cond-true (eqb x.point (length f.setting.rows)) (f.setting.dump a) None (eq-eqb x.point (length f.setting.rows) at) ∙ byte); spared = λ i z. elim z [ inl (l, u) ↦ absurd (omega arith) | inr (l, u) ↦ absurd (omega arith) ] }
 
-  pub not_carried : ((r : ℕ) → IsOrigin f.setting f.facts a x.point r → ⊥) → (why : Because) → IsCarriedBecause f.setting f.facts x why → ⊥
+  pub not_carried : ((r : ℕ) → IsOrigin f.setting f.facts (spot x.point a) r → ⊥) → (why : Because) → IsCarriedBecause f.setting f.facts x why → ⊥
   not_carried none why (by_dump b at c byte is) = let same : b ≡ a = same_byte (sym c ∙ cell) in none x.point (own_origin at (rw same at byte))
   not_carried none why (by_onward b i q at c near before is) = let same : b ≡ a = same_byte (sym c ∙ cell) in none q (rw (at, ← same) near.origin)
   not_carried none why (by_back b i q at c near after is) = let same : b ≡ a = same_byte (sym c ∙ cell) in none q (rw (at, ← same) near.origin)
 
   -- at its own origin a byte is the dump's
-  pub only_dump : IsNearest f.setting f.facts a x.point x.point → IsNotOfDump f x a → (why : Because) → IsCarriedBecause f.setting f.facts x why → ⊥
+  pub only_dump : IsNearest f.setting f.facts (spot x.point a) x.point → IsNotOfDump f x a → (why : Because) → IsCarriedBecause f.setting f.facts x why → ⊥
   only_dump here none why (by_dump b at c byte is) = let same : b ≡ a = same_byte (sym c ∙ cell) in none at (rw same at byte)
   only_dump here none why (by_onward b i q at c near before is) =
       let same : b ≡ a = same_byte (sym c ∙ cell) in
-      let own : IsOrigin f.setting f.facts b (i + 1) (i + 1) = rw (same, ← at) here.origin in
+      let own : IsOrigin f.setting f.facts (spot (i + 1) b) (i + 1) = rw (same, ← at) here.origin in
       let far = near.nearest (i + 1) own in
       omega arith
   only_dump here none why (by_back b i q at c near after is) =
       let same : b ≡ a = same_byte (sym c ∙ cell) in
-      let own : IsOrigin f.setting f.facts b i i = rw (same, ← at) here.origin in
+      let own : IsOrigin f.setting f.facts (spot i b) i = rw (same, ← at) here.origin in
       let far = near.nearest i own in
       omega arith

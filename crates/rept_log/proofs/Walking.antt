@@ -3,6 +3,7 @@ use Rattle.std.proofs.Common.{◌≡◌, ℕ, ◌-◌, ◌<◌, ◌≤◌, eqb, 
 use Rattle.std.proofs.lemmas.Bool.{cases_eq, cases_lt, cond-true, cond-false, eq-eqb, ne_eqb}
 use Rattle.rept_reason.specs.declared.fact.Cell.TheVariants.{Byte}
 use Rattle.rept_reason.specs.Facts.{told}
+use Rattle.rept_report.specs.Spots.{spot}
 use Rattle.rept_report.specs.Reasons.{or_else, source, from_later, from_earlier}
 use Rattle.rept_report.specs.Why.{IsOrigin, IsNearest}
 use Rattle.rept_report.proofs.Told.{none_some}
@@ -81,10 +82,10 @@ module _ {W : Type 0} (f : FrontView W) (a : ℕ) where
     earlier_nowhere none r l or = none_some (sym (source_free r (none r l) (omega arith)) ∙ or.has)
 
     -- what is found after the point
-    looked_later : (o : ByteAt) → IsLater f a p (Some o) → from_later f.setting f.facts a p (length f.setting.rows - p) ≡ Some o.byte
-    looked_later o (o', low, first) = go (from_later f.setting f.facts a p (length f.setting.rows - p)) refl
+    looked_later : (o : ByteAt) → IsLater f a p (Some o) → from_later f.setting f.facts (spot p a) (length f.setting.rows - p) ≡ Some o.byte
+    looked_later o (o', low, first) = go (from_later f.setting f.facts (spot p a) (length f.setting.rows - p)) refl
       where
-        go : (x : Option ℕ) → from_later f.setting f.facts a p (length f.setting.rows - p) ≡ x → from_later f.setting f.facts a p (length f.setting.rows - p) ≡ Some o.byte
+        go : (x : Option ℕ) → from_later f.setting f.facts (spot p a) (length f.setting.rows - p) ≡ x → from_later f.setting f.facts (spot p a) (length f.setting.rows - p) ≡ Some o.byte
         go None e = let high = o'.origin.early in absurd (later_none f.setting f.facts a (length f.setting.rows - p) p o.point o.byte e low (omega arith) (λ i l u. o'.origin.spared i (inl (l, u))) o'.byte)
         go (Some v) e =
             let h = later_first f.setting f.facts a (length f.setting.rows - p) p v e in
@@ -96,10 +97,10 @@ module _ {W : Type 0} (f : FrontView W) (a : ℕ) where
               | inr there ↦ let same : h.0 ≡ o.point = omega arith in let here : source f.setting f.facts a o.point ≡ Some v = rw same at h.1.has in e ∙ sym here ∙ o'.byte
             ]
 
-    looked_no_later : IsLater f a p None → from_later f.setting f.facts a p (length f.setting.rows - p) ≡ None
-    looked_no_later none = go (from_later f.setting f.facts a p (length f.setting.rows - p)) refl
+    looked_no_later : IsLater f a p None → from_later f.setting f.facts (spot p a) (length f.setting.rows - p) ≡ None
+    looked_no_later none = go (from_later f.setting f.facts (spot p a) (length f.setting.rows - p)) refl
       where
-        go : (x : Option ℕ) → from_later f.setting f.facts a p (length f.setting.rows - p) ≡ x → from_later f.setting f.facts a p (length f.setting.rows - p) ≡ None
+        go : (x : Option ℕ) → from_later f.setting f.facts (spot p a) (length f.setting.rows - p) ≡ x → from_later f.setting f.facts (spot p a) (length f.setting.rows - p) ≡ None
         go None e = e
         go (Some v) e =
             let h = later_first f.setting f.facts a (length f.setting.rows - p) p v e in
@@ -111,7 +112,7 @@ module _ {W : Type 0} (f : FrontView W) (a : ℕ) where
     none_here : IsLater f a p None → (v : ℕ) → source f.setting f.facts a p ≡ Some v → ⊥
     none_here none v e = none p (omega arith) (record { byte = v; early = early; has = e; spared = λ i x. elim x [ inl (l, u) ↦ absurd (omega arith) | inr (l, u) ↦ absurd (omega arith) ] })
 
-    earlier_origin : IsLater f a p None → (v q : ℕ) → EarlierAt f.setting f.facts a p v q → (q < p) × IsOrigin f.setting f.facts a p q
+    earlier_origin : IsLater f a p None → (v q : ℕ) → EarlierAt f.setting f.facts a p v q → (q < p) × IsOrigin f.setting f.facts (spot p a) q
     earlier_origin none v q h =
         let to = h.to in
         let before : q < p = elim (cases_eq q p) [
@@ -154,7 +155,7 @@ module _ {W : Type 0} (f : FrontView W) (a : ℕ) where
     byte_nowhere none never = ap (λ (x : Option ℕ). or_else x (from_earlier f.setting f.facts a p)) (looked_no_later none) ∙ looked_no_earlier none never
 
     -- the nearer one of the two
-    pub nearest_later : (o : ByteAt) → IsLater f a p (Some o) → IsEarlier f a p None → IsNearest f.setting f.facts a p o.point
+    pub nearest_later : (o : ByteAt) → IsLater f a p (Some o) → IsEarlier f a p None → IsNearest f.setting f.facts (spot p a) o.point
     nearest_later o (o', low, first) never = record {
       origin = o'.origin;
       nearest = λ r or. elim (cases_lt r p) [
@@ -163,7 +164,7 @@ module _ {W : Type 0} (f : FrontView W) (a : ℕ) where
       ];
     }
 
-    pub nearest_earlier : (o : ByteAt) → IsLater f a p None → IsEarlier f a p (Some o) → IsNearest f.setting f.facts a p o.point
+    pub nearest_earlier : (o : ByteAt) → IsLater f a p None → IsEarlier f a p (Some o) → IsNearest f.setting f.facts (spot p a) o.point
     nearest_earlier o none (o', low, last) = record {
       origin = o'.origin;
       nearest = λ r or. elim (cases_lt r p) [
@@ -172,7 +173,7 @@ module _ {W : Type 0} (f : FrontView W) (a : ℕ) where
       ];
     }
 
-    pub nearest_before : (o e : ByteAt) → IsLater f a p (Some o) → IsEarlier f a p (Some e) → p - e.point < o.point - p → IsNearest f.setting f.facts a p e.point
+    pub nearest_before : (o e : ByteAt) → IsLater f a p (Some o) → IsEarlier f a p (Some e) → p - e.point < o.point - p → IsNearest f.setting f.facts (spot p a) e.point
     nearest_before o e (o', low, first) (e', high, last) near = record {
       origin = e'.origin;
       nearest = λ r or. elim (cases_lt r p) [
@@ -181,7 +182,7 @@ module _ {W : Type 0} (f : FrontView W) (a : ℕ) where
       ];
     }
 
-    pub nearest_after : (o e : ByteAt) → IsLater f a p (Some o) → IsEarlier f a p (Some e) → o.point - p ≤ p - e.point → IsNearest f.setting f.facts a p o.point
+    pub nearest_after : (o e : ByteAt) → IsLater f a p (Some o) → IsEarlier f a p (Some e) → o.point - p ≤ p - e.point → IsNearest f.setting f.facts (spot p a) o.point
     nearest_after o e (o', low, first) (e', high, last) near = record {
       origin = o'.origin;
       nearest = λ r or. elim (cases_lt r p) [
@@ -190,5 +191,5 @@ module _ {W : Type 0} (f : FrontView W) (a : ℕ) where
       ];
     }
 
-    pub nearest_nowhere : IsLater f a p None → IsEarlier f a p None → (r : ℕ) → IsOrigin f.setting f.facts a p r → ⊥
+    pub nearest_nowhere : IsLater f a p None → IsEarlier f a p None → (r : ℕ) → IsOrigin f.setting f.facts (spot p a) r → ⊥
     nearest_nowhere none never r or = elim (cases_lt r p) [ inl before ↦ never r before or | inr after ↦ none r after or ]

@@ -20,6 +20,7 @@ use Rattle.rept_view.specs.declared.drawn.Drawn.{Drawn}
 use Rattle.rept_view.specs.Rules.{Rules}
 use Rattle.rept_view.specs.Seen.{Seen, IsLawful}
 use Rattle.rept_report.specs.Setting.{Setting, way_of}
+use Rattle.rept_report.specs.Spots.{spot}
 use Rattle.rept_report.specs.Views.{point_of, seen_at, registers_at, may_write}
 use Rattle.rept_report.specs.Conclusions.{HasWords}
 use Rattle.rept_report.specs.Reasons.{source, standing}
@@ -94,18 +95,18 @@ IsSpared f a p q = (i : ℕ) → p ≤ i → i < q → may_write f.setting (told
 
 -- a point with this byte, from which it is carried to p
 pub record IsOriginWith {W : Type 0} (f : FrontView W) (a p : ℕ) (o : ByteAt) : Type 0 where
-  pub origin : IsOrigin f.setting f.facts a p o.point
+  pub origin : IsOrigin f.setting f.facts (spot p a) o.point
   pub byte : source f.setting f.facts a o.point ≡ Some o.byte
 
 -- the first point, from p on, from which the byte is carried to p
 abbrev pub IsLater : {W : Type 0} → FrontView W → ℕ → ℕ → Option ByteAt → Type 0
-IsLater f a p None = (r : ℕ) → p ≤ r → IsOrigin f.setting f.facts a p r → ⊥
-IsLater f a p (Some o) = IsOriginWith f a p o × (p ≤ o.point) × ((r : ℕ) → p ≤ r → IsOrigin f.setting f.facts a p r → o.point ≤ r)
+IsLater f a p None = (r : ℕ) → p ≤ r → IsOrigin f.setting f.facts (spot p a) r → ⊥
+IsLater f a p (Some o) = IsOriginWith f a p o × (p ≤ o.point) × ((r : ℕ) → p ≤ r → IsOrigin f.setting f.facts (spot p a) r → o.point ≤ r)
 
 -- the last point, before p, from which it is
 abbrev pub IsEarlier : {W : Type 0} → FrontView W → ℕ → ℕ → Option ByteAt → Type 0
-IsEarlier f a p None = (r : ℕ) → r < p → IsOrigin f.setting f.facts a p r → ⊥
-IsEarlier f a p (Some o) = IsOriginWith f a p o × (o.point < p) × ((r : ℕ) → r < p → IsOrigin f.setting f.facts a p r → r ≤ o.point)
+IsEarlier f a p None = (r : ℕ) → r < p → IsOrigin f.setting f.facts (spot p a) r → ⊥
+IsEarlier f a p (Some o) = IsOriginWith f a p o × (o.point < p) × ((r : ℕ) → r < p → IsOrigin f.setting f.facts (spot p a) r → r ≤ o.point)
 
 -- a reason, as its rule, premises and ranges
 abbrev pub told_by : Reason → Because

@@ -6,6 +6,7 @@ use Rattle.rept_reason.specs.declared.fact.Cell.{Cell}
 use Rattle.rept_reason.specs.declared.fact.Cell.TheVariants.{Register, Byte}
 use Rattle.rept_reason.specs.Facts.{Knowledge, IsCell, In, told, speaks}
 use Rattle.rept_report.specs.Setting.{Setting, HasLaws}
+use Rattle.rept_report.specs.Spots.{spot, passage}
 use Rattle.rept_report.specs.Views.{seen_at, Carries}
 use Rattle.rept_report.specs.Conclusions.{IsCarried, Follows}
 use Rattle.rept_report.specs.Conclusions.IsCarried.{last_byte as carries_last, onward as carries_onward, back as carries_back}
@@ -177,14 +178,14 @@ module _ {W : Type 0} (S : Setting W) (laws : HasLaws S) (es : List Entry) (trac
       let inside = h.inside in
       onward f (fact_of p (Byte a) f.value) a p q at c (same_carries a p q h) refl (sym c) refl (found_stands S (oldest t Log) a (subst IsCell c cell) p f.value (omega arith) e)
     where
-      same_carries : (a p q : ℕ) → Carries S (standing S (oldest t Log)) a p q → Carries S (told (oldest t Log)) a p q
+      same_carries : (a p q : ℕ) → Carries S (standing S (oldest t Log)) (passage a p q) → Carries S (told (oldest t Log)) (passage a p q)
       same_carries a p q h = record { inside = h.inside; next = h.next; spared = sym (may_write_same S (standing S (oldest t Log)) (told (oldest t Log)) (λ x r. refl) p a) ∙ h.spared }
   carried_stands t f cell early (carries_back a p q at c h e) =
       let inside = h.inside in
       let next = h.next in
       back f (fact_of q (Byte a) f.value) a p q at c (same_carries a p q h) refl (sym c) refl (found_stands S (oldest t Log) a (subst IsCell c cell) q f.value (omega arith) e)
     where
-      same_carries : (a p q : ℕ) → Carries S (standing S (oldest t Log)) a p q → Carries S (told (oldest t Log)) a p q
+      same_carries : (a p q : ℕ) → Carries S (standing S (oldest t Log)) (passage a p q) → Carries S (told (oldest t Log)) (passage a p q)
       same_carries a p q h = record { inside = h.inside; next = h.next; spared = sym (may_write_same S (standing S (oldest t Log)) (told (oldest t Log)) (λ x r. refl) p a) ∙ h.spared }
 
   -- a byte that is the last one of its least prefix is drawn
@@ -233,7 +234,7 @@ module _ {W : Type 0} (S : Setting W) (laws : HasLaws S) (es : List Entry) (trac
                 | inr before ↦ absurd (none_some (sym (cond-false (eqb p (length S.rows)) (S.dump a) None (ne_eqb p (length S.rows) before)) ∙ e'))
               ]
 
-      by_side : (q : ℕ) → IsNearest S (oldest t Log) a p q → p ≤ length S.rows → (why : Because) × IsCarriedBecause S (oldest t Log) (fact_of p (Byte a) v) why
+      by_side : (q : ℕ) → IsNearest S (oldest t Log) (spot p a) q → p ≤ length S.rows → (why : Because) × IsCarriedBecause S (oldest t Log) (fact_of p (Byte a) v) why
       by_side q near early =
           elim (cases_order q p) [
             | inl same ↦
@@ -243,7 +244,7 @@ module _ {W : Type 0} (S : Setting W) (laws : HasLaws S) (es : List Entry) (trac
             | inr (inl before) ↦
                 let i = p - 1 in
                 let is : p ≡ i + 1 = omega arith in
-                let near' : IsNearest S (oldest t Log) a (i + 1) q = rw is at near in
+                let near' : IsNearest S (oldest t Log) (spot (i + 1) a) q = rw is at near in
                 (because 5 (fact_of i (Byte a) v ∷ []) (looked_across S (told (oldest t Log)) i), by_onward a i q is refl near' (omega arith) refl)
             | inr (inr after) ↦ (because 6 (fact_of (p + 1) (Byte a) v ∷ []) (looked_across S (told (oldest t Log)) p), by_back a p q refl refl near after refl)
           ]

@@ -14,6 +14,7 @@ use Rattle.rept_view.specs.Rules.{IsRowByte, IsRowCell}
 use Rattle.rept_report.specs.Knowing.{Extends, SameRegisters}
 use Rattle.rept_report.specs.declared.conflict.ConflictKind.TheVariants.{TwoValues, EmptyRange, WrongTurn}
 use Rattle.rept_report.specs.Setting.{Setting, HasLaws}
+use Rattle.rept_report.specs.Spots.{passage}
 use Rattle.rept_report.specs.Views.{point_of, seen_at, may_write, Carries}
 use Rattle.rept_report.specs.Conclusions.{HasWords, IsCarried, Follows, Concludes}
 use Rattle.rept_report.specs.Conclusions.IsCarried.{last_byte, onward, back}
@@ -124,7 +125,7 @@ module _ {W : Type 0} (S : Setting W) (laws : HasLaws S) (K : Knowledge) (words 
   on_byte : (f : Fact) (a : ℕ) → f.cell ≡ Byte a → tracked a ≡ true → Concludes S K f → Full f.point f.cell ≡ Some f.value
   on_byte f a is t h = on_listed f (rw is t) h
 
-  carries_listed : (a p q : ℕ) → Carries S Full a p q → Carries S K a p q
+  carries_listed : (a p q : ℕ) → Carries S Full (passage a p q) → Carries S K (passage a p q)
   carries_listed a p q h = record { inside = h.inside; next = h.next; spared = may_write_same S K Full (λ p r. refl) p a ∙ h.spared }
 
   -- a carried byte is known
@@ -276,7 +277,7 @@ module _ {W : Type 0} (S : Setting W) (laws : HasLaws S) (es : List Entry) (trac
   pub known_closed : (f : Fact) → Concludes S Known f → Known f.point f.cell ≡ Some f.value
   known_closed f h = full_closed S laws (told (facts_of es)) es_words quiet tracked closed f h
 
-  carries_known : (a p q : ℕ) → Carries S (told (logged_of es)) a p q → Carries S Known a p q
+  carries_known : (a p q : ℕ) → Carries S (told (logged_of es)) (passage a p q) → Carries S Known (passage a p q)
   carries_known a p q h = record { inside = h.inside; next = h.next; spared = may_write_same S Known (told (logged_of es)) (λ q r. logged_same S es trace q r) p a ∙ h.spared }
 
   pub stands_known : (f : Fact) → StandsIn S (logged_of es) f → Known f.point f.cell ≡ Some f.value

@@ -21,6 +21,7 @@ use Rattle.rept_view.specs.Seen.{Seen, IsLawful, KnowsMore, seen_cell}
 use Rattle.rept_view.specs.Rules.{Rules, IsRowCell, AreLawful}
 use Rattle.rept_report.specs.Knowing.{Extends, RegistersExtend}
 use Rattle.rept_report.specs.Setting.{Setting, HasLaws, way_of}
+use Rattle.rept_report.specs.Spots.{passage}
 use Rattle.rept_report.specs.Views.{seen_at, registers_at, touched_by, may_write, sure_by, is_sure, Carries}
 use Rattle.rept_report.specs.Conclusions.{HasWords, IsCarried, Follows, Concludes}
 use Rattle.rept_report.specs.Conclusions.IsCarried.{last_byte, onward, back}
@@ -143,7 +144,7 @@ module _ {W : Type 0} (S : Setting W) (laws : HasLaws S) (K L : Knowledge) (more
             let inside = slice_get_within S.rows i row is in
             laws.rules.sure_more row (registers_at S K i) (registers_at S L i) (registers_at_lawful S K (words_less words) i) (registers_at_lawful S L words i) (registers_at_more S laws K L more words quiet i inside) t
 
-    pub Carries_more : (a p q : ℕ) → a < 2 ^ 32 → Carries S K a p q → Carries S L a p q
+    pub Carries_more : (a p q : ℕ) → a < 2 ^ 32 → Carries S K (passage a p q) → Carries S L (passage a p q)
     Carries_more a p q small h = record { inside = h.inside; next = h.next; spared = spared_more p a small h.spared }
 
     pub single_value_more : (p r v : ℕ) (set : W) → p ≤ length S.rows → r < 32 → range (way_of S) K p r ≡ Some set → S.sets.as_exact set ≡ Some v → (set' : W) × (range (way_of S) L p r ≡ Some set') × (S.sets.as_exact set' ≡ Some v)

@@ -4,6 +4,7 @@ use Rattle.std.proofs.lemmas.Bool.{cases_eq, cases_lt, cond-false}
 use Rattle.rept_reason.specs.declared.fact.Fact.{Fact}
 use Rattle.rept_reason.specs.Facts.{told}
 use Rattle.rept_report.specs.Setting.{Setting}
+use Rattle.rept_report.specs.Spots.{spot}
 use Rattle.rept_report.specs.Views.{may_write}
 use Rattle.rept_report.specs.Reasons.{or_else, source, from_later, from_earlier, byte_at}
 use Rattle.rept_report.specs.Why.{IsOrigin, IsNearest}
@@ -37,13 +38,13 @@ module _ {W : Type 0} (S : Setting W) (fs : List Fact) (a : ℕ) where
   later_here : (p k v : ℕ) → source S fs a p ≡ Some v → IsLater p k v p
   later_here p k v e = record { from = omega arith; to = omega arith; has = e; spared = λ i l h. absurd (omega arith); first = λ r l h. absurd (omega arith) }
 
-  pub later_first : (k p v : ℕ) → from_later S fs a p k ≡ Some v → (q : ℕ) × IsLater p k v q
+  pub later_first : (k p v : ℕ) → from_later S fs (spot p a) k ≡ Some v → (q : ℕ) × IsLater p k v q
   later_first zero p v e = (p, later_here p zero v e)
   later_first (suc k) p v e =
-      elim (or_some (source S fs a p) (cond (may_write S (told fs) p a) None (from_later S fs a (p + 1) k)) v e) [
+      elim (or_some (source S fs a p) (cond (may_write S (told fs) p a) None (from_later S fs (spot (p + 1) a) k)) v e) [
         | inl t ↦ (p, later_here p (suc k) v t)
         | inr (none, t) ↦
-            let parts = unless_some (may_write S (told fs) p a) (from_later S fs a (p + 1) k) v t in
+            let parts = unless_some (may_write S (told fs) p a) (from_later S fs (spot (p + 1) a) k) v t in
             let rest = later_first k (p + 1) v parts.1 in
             let h = rest.1 in
             let low = h.from in
@@ -60,13 +61,13 @@ module _ {W : Type 0} (S : Setting W) (fs : List Fact) (a : ℕ) where
       ]
 
   -- where none is found, there is none
-  pub later_none : (k p r v : ℕ) → from_later S fs a p k ≡ None → p ≤ r → r ≤ p + k → ((i : ℕ) → p ≤ i → i < r → may_write S (told fs) i a ≡ false) → source S fs a r ≡ Some v → ⊥
+  pub later_none : (k p r v : ℕ) → from_later S fs (spot p a) k ≡ None → p ≤ r → r ≤ p + k → ((i : ℕ) → p ≤ i → i < r → may_write S (told fs) i a ≡ false) → source S fs a r ≡ Some v → ⊥
   later_none zero p r v e low high spared has = let same : r ≡ p = omega arith in let here : source S fs a p ≡ Some v = rw same at has in none_some (sym e ∙ here)
   later_none (suc k) p r v e low high spared has =
-      let parts = or_none (source S fs a p) (cond (may_write S (told fs) p a) None (from_later S fs a (p + 1) k)) e in
+      let parts = or_none (source S fs a p) (cond (may_write S (told fs) p a) None (from_later S fs (spot (p + 1) a) k)) e in
       elim (cases_eq r p) [
         | inl same ↦ let here : source S fs a p ≡ Some v = rw same at has in none_some (sym parts.0 ∙ here)
-        | inr other ↦ later_none k (p + 1) r v (sym (cond-false (may_write S (told fs) p a) None (from_later S fs a (p + 1) k) (spared p (omega arith) (omega arith))) ∙ parts.1) (omega arith) (omega arith) (λ i l u. spared i (omega arith) u) has
+        | inr other ↦ later_none k (p + 1) r v (sym (cond-false (may_write S (told fs) p a) None (from_later S fs (spot (p + 1) a) k) (spared p (omega arith) (omega arith))) ∙ parts.1) (omega arith) (omega arith) (λ i l u. spared i (omega arith) u) has
       ]
 
   earlier_here : (p v : ℕ) → source S fs a p ≡ Some v → IsEarlier p v p
@@ -102,43 +103,43 @@ module _ {W : Type 0} (S : Setting W) (fs : List Fact) (a : ℕ) where
       ]
 
   module _ (p : ℕ) (early : p ≤ length S.rows) where
-    later_origin : (v q : ℕ) → IsLater p (length S.rows - p) v q → IsOrigin S fs a p q
+    later_origin : (v q : ℕ) → IsLater p (length S.rows - p) v q → IsOrigin S fs (spot p a) q
     later_origin v q h =
         let low = h.from in
         let high = h.to in
         record { byte = v; early = omega arith; has = h.has; spared = λ i x. elim x [ inl (l, u) ↦ h.spared i l u | inr (l, u) ↦ absurd (omega arith) ] }
 
-    earlier_origin : (v q : ℕ) → IsEarlier p v q → IsOrigin S fs a p q
+    earlier_origin : (v q : ℕ) → IsEarlier p v q → IsOrigin S fs (spot p a) q
     earlier_origin v q h =
         let high = h.to in
         record { byte = v; early = omega arith; has = h.has; spared = λ i x. elim x [ inl (l, u) ↦ absurd (omega arith) | inr (l, u) ↦ h.spared i l u ] }
 
     -- an origin after the point is not before the first one
-    after_first : (v q r : ℕ) → IsLater p (length S.rows - p) v q → IsOrigin S fs a p r → p ≤ r → q ≤ r
+    after_first : (v q r : ℕ) → IsLater p (length S.rows - p) v q → IsOrigin S fs (spot p a) r → p ≤ r → q ≤ r
     after_first v q r h o le =
         elim (cases_lt r q) [
           | inl less ↦ absurd (none_some (sym (h.first r le less) ∙ o.has))
           | inr more ↦ more
         ]
 
-    before_last : (v q r : ℕ) → IsEarlier p v q → IsOrigin S fs a p r → r ≤ p → r ≤ q
+    before_last : (v q r : ℕ) → IsEarlier p v q → IsOrigin S fs (spot p a) r → r ≤ p → r ≤ q
     before_last v q r h o le =
         elim (cases_lt q r) [
           | inl less ↦ absurd (none_some (sym (h.last r less le) ∙ o.has))
           | inr more ↦ more
         ]
 
-    no_later : from_later S fs a p (length S.rows - p) ≡ None → (r : ℕ) → IsOrigin S fs a p r → p ≤ r → ⊥
+    no_later : from_later S fs (spot p a) (length S.rows - p) ≡ None → (r : ℕ) → IsOrigin S fs (spot p a) r → p ≤ r → ⊥
     no_later none r o le = let inside = o.early in later_none (length S.rows - p) p r o.byte none le (omega arith) (λ i l u. o.spared i (inl (l, u))) o.has
 
-    no_earlier : from_earlier S fs a p ≡ None → (r : ℕ) → IsOrigin S fs a p r → r ≤ p → ⊥
+    no_earlier : from_earlier S fs a p ≡ None → (r : ℕ) → IsOrigin S fs (spot p a) r → r ≤ p → ⊥
     no_earlier none r o le = earlier_none p r o.byte none le (λ i l u. o.spared i (inr (l, u))) o.has
 
     -- where a byte is found, there is a nearest origin
-    pub nearest_origin : (v : ℕ) → byte_at S fs p a ≡ Some v → (q : ℕ) × IsNearest S fs a p q
-    nearest_origin v e = go (from_later S fs a p (length S.rows - p)) (from_earlier S fs a p) refl refl e
+    pub nearest_origin : (v : ℕ) → byte_at S fs p a ≡ Some v → (q : ℕ) × IsNearest S fs (spot p a) q
+    nearest_origin v e = go (from_later S fs (spot p a) (length S.rows - p)) (from_earlier S fs a p) refl refl e
       where
-        go : (x y : Option ℕ) → from_later S fs a p (length S.rows - p) ≡ x → from_earlier S fs a p ≡ y → or_else x y ≡ Some v → (q : ℕ) × IsNearest S fs a p q
+        go : (x y : Option ℕ) → from_later S fs (spot p a) (length S.rows - p) ≡ x → from_earlier S fs a p ≡ y → or_else x y ≡ Some v → (q : ℕ) × IsNearest S fs (spot p a) q
         go None None ex ey e = absurd (none_some e)
         go (Some u) None ex ey e =
             let one = later_first (length S.rows - p) p u ex in

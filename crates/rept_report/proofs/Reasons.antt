@@ -6,6 +6,7 @@ use Rattle.rept_reason.specs.declared.fact.Cell.TheVariants.{Register, Byte}
 use Rattle.rept_reason.specs.Facts.{Knowledge, IsCell, In, told}
 use Rattle.rept_report.specs.Knowing.{Extends, RegistersExtend, SameRegisters}
 use Rattle.rept_report.specs.Setting.{Setting, HasLaws}
+use Rattle.rept_report.specs.Spots.{passage}
 use Rattle.rept_report.specs.Views.{Carries}
 use Rattle.rept_report.specs.Conclusions.{HasWords, IsCarried, Concludes}
 use Rattle.rept_report.specs.Conclusions.IsCarried.{last_byte as in_dump, onward as carried_onward, back as carried_back}
@@ -47,7 +48,7 @@ older_in e fs f h = either e.logged
 abbrev pub AllCells : List Fact → Type 0
 AllCells fs = (f : Fact) → In fs f → IsCell f.cell
 
-same_carries : {W : Type 0} (S : Setting W) (K L : Knowledge) → SameRegisters K L → (a p q : ℕ) → Carries S K a p q → Carries S L a p q
+same_carries : {W : Type 0} (S : Setting W) (K L : Knowledge) → SameRegisters K L → (a p q : ℕ) → Carries S K (passage a p q) → Carries S L (passage a p q)
 same_carries S K L same a p q h = record { inside = h.inside; next = h.next; spared = sym (may_write_same S K L same p a) ∙ h.spared }
 
 module _ {W : Type 0} (S : Setting W) where
@@ -93,15 +94,15 @@ module _ {W : Type 0} (S : Setting W) (laws : HasLaws S) where
       let grows : RegistersExtend (told (logged_of es)) (told (logged_of (e ∷ es))) = λ p r v x. sym (same p r) ∙ more p (Register r) v (same' p r ∙ x) in
       let words = words_of (logged_of (e ∷ es)) (logged_words S (e ∷ es) h) in
       let up = λ (g : Fact) (k : In (facts_of es) g). stands_more (logged_of es) (logged_of (e ∷ es)) (logged_cells S es h.0) (older_in e (logged_of es)) grows words now g (trace_stands es h.0 older g k) in
-      let over = λ (a p q : ℕ) (small : a < 2 ^ 32) (x : Carries S (told (facts_of es)) a p q). Carries_more S laws (told (logged_of es)) (told (logged_of (e ∷ es))) grows words now a p q small (same_carries S (told (facts_of es)) (told (logged_of es)) same' a p q x) in
+      let over = λ (a p q : ℕ) (small : a < 2 ^ 32) (x : Carries S (told (facts_of es)) (passage a p q)). Carries_more S laws (told (logged_of es)) (told (logged_of (e ∷ es))) grows words now a p q small (same_carries S (told (facts_of es)) (told (logged_of es)) same' a p q x) in
       go (λ lost. h.1.carried lost older) up over i
     where
-      carried : ((g : Fact) → In (facts_of es) g → StandsIn S (logged_of (e ∷ es)) g) → ((a p q : ℕ) → a < 2 ^ 32 → Carries S (told (facts_of es)) a p q → Carries S (told (logged_of (e ∷ es))) a p q) → IsCarried S (told (facts_of es)) e.fact → StandsIn S (logged_of (e ∷ es)) e.fact
+      carried : ((g : Fact) → In (facts_of es) g → StandsIn S (logged_of (e ∷ es)) g) → ((a p q : ℕ) → a < 2 ^ 32 → Carries S (told (facts_of es)) (passage a p q) → Carries S (told (logged_of (e ∷ es))) (passage a p q)) → IsCarried S (told (facts_of es)) e.fact → StandsIn S (logged_of (e ∷ es)) e.fact
       carried up over (in_dump a p c x) = last_byte e.fact a p c (subst IsCell c h.1.cell) x
       carried up over (carried_onward a p q is c x k) = onward e.fact (record { point = p; cell = Byte a; value = e.fact.value }) a p q is c (over a p q (subst IsCell c h.1.cell) x) refl (sym c) refl (up _ (told_in (facts_of es) p (Byte a) e.fact.value k))
       carried up over (carried_back a p q is c x k) = back e.fact (record { point = q; cell = Byte a; value = e.fact.value }) a p q is c (over a p q (subst IsCell c h.1.cell) x) refl (sym c) refl (up _ (told_in (facts_of es) q (Byte a) e.fact.value k))
 
-      go : (e.logged ≡ false → IsCarried S (told (facts_of es)) e.fact) → ((g : Fact) → In (facts_of es) g → StandsIn S (logged_of (e ∷ es)) g) → ((a p q : ℕ) → a < 2 ^ 32 → Carries S (told (facts_of es)) a p q → Carries S (told (logged_of (e ∷ es))) a p q) → (f ≡ e.fact) ⊎ In (facts_of es) f → StandsIn S (logged_of (e ∷ es)) f
+      go : (e.logged ≡ false → IsCarried S (told (facts_of es)) e.fact) → ((g : Fact) → In (facts_of es) g → StandsIn S (logged_of (e ∷ es)) g) → ((a p q : ℕ) → a < 2 ^ 32 → Carries S (told (facts_of es)) (passage a p q) → Carries S (told (logged_of (e ∷ es))) (passage a p q)) → (f ≡ e.fact) ⊎ In (facts_of es) f → StandsIn S (logged_of (e ∷ es)) f
       go brought up over (inr k) = up f k
       go brought up over (inl is) =
           subst (StandsIn S (logged_of (e ∷ es))) (sym is)

@@ -13,6 +13,7 @@ use Rattle.rept_view.specs.declared.drawn.Need.{Need}
 use Rattle.rept_view.specs.Seen.{seen_cell}
 use Rattle.rept_view.specs.Rules.{IsRowByte, IsRowCell}
 use Rattle.rept_report.specs.Setting.{Setting, HasLaws}
+use Rattle.rept_report.specs.Spots.{passage}
 use Rattle.rept_report.specs.Views.{point_of, seen_at, Carries}
 use Rattle.rept_report.specs.Conflicts.{IsQuiet}
 use Rattle.rept_report.specs.Log.{oldest, Entry, facts_of, logged_of, IsTrace}
@@ -96,11 +97,11 @@ module _ {W : Type 0} (S : Setting W) (laws : HasLaws S) (es : List Entry) (trac
   carried_given t f why stands (by_last a p c e is) = rw is (all_empty (IsGiven Known))
   carried_given t f why stands (by_onward a i q p c near le is) =
       let early = front_early S laws es trace quiet t f stands in
-      let carries : Carries S (told (oldest t Log)) a i (i + 1) = record { inside = omega arith; next = refl; spared = near.origin.spared i (inr (le, omega arith)) } in
+      let carries : Carries S (told (oldest t Log)) (passage a i (i + 1)) = record { inside = omega arith; next = refl; spared = near.origin.spared i (inr (le, omega arith)) } in
       rw is (all_one (IsGiven Known) (fact_of i (Byte a) f.value) (inr (front_known t (fact_of i (Byte a) f.value) (back (fact_of i (Byte a) f.value) f a i (i + 1) refl refl carries p c refl stands))))
   carried_given t f why stands (by_back a i q p c near lt is) =
       let inside = near.origin.early in
-      let carries : Carries S (told (oldest t Log)) a i (i + 1) = record { inside = omega arith; next = refl; spared = near.origin.spared i (inl (omega arith, lt)) } in
+      let carries : Carries S (told (oldest t Log)) (passage a i (i + 1)) = record { inside = omega arith; next = refl; spared = near.origin.spared i (inl (omega arith, lt)) } in
       rw is (all_one (IsGiven Known) (fact_of (i + 1) (Byte a) f.value) (inr (front_known t (fact_of (i + 1) (Byte a) f.value) (onward (fact_of (i + 1) (Byte a) f.value) f a i (i + 1) refl refl carries p c refl stands))))
 
   -- the facts that a reason rests on are known

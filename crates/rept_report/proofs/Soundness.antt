@@ -29,7 +29,7 @@ use Rattle.rept_report.specs.Conclusions.IsCarried.{last_byte, onward, back}
 use Rattle.rept_report.specs.Conclusions.Follows.{last_value, kept_onward, kept_back, carried, drawn, only_value}
 use Rattle.rept_report.specs.Conflicts.{IsQuiet}
 use Rattle.rept_report.specs.Closure.{Derivation, InClosure, ClosureHas, IsReport}
-use Rattle.rept_report.specs.Spots.{spot}
+use Rattle.rept_report.specs.Spots.{spot, passage}
 use Rattle.rept_report.specs.Writers.{IsWriter}
 use Rattle.rept_report.specs.Soundness.{AlwaysHolds, StepWrites, WriterHolds, IsSound, HasNoExecution}
 use Rattle.rept_report.proofs.Told.{told_in, same_some, none_some}
@@ -117,7 +117,7 @@ module _ {W : Type 0} (S : Setting W) (laws : HasLaws S) (run : ℕ → State) (
     spared_kept i a row small is spared = step_keeps_byte S.image_end row (run i) (run (i + 1)) a (x.steps i row is) (λ writes. false≢true (sym spared ∙ written_may i a row small is writes))
 
     -- a byte is the same where it is carried
-    carried_kept : (a p q : ℕ) → a < 2 ^ 32 → Carries S K a p q → (run q).memory a ≡ (run p).memory a
+    carried_kept : (a p q : ℕ) → a < 2 ^ 32 → Carries S K (passage a p q) → (run q).memory a ≡ (run p).memory a
     carried_kept a p q small h =
         let inside = h.inside in
         elim ((slice_get_cases S.rows p).1) [

@@ -6,6 +6,7 @@ use Rattle.rept_reason.specs.declared.fact.Cell.{Cell}
 use Rattle.rept_reason.specs.declared.fact.Cell.TheVariants.{Byte}
 use Rattle.rept_reason.specs.Facts.{In, told, speaks}
 use Rattle.rept_report.specs.Setting.{Setting}
+use Rattle.rept_report.specs.Spots.{spot}
 use Rattle.rept_report.specs.Views.{may_write}
 use Rattle.rept_report.specs.Reasons.{StandsIn, or_else, source, from_later, from_earlier, byte_at}
 use Rattle.rept_report.specs.Reasons.StandsIn.{listed, last_byte, onward, back}
@@ -52,13 +53,13 @@ module _ {W : Type 0} (S : Setting W) (fs : List Fact) (a : ℕ) (small : a < 2 
             ]
       ]
 
-  later_stands : (k p v : ℕ) → p + k ≡ length S.rows → from_later S fs a p k ≡ Some v → StandsIn S fs (record { point = p; cell = Byte a; value = v })
+  later_stands : (k p v : ℕ) → p + k ≡ length S.rows → from_later S fs (spot p a) k ≡ Some v → StandsIn S fs (record { point = p; cell = Byte a; value = v })
   later_stands zero p v at e = source_stands p v e
   later_stands (suc k) p v at e =
-      elim (or_some (source S fs a p) (cond (may_write S (told fs) p a) None (from_later S fs a (p + 1) k)) v e) [
+      elim (or_some (source S fs a p) (cond (may_write S (told fs) p a) None (from_later S fs (spot (p + 1) a) k)) v e) [
         | inl t ↦ source_stands p v t
         | inr (none, t) ↦
-            let parts = unless_some (may_write S (told fs) p a) (from_later S fs a (p + 1) k) v t in
+            let parts = unless_some (may_write S (told fs) p a) (from_later S fs (spot (p + 1) a) k) v t in
             back (record { point = p; cell = Byte a; value = v }) (record { point = p + 1; cell = Byte a; value = v }) a p (p + 1) refl refl (record { inside = omega arith; next = refl; spared = parts.0 }) refl refl refl (later_stands k (p + 1) v (omega arith) parts.1)
       ]
 
@@ -75,17 +76,17 @@ module _ {W : Type 0} (S : Setting W) (fs : List Fact) (a : ℕ) (small : a < 2 
   -- what is found stands in the log
   pub found_stands : (p v : ℕ) → p ≤ length S.rows → byte_at S fs p a ≡ Some v → StandsIn S fs (record { point = p; cell = Byte a; value = v })
   found_stands p v early e =
-      elim (or_some (from_later S fs a p (length S.rows - p)) (from_earlier S fs a p) v e) [
+      elim (or_some (from_later S fs (spot p a) (length S.rows - p)) (from_earlier S fs a p) v e) [
         | inl t ↦ later_stands (length S.rows - p) p v (omega arith) t
         | inr (none, t) ↦ earlier_stands p v early t
       ]
 
   abbrev Reaches : ℕ → Type 0
-  Reaches p = (v : ℕ) × ((from_later S fs a p (length S.rows - p) ≡ Some v) ⊎ (from_earlier S fs a p ≡ Some v))
+  Reaches p = (v : ℕ) × ((from_later S fs (spot p a) (length S.rows - p) ≡ Some v) ⊎ (from_earlier S fs a p ≡ Some v))
 
-  later_source : (k p v : ℕ) → source S fs a p ≡ Some v → from_later S fs a p k ≡ Some v
+  later_source : (k p v : ℕ) → source S fs a p ≡ Some v → from_later S fs (spot p a) k ≡ Some v
   later_source zero p v e = e
-  later_source (suc k) p v e = or_left (source S fs a p) (cond (may_write S (told fs) p a) None (from_later S fs a (p + 1) k)) v e
+  later_source (suc k) p v e = or_left (source S fs a p) (cond (may_write S (told fs) p a) None (from_later S fs (spot (p + 1) a) k)) v e
 
   earlier_source : (p v : ℕ) → source S fs a p ≡ Some v → from_earlier S fs a p ≡ Some v
   earlier_source zero v e = e
@@ -97,22 +98,22 @@ module _ {W : Type 0} (S : Setting W) (fs : List Fact) (a : ℕ) (small : a < 2 
       let next : suc i ≡ i + 1 = omega arith in
       (found.0, subst (λ (q : ℕ). from_earlier S fs a q ≡ Some found.0) next found.1)
 
-  later_next : (i v : ℕ) → i < length S.rows → may_write S (told fs) i a ≡ false → from_later S fs a (i + 1) (length S.rows - (i + 1)) ≡ Some v → (w : ℕ) × (from_later S fs a i (length S.rows - i) ≡ Some w)
+  later_next : (i v : ℕ) → i < length S.rows → may_write S (told fs) i a ≡ false → from_later S fs (spot (i + 1) a) (length S.rows - (i + 1)) ≡ Some v → (w : ℕ) × (from_later S fs (spot i a) (length S.rows - i) ≡ Some w)
   later_next i v inside out e =
       let k = length S.rows - (i + 1) in
-      let found = or_either (source S fs a i) (cond (may_write S (told fs) i a) None (from_later S fs a (i + 1) k)) v (cond-false (may_write S (told fs) i a) None (from_later S fs a (i + 1) k) out ∙ e) in
+      let found = or_either (source S fs a i) (cond (may_write S (told fs) i a) None (from_later S fs (spot (i + 1) a) k)) v (cond-false (may_write S (told fs) i a) None (from_later S fs (spot (i + 1) a) k) out ∙ e) in
       let next : suc (length S.rows - (i + 1)) ≡ length S.rows - i = omega arith in
-      (found.0, subst (λ (q : ℕ). from_later S fs a i q ≡ Some found.0) next found.1)
+      (found.0, subst (λ (q : ℕ). from_later S fs (spot i a) q ≡ Some found.0) next found.1)
 
   reaches_onward : (i : ℕ) → i < length S.rows → may_write S (told fs) i a ≡ false → Reaches i → Reaches (i + 1)
   reaches_onward i inside out (v, inr l) = let w = earlier_next i v out l in (w.0, inr w.1)
   reaches_onward i inside out (v, inl r) =
       let k = length S.rows - (i + 1) in
       let next : length S.rows - i ≡ suc (length S.rows - (i + 1)) = omega arith in
-      let r' : from_later S fs a i (suc k) ≡ Some v = subst (λ (q : ℕ). from_later S fs a i q ≡ Some v) next r in
-      elim (or_some (source S fs a i) (cond (may_write S (told fs) i a) None (from_later S fs a (i + 1) k)) v r') [
+      let r' : from_later S fs (spot i a) (suc k) ≡ Some v = subst (λ (q : ℕ). from_later S fs (spot i a) q ≡ Some v) next r in
+      elim (or_some (source S fs a i) (cond (may_write S (told fs) i a) None (from_later S fs (spot (i + 1) a) k)) v r') [
         | inl t ↦ let w = earlier_next i v out (earlier_source i v t) in (w.0, inr w.1)
-        | inr (none, t) ↦ (v, inl (unless_some (may_write S (told fs) i a) (from_later S fs a (i + 1) k) v t).1)
+        | inr (none, t) ↦ (v, inl (unless_some (may_write S (told fs) i a) (from_later S fs (spot (i + 1) a) k) v t).1)
       ]
 
   reaches_back : (i : ℕ) → i < length S.rows → may_write S (told fs) i a ≡ false → Reaches (i + 1) → Reaches i
@@ -162,6 +163,6 @@ module _ {W : Type 0} (S : Setting W) (fs : List Fact) (a : ℕ) (small : a < 2 
   pub stands_found : (f : Fact) → StandsIn S fs f → f.cell ≡ Byte a → (v : ℕ) × (byte_at S fs f.point a ≡ Some v)
   stands_found f h is = either (stands_reaches f h is)
     where
-      either : (v : ℕ) × ((from_later S fs a f.point (length S.rows - f.point) ≡ Some v) ⊎ (from_earlier S fs a f.point ≡ Some v)) → (v : ℕ) × (byte_at S fs f.point a ≡ Some v)
-      either (v, inl r) = (v, or_left (from_later S fs a f.point (length S.rows - f.point)) (from_earlier S fs a f.point) v r)
-      either (v, inr l) = or_either (from_later S fs a f.point (length S.rows - f.point)) (from_earlier S fs a f.point) v l
+      either : (v : ℕ) × ((from_later S fs (spot f.point a) (length S.rows - f.point) ≡ Some v) ⊎ (from_earlier S fs a f.point ≡ Some v)) → (v : ℕ) × (byte_at S fs f.point a ≡ Some v)
+      either (v, inl r) = (v, or_left (from_later S fs (spot f.point a) (length S.rows - f.point)) (from_earlier S fs a f.point) v r)
+      either (v, inr l) = or_either (from_later S fs (spot f.point a) (length S.rows - f.point)) (from_earlier S fs a f.point) v l

@@ -10,6 +10,7 @@ use Rattle.rept_reason.specs.Facts.{Knowledge, IsCell}
 use Rattle.rept_span.specs.Ranges.{range}
 use Rattle.rept_view.specs.declared.drawn.Drawn.{Drawn}
 use Rattle.rept_report.specs.Setting.{Setting, way_of}
+use Rattle.rept_report.specs.Spots.{passage}
 use Rattle.rept_report.specs.Views.{point_of, seen_at, Carries}
 
 -- a register's value is a word
@@ -26,9 +27,9 @@ pub data IsCarried {W : Type 0} (S : Setting W) (K : Knowledge) (f : Fact) : Typ
   -- a byte of the dump, after the last row
   last_byte : (a : ℕ) → f.point ≡ length S.rows → f.cell ≡ Byte a → S.dump a ≡ Some f.value → IsCarried S K f
   -- the byte has the same value at the later point
-  onward : (a p q : ℕ) → f.point ≡ q → f.cell ≡ Byte a → Carries S K a p q → K p (Byte a) ≡ Some f.value → IsCarried S K f
+  onward : (a p q : ℕ) → f.point ≡ q → f.cell ≡ Byte a → Carries S K (passage a p q) → K p (Byte a) ≡ Some f.value → IsCarried S K f
   -- and at the earlier one
-  back : (a p q : ℕ) → f.point ≡ p → f.cell ≡ Byte a → Carries S K a p q → K q (Byte a) ≡ Some f.value → IsCarried S K f
+  back : (a p q : ℕ) → f.point ≡ p → f.cell ≡ Byte a → Carries S K (passage a p q) → K q (Byte a) ≡ Some f.value → IsCarried S K f
 
 pub data Follows {W : Type 0} (S : Setting W) (K : Knowledge) (f : Fact) : Type 0 where
   -- a register has its last value after the last row

@@ -9,7 +9,7 @@ pub record Spot : Type 0 where
 abbrev pub spot : ℕ → ℕ → Spot
 spot p a = record { point = p; address = a }
 
--- the byte at an address, along the path from one point to a later one
+-- the byte at an address, along the path from one point to another one
 pub record Passage : Type 0 where
   pub address : ℕ
   pub from : ℕ

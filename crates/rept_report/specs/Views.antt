@@ -11,6 +11,7 @@ use Rattle.rept_view.specs.declared.drawn.When.{When}
 use Rattle.rept_view.specs.declared.drawn.When.TheVariants.{Before, After}
 use Rattle.rept_view.specs.Seen.{Seen}
 use Rattle.rept_report.specs.Setting.{Setting, way_of}
+use Rattle.rept_report.specs.Spots.{Passage}
 
 -- the point before a row, or the one after it
 abbrev pub point_of : ℕ → When → ℕ
@@ -73,7 +74,7 @@ abbrev pub is_sure : {W : Type 0} → Setting W → Knowledge → ℕ → Bool
 is_sure S K i = sure_by S (slice_get S.rows i) (registers_at S K i)
 
 -- Where a byte is carried: between two points, one next to the other, where the row between may not write it.
-pub record Carries {W : Type 0} (S : Setting W) (K : Knowledge) (a earlier later : ℕ) : Type 0 where
-  pub inside : earlier < length S.rows
-  pub next : later ≡ earlier + 1
-  pub spared : may_write S K earlier a ≡ false
+pub record Carries {W : Type 0} (S : Setting W) (K : Knowledge) (x : Passage) : Type 0 where
+  pub inside : x.from < length S.rows
+  pub next : x.to ≡ x.from + 1
+  pub spared : may_write S K x.from x.address ≡ false

@@ -18,6 +18,7 @@ use Rattle.rept_view.specs.declared.drawn.Drawn.{Drawn}
 use Rattle.rept_view.specs.declared.drawn.Need.{Need}
 use Rattle.rept_view.specs.Seen.{Seen, seen_cell}
 use Rattle.rept_report.specs.Setting.{Setting, Runs, way_of}
+use Rattle.rept_report.specs.Spots.{Spot, spot}
 use Rattle.rept_report.specs.Views.{point_of, register_range, known_or, seen_at, may_write}
 use Rattle.rept_report.specs.Log.{oldest, entry}
 use Rattle.rept_report.specs.Reasons.{StandsIn, source, standing}
@@ -86,27 +87,27 @@ pub data IsKnownBecause {W : Type 0} (S : Setting W) (K : Knowledge) (f : Fact) 
   -- one value is left for it
   only_value : (r : ℕ) (set : W) → f.cell ≡ Register r → range (way_of S) K f.point r ≡ Some set → S.sets.as_exact set ≡ Some f.value → why ≡ because 17 [] (looked S K f.point r ∷ []) → IsKnownBecause S K f why
 
--- Point q has a byte of the facts or of the dump, from which the byte at p is carried: no row between may write it.
-pub record IsOrigin {W : Type 0} (S : Setting W) (fs : List Fact) (a p q : ℕ) : Type 0 where
+-- Point q has a byte of the facts or of the dump, from which the byte is carried to its point: no row between may write it.
+pub record IsOrigin {W : Type 0} (S : Setting W) (fs : List Fact) (x : Spot) (q : ℕ) : Type 0 where
   pub byte : ℕ
   pub early : q ≤ length S.rows
-  pub has : source S fs a q ≡ Some byte
-  pub spared : (i : ℕ) → ((p ≤ i) × (i < q)) ⊎ ((q ≤ i) × (i < p)) → may_write S (told fs) i a ≡ false
+  pub has : source S fs x.address q ≡ Some byte
+  pub spared : (i : ℕ) → ((x.point ≤ i) × (i < q)) ⊎ ((q ≤ i) × (i < x.point)) → may_write S (told fs) i x.address ≡ false
 
 -- how many steps lie between two points
 abbrev pub distance : ℕ → ℕ → ℕ
 distance p q = (p - q) + (q - p)
 
 -- one such point with the fewest steps between
-pub record IsNearest {W : Type 0} (S : Setting W) (fs : List Fact) (a p q : ℕ) : Type 0 where
-  pub origin : IsOrigin S fs a p q
-  pub nearest : (r : ℕ) → IsOrigin S fs a p r → distance p q ≤ distance p r
+pub record IsNearest {W : Type 0} (S : Setting W) (fs : List Fact) (x : Spot) (q : ℕ) : Type 0 where
+  pub origin : IsOrigin S fs x q
+  pub nearest : (r : ℕ) → IsOrigin S fs x r → distance x.point q ≤ distance x.point r
 
 -- A byte's fact that is carried: it is the dump's, or it has the value at the next point on the way to the nearest origin.
 pub data IsCarriedBecause {W : Type 0} (S : Setting W) (fs : List Fact) (f : Fact) (why : Because) : Type 0 where
   last_byte : (a : ℕ) → f.point ≡ length S.rows → f.cell ≡ Byte a → S.dump a ≡ Some f.value → why ≡ because 2 [] [] → IsCarriedBecause S fs f why
-  onward : (a i q : ℕ) → f.point ≡ i + 1 → f.cell ≡ Byte a → IsNearest S fs a (i + 1) q → q ≤ i → why ≡ because 5 (fact_of i (Byte a) f.value ∷ []) (looked_across S (told fs) i) → IsCarriedBecause S fs f why
-  back : (a i q : ℕ) → f.point ≡ i → f.cell ≡ Byte a → IsNearest S fs a i q → i < q → why ≡ because 6 (fact_of (i + 1) (Byte a) f.value ∷ []) (looked_across S (told fs) i) → IsCarriedBecause S fs f why
+  onward : (a i q : ℕ) → f.point ≡ i + 1 → f.cell ≡ Byte a → IsNearest S fs (spot (i + 1) a) q → q ≤ i → why ≡ because 5 (fact_of i (Byte a) f.value ∷ []) (looked_across S (told fs) i) → IsCarriedBecause S fs f why
+  back : (a i q : ℕ) → f.point ≡ i → f.cell ≡ Byte a → IsNearest S fs (spot i a) q → i < q → why ≡ because 6 (fact_of (i + 1) (Byte a) f.value ∷ []) (looked_across S (told fs) i) → IsCarriedBecause S fs f why
 
 -- the shortest prefix of the log in which the fact stands: the facts at places below t
 pub record IsLeastFront {W : Type 0} (S : Setting W) (log : List Fact) (f : Fact) (t : ℕ) : Type 0 where

@@ -4,6 +4,7 @@ ghost use Rattle.std.specs.Prelude.{◌≡◌, ◌≢◌, true, false, ◌+◌, 
 ghost use Rattle.rept_isa.specs.declared.instr.Instr.TheVariants.{Ecall};
 ghost use Rattle.rept_reason.specs.declared.fact.Cell.TheVariants.{Byte};
 ghost use Rattle.rept_reason.specs.Facts.{told};
+ghost use Rattle.rept_report.specs.Spots.{spot};
 ghost use Rattle.rept_report.specs.Why.{Because, because, looked, looked_across, told_by_row, tells_writes, IsNearest, IsCarriedBecause};
 ghost use Rattle.rept_log.specs.Fronts.{front_of, told_by, IsNotOfDump, call_looked, by_base};
 
@@ -148,7 +149,7 @@ impl<'k, 'd, B: ByteFacts, W: Transfer, R: RowRules> Front<'k, 'd, B, W, R> {
     ) -> Result<Reason, OutOfMemory>
         requires point { fact.now.point ≤ length self.now.rows }
         requires cell { fact.now.cell ≡ Byte a }
-        requires nearest { IsNearest (front_of W.sets W.moves R.rules self.now).setting self.now.facts a fact.now.point q }
+        requires nearest { IsNearest (front_of W.sets W.moves R.rules self.now).setting self.now.facts (spot fact.now.point a) q }
         requires earlier { q < fact.now.point }
         ensures { IfOk result (λ reason. IsCarriedBecause (front_of W.sets W.moves R.rules self.now).setting self.now.facts fact.now (told_by reason)) }
     {
@@ -166,7 +167,7 @@ impl<'k, 'd, B: ByteFacts, W: Transfer, R: RowRules> Front<'k, 'd, B, W, R> {
         q: u32,
     ) -> Result<Reason, OutOfMemory>
         requires cell { fact.now.cell ≡ Byte a }
-        requires nearest { IsNearest (front_of W.sets W.moves R.rules self.now).setting self.now.facts a fact.now.point q }
+        requires nearest { IsNearest (front_of W.sets W.moves R.rules self.now).setting self.now.facts (spot fact.now.point a) q }
         requires later { fact.now.point < q }
         requires inside { fact.now.point < length self.now.rows }
         ensures { IfOk result (λ reason. IsCarriedBecause (front_of W.sets W.moves R.rules self.now).setting self.now.facts fact.now (told_by reason)) }

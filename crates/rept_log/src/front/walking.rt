@@ -2,6 +2,7 @@
 
 ghost use Rattle.std.specs.Prelude.{◌≡◌, ◌+◌, ◌-◌, ◌<◌, ◌≤◌, ◌↔◌, ℕ, length, IsTrue, IfSome, IfNone};
 ghost use Rattle.rept_reason.specs.declared.fact.Cell.TheVariants.{Byte};
+ghost use Rattle.rept_report.specs.Spots.{spot};
 ghost use Rattle.rept_report.specs.Why.{IsOrigin, IsNearest};
 ghost use Rattle.rept_log.specs.Fronts.{front_of, stands, IsSourceFrom, IsSpared, IsLater, IsEarlier};
 
@@ -85,8 +86,8 @@ impl<'k, 'd, B: ByteFacts, W: Transfer, R: RowRules> Front<'k, 'd, B, W, R> {
     /// A point from which the byte is carried to this one, with the fewest rows between.
     pub(super) fn nearest(&self, point: u32, a: u32) -> Option<u32>
         requires { point ≤ length self.now.rows }
-        ensures found { IfSome result (λ q. IsNearest (front_of W.sets W.moves R.rules self.now).setting self.now.facts a point q) }
-        ensures none { IfNone result ((r : ℕ) → IsOrigin (front_of W.sets W.moves R.rules self.now).setting self.now.facts a point r → ⊥) }
+        ensures found { IfSome result (λ q. IsNearest (front_of W.sets W.moves R.rules self.now).setting self.now.facts (spot point a) q) }
+        ensures none { IfNone result ((r : ℕ) → IsOrigin (front_of W.sets W.moves R.rules self.now).setting self.now.facts (spot point a) r → ⊥) }
     {
         match (self.later(point, a), self.earlier(point, a)) {
             (None, None) => None,
