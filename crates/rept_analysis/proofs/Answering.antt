@@ -27,7 +27,8 @@ use Rattle.rept_report.proofs.Registers.{range_same, may_write_same, is_sure_sam
 use Rattle.rept_report.proofs.Implied.{implied_at, implied_is}
 use Rattle.rept_analysis.specs.State.{State, all_known}
 use Rattle.rept_analysis.specs.Moments.{moment}
-use Rattle.rept_analysis.specs.Drawing.{fact_at, Knows, IsTracked, IsFitted, IsSettled}
+use Rattle.rept_report.specs.Why.{fact_of}
+use Rattle.rept_analysis.specs.Drawing.{Knows, IsTracked, IsFitted, IsSettled}
 use Rattle.rept_analysis.specs.Kept.{is_among, register_answer, answers, IsFinished}
 use Rattle.rept_analysis.proofs.Following.{moment_is}
 use Rattle.rept_analysis.proofs.Reported.{among_contains, contains_among}
@@ -198,11 +199,11 @@ module _ {W : Type 0} (s : State W) (finished : IsFinished s) where
       rw same refl
 
   -- each answer is a fact of the closure, at a point of the path
-  pub answers_derived : (p : ℕ) (c : Cell) (v : ℕ) → answers s p c ≡ Some v → InClosure s.setting (fact_at p c v)
-  answers_derived p c v e = (finished.report.exact (fact_at p c v)).0 e
+  pub answers_derived : (p : ℕ) (c : Cell) (v : ℕ) → answers s p c ≡ Some v → InClosure s.setting (fact_of p c v)
+  answers_derived p c v e = (finished.report.exact (fact_of p c v)).0 e
 
   pub answers_early : (p : ℕ) (c : Cell) (v : ℕ) → answers s p c ≡ Some v → (p ≤ length s.setting.rows) × IsCell c
-  answers_early p c v e = closure_early s.setting (fact_at p c v) (answers_derived p c v e)
+  answers_early p c v e = closure_early s.setting (fact_of p c v) (answers_derived p c v e)
 
   -- past the path nothing is answered
   pub answers_past : (p : ℕ) (c : Cell) → length s.setting.rows < p → None ≡ answers s p c

@@ -8,7 +8,8 @@ use Rattle.rept_analysis.specs.State.{State, all_known}
 use Rattle.std.proofs.lemmas.Option.{slice_get-get_or, slice_get_within}
 use Rattle.rept_view.specs.declared.drawn.Drawn.{Drawn}
 use Rattle.rept_report.proofs.Told.{same_some}
-use Rattle.rept_analysis.specs.Drawing.{Knows, IsTracked, Grows, HasNews, Drew, IsFollowing, IsClash, fact_at, KnowsDrawn, DrawnBelow, IsConclusion, AreConclusions, IsUncut, IsRowClosed}
+use Rattle.rept_report.specs.Why.{fact_of}
+use Rattle.rept_analysis.specs.Drawing.{Knows, IsTracked, Grows, HasNews, Drew, IsFollowing, IsClash, KnowsDrawn, DrawnBelow, IsConclusion, AreConclusions, IsUncut, IsRowClosed}
 use Rattle.rept_analysis.specs.Drawing.HasNews.{fact, address, anew}
 
 pub Grows_itself : {W : Type 0} (a : State W) → Grows a a
@@ -100,8 +101,8 @@ one_more C r below here s h =
     elim (cases_lt s r) [ inl lt ↦ below s lt | inr le ↦ let e : r ≡ s = omega arith in subst C e here ]
 
 -- a value that clashes
-pub clash_found : {W : Type 0} (old new : State W) (p : ℕ) (c : Cell) (w v : ℕ) → new ≡ old → Knows p c w old → w ≢ v → IsFollowing old (fact_at p c v) → IsClash new (fact_at p c v) w
-clash_found old new p c w v same known differs follows = subst (λ (x : State _). IsClash x (fact_at p c v) w) (sym same) (record { is_known = known; differs = differs; follows = follows })
+pub clash_found : {W : Type 0} (old new : State W) (p : ℕ) (c : Cell) (w v : ℕ) → new ≡ old → Knows p c w old → w ≢ v → IsFollowing old (fact_of p c v) → IsClash new (fact_of p c v) w
+clash_found old new p c w v same known differs follows = subst (λ (x : State _). IsClash x (fact_of p c v) w) (sym same) (record { is_known = known; differs = differs; follows = follows })
 
 pub row_after : {W : Type 0} (old new : State W) (i : ℕ) (row : StepRow) → Grows old new → slice_get old.setting.rows i ≡ Some row → slice_get new.setting.rows i ≡ Some row
 row_after old new i row grows found = rw grows.rows found

@@ -42,7 +42,8 @@ use Rattle.rept_analysis.specs.State.{State, all_known}
 use Rattle.rept_analysis.specs.Moments.{filled_range, moment, moment_lawful}
 use Rattle.rept_analysis.specs.Room.{IsDrawable, own_at, IsOwnByte}
 use Rattle.rept_analysis.proofs.Reserve.{drawable_more, own_byte_more}
-use Rattle.rept_analysis.specs.Drawing.{Knows, IsTracked, Grows, IsFollowing, IsBrought, fact_at, IsLearntAt, IsKeptAt, LastKnown, IsFitted, IsAccess, IsCarriedAt, AreTrackedFrom, IsRowTracked, IsConclusion, IsBroughtTo, KeptBelow, DrawnKnown, IsRowDrawn, IsRowClosed, LastByteKnown, SingleKnown, AreRowAddresses}
+use Rattle.rept_report.specs.Why.{fact_of}
+use Rattle.rept_analysis.specs.Drawing.{Knows, IsTracked, Grows, IsFollowing, IsBrought, IsLearntAt, IsKeptAt, LastKnown, IsFitted, IsAccess, IsCarriedAt, AreTrackedFrom, IsRowTracked, IsConclusion, IsBroughtTo, KeptBelow, DrawnKnown, IsRowDrawn, IsRowClosed, LastByteKnown, SingleKnown, AreRowAddresses}
 
 pub flat_known : (x : Option ℕ) (v : ℕ) → flat x ≡ Known v → x ≡ Some v
 flat_known None v e = cc
@@ -64,10 +65,10 @@ told_known s p r v x read h named = read ∙ ap flat (other ∙ h)
     other = cond-false (eqb r 0) (Some 0) (told s.known.log p (Register r)) (ne_eqb r 0 (λ e. omega (arith, named, e)))
 
 module _ {W : Type 0} (s : State W) (i : ℕ) (row : StepRow) (found : slice_get s.setting.rows i ≡ Some row) (inside : i < length s.setting.rows) (r v : ℕ) (named : 0 < r) (in_file : r < 32) (small : v < 2 ^ 32) (kept : written_by row.instr ≢ Some r) (x : Flat) where
-  pub onward_follows : x ≡ flat (register_known (told s.known.log) i r) → x ≡ Known v → IsFollowing s (fact_at (i + 1) (Register r) v)
+  pub onward_follows : x ≡ flat (register_known (told s.known.log) i r) → x ≡ Known v → IsFollowing s (fact_of (i + 1) (Register r) v)
   onward_follows read is quiet = record { early = omega (arith, inside); cell = (named, in_file); word = small; by = kept_onward i r row found refl refl kept (known_told s i r v x read is named) }
 
-  pub back_follows : x ≡ flat (register_known (told s.known.log) (i + 1) r) → x ≡ Known v → IsFollowing s (fact_at i (Register r) v)
+  pub back_follows : x ≡ flat (register_known (told s.known.log) (i + 1) r) → x ≡ Known v → IsFollowing s (fact_of i (Register r) v)
   back_follows read is quiet = record { early = omega (arith, inside); cell = (named, in_file); word = small; by = kept_back i r row found refl refl kept (known_told s (i + 1) r v x read is named) }
 
 pub kept_at : {W : Type 0} (s : State W) (i r : ℕ) (x : Flat) → x ≡ flat (register_known (told s.known.log) i r) → 0 < r → IsLearntAt (i + 1) r x s → ((v : ℕ) → 0 < r → Knows (i + 1) (Register r) v s → Knows i (Register r) v s) → IsKeptAt i r s
@@ -86,7 +87,7 @@ read_after s t p r v x g read is =
 pub back_known : {W : Type 0} (s : State W) (i r : ℕ) (x : Flat) → x ≡ flat (register_known (told s.known.log) (i + 1) r) → IsLearntAt i r x s → (v : ℕ) → 0 < r → Knows (i + 1) (Register r) v s → Knows i (Register r) v s
 back_known s i r x read learnt v named h = learnt v (told_known s (i + 1) r v x read h named) named
 
-pub last_follows : {W : Type 0} (s : State W) (p r v w : ℕ) → p ≡ length s.setting.rows → slice_get s.setting.last r ≡ Some w → Known w ≡ Known v → 0 < r → r < 32 → v < 2 ^ 32 → IsFollowing s (fact_at p (Register r) v)
+pub last_follows : {W : Type 0} (s : State W) (p r v w : ℕ) → p ≡ length s.setting.rows → slice_get s.setting.last r ≡ Some w → Known w ≡ Known v → 0 < r → r < 32 → v < 2 ^ 32 → IsFollowing s (fact_of p (Register r) v)
 last_follows s p r v w at found is named in_file small quiet = record { early = omega (arith, at); cell = (named, in_file); word = small; by = last_value r at refl (found ∙ ap Some (same_flat is)) }
   where
     same_flat : {x y : ℕ} → Known x ≡ Known y → x ≡ y
@@ -206,13 +207,13 @@ module _ {W : Type 0} (s : State W) (laws : HasLaws s.setting) (words : HasWords
   carries : IsQuiet s.setting (all_known s) → Carries s.setting (all_known s) (passage a i (i + 1))
   carries quiet = record { inside = inside; next = refl; spared = spared_more s.setting laws (told (oldest s.filled s.known.log)) (all_known s) (λ p r w e. oldest_less s.filled s.known.log once p (Register r) w e) words quiet i a small (sym (is_access a small) ∙ spared) }
 
-  pub onward_brought : Knows i (Byte a) v s → IsBrought s (fact_at (i + 1) (Byte a) v)
+  pub onward_brought : Knows i (Byte a) v s → IsBrought s (fact_of (i + 1) (Byte a) v)
   onward_brought h quiet = onward a i (i + 1) refl refl (carries quiet) h
 
-  pub back_brought : Knows (i + 1) (Byte a) v s → IsBrought s (fact_at i (Byte a) v)
+  pub back_brought : Knows (i + 1) (Byte a) v s → IsBrought s (fact_of i (Byte a) v)
   back_brought h quiet = back a i (i + 1) refl refl (carries quiet) h
 
-pub brought_follows : {W : Type 0} (s : State W) (p a v : ℕ) → p ≤ length s.setting.rows → a < 2 ^ 32 → IsBrought s (fact_at p (Byte a) v) → IsFollowing s (fact_at p (Byte a) v)
+pub brought_follows : {W : Type 0} (s : State W) (p a v : ℕ) → p ≤ length s.setting.rows → a < 2 ^ 32 → IsBrought s (fact_of p (Byte a) v) → IsFollowing s (fact_of p (Byte a) v)
 brought_follows s p a v h small brought quiet = record { early = h; cell = small; word = tt; by = carried (brought quiet) }
 
 pub access_after : {W : Type 0} (s t : State W) (i : ℕ) (access : CallAccess) → Grows s t → IsAccess i access s → IsAccess i access t
@@ -243,7 +244,7 @@ row_closed s i row found registers tracked drawn_ row' found' =
     same_row : {x y : StepRow} → Some x ≡ Some y → x ≡ y
     same_row e = cc
 
-pub last_byte_brought : {W : Type 0} (s : State W) (p a v : ℕ) → p ≡ length s.setting.rows → s.setting.dump a ≡ Some v → IsBrought s (fact_at p (Byte a) v)
+pub last_byte_brought : {W : Type 0} (s : State W) (p a v : ℕ) → p ≡ length s.setting.rows → s.setting.dump a ≡ Some v → IsBrought s (fact_of p (Byte a) v)
 last_byte_brought s p a v at found quiet = last_byte a at refl found
 
 pub last_byte_known : {W : Type 0} (s : State W) (p a w : ℕ) → p ≡ length s.setting.rows → s.setting.dump a ≡ Some w → Knows p (Byte a) w s → LastByteKnown a s
@@ -254,7 +255,7 @@ no_last_byte s a none v is = absurd (none_some (sym none ∙ is))
 
 -- a set of one value, as the sets were filled
 module _ {W : Type 0} (s : State W) (laws : HasLaws s.setting) (words : HasWords (all_known s)) (once : OnceEach s.known.log) (fitted : IsFitted s) where
-  pub single_follows : (p r v : ℕ) (set : W) → p ≤ length s.setting.rows → 0 < r → r < 32 → v < 2 ^ 32 → entry_at s.spans p r ≡ Some set → s.setting.sets.as_exact set ≡ Some v → IsFollowing s (fact_at p (Register r) v)
+  pub single_follows : (p r v : ℕ) (set : W) → p ≤ length s.setting.rows → 0 < r → r < 32 → v < 2 ^ 32 → entry_at s.spans p r ≡ Some set → s.setting.sets.as_exact set ≡ Some v → IsFollowing s (fact_of p (Register r) v)
   single_follows p r v set early_ named in_file small at only quiet =
       let is : range (way_of s.setting) (told (oldest s.filled s.known.log)) p r ≡ Some set = sym (fitted p early_ r in_file) ∙ at in
       let next = single_value_more s.setting laws (told (oldest s.filled s.known.log)) (all_known s) (λ q t w e. oldest_less s.filled s.known.log once q (Register t) w e) words quiet p r v set early_ in_file is only in

@@ -21,7 +21,8 @@ use Rattle.rept_log.specs.declared.answer.Answer.{Answer}
 use Rattle.rept_log.specs.declared.answer.Answer.TheVariants.{Old, New, Clash}
 use Rattle.rept_log.specs.Known.{Known, knows, known_change, with_entry, IsNew, LearnsRegister, AddsByte, LearnsByte, HasNoRoom, TracksMore, TracksByte}
 use Rattle.rept_analysis.specs.State.{State, all_known}
-use Rattle.rept_analysis.specs.Drawing.{fact_at, IsTracked, Grows, IsFollowing, IsBrought, IsRowAddress, HasPlace}
+use Rattle.rept_report.specs.Why.{fact_of}
+use Rattle.rept_analysis.specs.Drawing.{IsTracked, Grows, IsFollowing, IsBrought, IsRowAddress, HasPlace}
 use Rattle.rept_analysis.specs.Sums.{sum_to}
 use Rattle.rept_analysis.specs.Room.{places_at, HasRoom}
 use Rattle.rept_analysis.specs.Drawing.HasNews.{fact, address}
@@ -174,12 +175,12 @@ module _ {W : Type 0} (s : State W) (kept : IsKept s) (f : Fact) (keep : Bool) (
   }
 
 -- a register
-module _ {W : Type 0} (s : State W) (kept : IsKept s) (p r v : ℕ) (early : p ≤ length s.setting.rows) (named : 0 < r) (in_file : r < 32) (small : v < 2 ^ 32) (open_ : s.complete ≡ false) (follows : IsFollowing s (fact_at p (Register r) v)) where
-  register_agrees : (q : ℕ) (c : Cell) → told (fact_at p (Register r) v ∷ facts_of kept.traced.entries) q c ≡ knows (with_entry s.known (fact_at p (Register r) v)) q c
-  register_agrees q (Register t) = ap (λ (x : Option ℕ). cond (speaks (fact_at p (Register r) v) q (Register t)) (Some v) x) (kept.traced.agree q (Register t))
-  register_agrees q (Byte a) = told_old (fact_at p (Register r) v) (facts_of kept.traced.entries) q (Byte a) (false_from_ne_true (speaks (fact_at p (Register r) v) q (Byte a)) (λ e. register_differs (speaks_is (fact_at p (Register r) v) q (Byte a) e).1)) ∙ kept.traced.agree q (Byte a)
+module _ {W : Type 0} (s : State W) (kept : IsKept s) (p r v : ℕ) (early : p ≤ length s.setting.rows) (named : 0 < r) (in_file : r < 32) (small : v < 2 ^ 32) (open_ : s.complete ≡ false) (follows : IsFollowing s (fact_of p (Register r) v)) where
+  register_agrees : (q : ℕ) (c : Cell) → told (fact_of p (Register r) v ∷ facts_of kept.traced.entries) q c ≡ knows (with_entry s.known (fact_of p (Register r) v)) q c
+  register_agrees q (Register t) = ap (λ (x : Option ℕ). cond (speaks (fact_of p (Register r) v) q (Register t)) (Some v) x) (kept.traced.agree q (Register t))
+  register_agrees q (Byte a) = told_old (fact_of p (Register r) v) (facts_of kept.traced.entries) q (Byte a) (false_from_ne_true (speaks (fact_of p (Register r) v) q (Byte a)) (λ e. register_differs (speaks_is (fact_of p (Register r) v) q (Byte a) e).1)) ∙ kept.traced.agree q (Byte a)
 
-  register_next : OnceEach (fact_at p (Register r) v ∷ s.known.log) → told s.known.log p (Register r) ≡ None → IsNext s kept (fact_at p (Register r) v) true (with_entry s.known (fact_at p (Register r) v))
+  register_next : OnceEach (fact_of p (Register r) v ∷ s.known.log) → told s.known.log p (Register r) ≡ None → IsNext s kept (fact_of p (Register r) v) true (with_entry s.known (fact_of p (Register r) v))
   register_next once none = record {
     early = early;
     cell = (named, in_file);
@@ -193,21 +194,21 @@ module _ {W : Type 0} (s : State W) (kept : IsKept s) (p r v : ℕ) (early : p �
     once = once;
     tracked = refl;
     listed = λ q a w e. kept.listed q a w e;
-    roomy = λ more j. room_like s.setting s.known (with_entry s.known (fact_at p (Register r) v)) more (omega arith) (omega arith) refl refl (kept.roomy j);
+    roomy = λ more j. room_like s.setting s.known (with_entry s.known (fact_of p (Register r) v)) more (omega arith) (omega arith) refl refl (kept.roomy j);
     agree = register_agrees;
   }
 
-  pub told_register : (k : Known) → OnceEach k.log → (answer : Answer) → LearnsRegister s.known k (fact_at p (Register r) v) answer → IsKept (with_known s k) × Tells s (with_known s k) (fact_at p (Register r) v) answer
+  pub told_register : (k : Known) → OnceEach k.log → (answer : Answer) → LearnsRegister s.known k (fact_of p (Register r) v) answer → IsKept (with_known s k) × Tells s (with_known s k) (fact_of p (Register r) v) answer
   told_register k once Old (same, known) = (kept_same s k same kept, (same_known s k same, known))
   told_register k once (Clash w) (same, known, differs) = (kept_same s k same kept, (same_known s k same, known, differs))
   told_register k once New (same, none) =
       let n = register_next (subst (λ (x : Known). OnceEach x.log) same once) none in
-      subst (λ (x : Known). IsKept (with_known s x) × Tells s (with_known s x) (fact_at p (Register r) v) New) (sym same) (next_kept s kept _ true _ n, next_told s kept _ true _ n)
+      subst (λ (x : Known). IsKept (with_known s x) × Tells s (with_known s x) (fact_of p (Register r) v) New) (sym same) (next_kept s kept _ true _ n, next_told s kept _ true _ n)
 
 -- a byte
-module _ {W : Type 0} (s : State W) (kept : IsKept s) (joins : Bool) (p a v : ℕ) (early : p ≤ length s.setting.rows) (small : a < 2 ^ 32) (tracked : IsTracked a s) (open_ : s.complete ≡ false) (follows : IsFollowing s (fact_at p (Byte a) v)) (keep : Bool) (brought : keep ≡ false → IsBrought s (fact_at p (Byte a) v)) where
+module _ {W : Type 0} (s : State W) (kept : IsKept s) (joins : Bool) (p a v : ℕ) (early : p ≤ length s.setting.rows) (small : a < 2 ^ 32) (tracked : IsTracked a s) (open_ : s.complete ≡ false) (follows : IsFollowing s (fact_of p (Byte a) v)) (keep : Bool) (brought : keep ≡ false → IsBrought s (fact_of p (Byte a) v)) where
   abbrev f : Fact
-  f = fact_at p (Byte a) v
+  f = fact_of p (Byte a) v
 
   abbrev on_byte : ByteFact
   on_byte = record { point = p; address = a; value = v }
@@ -272,9 +273,9 @@ module _ {W : Type 0} (s : State W) (kept : IsKept s) (joins : Bool) (p a v : �
     new_byte once roomy = let n = byte_next once roomy in (next_kept s kept f keep k n, next_told s kept f keep k n)
 
 -- a byte for which there is room
-module _ {W : Type 0} (s : State W) (laws : HasLaws s.setting) (kept : IsKept s) (joins : Bool) (p a v : ℕ) (early : p ≤ length s.setting.rows) (small : a < 2 ^ 32) (tracked : IsTracked a s) (open_ : s.complete ≡ false) (follows : IsFollowing s (fact_at p (Byte a) v)) where
+module _ {W : Type 0} (s : State W) (laws : HasLaws s.setting) (kept : IsKept s) (joins : Bool) (p a v : ℕ) (early : p ≤ length s.setting.rows) (small : a < 2 ^ 32) (tracked : IsTracked a s) (open_ : s.complete ≡ false) (follows : IsFollowing s (fact_of p (Byte a) v)) where
   abbrev g : Fact
-  g = fact_at p (Byte a) v
+  g = fact_of p (Byte a) v
 
   abbrev byte_learnt : ByteFact
   byte_learnt = record { point = p; address = a; value = v }

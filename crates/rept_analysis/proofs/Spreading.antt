@@ -25,7 +25,8 @@ use Rattle.rept_versions.specs.Facts.{Told, Store, change, Between, Spreads, Car
 use Rattle.rept_log.proofs.Stores.{stays_same}
 use Rattle.rept_log.specs.Known.{Known, knows, known_change, AddsByte, SameLog}
 use Rattle.rept_analysis.specs.State.{State, all_known}
-use Rattle.rept_analysis.specs.Drawing.{fact_at, Knows, IsTracked, Grows, IsBrought, IsSpared, IsSparedBetween, IsSpreadTo, IsCarriedFrom, IsCarriedAt, IsAccess}
+use Rattle.rept_report.specs.Why.{fact_of}
+use Rattle.rept_analysis.specs.Drawing.{Knows, IsTracked, Grows, IsBrought, IsSpared, IsSparedBetween, IsSpreadTo, IsCarriedFrom, IsCarriedAt, IsAccess}
 use Rattle.rept_analysis.specs.Drawing.HasNews.{fact}
 use Rattle.rept_analysis.specs.Told.{Sends}
 use Rattle.rept_analysis.specs.Kept.{IsKept}
@@ -70,10 +71,10 @@ module _ {W : Type 0} (s : State W) (laws : HasLaws s.setting) (kept : IsKept s)
       missed (inl old) = spared_more s.setting laws (told (oldest s.filled s.known.log)) (all_known s) (λ p r w e. oldest_less s.filled s.known.log kept.once p (Register r) w e) (known_words s kept) quiet i a small old
       missed (inr now) = now quiet
 
-  pub up_brought : Knows i (Byte a) v s → IsBrought s (fact_at (i + 1) (Byte a) v)
+  pub up_brought : Knows i (Byte a) v s → IsBrought s (fact_of (i + 1) (Byte a) v)
   up_brought h quiet = onward a i (i + 1) refl refl (carries quiet) h
 
-  pub down_brought : Knows (i + 1) (Byte a) v s → IsBrought s (fact_at i (Byte a) v)
+  pub down_brought : Knows (i + 1) (Byte a) v s → IsBrought s (fact_of i (Byte a) v)
   down_brought h quiet = back a i (i + 1) refl refl (carries quiet) h
 
 pub spared_after : {W : Type 0} (s t : State W) → HasLaws s.setting → IsKept t → Grows s t → (i a : ℕ) → a < 2 ^ 32 → IsSpared i a s → IsSpared i a t
@@ -158,8 +159,8 @@ module _ {W : Type 0} (s : State W) (laws : HasLaws s.setting) (kept : IsKept s)
         | inr ne ↦ fact_else (chain pt d).known (pt (suc d)) q a (λ x f. ne x) ∙ e
       ]
 
-  module _ (pt : ℕ → ℕ) (D : ℕ) (early : (d : ℕ) → d ≤ D → pt d ≤ length s.setting.rows) (free : (d w : ℕ) → d ≤ D → s.known.store.fact (pt d) a ≡ Some w → w ≡ v) (start : s.known.store.fact (pt 0) a ≡ Some v) (reach : (d : ℕ) → d < D → (t : State W) → HasLaws t.setting → IsKept t → Grows s t → Knows (pt d) (Byte a) v t → IsBrought t (fact_at (pt (suc d)) (Byte a) v)) where
-    step : (t : State W) → IsKept t → Grows s t → (p : ℕ) → p ≤ length s.setting.rows → t.known.store.fact p a ≡ None → IsBrought t (fact_at p (Byte a) v) → IsKept (with_known t (with_fact t.known p)) × Grows t (with_known t (with_fact t.known p))
+  module _ (pt : ℕ → ℕ) (D : ℕ) (early : (d : ℕ) → d ≤ D → pt d ≤ length s.setting.rows) (free : (d w : ℕ) → d ≤ D → s.known.store.fact (pt d) a ≡ Some w → w ≡ v) (start : s.known.store.fact (pt 0) a ≡ Some v) (reach : (d : ℕ) → d < D → (t : State W) → HasLaws t.setting → IsKept t → Grows s t → Knows (pt d) (Byte a) v t → IsBrought t (fact_of (pt (suc d)) (Byte a) v)) where
+    step : (t : State W) → IsKept t → Grows s t → (p : ℕ) → p ≤ length s.setting.rows → t.known.store.fact p a ≡ None → IsBrought t (fact_of p (Byte a) v) → IsKept (with_known t (with_fact t.known p)) × Grows t (with_known t (with_fact t.known p))
     step t kept_t g p le none brought =
         let early_t : p ≤ length t.setting.rows = rw g.rows le in
         let both = new_byte t kept_t true p a v early_t small (g.tracked a tracked) (g.complete ∙ open_) (brought_follows t p a v early_t small brought) false (λ _. brought) (with_fact t.known p) (adds t.known p none) kept_t.once (λ more j. room_like t.setting t.known (with_fact t.known p) more (omega arith) (omega arith) refl refl (kept_t.roomy j)) in
@@ -233,12 +234,12 @@ module _ {W : Type 0} (s : State W) (laws : HasLaws s.setting) (kept : IsKept s)
     up : from ≤ to → IsKept (with_known s k) × Grows s (with_known s k)
     up le = chain_done (λ d. from + d) (to - from) (λ d h. omega (arith, h, to_early, le)) (λ d w h e. spreads.free (from + d) w (inl (omega arith, omega (arith, h, le))) e) start_up reach k last log left spreads.tracked spreads.places spreads.spare same
       where
-        reach : (d : ℕ) → d < to - from → (t : State W) → HasLaws t.setting → IsKept t → Grows s t → Knows (from + d) (Byte a) v t → IsBrought t (fact_at (from + suc d) (Byte a) v)
+        reach : (d : ℕ) → d < to - from → (t : State W) → HasLaws t.setting → IsKept t → Grows s t → Knows (from + d) (Byte a) v t → IsBrought t (fact_of (from + suc d) (Byte a) v)
         reach d lt t laws_t kept_t g h =
             let inside : from + d < length t.setting.rows = rw g.rows (omega (arith, lt, to_early)) in
             let at = up_brought t laws_t kept_t (from + d) a v inside small (spared_after s t laws kept_t g (from + d) a small (spared (from + d) (inl (omega arith, omega (arith, lt))))) h in
             let next : from + d + 1 ≡ from + suc d = omega arith in
-            subst (λ (p : ℕ). IsBrought t (fact_at p (Byte a) v)) next at
+            subst (λ (p : ℕ). IsBrought t (fact_of p (Byte a) v)) next at
 
         same : (q b : ℕ) → k.store.fact q b ≡ (chain (λ d. from + d) (to - from)).known.store.fact q b
         same q b =
@@ -260,7 +261,7 @@ module _ {W : Type 0} (s : State W) (laws : HasLaws s.setting) (kept : IsKept s)
     down : to ≤ from → IsKept (with_known s k) × Grows s (with_known s k)
     down le = chain_done (λ d. from - d) (from - to) (λ d h. omega (arith, from_early)) (λ d w h e. spreads.free (from - d) w (inr (omega (arith, h, le), omega arith)) e) start_down reach k last log left spreads.tracked spreads.places spreads.spare same
       where
-        reach : (d : ℕ) → d < from - to → (t : State W) → HasLaws t.setting → IsKept t → Grows s t → Knows (from - d) (Byte a) v t → IsBrought t (fact_at (from - suc d) (Byte a) v)
+        reach : (d : ℕ) → d < from - to → (t : State W) → HasLaws t.setting → IsKept t → Grows s t → Knows (from - d) (Byte a) v t → IsBrought t (fact_of (from - suc d) (Byte a) v)
         reach d lt t laws_t kept_t g h =
             let inside : from - suc d < length t.setting.rows = rw g.rows (omega (arith, lt, from_early)) in
             let next : from - d ≡ from - suc d + 1 = omega (arith, lt) in
@@ -347,10 +348,10 @@ module _ {W : Type 0} (s : State W) (laws : HasLaws s.setting) (kept : IsKept s)
       itself before (inl y) = inl (y.0, omega arith)
       itself before (inr y) = inr (omega arith, y.1)
 
-      next_brought : (k : Known) → IsKept (with_known s k) → Grows s (with_known s k) → (before stop : ℕ) → (before + 1 ≡ stop) ⊎ (stop + 1 ≡ before) → Between from to before → Between from to stop → k.store.fact before a ≡ Some v → IsBrought (with_known s k) (fact_at stop (Byte a) v)
+      next_brought : (k : Known) → IsKept (with_known s k) → Grows s (with_known s k) → (before stop : ℕ) → (before + 1 ≡ stop) ⊎ (stop + 1 ≡ before) → Between from to before → Between from to stop → k.store.fact before a ≡ Some v → IsBrought (with_known s k) (fact_of stop (Byte a) v)
       next_brought k kept_t g before stop (inl next) at within_ h =
           let early = between_early stop within_ in
-          subst (λ (p : ℕ). IsBrought (with_known s k) (fact_at p (Byte a) v)) next (up_brought (with_known s k) laws kept_t before a v (omega (arith, next, early)) small (spared_after s (with_known s k) laws kept_t g before a small (up_spared before stop next at within_)) h)
+          subst (λ (p : ℕ). IsBrought (with_known s k) (fact_of p (Byte a) v)) next (up_brought (with_known s k) laws kept_t before a v (omega (arith, next, early)) small (spared_after s (with_known s k) laws kept_t g before a small (up_spared before stop next at within_)) h)
       next_brought k kept_t g before stop (inr next) at within_ h =
           let early = between_early before at in
           down_brought (with_known s k) laws kept_t stop a v (omega (arith, next, early)) small (spared_after s (with_known s k) laws kept_t g stop a small (down_spared before stop next at within_)) (subst (λ (p : ℕ). k.store.fact p a ≡ Some v) (sym next) h)

@@ -21,6 +21,7 @@ use Rattle.rept_report.specs.Views.{point_of, may_write}
 use Rattle.rept_report.specs.Conclusions.{HasWords, IsCarried, Concludes}
 use Rattle.rept_report.specs.Conflicts.{IsQuiet}
 use Rattle.rept_report.specs.Log.{oldest}
+use Rattle.rept_report.specs.Why.{fact_of}
 use Rattle.rept_analysis.specs.declared.halt.Halt.{Halt}
 use Rattle.rept_analysis.specs.declared.halt.Halt.TheVariants.{Clash, OutOfMemory}
 use Rattle.rept_writing.specs.declared.list.Writing.{Writing}
@@ -28,9 +29,6 @@ use Rattle.rept_analysis.specs.declared.pass.Pass.TheVariants.{Cut}
 use Rattle.rept_analysis.specs.Work.{left, row_past}
 use Rattle.rept_analysis.specs.Room.{IsDrawable, IsDrawnAt, own_at, IsOwnByte}
 use Rattle.rept_analysis.specs.State.{State, all_known}
-
-abbrev pub fact_at : ℕ → Cell → ℕ → Fact
-fact_at p c v = record { point = p; cell = c; value = v }
 
 -- the cell is known to have the value
 abbrev pub Knows : {W : Type 0} → ℕ → Cell → ℕ → State W → Type 0
@@ -91,7 +89,7 @@ pub record IsClash {W : Type 0} (s : State W) (f : Fact) (known : ℕ) : Type 0 
 
 -- Why a conclusion wasn't learnt is so: memory runs out only where not all was taken at first.
 abbrev pub IsHalt : {W : Type 0} → State W → Halt → Type 0
-IsHalt s (Clash p c known value) = IsClash s (fact_at p c value) known
+IsHalt s (Clash p c known value) = IsClash s (fact_of p c value) known
 IsHalt s OutOfMemory = s.work.joins ≡ false
 
 -- the sets are those of some of the facts
@@ -228,7 +226,7 @@ HasPlace false p a s = p ≡ length s.setting.rows
 pub record IsConclusion {W : Type 0} (i : ℕ) (d : Drawn) (s : State W) : Type 0 where
   pub cell : IsCell d.cell
   pub fits : Fits d.cell d.value
-  pub follows : d.value < 2 ^ 32 → IsFollowing s (fact_at (point_of i d.when) d.cell d.value)
+  pub follows : d.value < 2 ^ 32 → IsFollowing s (fact_of (point_of i d.when) d.cell d.value)
   pub tracked : (a : ℕ) → d.cell ≡ Byte a → IsTracked a s
   pub byte : (a : ℕ) → d.cell ≡ Byte a → IsDrawable s.setting s.known.log i d
 

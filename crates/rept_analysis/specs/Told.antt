@@ -9,7 +9,8 @@ use Rattle.rept_analysis.specs.State.{State}
 use Rattle.rept_versions.specs.declared.facts.Carried.{Carried}
 use Rattle.rept_versions.specs.declared.facts.Carried.TheVariants.{Same, More, Stop}
 use Rattle.rept_versions.specs.Facts.{Course}
-use Rattle.rept_analysis.specs.Drawing.{fact_at, Knows, IsTracked, Grows, HasNews, IsClash, IsSpreadTo}
+use Rattle.rept_report.specs.Why.{fact_of}
+use Rattle.rept_analysis.specs.Drawing.{Knows, IsTracked, Grows, HasNews, IsClash, IsSpreadTo}
 
 -- the fact is known now, and wasn't
 pub record IsTold {W : Type 0} (old new : State W) (f : Fact) : Type 0 where
@@ -39,5 +40,5 @@ Tracks old new a (Err e) = (new ≡ old) × (new.work.joins ≡ false)
 abbrev pub Sends : {W : Type 0} → State W → State W → Course → Result Carried AllocError → Type 0
 Sends old new course (Ok Same) = (new ≡ old) × IsSpreadTo course old
 Sends old new course (Ok More) = Grows old new × HasNews old new × (new.work ≡ old.work)
-Sends old new course (Ok (Stop p known found)) = Grows old new × IsClash new (fact_at p (Byte course.address) course.value) found × (known ≡ course.value)
+Sends old new course (Ok (Stop p known found)) = Grows old new × IsClash new (fact_of p (Byte course.address) course.value) found × (known ≡ course.value)
 Sends old new course (Err e) = Grows old new × (new.work.joins ≡ false)

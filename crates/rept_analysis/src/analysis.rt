@@ -12,7 +12,7 @@ ghost use Rattle.rept_span.specs.Filled.{entry_at};
 ghost use Rattle.rept_dump.specs.Memory.{byte_at};
 ghost use Rattle.rept_report.specs.declared.conflict.ConflictKind.{ConflictKind};
 ghost use Rattle.rept_analysis.specs.State.{HasRegisters, setting_of, state_of};
-ghost use Rattle.rept_analysis.specs.Drawing.{fact_at};
+ghost use Rattle.rept_report.specs.Why.{fact_of};
 ghost use Rattle.rept_analysis.specs.Kept.{IsKept, register_answer, answers};
 ghost use Rattle.rept_analysis.specs.Refined.{KeepsAnswers};
 ghost use Rattle.rept_analysis.specs.Sums.{sum_to};
@@ -275,7 +275,7 @@ impl<'a, B: ByteFacts, W: Transfer, R: RowRules> Analysis<'a, B, W, R> {
     pub fn reg(&self, point: u32, r: Reg) -> Flat
         requires point { point ≤ length self.now.rows }
         ensures value { result ≡ flat (register_answer (state_of W.sets W.moves R.rules B.store self.now) point r) }
-        ensures derived { (v : ℕ) → result ≡ Flat.Known v → 0 < r → InClosure (setting_of W.sets W.moves R.rules self.now) (fact_at point (Register r) v) }
+        ensures derived { (v : ℕ) → result ≡ Flat.Known v → 0 < r → InClosure (setting_of W.sets W.moves R.rules self.now) (fact_of point (Register r) v) }
         ensures sound { (v : ℕ) → result ≡ Flat.Known v → AlwaysHolds (setting_of W.sets W.moves R.rules self.now) point (Register r) v }
     {
         self.held();

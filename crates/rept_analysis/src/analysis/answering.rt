@@ -13,7 +13,8 @@ ghost use Rattle.rept_report.specs.Spots.{spot};
 ghost use Rattle.rept_report.specs.Writers.{IsWriter};
 ghost use Rattle.rept_report.specs.Log.{oldest};
 ghost use Rattle.rept_analysis.specs.State.{setting_of, state_of};
-ghost use Rattle.rept_analysis.specs.Drawing.{IsFitted, fact_at};
+ghost use Rattle.rept_report.specs.Why.{fact_of};
+ghost use Rattle.rept_analysis.specs.Drawing.{IsFitted};
 ghost use Rattle.rept_analysis.specs.Kept.{IsKept, answers};
 ghost use Rattle.rept_analysis.specs.Answers.{unsaid};
 
@@ -138,7 +139,7 @@ impl<'a, B: ByteFacts, W: Transfer, R: RowRules> Analysis<'a, B, W, R> {
         requires { point ≤ length self.now.rows }
         ensures ended { self.now.complete ≡ true → result ≡ answers (state_of W.sets W.moves R.rules B.store self.now) point (Byte a) }
         ensures open { self.now.complete ≡ false → result ≡ None }
-        ensures derived { (v : ℕ) → result ≡ Some v → InClosure (setting_of W.sets W.moves R.rules self.now) (fact_at point (Byte a) v) }
+        ensures derived { (v : ℕ) → result ≡ Some v → InClosure (setting_of W.sets W.moves R.rules self.now) (fact_of point (Byte a) v) }
     {
         if !self.ended() {
             return None;

@@ -4,7 +4,8 @@ ghost use Rattle.std.specs.Prelude.{◌≡◌, ◌<◌, ◌≤◌, ◌^◌, ℕ,
 ghost use Rattle.rept_reason.specs.declared.fact.Cell.{Cell};
 ghost use Rattle.rept_reason.specs.declared.fact.Cell.TheVariants.{Register, Byte};
 ghost use Rattle.rept_analysis.specs.State.{state_of};
-ghost use Rattle.rept_analysis.specs.Drawing.{fact_at, Knows, IsTracked, Grows, Drew, IsFollowing, IsBrought, IsHalt, IsLearntAt, IsRowAddress, HasPlace};
+ghost use Rattle.rept_report.specs.Why.{fact_of};
+ghost use Rattle.rept_analysis.specs.Drawing.{Knows, IsTracked, Grows, Drew, IsFollowing, IsBrought, IsHalt, IsLearntAt, IsRowAddress, HasPlace};
 ghost use Rattle.rept_analysis.specs.Told.{Tells, TellsByte, Tracks};
 
 use super::Analysis;
@@ -23,9 +24,9 @@ impl<'a, B: ByteFacts, W: Transfer, R: RowRules> Analysis<'a, B, W, R> {
     fn tell(&mut self, point: u32, r: Reg, value: u32) -> Answer
         requires point { point ≤ length self.old.rows }
         requires named { 0 < r }
-        requires follows { value < 2 ^ 32 → IsFollowing (state_of W.sets W.moves R.rules B.store self.old) (fact_at point (Register r) value) }
+        requires follows { value < 2 ^ 32 → IsFollowing (state_of W.sets W.moves R.rules B.store self.old) (fact_of point (Register r) value) }
         requires open { self.old.complete ≡ false }
-        ensures { Tells (state_of W.sets W.moves R.rules B.store self.old) (state_of W.sets W.moves R.rules B.store self.new) (fact_at point (Register r) value) result }
+        ensures { Tells (state_of W.sets W.moves R.rules B.store self.old) (state_of W.sets W.moves R.rules B.store self.new) (fact_of point (Register r) value) result }
     {
         let _number = r.number();
         let answer = self.known.learn_register(point, r, value);
@@ -43,11 +44,11 @@ impl<'a, B: ByteFacts, W: Transfer, R: RowRules> Analysis<'a, B, W, R> {
     ) -> Result<Answer, OutOfMemory>
         requires point { point ≤ length self.old.rows }
         requires tracked { IsTracked a (state_of W.sets W.moves R.rules B.store self.old) }
-        requires follows { IsFollowing (state_of W.sets W.moves R.rules B.store self.old) (fact_at point (Byte a) value) }
-        requires brought { keep ≡ false → IsBrought (state_of W.sets W.moves R.rules B.store self.old) (fact_at point (Byte a) value) }
+        requires follows { IsFollowing (state_of W.sets W.moves R.rules B.store self.old) (fact_of point (Byte a) value) }
+        requires brought { keep ≡ false → IsBrought (state_of W.sets W.moves R.rules B.store self.old) (fact_of point (Byte a) value) }
         requires place { HasPlace keep point a (state_of W.sets W.moves R.rules B.store self.old) }
         requires open { self.old.complete ≡ false }
-        ensures { TellsByte (state_of W.sets W.moves R.rules B.store self.old) (state_of W.sets W.moves R.rules B.store self.new) (fact_at point (Byte a) value) result }
+        ensures { TellsByte (state_of W.sets W.moves R.rules B.store self.old) (state_of W.sets W.moves R.rules B.store self.new) (fact_of point (Byte a) value) result }
     {
         let answer = self.known.learn_byte(point, a, value, keep);
         let _len = self.known.len();
@@ -67,7 +68,7 @@ impl<'a, B: ByteFacts, W: Transfer, R: RowRules> Analysis<'a, B, W, R> {
     pub(super) fn learn(&mut self, point: u32, r: Reg, value: u32) -> Result<bool, Halt>
         requires point { point ≤ length self.old.rows }
         requires named { 0 < r }
-        requires follows { value < 2 ^ 32 → IsFollowing (state_of W.sets W.moves R.rules B.store self.old) (fact_at point (Register r) value) }
+        requires follows { value < 2 ^ 32 → IsFollowing (state_of W.sets W.moves R.rules B.store self.old) (fact_of point (Register r) value) }
         requires open { self.old.complete ≡ false }
         ensures grows { Grows (state_of W.sets W.moves R.rules B.store self.old) (state_of W.sets W.moves R.rules B.store self.new) }
         ensures drew { IfOk result (λ learnt. Drew (state_of W.sets W.moves R.rules B.store self.old) (state_of W.sets W.moves R.rules B.store self.new) learnt (Knows point (Register r) value)) }
@@ -100,8 +101,8 @@ impl<'a, B: ByteFacts, W: Transfer, R: RowRules> Analysis<'a, B, W, R> {
     ) -> Result<bool, Halt>
         requires point { point ≤ length self.old.rows }
         requires tracked { IsTracked a (state_of W.sets W.moves R.rules B.store self.old) }
-        requires follows { IsFollowing (state_of W.sets W.moves R.rules B.store self.old) (fact_at point (Byte a) value) }
-        requires brought { keep ≡ false → IsBrought (state_of W.sets W.moves R.rules B.store self.old) (fact_at point (Byte a) value) }
+        requires follows { IsFollowing (state_of W.sets W.moves R.rules B.store self.old) (fact_of point (Byte a) value) }
+        requires brought { keep ≡ false → IsBrought (state_of W.sets W.moves R.rules B.store self.old) (fact_of point (Byte a) value) }
         requires place { HasPlace keep point a (state_of W.sets W.moves R.rules B.store self.old) }
         requires open { self.old.complete ≡ false }
         ensures grows { Grows (state_of W.sets W.moves R.rules B.store self.old) (state_of W.sets W.moves R.rules B.store self.new) }
@@ -129,7 +130,7 @@ impl<'a, B: ByteFacts, W: Transfer, R: RowRules> Analysis<'a, B, W, R> {
     /// Adds the value if there is one, and the register is not x0.
     pub(super) fn learn_if(&mut self, point: u32, r: Reg, value: Flat) -> Result<bool, Halt>
         requires point { point ≤ length self.old.rows }
-        requires follows { (v : ℕ) → value ≡ Flat.Known v → 0 < r → r < 32 → v < 2 ^ 32 → IsFollowing (state_of W.sets W.moves R.rules B.store self.old) (fact_at point (Register r) v) }
+        requires follows { (v : ℕ) → value ≡ Flat.Known v → 0 < r → r < 32 → v < 2 ^ 32 → IsFollowing (state_of W.sets W.moves R.rules B.store self.old) (fact_of point (Register r) v) }
         requires open { self.old.complete ≡ false }
         ensures grows { Grows (state_of W.sets W.moves R.rules B.store self.old) (state_of W.sets W.moves R.rules B.store self.new) }
         ensures drew { IfOk result (λ learnt. Drew (state_of W.sets W.moves R.rules B.store self.old) (state_of W.sets W.moves R.rules B.store self.new) learnt (IsLearntAt point r value)) }

@@ -7,7 +7,8 @@ ghost use Rattle.rept_report.specs.Conflicts.{IsQuiet};
 ghost use Rattle.rept_report.specs.declared.conflict.ConflictKind.{ConflictKind};
 ghost use Rattle.rept_report.specs.Log.{oldest};
 ghost use Rattle.rept_analysis.specs.State.{setting_of, state_of};
-ghost use Rattle.rept_analysis.specs.Drawing.{fact_at, IsHalt, SameFacts, IsClash};
+ghost use Rattle.rept_report.specs.Why.{fact_of};
+ghost use Rattle.rept_analysis.specs.Drawing.{IsHalt, SameFacts, IsClash};
 ghost use Rattle.rept_analysis.specs.Refined.{QuietBelow, IsStopped, IsPaused, IsHalted, clash_kind};
 ghost use Rattle.rept_report.specs.Closure.{ClosureHas};
 
@@ -98,7 +99,7 @@ impl<'a, B: ByteFacts, W: Transfer, R: RowRules> Analysis<'a, B, W, R> {
     /// Names the clash, where the facts show no other conflict, and else their least one.
     fn stop_clash(&mut self, point: u32, cell: Cell, known: u32, value: u32) -> ConflictKind
         requires open { self.old.complete ≡ false }
-        requires clash { IsClash (state_of W.sets W.moves R.rules B.store self.old) (fact_at point cell value) known }
+        requires clash { IsClash (state_of W.sets W.moves R.rules B.store self.old) (fact_of point cell value) known }
         ensures ended { IsStopped (state_of W.sets W.moves R.rules B.store self.old) (state_of W.sets W.moves R.rules B.store self.new) result }
         ensures still { self.new.work.draws ≡ self.old.work.draws }
     {

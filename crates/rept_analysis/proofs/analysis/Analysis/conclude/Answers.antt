@@ -4,22 +4,23 @@ use Rattle.rept_reason.specs.declared.fact.Cell.TheVariants.{Register, Byte}
 use Rattle.rept_view.specs.Rules.{Fits}
 use Rattle.rept_report.specs.Views.{point_of}
 use Rattle.rept_analysis.specs.State.{state_of}
-use Rattle.rept_analysis.specs.Drawing.{Knows, IsFollowing, fact_at, KnowsDrawn}
+use Rattle.rept_report.specs.Why.{fact_of}
+use Rattle.rept_analysis.specs.Drawing.{Knows, IsFollowing, KnowsDrawn}
 use Rattle.rept_analysis.proofs.Drawn.{Drew_as}
 use Rattle.rept_analysis.proofs.analysis.Analysis.conclude.Goals as goal
 
 pub learn-requires-clause-follows : goal.learn-requires-clause-follows
 learn-requires-clause-follows g c =
     λ small.
-    let at = subst (λ (p : ℕ). IsFollowing (state_of g.W.Partial.sets g.W.Transfer.moves g.R.RowRules.rules g.B.ByteFacts.store c.args.self.now) (fact_at p c.args.drawn.now.cell c.args.drawn.now.value)) (sym c.point_at-point.ensures) (c.requires.conclusion.follows small) in
-    subst (λ (x : Cell). IsFollowing (state_of g.W.Partial.sets g.W.Transfer.moves g.R.RowRules.rules g.B.ByteFacts.store c.args.self.now) (fact_at c.point_at-point.result x c.args.drawn.now.value)) c.in-Register.is at
+    let at = subst (λ (p : ℕ). IsFollowing (state_of g.W.Partial.sets g.W.Transfer.moves g.R.RowRules.rules g.B.ByteFacts.store c.args.self.now) (fact_of p c.args.drawn.now.cell c.args.drawn.now.value)) (sym c.point_at-point.ensures) (c.requires.conclusion.follows small) in
+    subst (λ (x : Cell). IsFollowing (state_of g.W.Partial.sets g.W.Transfer.moves g.R.RowRules.rules g.B.ByteFacts.store c.args.self.now) (fact_of c.point_at-point.result x c.args.drawn.now.value)) c.in-Register.is at
 
 pub learn_byte-requires-clause-follows : goal.learn_byte-requires-clause-follows
 learn_byte-requires-clause-follows g c =
     let byte : c.args.drawn.now.value < 2 ^ 8 = subst (λ (x : Cell). Fits x c.args.drawn.now.value) c.in-Byte.is c.requires.conclusion.fits in
     let small : c.args.drawn.now.value < 2 ^ 32 = omega (arith, byte) in
-    let at = subst (λ (p : ℕ). IsFollowing (state_of g.W.Partial.sets g.W.Transfer.moves g.R.RowRules.rules g.B.ByteFacts.store c.args.self.now) (fact_at p c.args.drawn.now.cell c.args.drawn.now.value)) (sym c.point_at-point.ensures) (c.requires.conclusion.follows small) in
-    subst (λ (x : Cell). IsFollowing (state_of g.W.Partial.sets g.W.Transfer.moves g.R.RowRules.rules g.B.ByteFacts.store c.args.self.now) (fact_at c.point_at-point.result x c.args.drawn.now.value)) c.in-Byte.is at
+    let at = subst (λ (p : ℕ). IsFollowing (state_of g.W.Partial.sets g.W.Transfer.moves g.R.RowRules.rules g.B.ByteFacts.store c.args.self.now) (fact_of p c.args.drawn.now.cell c.args.drawn.now.value)) (sym c.point_at-point.ensures) (c.requires.conclusion.follows small) in
+    subst (λ (x : Cell). IsFollowing (state_of g.W.Partial.sets g.W.Transfer.moves g.R.RowRules.rules g.B.ByteFacts.store c.args.self.now) (fact_of c.point_at-point.result x c.args.drawn.now.value)) c.in-Byte.is at
 
 pub returns-in_ok-learnt-in-Register-clause-drew : goal.returns-in_ok-learnt-in-Register-clause-drew
 returns-in_ok-learnt-in-Register-clause-drew g c =
