@@ -1,9 +1,9 @@
 //! The printed text of an instruction.
 
 ghost use Rattle.std.specs.Prelude.{◌≡◌, ◌+◌, ◌/◌, ◌%◌, ◌^◌, ◌<◌, ◌++◌, codes, Some};
-ghost use Rattle.std.specs.Fmt.{digits};
+ghost use Rattle.std.specs.Fmt.{digits, signed_decimal, DisplaysOnOk};
 ghost use Rattle.rept_isa.specs.Numbers.{plus};
-ghost use Rattle.rept_isa.specs.Texts.{offset_of, register_text, hex_digit, address_text, branch_name, load_name, store_name, imm_name, op_name, instruction_text};
+ghost use Rattle.rept_isa.specs.Texts.{offset_of, register_text, hex_digit, hex_text, place_text, address_text, branch_name, load_name, store_name, imm_name, op_name, instruction_text};
 
 use crate::instr::{BranchOp, ImmOp, Instr, LoadOp, RegOp, StoreOp};
 use crate::number::plus;
@@ -43,40 +43,100 @@ impl fmt::Display for Shown {
 
     fn fmt<W: fmt::Write>(&self, f: &mut fmt::Formatter<W>) -> fmt::Result {
         match self.instr {
-            Instr::Lui { rd, imm } => write!(f, "lui {rd},0x{:x}", imm >> 12),
-            Instr::Auipc { rd, imm } => write!(f, "auipc {rd},0x{:x}", imm >> 12),
-            Instr::Jal { rd, .. } => {
-                let target = self.target();
-                write!(f, "jal {rd},{target}")
-            }
-            Instr::Jalr { rd, rs1, imm } => write!(f, "jalr {rd},{imm}({rs1})"),
+            Instr::Lui { rd, imm } => show_upper(f, "lui", rd, imm),
+            Instr::Auipc { rd, imm } => show_upper(f, "auipc", rd, imm),
+            Instr::Jal { rd, .. } => show_jump(f, rd, self.target()),
+            Instr::Jalr { rd, rs1, imm } => show_place(f, "jalr", rd, (rs1, imm)),
             Instr::Branch { op, rs1, rs2, .. } => {
-                let name = branch_name(op);
-                let target = self.target();
-                write!(f, "{name} {rs1},{rs2},{target}")
+                show_branch(f, branch_name(op), (rs1, rs2), self.target())
             }
-            Instr::Load { op, rd, rs1, imm } => {
-                let name = load_name(op);
-                write!(f, "{name} {rd},{imm}({rs1})")
-            }
-            Instr::Store { op, rs1, rs2, imm } => {
-                let name = store_name(op);
-                write!(f, "{name} {rs2},{imm}({rs1})")
-            }
-            Instr::Imm { op, rd, rs1, imm } => {
-                let name = imm_name(op);
-                write!(f, "{name} {rd},{rs1},{imm}")
-            }
-            Instr::Op { op, rd, rs1, rs2 } => {
-                let name = op_name(op);
-                write!(f, "{name} {rd},{rs1},{rs2}")
-            }
+            Instr::Load { op, rd, rs1, imm } => show_place(f, load_name(op), rd, (rs1, imm)),
+            Instr::Store { op, rs1, rs2, imm } => show_place(f, store_name(op), rs2, (rs1, imm)),
+            Instr::Imm { op, rd, rs1, imm } => show_immediate(f, imm_name(op), (rd, rs1), imm),
+            Instr::Op { op, rd, rs1, rs2 } => show_registers(f, op_name(op), (rd, rs1, rs2)),
             Instr::Fence => f.write_str("fence"),
             Instr::Ecall => f.write_str("ecall"),
             Instr::Ebreak => f.write_str("ebreak"),
-            Instr::Counter { rd, csr } => write!(f, "csrrs {rd},0x{csr:x},x0"),
+            Instr::Counter { rd, csr } => show_counter(f, rd, csr),
         }
     }
+}
+
+/// The name, a register and the upper 20 bits of an immediate.
+fn show_upper<W: fmt::Write>(
+    f: &mut fmt::Formatter<W>,
+    name: &str,
+    rd: Reg,
+    imm: u32,
+) -> fmt::Result
+    ensures { DisplaysOnOk W.Write.write_str_gives f.old result (Some (name.now ++ codes " " ++ register_text rd ++ codes "," ++ hex_text (imm / 2 ^ 12))) f.new }
+{
+    write!(f, "{name} {rd},0x{:x}", imm >> 12)
+}
+
+/// A direct jump, with where it leads.
+fn show_jump<W: fmt::Write>(f: &mut fmt::Formatter<W>, rd: Reg, target: Address) -> fmt::Result
+    ensures { DisplaysOnOk W.Write.write_str_gives f.old result (Some (codes "jal " ++ register_text rd ++ codes "," ++ address_text target.0)) f.new }
+{
+    write!(f, "jal {rd},{target}")
+}
+
+/// The name, a register and an address that a base and an offset give.
+fn show_place<W: fmt::Write>(
+    f: &mut fmt::Formatter<W>,
+    name: &str,
+    register: Reg,
+    place: (Reg, i32),
+) -> fmt::Result
+    ensures { DisplaysOnOk W.Write.write_str_gives f.old result (Some (name.now ++ codes " " ++ register_text register ++ codes "," ++ place_text place.1 place.0)) f.new }
+{
+    let (base, offset) = place;
+    write!(f, "{name} {register},{offset}({base})")
+}
+
+/// A branch on two registers, with where it leads.
+fn show_branch<W: fmt::Write>(
+    f: &mut fmt::Formatter<W>,
+    name: &str,
+    operands: (Reg, Reg),
+    target: Address,
+) -> fmt::Result
+    ensures { DisplaysOnOk W.Write.write_str_gives f.old result (Some (name.now ++ codes " " ++ register_text operands.0 ++ codes "," ++ register_text operands.1 ++ codes "," ++ address_text target.0)) f.new }
+{
+    let (rs1, rs2) = operands;
+    write!(f, "{name} {rs1},{rs2},{target}")
+}
+
+/// The name, two registers and an immediate.
+fn show_immediate<W: fmt::Write>(
+    f: &mut fmt::Formatter<W>,
+    name: &str,
+    registers: (Reg, Reg),
+    imm: i32,
+) -> fmt::Result
+    ensures { DisplaysOnOk W.Write.write_str_gives f.old result (Some (name.now ++ codes " " ++ register_text registers.0 ++ codes "," ++ register_text registers.1 ++ codes "," ++ signed_decimal imm)) f.new }
+{
+    let (rd, rs1) = registers;
+    write!(f, "{name} {rd},{rs1},{imm}")
+}
+
+/// The name and three registers.
+fn show_registers<W: fmt::Write>(
+    f: &mut fmt::Formatter<W>,
+    name: &str,
+    registers: (Reg, Reg, Reg),
+) -> fmt::Result
+    ensures { DisplaysOnOk W.Write.write_str_gives f.old result (Some (name.now ++ codes " " ++ register_text registers.0 ++ codes "," ++ register_text registers.1 ++ codes "," ++ register_text registers.2)) f.new }
+{
+    let (rd, rs1, rs2) = registers;
+    write!(f, "{name} {rd},{rs1},{rs2}")
+}
+
+/// A read of a counter.
+fn show_counter<W: fmt::Write>(f: &mut fmt::Formatter<W>, rd: Reg, csr: u16) -> fmt::Result
+    ensures { DisplaysOnOk W.Write.write_str_gives f.old result (Some (codes "csrrs " ++ register_text rd ++ codes "," ++ hex_text csr ++ codes ",x0")) f.new }
+{
+    write!(f, "csrrs {rd},0x{csr:x},x0")
 }
 
 /// An address, printed as `0x` and eight digits.

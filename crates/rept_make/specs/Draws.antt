@@ -3,7 +3,7 @@
 use Rattle.std.specs.Prelude.{ℕ, zero, suc, ◌+◌, ◌*◌, ◌/◌, ◌%◌, ◌^◌, ◌<◌, ◌≤◌}
 use Rattle.rept_make.specs.declared.draw.Slot.{Slot}
 
-abbrev pub drawn : ℕ → ℕ
+unfoldable pub drawn : ℕ → ℕ
 drawn state = (state * 1664525 + 1013904223) % 2 ^ 32
 
 -- the state after so many draws

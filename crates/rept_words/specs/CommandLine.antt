@@ -21,8 +21,8 @@ abbrev pub self_app : App
 self_app = with_rule (with_rule (plain_app (codes "self")) (needed (codes "seed"))) (needed (codes "steps"))
 
 -- the program: no name of its own before the words, no help, and a subcommand that has to be there
+abbrev pub bare_app : App
+bare_app = record (new_app (codes "rept")) { top = record (new_app (codes "rept")).top { no_binary_name = true; disable_help_flag = true; disable_help_subcommand = true; subcommand_required = true } }
+
 abbrev pub rept_app : App
-rept_app =
-    with_subcommand (with_subcommand
-    (record (new_app (codes "rept")) { top = record (new_app (codes "rept")).top { no_binary_name = true; disable_help_flag = true; disable_help_subcommand = true; subcommand_required = true } })
-    open_app.top) self_app.top
+rept_app = with_subcommand (with_subcommand bare_app open_app.top) self_app.top

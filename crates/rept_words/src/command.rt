@@ -1,9 +1,9 @@
 //! The command line as a command of `clap`.
 
 ghost use Rattle.std.specs.Prelude.{◌≡◌, IfOk, false};
-ghost use Rattle.clap.specs.Words.{app_of, rule_of};
+ghost use Rattle.clap.specs.Words.{app_of, rule_of, with_rule};
 ghost use Rattle.clap.specs.declared.builder.command.Command.TheViews.{out-Command as fields_of};
-ghost use Rattle.rept_words.specs.CommandLine.{needed, other, open_app, self_app, rept_app};
+ghost use Rattle.rept_words.specs.CommandLine.{needed, other, plain_app, bare_app, open_app, self_app, rept_app};
 
 use clap::{Arg, ArgAction, Command};
 use rept_word::OutOfMemory;
@@ -25,26 +25,54 @@ fn other_word<'a>(alloc: Global, id: &'a str) -> Arg<'a>
     Arg::new(alloc, id).action(ArgAction::Set)
 }
 
+/// A command of this name without help, which has no words yet.
+fn plain_command<'a>(alloc: Global, name: &'a str) -> Command<'a>
+    ensures app { app_of result ≡ plain_app name.now }
+    ensures local { (fields_of result).has_globals ≡ false }
+{
+    Command::new(alloc, name).disable_help_flag(true)
+}
+
+/// The command with one word more.
+fn with_word<'a>(command: Command<'a>, word: Arg<'a>) -> Result<Command<'a>, OutOfMemory>
+    requires of_word { word.global ≡ false }
+    requires of_command { (fields_of command).has_globals ≡ false }
+    ensures app { IfOk result (λ c. app_of c ≡ with_rule (app_of command.entry) (rule_of word.entry)) }
+    ensures local { IfOk result (λ c. (fields_of c).has_globals ≡ false) }
+{
+    command.arg(word)
+}
+
 fn open_command<'a>(alloc: Global) -> Result<Command<'a>, OutOfMemory>
     ensures app { IfOk result (λ c. app_of c ≡ open_app) }
     ensures local { IfOk result (λ c. (fields_of c).has_globals ≡ false) }
 {
-    Command::new(alloc, "open")
-        .disable_help_flag(true)
-        .arg(needed_word(alloc, "exe"))?
-        .arg(needed_word(alloc, "core"))?
-        .arg(needed_word(alloc, "trace"))?
-        .arg(other_word(alloc, "from"))
+    let command = plain_command(alloc, "open");
+    let command = with_word(command, needed_word(alloc, "exe"))?;
+    let command = with_word(command, needed_word(alloc, "core"))?;
+    let command = with_word(command, needed_word(alloc, "trace"))?;
+    with_word(command, other_word(alloc, "from"))
 }
 
 fn self_command<'a>(alloc: Global) -> Result<Command<'a>, OutOfMemory>
     ensures app { IfOk result (λ c. app_of c ≡ self_app) }
     ensures local { IfOk result (λ c. (fields_of c).has_globals ≡ false) }
 {
-    Command::new(alloc, "self")
+    let command = plain_command(alloc, "self");
+    let command = with_word(command, needed_word(alloc, "seed"))?;
+    with_word(command, needed_word(alloc, "steps"))
+}
+
+/// The program without its subcommands: it has no help of its own, and no name before the words.
+fn bare_command<'a>(alloc: Global) -> Command<'a>
+    ensures app { app_of result ≡ bare_app }
+    ensures local { (fields_of result).has_globals ≡ false }
+{
+    Command::new(alloc, "rept")
+        .no_binary_name(true)
         .disable_help_flag(true)
-        .arg(needed_word(alloc, "seed"))?
-        .arg(needed_word(alloc, "steps"))
+        .disable_help_subcommand(true)
+        .subcommand_required(true)
 }
 
 /// The command `rept`, with the subcommands `open` and `self`, whose words go by their places. It has no help of its own.
@@ -53,11 +81,5 @@ pub fn rept_command<'a>(alloc: Global) -> Result<Command<'a>, OutOfMemory>
 {
     let open = open_command(alloc)?;
     let made = self_command(alloc)?;
-    Command::new(alloc, "rept")
-        .no_binary_name(true)
-        .disable_help_flag(true)
-        .disable_help_subcommand(true)
-        .subcommand_required(true)
-        .subcommand(open)?
-        .subcommand(made)
+    bare_command(alloc).subcommand(open)?.subcommand(made)
 }
