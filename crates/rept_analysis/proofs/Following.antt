@@ -24,7 +24,7 @@ use Rattle.rept_view.specs.declared.drawn.Drawn.{Drawn}
 use Rattle.rept_view.specs.Seen.{Seen, KnowsMore, seen_cell}
 use Rattle.rept_view.specs.Rules.{offset_of, IsRowByte, IsRowCell, Rules}
 use Rattle.rept_log.specs.Around.{around, around_lawful}
-use Rattle.rept_report.specs.Setting.{Setting, HasLaws, way_of}
+use Rattle.rept_report.specs.Setting.{HasLaws, way_of}
 use Rattle.rept_report.specs.Spots.{passage}
 use Rattle.rept_report.specs.Views.{point_of, all_words, bounds, register_range, known_or, seen_at, registers_at, may_write, Carries}
 use Rattle.rept_report.specs.Conclusions.{IsWordOf, HasWords, Concludes}

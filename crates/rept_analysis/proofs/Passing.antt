@@ -15,7 +15,7 @@ use Rattle.rept_view.specs.declared.drawn.When.TheVariants.{Before, After}
 use Rattle.rept_view.specs.declared.drawn.Drawn.{Drawn}
 use Rattle.rept_view.specs.Seen.{seen_cell}
 use Rattle.rept_log.specs.Around.{around, around_lawful}
-use Rattle.rept_report.specs.Setting.{Setting, HasLaws}
+use Rattle.rept_report.specs.Setting.{HasLaws}
 use Rattle.rept_report.specs.Views.{point_of}
 use Rattle.rept_report.specs.Conclusions.{HasWords}
 use Rattle.rept_report.proofs.ViewLaws.{known_more}

@@ -5,7 +5,7 @@ use mathlib.Core.Path.{fun_ext}
 use Rattle.rept_reason.specs.declared.fact.Cell.{Cell}
 use Rattle.rept_reason.specs.declared.fact.Cell.TheVariants.{Register, Byte}
 use Rattle.rept_reason.specs.Facts.{told}
-use Rattle.rept_report.specs.Setting.{Setting, HasLaws}
+use Rattle.rept_report.specs.Setting.{HasLaws}
 use Rattle.rept_report.specs.Spots.{passage}
 use Rattle.rept_report.specs.Views.{Carries, may_write}
 use Rattle.rept_report.specs.Conclusions.IsCarried.{onward, back}

@@ -1,7 +1,6 @@
 use Rattle.std.proofs.Common.{◌+◌, ◌/◌, ◌-◌, List, subst, arith}
 use Rattle.rept_reason.specs.declared.fact.Fact.{Fact}
 use Rattle.rept_reason.specs.Facts.{told}
-use Rattle.rept_report.specs.Setting.{Setting}
 use Rattle.rept_report.specs.Log.{oldest}
 use Rattle.rept_report.specs.Conflicts.{IsQuiet}
 use Rattle.rept_report.proofs.Places.{oldest_all}

@@ -1,5 +1,4 @@
 use Rattle.rept_reason.specs.Facts.{told}
-use Rattle.rept_report.specs.Setting.{Setting}
 use Rattle.rept_report.specs.Log.{oldest}
 use Rattle.rept_report.specs.Conflicts.{IsWrongTurn}
 use Rattle.rept_log.specs.Known.{Known}
