@@ -1,5 +1,5 @@
 -- What is told of a report holds in every execution, and reasons rest on it.
-use Rattle.std.proofs.Common.{◌≡◌, ℕ, ◌+◌, ◌<◌, ◌≤◌, ◌^◌, Bool, true, cond, leb, eqb, List, All, Option, Some, None, inl, inr, refl, sym, ap, subst, ◌∙◌, arith}
+use Rattle.std.proofs.Common.{◌≡◌, ℕ, ◌+◌, ◌<◌, ◌≤◌, ◌^◌, Bool, true, cond, eqb, List, All, Option, Some, None, inl, inr, refl, sym, ap, subst, ◌∙◌, arith}
 use mathlib.Core.Path.{fun_ext}
 use Rattle.std.proofs.lemmas.Bool.{cases_eq, cond-true, cond-false, eq-eqb, ne_eqb, leb-true}
 use Rattle.std.proofs.lemmas.List.Elements.{All-weaker}
@@ -16,7 +16,7 @@ use Rattle.rept_rules.specs.Base.{base_rules}
 use Rattle.rept_span.specs.RangeMoves.{range_moves}
 use Rattle.rept_span.specs.Ranges.{range}
 use Rattle.rept_report.specs.Setting.{Setting, Uses, way_of}
-use Rattle.rept_report.specs.Runs.{Run, Runs, StepWrites as RowWrites, is_call}
+use Rattle.rept_report.specs.Runs.{Runs, StepWrites as RowWrites, is_call}
 use Rattle.rept_report.specs.OneThread.{run_of}
 use Rattle.rept_report.specs.Spots.{spot}
 use Rattle.rept_report.specs.declared.writer.Writer.{Writer}
