@@ -9,7 +9,7 @@ use Rattle.rept_path.specs.declared.fault.PathFault.TheVariants as fault
 use Rattle.rept_path.specs.declared.rebuilding.Path.{Path}
 use Rattle.rept_ports.specs.Port.{Port, Move}
 use Rattle.rept_found.specs.Truth.{HasNoExecution}
-use Rattle.rept_found.specs.Crash.{Crash, setting, route}
+use Rattle.rept_found.specs.Crash.{Crash, route}
 use Rattle.rept_serve.specs.Serving.{Reading}
 use Rattle.rept_app.specs.Delivered.{Says, Tells}
 use Rattle.rept_app.specs.Ends.{Stopped, Yields, PortsEnd}

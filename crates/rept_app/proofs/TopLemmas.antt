@@ -21,7 +21,7 @@ use Rattle.rept_app.specs.Lines.{status_of}
 use Rattle.rept_app.specs.Loading.{CrashBytes, crash_bytes, Loading, loading, loading_by, fetched, fetched_all, limit_of, MatchLoading, Fits, FitBefore, name_of, loads_to, ComesTo, LoadRefuses, MeaningStops, LoadingStops, LoadsAll, NamesNone, IsAsked, first_packet}
 use Rattle.rept_app.specs.Loading.Loading.{Refused, Loaded, MadeRun}
 use Rattle.rept_app.specs.MadeRun.{Sums}
-use Rattle.rept_app.specs.Told.{Given, given, Examined, Summed, summary_line, Opening, Writes, Holds, ReportHolds, MadeHolds, AskedHolds, NoExecution, crash_at, setting_at, route_at}
+use Rattle.rept_app.specs.Told.{Given, given, Examined, Summed, summary_line, Opening, Writes, Holds, ReportHolds, MadeHolds, AskedHolds, NoExecution, crash_at, route_at}
 use Rattle.rept_app.specs.Top.{TopCauses, LacksFile, LoadEnds, LoadsOf, EndsBy, EndsByFiles, AskedEnds, NoneFails, Completes}
 use Rattle.rept_words.specs.Words.{Names, Meaning, meaning_of}
 use Rattle.rept_words.specs.Words.Meaning.{Open, Made}
