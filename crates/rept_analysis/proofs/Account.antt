@@ -4,13 +4,13 @@ use Rattle.rept_reason.specs.Facts.{Knowledge}
 use Rattle.rept_report.specs.Setting.{HasLaws}
 use Rattle.rept_report.specs.Conflicts.{IsQuiet}
 use Rattle.rept_report.specs.Implied.{with_implied, IsClosed}
-use Rattle.rept_analysis.specs.State.{State}
+use Rattle.rept_analysis.specs.State.{State, along}
 use Rattle.rept_analysis.specs.Kept.{is_among, answers, IsFinished, IsKept}
 use Rattle.rept_analysis.specs.Logged.{IsLogOf}
 use Rattle.rept_analysis.proofs.Learning.{trace_known}
 use Rattle.rept_analysis.proofs.Reported.{settled_closed}
 
-pub log_of : {W : Type 0} (s : State W) → HasLaws s.setting → IsKept s → IsFinished s → IsLogOf s.setting (answers s) s.known.log
+pub log_of : {W : Type 0} (s : State W) → HasLaws (along s.path) → IsKept s → IsFinished s → IsLogOf (along s.path) (answers s) s.known.log
 log_of s laws kept finished =
     let tracked : ℕ → Bool = is_among s.known.store.tracked in
     let same = sym (trace_known s kept) in
@@ -19,9 +19,9 @@ log_of s laws kept finished =
       tracked = tracked;
       ended = record {
         trace = kept.traced.trace;
-        quiet = subst (IsQuiet s.setting) same finished.settled.quiet;
-        closed = subst (λ (K : Knowledge). IsClosed s.setting K tracked) same (settled_closed s laws kept finished.settled);
+        quiet = subst (IsQuiet (along s.path)) same finished.settled.quiet;
+        closed = subst (λ (K : Knowledge). IsClosed (along s.path) K tracked) same (settled_closed s laws kept finished.settled);
       };
-      knows = λ p c. ap (λ (K : Knowledge). with_implied s.setting K tracked p c) (trace_known s kept);
+      knows = λ p c. ap (λ (K : Knowledge). with_implied (along s.path) K tracked p c) (trace_known s kept);
       logged = kept.traced.logged;
     }

@@ -13,11 +13,11 @@ use Rattle.rept_analysis.specs.Drawing.{Knows, IsTracked, Grows, HasNews, Drew, 
 use Rattle.rept_analysis.specs.Drawing.HasNews.{fact, address, anew}
 
 pub Grows_itself : {W : Type 0} (a : State W) → Grows a a
-Grows_itself a = record { setting = refl; rows = refl; spans = refl; filled = refl; shown = refl; complete = refl; conflict = refl; answers = refl; older = refl; more = λ p c v e. e; tracked = λ x h. h; counted = omega arith; writing = refl; fewer = omega arith; spent = omega arith; words = λ w. w }
+Grows_itself a = record { path = refl; rows = refl; spans = refl; filled = refl; shown = refl; complete = refl; conflict = refl; answers = refl; older = refl; more = λ p c v e. e; tracked = λ x h. h; counted = omega arith; writing = refl; fewer = omega arith; spent = omega arith; words = λ w. w }
 
 pub Grows_trans : {W : Type 0} (a b c : State W) → Grows a b → Grows b c → Grows a c
 Grows_trans a b c g h = record {
-  setting = h.setting ∙ g.setting;
+  path = h.path ∙ g.path;
   rows = h.rows ∙ g.rows;
   spans = h.spans ∙ g.spans;
   filled = h.filled ∙ g.filled;
@@ -42,7 +42,7 @@ news_then a b c g (address x small was_not here) = address x small was_not (g.tr
 news_then a b c g (anew less) = anew (let more = g.fewer in omega (arith, more, less))
 
 pub news_before : {W : Type 0} (a b c : State W) → Grows a b → HasNews b c → HasNews a c
-news_before a b c g (fact p d v early cell none here) = fact p d v (subst (λ n. p ≤ length n.rows) g.setting early) cell (was_none (all_known a p d) refl) here
+news_before a b c g (fact p d v early cell none here) = fact p d v (subst (λ n. p ≤ length n.given.rows) g.path early) cell (was_none (all_known a p d) refl) here
   where
     was_none : (x : Option ℕ) → all_known a p d ≡ x → all_known a p d ≡ None
     was_none None e = e
@@ -104,7 +104,7 @@ one_more C r below here s h =
 pub clash_found : {W : Type 0} (old new : State W) (p : ℕ) (c : Cell) (w v : ℕ) → new ≡ old → Knows p c w old → w ≢ v → IsFollowing old (fact_of p c v) → IsClash new (fact_of p c v) w
 clash_found old new p c w v same known differs follows = subst (λ (x : State _). IsClash x (fact_of p c v) w) (sym same) (record { is_known = known; differs = differs; follows = follows })
 
-pub row_after : {W : Type 0} (old new : State W) (i : ℕ) (row : StepRow) → Grows old new → slice_get old.setting.rows i ≡ Some row → slice_get new.setting.rows i ≡ Some row
+pub row_after : {W : Type 0} (old new : State W) (i : ℕ) (row : StepRow) → Grows old new → slice_get old.path.given.rows i ≡ Some row → slice_get new.path.given.rows i ≡ Some row
 row_after old new i row grows found = rw grows.rows found
 
 -- one more conclusion of a list is known
@@ -168,4 +168,4 @@ one_before C k n above here s low high =
 
 -- all that rows from one on let one conclude is known
 abbrev pub RowsClosedFrom : {W : Type 0} → ℕ → State W → Type 0
-RowsClosedFrom n s = (i : ℕ) → n ≤ i → i < length s.setting.rows → IsRowClosed i s
+RowsClosedFrom n s = (i : ℕ) → n ≤ i → i < length s.path.given.rows → IsRowClosed i s

@@ -5,7 +5,6 @@ use Rattle.rept_reason.specs.declared.fact.Fact.{Fact}
 use Rattle.rept_reason.specs.declared.fact.Cell.TheVariants.{Register}
 use Rattle.rept_reason.specs.Facts.{told, register_known}
 use Rattle.rept_report.specs.declared.conflict.ConflictKind.{ConflictKind}
-use Rattle.rept_report.specs.Setting.{Setting}
 use Rattle.rept_report.specs.Conflicts.{IsQuiet}
 use Rattle.rept_report.specs.Closure.{ClosureHas}
 use Rattle.rept_report.specs.Log.{oldest, OnceEach}
@@ -13,7 +12,7 @@ use Rattle.rept_report.proofs.Places.{oldest_all, oldest_more}
 use Rattle.rept_report.proofs.ViewLaws.{known_more}
 use Rattle.rept_report.proofs.Registers.{quiet_same}
 use Rattle.rept_log.specs.Known.{Known}
-use Rattle.rept_analysis.specs.State.{State, all_known}
+use Rattle.rept_analysis.specs.State.{State, all_known, Path, along}
 use Rattle.rept_analysis.specs.Drawing.{Grows, SameFacts, Continues, IsFitted, IsDrawnAll, IsSettled, IsUncut}
 use Rattle.rept_analysis.specs.Work.{left}
 use Rattle.rept_analysis.specs.Kept.{IsKept}
@@ -23,49 +22,49 @@ use Rattle.rept_analysis.specs.declared.stop.Stop.TheVariants.{Conflict, OutOfMe
 use Rattle.rept_analysis.specs.Measure.{measure}
 
 pub Same_itself : {W : Type 0} (a : State W) → SameFacts a a
-Same_itself a = record { setting = refl; known = refl; shown = refl; complete = refl; conflict = refl; draws = refl; drawn = refl }
+Same_itself a = record { path = refl; known = refl; shown = refl; complete = refl; conflict = refl; draws = refl; drawn = refl }
 
 pub Same_trans : {W : Type 0} (a b c : State W) → SameFacts a b → SameFacts b c → SameFacts a c
-Same_trans a b c g h = record { setting = h.setting ∙ g.setting; known = h.known ∙ g.known; shown = h.shown ∙ g.shown; complete = h.complete ∙ g.complete; conflict = h.conflict ∙ g.conflict; draws = h.draws ∙ g.draws; drawn = h.drawn ∙ g.drawn }
+Same_trans a b c g h = record { path = h.path ∙ g.path; known = h.known ∙ g.known; shown = h.shown ∙ g.shown; complete = h.complete ∙ g.complete; conflict = h.conflict ∙ g.conflict; draws = h.draws ∙ g.draws; drawn = h.drawn ∙ g.drawn }
 
 module _ {W : Type 0} (a b : State W) (same : SameFacts a b) where
   -- what is so of the path and the facts stays so
-  pub forth : (P : Setting W → Known → Type 0) → P a.setting a.known → P b.setting b.known
-  forth P h = rw (same.setting, same.known) h
+  pub forth : (P : Path W → Known → Type 0) → P a.path a.known → P b.path b.known
+  forth P h = rw (same.path, same.known) h
 
-  pub back_to : (P : Setting W → Known → Type 0) → P b.setting b.known → P a.setting a.known
-  back_to P h = rw (same.setting, same.known) at h
+  pub back_to : (P : Path W → Known → Type 0) → P b.path b.known → P a.path a.known
+  back_to P h = rw (same.path, same.known) at h
 
   pub measure_same : measure b ≡ measure a
-  measure_same = rw (same.setting, same.known, same.drawn) refl
+  measure_same = rw (same.path, same.known, same.drawn) refl
 
   pub stopped_from : (c : State W) (kind : ConflictKind) → IsStopped b c kind → IsStopped a c kind
   stopped_from c kind h = record {
-    setting = h.setting ∙ same.setting;
+    path = h.path ∙ same.path;
     recorded = h.recorded;
-    has = subst (λ (S : Setting W). ClosureHas S kind) same.setting h.has;
+    has = subst (λ (P : Path W). ClosureHas (along P) kind) same.path h.has;
     kept = λ p r v e. h.kept p r v (rw (same.shown, same.known) e);
   }
 
   pub paused_from : (c : State W) → IsPaused b c → IsPaused a c
   paused_from c h = record {
-    setting = h.setting ∙ same.setting;
+    path = h.path ∙ same.path;
     complete = h.complete ∙ same.complete;
     conflict = h.conflict ∙ same.conflict;
     kept = λ p r v e. h.kept p r v (rw (same.shown, same.known) e);
   }
 
   pub same_continues : Continues a b
-  same_continues = record { setting = same.setting; shown = same.shown; complete = same.complete; conflict = same.conflict; answers = rw (same.shown, same.known) refl }
+  same_continues = record { path = same.path; shown = same.shown; complete = same.complete; conflict = same.conflict; answers = rw (same.shown, same.known) refl }
 
 pub grows_continues : {W : Type 0} (a b : State W) → Grows a b → Continues a b
-grows_continues a b g = record { setting = g.setting; shown = g.shown; complete = g.complete; conflict = g.conflict; answers = g.answers }
+grows_continues a b g = record { path = g.path; shown = g.shown; complete = g.complete; conflict = g.conflict; answers = g.answers }
 
 pub Continues_itself : {W : Type 0} (a : State W) → Continues a a
-Continues_itself a = record { setting = refl; shown = refl; complete = refl; conflict = refl; answers = refl }
+Continues_itself a = record { path = refl; shown = refl; complete = refl; conflict = refl; answers = refl }
 
 pub Continues_trans : {W : Type 0} (a b c : State W) → Continues a b → Continues b c → Continues a c
-Continues_trans a b c g h = record { setting = h.setting ∙ g.setting; shown = h.shown ∙ g.shown; complete = h.complete ∙ g.complete; conflict = h.conflict ∙ g.conflict; answers = h.answers ∙ g.answers }
+Continues_trans a b c g h = record { path = h.path ∙ g.path; shown = h.shown ∙ g.shown; complete = h.complete ∙ g.complete; conflict = h.conflict ∙ g.conflict; answers = h.answers ∙ g.answers }
 
 pub continues_answers : {W : Type 0} (a b : State W) → Continues a b → KeepsAnswers a b
 continues_answers a b g p r v e = rw g.answers e
@@ -75,7 +74,7 @@ pub known_later : (fs : List Fact) → OnceEach fs → (t u : ℕ) → t ≤ u �
 known_later fs once t u le p r v e = known_more (told (oldest t fs)) (told (oldest u fs)) (λ q s w x. oldest_more t u fs once le q (Register s) w x) p r v e
 
 -- a loud place isn't below those that are answered
-pub least_later : {W : Type 0} (s : State W) → IsKept s → (t : ℕ) → (IsQuiet s.setting (told (oldest t s.known.log)) → ⊥) → s.shown ≤ t
+pub least_later : {W : Type 0} (s : State W) → IsKept s → (t : ℕ) → (IsQuiet (along s.path) (told (oldest t s.known.log)) → ⊥) → s.shown ≤ t
 least_later s kept t loud =
     elim (cases_lt t s.shown) [
       | inl lt ↦ absurd (loud (kept.calm t lt))
@@ -83,29 +82,29 @@ least_later s kept t loud =
     ]
 
 -- what all facts tell of registers
-pub quiet_whole : {W : Type 0} (s : State W) (n : ℕ) → n ≡ length s.known.log → IsQuiet s.setting (told (oldest n s.known.log)) → IsQuiet s.setting (all_known s)
+pub quiet_whole : {W : Type 0} (s : State W) (n : ℕ) → n ≡ length s.known.log → IsQuiet (along s.path) (told (oldest n s.known.log)) → IsQuiet (along s.path) (all_known s)
 quiet_whole s n all quiet =
     let whole : oldest n s.known.log ≡ s.known.log = oldest_all n s.known.log (omega (arith, all)) in
-    quiet_same s.setting (told s.known.log) (all_known s) (λ p r. refl) (subst (λ (fs : List Fact). IsQuiet s.setting (told fs)) whole quiet)
+    quiet_same (along s.path) (told s.known.log) (all_known s) (λ p r. refl) (subst (λ (fs : List Fact). IsQuiet (along s.path) (told fs)) whole quiet)
 
-pub quiet_part : {W : Type 0} (s : State W) (n : ℕ) → n ≡ length s.known.log → IsQuiet s.setting (told s.known.log) → IsQuiet s.setting (told (oldest n s.known.log))
+pub quiet_part : {W : Type 0} (s : State W) (n : ℕ) → n ≡ length s.known.log → IsQuiet (along s.path) (told s.known.log) → IsQuiet (along s.path) (told (oldest n s.known.log))
 quiet_part s n all quiet =
     let whole : oldest n s.known.log ≡ s.known.log = oldest_all n s.known.log (omega (arith, all)) in
-    subst (λ (fs : List Fact). IsQuiet s.setting (told fs)) (sym whole) quiet
+    subst (λ (fs : List Fact). IsQuiet (along s.path) (told fs)) (sym whole) quiet
 
-pub settled_by : {W : Type 0} (s : State W) (n : ℕ) → n ≡ length s.known.log → IsQuiet s.setting (told (oldest n s.known.log)) → IsFitted s → s.filled ≡ n → IsDrawnAll s → IsSettled s
+pub settled_by : {W : Type 0} (s : State W) (n : ℕ) → n ≡ length s.known.log → IsQuiet (along s.path) (told (oldest n s.known.log)) → IsFitted s → s.filled ≡ n → IsDrawnAll s → IsSettled s
 settled_by s n all quiet fitted filled drawn = record { quiet = quiet_whole s n all quiet; fitted = fitted; filled = filled ∙ all; drawn = drawn }
 
 module _ {W : Type 0} (a b c : State W) where
   pub ended_after : Continues a b → IsEnded b c → IsEnded a c
-  ended_after g h = record { setting = h.setting ∙ g.setting; complete = h.complete; conflict = h.conflict; finished = h.finished; kept = λ p r v e. h.kept p r v (continues_answers a b g p r v e) }
+  ended_after g h = record { path = h.path ∙ g.path; complete = h.complete; conflict = h.conflict; finished = h.finished; kept = λ p r v e. h.kept p r v (continues_answers a b g p r v e) }
 
   pub stopped_after : (kind : ConflictKind) → Continues a b → IsStopped b c kind → IsStopped a c kind
-  stopped_after kind g h = record { setting = h.setting ∙ g.setting; recorded = h.recorded; has = subst (λ (S : Setting W). ClosureHas S kind) g.setting h.has; kept = λ p r v e. h.kept p r v (continues_answers a b g p r v e) }
+  stopped_after kind g h = record { path = h.path ∙ g.path; recorded = h.recorded; has = subst (λ (P : Path W). ClosureHas (along P) kind) g.path h.has; kept = λ p r v e. h.kept p r v (continues_answers a b g p r v e) }
 
   pub halted_after : (stop : Stop) → Continues a b → IsHalted b c stop → IsHalted a c stop
   halted_after (Conflict kind) g h = stopped_after kind g h
-  halted_after OutOfMemory g h = record { setting = h.setting ∙ g.setting; complete = h.complete ∙ g.complete; conflict = h.conflict ∙ g.conflict; kept = λ p r v e. h.kept p r v (continues_answers a b g p r v e) }
+  halted_after OutOfMemory g h = record { path = h.path ∙ g.path; complete = h.complete ∙ g.complete; conflict = h.conflict ∙ g.conflict; kept = λ p r v e. h.kept p r v (continues_answers a b g p r v e) }
 
 -- how often rules can be drawn stays so where only sets change
 pub spent_like : {W : Type 0} (a b s : State W) → SameFacts a b → a.work.draws + left a.work.drawn ≤ s.work.draws + left s.work.drawn → b.work.draws ≤ s.work.draws + left s.work.drawn

@@ -1,7 +1,7 @@
 -- Fronts of the log of an analysis that has ended, and the reasons that are found in them.
 use Rattle.std.proofs.Common.{◌≡◌, ℕ, ◌+◌, ◌<◌, ◌≤◌, ◌^◌, false, eqb, List, [], ◌∷◌, length, Option, Some, None, Result, Ok, Err, IsOk, IfErr, OnOk, IfSome, IfNone, IsTrue, inl, inr, refl, sym, ap, subst, ◌∙◌, arith}
 use Rattle.std.specs.Prelude.{⊤}
-use Rattle.std.proofs.lemmas.Bool.{cases_eq, cases_order, cases_Bool, cond-true, cond-false, eq-eqb, ne_eqb, eqb-true, false≢true}
+use Rattle.std.proofs.lemmas.Bool.{cases_Bool, cond-true, cond-false, eq-eqb, ne_eqb, eqb-true, false≢true}
 use Rattle.rept_reason.specs.declared.fact.Fact.{Fact}
 use Rattle.rept_reason.specs.declared.fact.Cell.{Cell}
 use Rattle.rept_reason.specs.declared.fact.Cell.TheVariants.{Register, Byte}
@@ -11,29 +11,25 @@ use Rattle.rept_span.specs.Ranges.{IsEmptyFirst}
 use Rattle.rept_span.specs.Filled.{View}
 use Rattle.rept_report.specs.Setting.{Setting, HasLaws, way_of}
 use Rattle.rept_report.specs.Conflicts.{IsQuiet}
-use Rattle.rept_report.specs.Log.{oldest, entry, place_of, OnceEach}
-use Rattle.rept_report.specs.Reasons.{StandsIn, standing}
-use Rattle.rept_report.specs.Why.{Because, fact_of, IsDrawnBecause, IsKnownBecause, IsCarriedBecause, IsLeastFront, IsReason}
-use Rattle.rept_report.specs.Why.IsReason.{of_register, of_drawn_byte, of_carried_byte}
-use Rattle.rept_report.proofs.Told.{none_some, same_some, speaks_is, told_old, in_told}
+use Rattle.rept_report.specs.Log.{oldest, logged_of, entry, place_of}
+use Rattle.rept_report.specs.Reasons.{StandsIn, IsStanding}
+use Rattle.rept_report.specs.Why.{Because, fact_of, IsDrawnBecause, IsKnownBecause, IsCarriedBecause, IsLeastFront}
+use Rattle.rept_report.proofs.Told.{none_some, same_some, speaks_is, told_old}
 use Rattle.rept_report.proofs.Places.{oldest_all, oldest_less, place_none}
-use Rattle.rept_report.proofs.Standing.{oldest_in, front_quiet}
-use Rattle.rept_report.proofs.Explained.{entry_in}
+use Rattle.rept_report.proofs.Standing.{front_quiet}
+use Rattle.rept_report.proofs.Explained.{known_by, drawn_by, carried_by}
 use Rattle.rept_report.proofs.Implied.{known_stands}
 use Rattle.rept_isa.specs.declared.row.StepRow.{StepRow}
 use Rattle.rept_elf.specs.Segments.{ElfSegment}
-use Rattle.rept_log.specs.Fronts.{Basis, IsFront}
-use Rattle.rept_analysis.specs.State.{State, with_draws}
+use Rattle.rept_log.specs.Fronts.{Basis, IsFront, stands}
+use Rattle.rept_analysis.specs.State.{State, with_draws, along}
 use Rattle.rept_analysis.specs.Drawing.{IsRowDrawn, IsSettled}
 use Rattle.rept_analysis.specs.Kept.{is_among, answers, IsFinished, IsKept}
 use Rattle.rept_analysis.specs.Reasoned.{AreSetsOf, IsNotLast}
 use Rattle.rept_analysis.proofs.Passing.{passes_more}
 use Rattle.rept_analysis.proofs.Learning.{known_words}
 use Rattle.rept_analysis.proofs.Answering.{answers_early}
-use Rattle.rept_analysis.proofs.Explaining.{has_ended, ends_with, known_reason, front_found, front_stands}
-
-same_fact : {x y : Fact} → Some x ≡ Some y → x ≡ y
-same_fact e = cc
+use Rattle.rept_analysis.proofs.Explaining.{has_ended, ends_with, front_at, front_finds}
 
 fact_is : (f g : Fact) → f.point ≡ g.point → f.cell ≡ g.cell → f.value ≡ g.value → f ≡ g
 fact_is f g p c v =
@@ -41,40 +37,9 @@ fact_is f g p c v =
     ∙ ap (λ (x : Cell). record { point = g.point; cell = x; value = f.value }) c
     ∙ ap (λ (x : ℕ). record { point = g.point; cell = g.cell; value = x }) v
 
-byte_differs : {a r : ℕ} → Byte a ≡ Register r → ⊥
-byte_differs e = cc
-
-register_differs : {a r : ℕ} → Register r ≡ Byte a → ⊥
-register_differs e = cc
-
 pub none_by : {A : Type 0} (P : Type 0) (found : Option A) → P → IfNone found P
 none_by P None h = h
 none_by P (Some x) h = tt
-
--- a fact has one place
-pub entry_once : (fs : List Fact) → OnceEach fs → (f : Fact) (t u : ℕ) → entry fs t ≡ Some f → entry fs u ≡ Some f → t ≡ u
-entry_once [] once f t u e h = cc
-entry_once (g ∷ gs) once f t u e h =
-    elim (cases_eq t (length gs)) [
-      | inl t_last ↦
-          elim (cases_eq u (length gs)) [
-            | inl u_last ↦ omega arith
-            | inr u_before ↦ absurd (twice u (sym (cond-true (eqb t (length gs)) (Some g) (entry gs t) (eq-eqb t (length gs) t_last)) ∙ e) (sym (cond-false (eqb u (length gs)) (Some g) (entry gs u) (ne_eqb u (length gs) u_before)) ∙ h))
-          ]
-      | inr t_before ↦
-          let e' = sym (cond-false (eqb t (length gs)) (Some g) (entry gs t) (ne_eqb t (length gs) t_before)) ∙ e in
-          elim (cases_eq u (length gs)) [
-            | inl u_last ↦ absurd (twice t (sym (cond-true (eqb u (length gs)) (Some g) (entry gs u) (eq-eqb u (length gs) u_last)) ∙ h) e')
-            | inr u_before ↦ entry_once gs once.0 f t u e' (sym (cond-false (eqb u (length gs)) (Some g) (entry gs u) (ne_eqb u (length gs) u_before)) ∙ h)
-          ]
-    ]
-  where
-    twice : (k : ℕ) → Some g ≡ Some f → entry gs k ≡ Some f → ⊥
-    twice k is at =
-        let there = in_told gs once.0 f (oldest_in (k + 1) gs f (entry_in gs k f at)) in
-        let same = same_fact is in
-        let none : told gs f.point f.cell ≡ None = subst (λ (x : Fact). told gs x.point x.cell ≡ None) same once.1 in
-        none_some (sym none ∙ there)
 
 -- the fact at the place of a cell
 pub record IsPlaced (fs : List Fact) (p : ℕ) (c : Cell) (k : ℕ) : Type 0 where
@@ -122,20 +87,12 @@ placed (g ∷ gs) p c k e =
           }
     ]
 
-pub least_same : {W : Type 0} (S : Setting W) (log : List Fact) (f : Fact) (t u : ℕ) → IsLeastFront S log f t → IsLeastFront S log f u → t ≡ u
-least_same S log f t u h k =
-    elim (cases_order t u) [
-      | inl same ↦ same
-      | inr (inl less) ↦ absurd (k.least t less h.stands)
-      | inr (inr more) ↦ absurd (h.least u more k.stands)
-    ]
-
 pub filled_ok : {W : Type 0} (S : Setting W) (K : Knowledge) → IsQuiet S K → (result : Result ⊤ EmptyAt) → IfErr result (λ e. IsEmptyFirst (way_of S) K e.point e.reg) → IsOk result
 filled_ok S K quiet (Ok x) h = refl
 filled_ok S K quiet (Err e) h = absurd (quiet.full e.point e.reg h.early h.in_file h.empty)
 
 -- the prefix of a log, with the sets that are filled from it
-pub front_is : {W : Type 0} (s : State W) → IsKept s → (t : ℕ) (spans : View W) → AreSetsOf s.setting (oldest t s.known.log) spans → IsFront (record { setting = s.setting; facts = oldest t s.known.log }) s.known.last spans
+pub front_is : {W : Type 0} (s : State W) → IsKept s → (t : ℕ) (spans : View W) → AreSetsOf (along s.path) (oldest t s.known.log) spans → IsFront (record { sets = s.path.sets; moves = s.path.moves; rules = s.path.rules; given = s.path.given; facts = oldest t s.known.log }) s.known.last spans
 front_is s kept t spans sets = record {
   few = kept.few;
   registers = kept.registers;
@@ -145,62 +102,61 @@ front_is s kept t spans sets = record {
   filled = sets.filled;
 }
 
-module _ {W : Type 0} (s : State W) (laws : HasLaws s.setting) (kept : IsKept s) (finished : IsFinished s) where
+module _ {W : Type 0} (s : State W) (laws : HasLaws (along s.path)) (kept : IsKept s) (finished : IsFinished s) where
   abbrev Log : List Fact
   Log = s.known.log
 
   abbrev IsAnswered : Fact → Type 0
   IsAnswered f = answers s f.point f.cell ≡ Some f.value
 
-  pub quiet_below : (t : ℕ) → IsQuiet s.setting (told (oldest t s.known.log))
-  quiet_below t = let end = has_ended s laws kept finished in subst (λ (fs : List Fact). IsQuiet s.setting (told (oldest t fs))) kept.traced.logged (front_quiet s.setting laws kept.traced.entries end.trace end.quiet t)
+  pub quiet_below : (t : ℕ) → IsQuiet (along s.path) (told (oldest t s.known.log))
+  quiet_below t = let end = has_ended s laws kept finished in subst (λ (fs : List Fact). IsQuiet (along s.path) (told (oldest t fs))) kept.traced.logged (front_quiet (along s.path) laws kept.traced.entries end.trace end.quiet t)
 
   -- what is answered stands in the whole log
-  pub stands_all : (f : Fact) → IsAnswered f → StandsIn s.setting (oldest (length s.known.log) s.known.log) f
+  pub stands_all : (f : Fact) → IsAnswered f → StandsIn (along s.path) (oldest (length s.known.log) s.known.log) f
   stands_all f e =
       let end = has_ended s laws kept finished in
       let known = ap (λ (K : Knowledge). K f.point f.cell) (ends_with s laws kept finished) ∙ e in
-      let h = known_stands s.setting laws kept.traced.entries end.trace end.quiet (is_among s.known.store.tracked) end.closed f.point f.cell f.value known in
-      let h' : StandsIn s.setting s.known.log f = subst (λ (fs : List Fact). StandsIn s.setting fs f) kept.traced.logged h in
+      let h = known_stands (along s.path) laws kept.traced.entries end.trace end.quiet (is_among s.known.store.tracked) end.closed f.point f.cell f.value known in
+      let h' : StandsIn (along s.path) s.known.log f = subst (λ (fs : List Fact). StandsIn (along s.path) fs f) kept.traced.logged h in
       rw (oldest_all (length s.known.log) s.known.log (omega arith)) h'
 
   -- what is found is what stands
-  pub stands_there : (t : ℕ) (f : Fact) (a : ℕ) → f.cell ≡ Byte a → f.point ≤ length s.setting.rows → a < 2 ^ 32 → standing s.setting (oldest t s.known.log) f.point (Byte a) ≡ Some f.value → StandsIn s.setting (oldest t s.known.log) f
-  stands_there t f a cell early small e = subst (StandsIn s.setting (oldest t s.known.log)) (fact_is (fact_of f.point (Byte a) f.value) f refl (sym cell) refl) (front_stands s laws kept finished t f.point a f.value early small e)
+  pub stands_there : (t : ℕ) (f : Fact) (a : ℕ) → f.cell ≡ Byte a → f.point ≤ length s.path.given.rows → a < 2 ^ 32 → stands (front_at s laws kept finished t) f.point (Byte a) ≡ Some f.value → StandsIn (along s.path) (oldest t s.known.log) f
+  stands_there t f a cell early small e = subst (StandsIn (along s.path) (oldest t s.known.log)) (fact_is (fact_of f.point (Byte a) f.value) f refl (sym cell) refl) ((front_finds s laws kept finished t).sound f.point a f.value early small e)
 
-  pub found_there : (t : ℕ) (f : Fact) (a : ℕ) → f.cell ≡ Byte a → f.point ≤ length s.setting.rows → StandsIn s.setting (oldest t s.known.log) f → standing s.setting (oldest t s.known.log) f.point (Byte a) ≡ Some f.value
-  found_there t f a cell early h = front_found s laws kept finished t f.point a f.value early (subst (StandsIn s.setting (oldest t s.known.log)) (fact_is f (fact_of f.point (Byte a) f.value) refl cell refl) h)
+  pub found_there : (t : ℕ) (f : Fact) (a : ℕ) → f.cell ≡ Byte a → a < 2 ^ 32 → StandsIn (along s.path) (oldest t s.known.log) f → stands (front_at s laws kept finished t) f.point (Byte a) ≡ Some f.value
+  found_there t f a cell small h = (front_finds s laws kept finished t).whole f.point a f.value small (subst (StandsIn (along s.path) (oldest t s.known.log)) (fact_is f (fact_of f.point (Byte a) f.value) refl cell refl) h)
+
+  -- the same of the log as the laws of reports speak of it
+  finds_logged : (t : ℕ) → IsStanding (along s.path) (oldest t (logged_of kept.traced.entries)) (stands (front_at s laws kept finished t))
+  finds_logged t = subst (λ (fs : List Fact). IsStanding (along s.path) (oldest t fs) (stands (front_at s laws kept finished t))) (sym kept.traced.logged) (front_finds s laws kept finished t)
 
   -- where no rule gives a register's fact at its place, it isn't answered
-  pub no_known : (f : Fact) (r t : ℕ) → f.cell ≡ Register r → entry s.known.log t ≡ Some f → ((why : Because) → IsKnownBecause s.setting (standing s.setting (oldest t s.known.log)) f why → ⊥) → IsAnswered f → ⊥
-  no_known f r t cell at none e = let h = known_reason s laws kept finished f e in go h.0 h.1
-    where
-      go : (why : Because) → IsReason s.setting s.known.log f why → ⊥
-      go why (of_register u q c at' by) =
-          let same : u ≡ t = entry_once s.known.log kept.once f u t at' at in
-          none why (subst (λ (k : ℕ). IsKnownBecause s.setting (standing s.setting (oldest k s.known.log)) f why) same by)
-      go why (of_drawn_byte u a c least at' by) = byte_differs (sym c ∙ cell)
-      go why (of_carried_byte u a c least other by) = byte_differs (sym c ∙ cell)
+  pub no_known : (f : Fact) (r t : ℕ) → f.cell ≡ Register r → entry s.known.log t ≡ Some f → ((why : Because) → IsKnownBecause (along s.path) (stands (front_at s laws kept finished t)) f why → ⊥) → IsAnswered f → ⊥
+  no_known f r t cell at none e =
+      let end = has_ended s laws kept finished in
+      let h = known_by (along s.path) laws kept.traced.entries end.trace end.quiet (is_among s.known.store.tracked) end.closed t f r (stands (front_at s laws kept finished t)) (finds_logged t) cell (subst (λ (fs : List Fact). entry fs t ≡ Some f) (sym kept.traced.logged) at) in
+      none h.0 h.1
 
-  pub no_drawn : (f : Fact) (a t : ℕ) → f.cell ≡ Byte a → IsLeastFront s.setting s.known.log f (t + 1) → entry s.known.log t ≡ Some f → ((why : Because) → IsDrawnBecause s.setting (standing s.setting (oldest t s.known.log)) f why → ⊥) → IsAnswered f → ⊥
-  no_drawn f a t cell least at none e = let h = known_reason s laws kept finished f e in go h.0 h.1
-    where
-      go : (why : Because) → IsReason s.setting s.known.log f why → ⊥
-      go why (of_register u q c at' by) = register_differs (sym c ∙ cell)
-      go why (of_drawn_byte u b c least' at' by) =
-          let same : u ≡ t = entry_once s.known.log kept.once f u t at' at in
-          none why (subst (λ (k : ℕ). IsDrawnBecause s.setting (standing s.setting (oldest k s.known.log)) f why) same by)
-      go why (of_carried_byte u b c least' other by) = other t (least_same s.setting s.known.log f u (t + 1) least' least) at
+  pub no_drawn : (f : Fact) (a t : ℕ) → f.cell ≡ Byte a → IsLeastFront (along s.path) s.known.log f (t + 1) → entry s.known.log t ≡ Some f → ((why : Because) → IsDrawnBecause (along s.path) (stands (front_at s laws kept finished t)) f why → ⊥) → IsAnswered f → ⊥
+  no_drawn f a t cell least at none e =
+      let end = has_ended s laws kept finished in
+      let same : f ≡ fact_of f.point (Byte a) f.value = fact_is f (fact_of f.point (Byte a) f.value) refl cell refl in
+      let least' = subst (λ (x : Fact). IsLeastFront (along s.path) (logged_of kept.traced.entries) x (t + 1)) same (subst (λ (fs : List Fact). IsLeastFront (along s.path) fs f (t + 1)) (sym kept.traced.logged) least) in
+      let at' = subst (λ (x : Fact). entry (logged_of kept.traced.entries) t ≡ Some x) same (subst (λ (fs : List Fact). entry fs t ≡ Some f) (sym kept.traced.logged) at) in
+      let h = drawn_by (along s.path) laws kept.traced.entries end.trace end.quiet (is_among s.known.store.tracked) end.closed t f.point a f.value (stands (front_at s laws kept finished t)) (finds_logged t) least' at' in
+      none h.0 (subst (λ (x : Fact). IsDrawnBecause (along s.path) (stands (front_at s laws kept finished t)) x h.0) (sym same) h.1)
 
-  pub no_carried : (f : Fact) (a t : ℕ) → f.cell ≡ Byte a → IsLeastFront s.setting s.known.log f t → IsNotLast s.known.log f t → ((why : Because) → IsCarriedBecause s.setting (oldest t s.known.log) f why → ⊥) → IsAnswered f → ⊥
-  no_carried f a t cell least other none e = let h = known_reason s laws kept finished f e in go h.0 h.1
-    where
-      go : (why : Because) → IsReason s.setting s.known.log f why → ⊥
-      go why (of_register u q c at' by) = register_differs (sym c ∙ cell)
-      go why (of_drawn_byte u b c least' at' by) = other u (sym (least_same s.setting s.known.log f (u + 1) t least' least)) at'
-      go why (of_carried_byte u b c least' other' by) =
-          let same : u ≡ t = least_same s.setting s.known.log f u t least' least in
-          none why (subst (λ (k : ℕ). IsCarriedBecause s.setting (oldest k s.known.log) f why) same by)
+  pub no_carried : (f : Fact) (a t : ℕ) → f.cell ≡ Byte a → IsLeastFront (along s.path) s.known.log f t → IsNotLast s.known.log f t → ((why : Because) → IsCarriedBecause (along s.path) (oldest t s.known.log) f why → ⊥) → IsAnswered f → ⊥
+  no_carried f a t cell least other none e =
+      let end = has_ended s laws kept finished in
+      let small : a < 2 ^ 32 = subst IsCell cell (answers_early s finished f.point f.cell f.value e).1 in
+      let same : f ≡ fact_of f.point (Byte a) f.value = fact_is f (fact_of f.point (Byte a) f.value) refl cell refl in
+      let least' = subst (λ (x : Fact). IsLeastFront (along s.path) (logged_of kept.traced.entries) x t) same (subst (λ (fs : List Fact). IsLeastFront (along s.path) fs f t) (sym kept.traced.logged) least) in
+      let other' = subst (λ (x : Fact). IsNotLast (logged_of kept.traced.entries) x t) same (subst (λ (fs : List Fact). IsNotLast fs f t) (sym kept.traced.logged) other) in
+      let h = carried_by (along s.path) laws kept.traced.entries end.trace end.quiet (is_among s.known.store.tracked) end.closed t f.point a f.value small least' other' in
+      none h.0 (subst (λ (fs : List Fact). IsCarriedBecause (along s.path) (oldest t fs) f h.0) kept.traced.logged (subst (λ (x : Fact). IsCarriedBecause (along s.path) (oldest t (logged_of kept.traced.entries)) x h.0) (sym same) h.1))
 
   -- x0 has no facts
   pub no_zero : (f : Fact) (r : ℕ) → f.cell ≡ Register r → r ≡ 0 → IsAnswered f → ⊥
@@ -220,14 +176,14 @@ module _ {W : Type 0} (s : State W) (laws : HasLaws s.setting) (kept : IsKept s)
       other (h.at ∙ ap (λ (x : Fact). Some x) same)
 
   -- whether a byte's fact stands in a prefix, by the byte that is found there
-  pub found_stands : (t : ℕ) (f : Fact) (a : ℕ) → f.cell ≡ Byte a → f.point ≤ length s.setting.rows → a < 2 ^ 32 → (v : ℕ) → standing s.setting (oldest t s.known.log) f.point (Byte a) ≡ Some v → (IsTrue (eqb v f.value) → StandsIn s.setting (oldest t s.known.log) f) × (StandsIn s.setting (oldest t s.known.log) f → IsTrue (eqb v f.value))
+  pub found_stands : (t : ℕ) (f : Fact) (a : ℕ) → f.cell ≡ Byte a → f.point ≤ length s.path.given.rows → a < 2 ^ 32 → (v : ℕ) → stands (front_at s laws kept finished t) f.point (Byte a) ≡ Some v → (IsTrue (eqb v f.value) → StandsIn (along s.path) (oldest t s.known.log) f) × (StandsIn (along s.path) (oldest t s.known.log) f → IsTrue (eqb v f.value))
   found_stands t f a cell early small v e = (
     λ same. stands_there t f a cell early small (e ∙ ap Some (eqb-true v f.value same)),
-    λ h. eq-eqb v f.value (same_some (sym e ∙ found_there t f a cell early h)),
+    λ h. eq-eqb v f.value (same_some (sym e ∙ found_there t f a cell small h)),
   )
 
-  pub none_stands : (t : ℕ) (f : Fact) (a : ℕ) → f.cell ≡ Byte a → f.point ≤ length s.setting.rows → standing s.setting (oldest t s.known.log) f.point (Byte a) ≡ None → (IsTrue false → StandsIn s.setting (oldest t s.known.log) f) × (StandsIn s.setting (oldest t s.known.log) f → IsTrue false)
-  none_stands t f a cell early e = (λ x. absurd (false≢true x), λ h. absurd (none_some (sym e ∙ found_there t f a cell early h)))
+  pub none_stands : (t : ℕ) (f : Fact) (a : ℕ) → f.cell ≡ Byte a → a < 2 ^ 32 → stands (front_at s laws kept finished t) f.point (Byte a) ≡ None → (IsTrue false → StandsIn (along s.path) (oldest t s.known.log) f) × (StandsIn (along s.path) (oldest t s.known.log) f → IsTrue false)
+  none_stands t f a cell small e = (λ x. absurd (false≢true x), λ h. absurd (none_some (sym e ∙ found_there t f a cell small h)))
 
 pub place_some : (fs : List Fact) (p : ℕ) (c : Cell) (x : Option ℕ) → x ≡ place_of fs p c → IfSome x (λ t. t < length fs)
 place_some fs p c None e = tt

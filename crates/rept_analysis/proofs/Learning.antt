@@ -20,7 +20,7 @@ use Rattle.rept_versions.specs.Facts.{ByteFact}
 use Rattle.rept_log.specs.declared.answer.Answer.{Answer}
 use Rattle.rept_log.specs.declared.answer.Answer.TheVariants.{Old, New, Clash}
 use Rattle.rept_log.specs.Known.{Known, knows, known_change, with_entry, IsNew, LearnsRegister, AddsByte, LearnsByte, HasNoRoom, TracksMore, TracksByte}
-use Rattle.rept_analysis.specs.State.{State, all_known}
+use Rattle.rept_analysis.specs.State.{State, all_known, along}
 use Rattle.rept_report.specs.Why.{fact_of}
 use Rattle.rept_analysis.specs.Drawing.{IsTracked, Grows, IsFollowing, IsBrought, IsRowAddress, HasPlace}
 use Rattle.rept_analysis.specs.Sums.{sum_to}
@@ -34,7 +34,7 @@ use Rattle.rept_analysis.proofs.Reserve.{room_like, room_drawn, room_last, room_
 use Rattle.rept_analysis.specs.Told.{IsTold, Tells, TellsByte, Tracks}
 
 abbrev pub with_known : {W : Type 0} → State W → Known → State W
-with_known s k = record { setting = s.setting; known = k; spans = s.spans; filled = s.filled; shown = s.shown; complete = s.complete; conflict = s.conflict; work = s.work }
+with_known s k = record { path = s.path; known = k; spans = s.spans; filled = s.filled; shown = s.shown; complete = s.complete; conflict = s.conflict; work = s.work }
 
 same_byte : {a b : ℕ} → Byte a ≡ Byte b → a ≡ b
 same_byte e = cc
@@ -66,11 +66,11 @@ module _ {W : Type 0} (s : State W) (kept : IsKept s) where
   trace_known = fun_ext (λ p. fun_ext (λ c. kept.traced.agree p c))
 
   pub known_words : HasWords (all_known s)
-  known_words = subst HasWords trace_known (words_of (facts_of kept.traced.entries) (trace_words s.setting kept.traced.entries kept.traced.trace))
+  known_words = subst HasWords trace_known (words_of (facts_of kept.traced.entries) (trace_words (along s.path) kept.traced.entries kept.traced.trace))
 
 -- a fact that was learnt, and what is known with it
 pub record IsNext {W : Type 0} (s : State W) (kept : IsKept s) (f : Fact) (keep : Bool) (k : Known) : Type 0 where
-  pub early : f.point ≤ length s.setting.rows
+  pub early : f.point ≤ length s.path.given.rows
   pub cell : IsCell f.cell
   pub word : IsWordOf f.cell f.value
   pub new : all_known s f.point f.cell ≡ None
@@ -82,7 +82,7 @@ pub record IsNext {W : Type 0} (s : State W) (kept : IsKept s) (f : Fact) (keep 
   pub once : OnceEach k.log
   pub tracked : k.store.tracked ≡ s.known.store.tracked
   pub listed : (p a v : ℕ) → knows k p (Byte a) ≡ Some v → Contains s.known.store.tracked a
-  pub roomy : ((p : ℕ) (c : Cell) (v : ℕ) → all_known s p c ≡ Some v → knows k p c ≡ Some v) → s.work.joins ≡ true → HasRoom s.setting k
+  pub roomy : ((p : ℕ) (c : Cell) (v : ℕ) → all_known s p c ≡ Some v → knows k p c ≡ Some v) → s.work.joins ≡ true → HasRoom s.path k
   pub agree : (p : ℕ) (c : Cell) → told (f ∷ facts_of kept.traced.entries) p c ≡ knows k p c
 
 module _ {W : Type 0} (s : State W) (kept : IsKept s) (f : Fact) (keep : Bool) (k : Known) (n : IsNext s kept f keep k) where
@@ -92,8 +92,8 @@ module _ {W : Type 0} (s : State W) (kept : IsKept s) (f : Fact) (keep : Bool) (
   abbrev es : List Entry
   es = kept.traced.entries
 
-  next_learnt : IsLearnt s.setting (told (facts_of es)) learnt
-  next_learnt = subst (λ (K : Knowledge). IsLearnt s.setting K learnt) (sym (trace_known s kept)) (record {
+  next_learnt : IsLearnt (along s.path) (told (facts_of es)) learnt
+  next_learnt = subst (λ (K : Knowledge). IsLearnt (along s.path) K learnt) (sym (trace_known s kept)) (record {
     cell = n.cell;
     word = n.word;
     new = n.new;
@@ -102,7 +102,7 @@ module _ {W : Type 0} (s : State W) (kept : IsKept s) (f : Fact) (keep : Bool) (
     follows = n.follows;
   })
 
-  next_trace : IsTrace s.setting (learnt ∷ es)
+  next_trace : IsTrace (along s.path) (learnt ∷ es)
   next_trace = (kept.traced.trace, next_learnt)
 
   next_logged : logged_of (learnt ∷ es) ≡ k.log
@@ -152,7 +152,7 @@ module _ {W : Type 0} (s : State W) (kept : IsKept s) (f : Fact) (keep : Bool) (
   pub next_told : IsTold s (with_known s k) f
   next_told = record {
     grows = record {
-      setting = refl;
+      path = refl;
       rows = refl;
       spans = refl;
       filled = refl;
@@ -175,7 +175,7 @@ module _ {W : Type 0} (s : State W) (kept : IsKept s) (f : Fact) (keep : Bool) (
   }
 
 -- a register
-module _ {W : Type 0} (s : State W) (kept : IsKept s) (p r v : ℕ) (early : p ≤ length s.setting.rows) (named : 0 < r) (in_file : r < 32) (small : v < 2 ^ 32) (open_ : s.complete ≡ false) (follows : IsFollowing s (fact_of p (Register r) v)) where
+module _ {W : Type 0} (s : State W) (kept : IsKept s) (p r v : ℕ) (early : p ≤ length s.path.given.rows) (named : 0 < r) (in_file : r < 32) (small : v < 2 ^ 32) (open_ : s.complete ≡ false) (follows : IsFollowing s (fact_of p (Register r) v)) where
   register_agrees : (q : ℕ) (c : Cell) → told (fact_of p (Register r) v ∷ facts_of kept.traced.entries) q c ≡ knows (with_entry s.known (fact_of p (Register r) v)) q c
   register_agrees q (Register t) = ap (λ (x : Option ℕ). cond (speaks (fact_of p (Register r) v) q (Register t)) (Some v) x) (kept.traced.agree q (Register t))
   register_agrees q (Byte a) = told_old (fact_of p (Register r) v) (facts_of kept.traced.entries) q (Byte a) (false_from_ne_true (speaks (fact_of p (Register r) v) q (Byte a)) (λ e. register_differs (speaks_is (fact_of p (Register r) v) q (Byte a) e).1)) ∙ kept.traced.agree q (Byte a)
@@ -194,7 +194,7 @@ module _ {W : Type 0} (s : State W) (kept : IsKept s) (p r v : ℕ) (early : p �
     once = once;
     tracked = refl;
     listed = λ q a w e. kept.listed q a w e;
-    roomy = λ more j. room_like s.setting s.known (with_entry s.known (fact_of p (Register r) v)) more (omega arith) (omega arith) refl refl (kept.roomy j);
+    roomy = λ more j. room_like s.path s.known (with_entry s.known (fact_of p (Register r) v)) more (omega arith) (omega arith) refl refl (kept.roomy j);
     agree = register_agrees;
   }
 
@@ -206,7 +206,7 @@ module _ {W : Type 0} (s : State W) (kept : IsKept s) (p r v : ℕ) (early : p �
       subst (λ (x : Known). IsKept (with_known s x) × Tells s (with_known s x) (fact_of p (Register r) v) New) (sym same) (next_kept s kept _ true _ n, next_told s kept _ true _ n)
 
 -- a byte
-module _ {W : Type 0} (s : State W) (kept : IsKept s) (joins : Bool) (p a v : ℕ) (early : p ≤ length s.setting.rows) (small : a < 2 ^ 32) (tracked : IsTracked a s) (open_ : s.complete ≡ false) (follows : IsFollowing s (fact_of p (Byte a) v)) (keep : Bool) (brought : keep ≡ false → IsBrought s (fact_of p (Byte a) v)) where
+module _ {W : Type 0} (s : State W) (kept : IsKept s) (joins : Bool) (p a v : ℕ) (early : p ≤ length s.path.given.rows) (small : a < 2 ^ 32) (tracked : IsTracked a s) (open_ : s.complete ≡ false) (follows : IsFollowing s (fact_of p (Byte a) v)) (keep : Bool) (brought : keep ≡ false → IsBrought s (fact_of p (Byte a) v)) where
   abbrev f : Fact
   f = fact_of p (Byte a) v
 
@@ -250,7 +250,7 @@ module _ {W : Type 0} (s : State W) (kept : IsKept s) (joins : Bool) (p a v : �
           | inr elsewhere ↦ kept.listed q b w (sym (kept.traced.agree q (Byte b)) ∙ sym (told_old f (facts_of kept.traced.entries) q (Byte b) elsewhere) ∙ byte_agrees q (Byte b) ∙ e)
         ]
 
-    byte_next : OnceEach k.log → (((q : ℕ) (c : Cell) (w : ℕ) → all_known s q c ≡ Some w → knows k q c ≡ Some w) → s.work.joins ≡ true → HasRoom s.setting k) → IsNext s kept f keep k
+    byte_next : OnceEach k.log → (((q : ℕ) (c : Cell) (w : ℕ) → all_known s q c ≡ Some w → knows k q c ≡ Some w) → s.work.joins ≡ true → HasRoom s.path k) → IsNext s kept f keep k
     byte_next once roomy = record {
       early = early;
       cell = small;
@@ -269,24 +269,24 @@ module _ {W : Type 0} (s : State W) (kept : IsKept s) (joins : Bool) (p a v : �
     }
 
     -- it is new
-    pub new_byte : OnceEach k.log → (((q : ℕ) (c : Cell) (w : ℕ) → all_known s q c ≡ Some w → knows k q c ≡ Some w) → s.work.joins ≡ true → HasRoom s.setting k) → IsKept (with_known s k) × IsTold s (with_known s k) f
+    pub new_byte : OnceEach k.log → (((q : ℕ) (c : Cell) (w : ℕ) → all_known s q c ≡ Some w → knows k q c ≡ Some w) → s.work.joins ≡ true → HasRoom s.path k) → IsKept (with_known s k) × IsTold s (with_known s k) f
     new_byte once roomy = let n = byte_next once roomy in (next_kept s kept f keep k n, next_told s kept f keep k n)
 
 -- a byte for which there is room
-module _ {W : Type 0} (s : State W) (laws : HasLaws s.setting) (kept : IsKept s) (joins : Bool) (p a v : ℕ) (early : p ≤ length s.setting.rows) (small : a < 2 ^ 32) (tracked : IsTracked a s) (open_ : s.complete ≡ false) (follows : IsFollowing s (fact_of p (Byte a) v)) where
+module _ {W : Type 0} (s : State W) (laws : HasLaws (along s.path)) (kept : IsKept s) (joins : Bool) (p a v : ℕ) (early : p ≤ length s.path.given.rows) (small : a < 2 ^ 32) (tracked : IsTracked a s) (open_ : s.complete ≡ false) (follows : IsFollowing s (fact_of p (Byte a) v)) where
   abbrev g : Fact
   g = fact_of p (Byte a) v
 
   abbrev byte_learnt : ByteFact
   byte_learnt = record { point = p; address = a; value = v }
 
-  byte_room : (keep : Bool) → HasPlace keep p a s → (k : Known) → AddsByte (known_change joins s.known k) byte_learnt keep → ((q : ℕ) (c : Cell) (w : ℕ) → all_known s q c ≡ Some w → knows k q c ≡ Some w) → s.work.joins ≡ true → HasRoom s.setting k
-  byte_room true place k adds more j = room_drawn s.setting laws s.known k more joins p a v place adds (kept.roomy j)
-  byte_room false place k adds more j = room_last s.setting s.known k more joins p a v place tracked adds (kept.roomy j)
+  byte_room : (keep : Bool) → HasPlace keep p a s → (k : Known) → AddsByte (known_change joins s.known k) byte_learnt keep → ((q : ℕ) (c : Cell) (w : ℕ) → all_known s q c ≡ Some w → knows k q c ≡ Some w) → s.work.joins ≡ true → HasRoom s.path k
+  byte_room true place k adds more j = room_drawn s.path laws s.known k more joins p a v place adds (kept.roomy j)
+  byte_room false place k adds more j = room_last s.path s.known k more joins p a v place tracked adds (kept.roomy j)
 
   byte_full : (keep : Bool) → HasPlace keep p a s → HasNoRoom s.known p a keep → s.work.joins ≡ false
-  byte_full true place full = false_from_ne_true s.work.joins (λ j. room_to_draw s.setting laws s.known (kept.roomy j) p a place full)
-  byte_full false place full = false_from_ne_true s.work.joins (λ j. room_to_read s.setting s.known (kept.roomy j) p a place tracked full)
+  byte_full true place full = false_from_ne_true s.work.joins (λ j. room_to_draw s.path laws s.known (kept.roomy j) p a place full)
+  byte_full false place full = false_from_ne_true s.work.joins (λ j. room_to_read s.path s.known (kept.roomy j) p a place tracked full)
 
   pub told_byte : (keep : Bool) → (keep ≡ false → IsBrought s g) → HasPlace keep p a s → (k : Known) → OnceEach k.log → (r : Result Answer AllocError) → LearnsByte (known_change joins s.known k) byte_learnt keep r → IsKept (with_known s k) × TellsByte s (with_known s k) g r
   told_byte keep brought place k once (Err e) (same, full) = (kept_same s k same kept, (same_known s k same, byte_full keep place full))
@@ -321,12 +321,12 @@ module _ {W : Type 0} (s : State W) (kept : IsKept s) (a : ℕ) (small : a < 2 ^
       room = kept.room;
       rows = kept.rows;
       drawn = passes_more s (with_known s k) refl (λ p c v e. sym (same_knows p c) ∙ e) refl kept.drawn;
-      roomy = λ j. room_tracked s.setting s.known (kept.roomy j) row.0 row.1 a row.2 h.was_not k h;
+      roomy = λ j. room_tracked s.path s.known (kept.roomy j) row.0 row.1 a row.2 h.was_not k h;
     }
 
     track_grows : Grows s (with_known s k)
     track_grows = record {
-      setting = refl;
+      path = refl;
       rows = refl;
       spans = refl;
       filled = refl;
@@ -348,7 +348,7 @@ module _ {W : Type 0} (s : State W) (kept : IsKept s) (a : ℕ) (small : a < 2 ^
     now_tracked = rw h.tracked (Contains-push s.known.store.tracked a)
 
   never_full : (IsTracked a s → ⊥) → (s.work.joins ≡ true → s.known.store.places ≤ length s.known.store.tracked) → s.work.joins ≡ false
-  never_full was_not full = false_from_ne_true s.work.joins (λ j. let free = room_to_track s.setting s.known (kept.roomy j) row.0 row.1 a row.2 was_not in let none = full j in omega (arith, free, none))
+  never_full was_not full = false_from_ne_true s.work.joins (λ j. let free = room_to_track s.path s.known (kept.roomy j) row.0 row.1 a row.2 was_not in let none = full j in omega (arith, free, none))
 
   pub tracked_byte : (k : Known) (r : Result Bool AllocError) → TracksByte (known_change s.work.joins s.known k) a r → IsKept (with_known s k) × Tracks s (with_known s k) a r
   tracked_byte k (Err e) (same, was_not, full) = (kept_same s k same kept, (same_known s k same, never_full was_not full))
@@ -356,7 +356,7 @@ module _ {W : Type 0} (s : State W) (kept : IsKept s) (a : ℕ) (small : a < 2 ^
   tracked_byte k (Ok true) h = (track_kept k h, (track_grows k h, address a small h.was_not (now_tracked k h), now_tracked k h, h.log, h.fact, refl))
 
 -- a new analysis
-pub fresh_kept : {W : Type 0} (s : State W) (bytes : ℕ) → bytes ≡ sum_to (places_at s.setting) (length s.setting.rows) → length s.setting.rows ≤ 65536 → length s.setting.last ≡ 32 → IsNew s.work.joins s.known (length s.setting.rows) bytes → s.spans.points ≡ length s.setting.rows + 1 → s.filled ≡ 0 → s.shown ≡ 0 → s.complete ≡ false → s.conflict ≡ None → length s.setting.rows ≤ s.work.room → length s.work.drawn ≡ length s.setting.rows → ((i : ℕ) (x : Pass) → slice_get s.work.drawn i ≡ Some x → x ≡ Never) → IsKept s
+pub fresh_kept : {W : Type 0} (s : State W) (bytes : ℕ) → bytes ≡ sum_to (places_at s.path) (length s.path.given.rows) → length s.path.given.rows ≤ 65536 → length s.path.given.last ≡ 32 → IsNew s.work.joins s.known (length s.path.given.rows) bytes → s.spans.points ≡ length s.path.given.rows + 1 → s.filled ≡ 0 → s.shown ≡ 0 → s.complete ≡ false → s.conflict ≡ None → length s.path.given.rows ≤ s.work.room → length s.work.drawn ≡ length s.path.given.rows → ((i : ℕ) (x : Pass) → slice_get s.work.drawn i ≡ Some x → x ≡ Never) → IsKept s
 fresh_kept s bytes sum few registers new sized filled shown open_ calm_ room rows never = record {
   few = few;
   registers = registers;
@@ -373,7 +373,7 @@ fresh_kept s bytes sum few registers new sized filled shown open_ calm_ room row
   room = room;
   rows = rows;
   drawn = λ i row x at is. never_pass s row i x (never i x is);
-  roomy = λ j. let places = new.made.places j in let spare = new.made.spare j in room_new s.setting s.known bytes sum new.made.tracked new.left (omega (arith, places)) (omega (arith, spare));
+  roomy = λ j. let places = new.made.places j in let spare = new.made.spare j in room_new s.path s.known bytes sum new.made.tracked new.left (omega (arith, places)) (omega (arith, spare));
 }
   where
     differs : {kind : ConflictKind} → None ≡ Some kind → ⊥

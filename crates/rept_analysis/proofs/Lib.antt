@@ -1,4 +1,5 @@
 pub mod Account
+pub mod Along
 pub mod Answering
 pub mod Cells
 pub mod Counting

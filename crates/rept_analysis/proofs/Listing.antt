@@ -15,7 +15,7 @@ use Rattle.rept_analysis.proofs.Following.{fitted_after}
 use Rattle.rept_analysis.proofs.Spreading.{between_none, carried_hit}
 
 -- the same rows may write where path, facts and sets are the same
-module _ {W : Type 0} (s t : State W) (setting : t.setting ≡ s.setting) (older : oldest t.filled t.known.log ≡ oldest s.filled s.known.log) where
+module _ {W : Type 0} (s t : State W) (setting : t.path ≡ s.path) (older : oldest t.filled t.known.log ≡ oldest s.filled s.known.log) where
   silent_like : (from to : ℕ) → IsSilent from to s → IsSilent from to t
   silent_like from to h i a le lt small = rw (setting, older) (h i a le lt small)
 
@@ -28,9 +28,9 @@ module _ {W : Type 0} (s t : State W) (setting : t.setting ≡ s.setting) (older
 
 pub writings_after : {W : Type 0} (s t : State W) → Grows s t → AreWritings s → AreWritings t
 writings_after s t g h =
-    let listed = writings_like s t g.setting g.older (length s.setting.rows) s.work.writing h.listed in
-    let same : length s.setting.rows ≡ length t.setting.rows = rw g.rows refl in
-    record { fitted = fitted_after s t g h.fitted; listed = subst (λ (n : ℕ). AreWritingsBefore n t.work.writing t) same (subst (λ (xs : List Writing). AreWritingsBefore (length s.setting.rows) xs t) (sym g.writing) listed) }
+    let listed = writings_like s t g.path g.older (length s.path.given.rows) s.work.writing h.listed in
+    let same : length s.path.given.rows ≡ length t.path.given.rows = rw g.rows refl in
+    record { fitted = fitted_after s t g h.fitted; listed = subst (λ (n : ℕ). AreWritingsBefore n t.work.writing t) same (subst (λ (xs : List Writing). AreWritingsBefore (length s.path.given.rows) xs t) (sym g.writing) listed) }
 
 -- a row that may write nothing
 pub listed_less : {W : Type 0} (s : State W) (i : ℕ) (list : List Writing) → ((a : ℕ) → a < 2 ^ 32 → IsSparedAt i a s) → AreWritingsBefore i list s → AreWritingsBefore (i + 1) list s
@@ -65,7 +65,7 @@ past_all list w zero e = absurd (omega (arith, e))
 past_all list w (suc n) e = let same : n ≡ length list = omega (arith, e) in rw same (ap row_past (at_push list w))
 
 -- one that may
-pub listed_more : {W : Type 0} (s : State W) (i : ℕ) (list : List Writing) (w : Writing) → w.row ≡ i → i < length s.setting.rows → IsAccess i w.access s → AreWritingsBefore i list s → AreWritingsBefore (i + 1) (list ++ w ∷ []) s
+pub listed_more : {W : Type 0} (s : State W) (i : ℕ) (list : List Writing) (w : Writing) → w.row ≡ i → i < length s.path.given.rows → IsAccess i w.access s → AreWritingsBefore i list s → AreWritingsBefore (i + 1) (list ++ w ∷ []) s
 listed_more s i list w row inside access h =
     let long = length_push list w in
     let end = past_all list w (length (list ++ w ∷ [])) (omega (arith, long)) in
@@ -120,12 +120,12 @@ past_at list k w at = at_suc (k + 1) refl
     at_suc zero e = absurd (omega (arith, e))
     at_suc (suc m) e = let same : m ≡ k = omega (arith, e) in rw same (ap row_past at)
 
-pub listed_end : {W : Type 0} (s t : State W) → Grows s t → AreWritings s → AreWritingsBefore (length s.setting.rows) s.work.writing t
-listed_end s t g h = writings_like s t g.setting g.older (length s.setting.rows) s.work.writing h.listed
+pub listed_end : {W : Type 0} (s t : State W) → Grows s t → AreWritings s → AreWritingsBefore (length s.path.given.rows) s.work.writing t
+listed_end s t g h = writings_like s t g.path g.older (length s.path.given.rows) s.work.writing h.listed
 
 -- with another list everything else is the same
 pub listed_same : {W : Type 0} (s t : State W) (list : List Writing) → t ≡ with_writing s list → SameFacts s t
-listed_same s t list is = subst (λ (x : State _). SameFacts s x) (sym is) (record { setting = refl; known = refl; shown = refl; complete = refl; conflict = refl; draws = refl; drawn = refl })
+listed_same s t list is = subst (λ (x : State _). SameFacts s x) (sym is) (record { path = refl; known = refl; shown = refl; complete = refl; conflict = refl; draws = refl; drawn = refl })
 
 pub fitted_listed : {W : Type 0} (s t : State W) (list : List Writing) → t ≡ with_writing s list → IsFitted s → IsFitted t
 fitted_listed s t list is h = subst (λ (x : State _). IsFitted x) (sym is) h
@@ -188,7 +188,7 @@ module _ {W : Type 0} (n : ℕ) (list : List Writing) (s : State W) (h : AreWrit
 pub record IsStop {W : Type 0} (s t : State W) (from a hit : ℕ) (w : Writing) : Type 0 where
   pub order : from ≤ w.row
   pub spared : IsSparedBetween from w.row a t
-  pub inside : w.row < length s.setting.rows
+  pub inside : w.row < length s.path.given.rows
   pub within : hit < length s.work.writing
   pub next : past s.work.writing (hit + 1) ≡ w.row + 1
   pub passed : IsCarriedFrom a 0 w.row s → IsCarriedFrom a 0 (w.row + 1) s
@@ -197,7 +197,7 @@ module _ {W : Type 0} (s t : State W) (grows : Grows s t) (listed : AreWritings 
   here : IsReached t from (past s.work.writing k) a
   here = subst (λ (p : ℕ). IsReached t from p a) start (reach_none t from a)
 
-  later : AreWritingsBefore (length s.setting.rows) s.work.writing t
+  later : AreWritingsBefore (length s.path.given.rows) s.work.writing t
   later = listed_end s t grows listed
 
   pub hit_stop : (hit : ℕ) (w : Writing) → IsFirstHit t.work.writing k a hit → slice_get t.work.writing hit ≡ Some w → IsStop s t from a hit w
@@ -208,7 +208,7 @@ module _ {W : Type 0} (s t : State W) (grows : Grows s t) (listed : AreWritings 
       let old = listed.listed.each hit w at in
       let low = first.from in
       let inside = first.inside in
-      let all = reach_all (length s.setting.rows) s.work.writing t later from a small k (hit - k) hit (omega (arith, low)) (omega (arith, inside)) first.none_before here in
+      let all = reach_all (length s.path.given.rows) s.work.writing t later from a small k (hit - k) hit (omega (arith, low)) (omega (arith, inside)) first.none_before here in
       let reached = reach_silent t from (past s.work.writing hit) w.row a small row.low row.silent all in
       record {
         order = reached.order;
@@ -219,11 +219,11 @@ module _ {W : Type 0} (s t : State W) (grows : Grows s t) (listed : AreWritings 
         passed = λ h. carried_hit s a 0 w.row w.access small old.access (sym (same_hit s.work.writing hit a w at) ∙ first.hits) h;
       }
 
-  pub end_reached : k ≤ length s.work.writing → ((j : ℕ) → k ≤ j → hits_at t.work.writing j a ≡ false) → IsReached t from (length s.setting.rows) a
+  pub end_reached : k ≤ length s.work.writing → ((j : ℕ) → k ≤ j → hits_at t.work.writing j a ≡ false) → IsReached t from (length s.path.given.rows) a
   end_reached low missed =
       let none : (j : ℕ) → k ≤ j → hits_at s.work.writing j a ≡ false = subst (λ (xs : List Writing). (j : ℕ) → k ≤ j → hits_at xs j a ≡ false) grows.writing missed in
-      let all = reach_all (length s.setting.rows) s.work.writing t later from a small k (length s.work.writing - k) (length s.work.writing) (omega (arith, low)) (omega arith) (λ j le lt. none j le) here in
-      reach_silent t from (past s.work.writing (length s.work.writing)) (length s.setting.rows) a small later.low later.silent all
+      let all = reach_all (length s.path.given.rows) s.work.writing t later from a small k (length s.work.writing - k) (length s.work.writing) (omega (arith, low)) (omega arith) (λ j le lt. none j le) here in
+      reach_silent t from (past s.work.writing (length s.work.writing)) (length s.path.given.rows) a small later.low later.silent all
 
 -- rows that may not write the byte, one that may not by what is known by now, and others after it
 pub spared_over : {W : Type 0} (s : State W) (from row to a : ℕ) → from ≤ row → row + 1 ≤ to → IsSparedBetween from row a s → IsSparedNow row a s → IsSparedBetween (row + 1) to a s → IsSparedBetween from to a s

@@ -52,12 +52,12 @@ module _ {W : Type 0} (a b : State W) (g : Grows a b) where
 
   pub news_less : HasNews a b → measure b < measure a
   news_less (fact p c v early cell none here) =
-      let less = sum_less (unknown_at (all_known a)) (unknown_at (all_known b)) (length a.setting.rows + 1) p (λ q lt. point_le q) (omega (arith, early)) (point_less p c v cell none here) in
+      let less = sum_less (unknown_at (all_known a)) (unknown_at (all_known b)) (length a.path.given.rows + 1) p (λ q lt. point_le q) (omega (arith, early)) (point_less p c v cell none here) in
       let t = tracked_le (2 ^ 32) in
       let fewer = g.fewer in
       rw g.rows (omega (arith, less, t, fewer))
   news_less (address x small was_not here) =
-      let cells_le = sum_le (unknown_at (all_known a)) (unknown_at (all_known b)) (length a.setting.rows + 1) (λ q lt. point_le q) in
+      let cells_le = sum_le (unknown_at (all_known a)) (unknown_at (all_known b)) (length a.path.given.rows + 1) (λ q lt. point_le q) in
       let less = count_less (λ y. not (is_among a.known.store.tracked y)) (λ y. not (is_among b.known.store.tracked y)) (2 ^ 32) x (λ y lt e. tracked_before y e) small (not_there (is_among a.known.store.tracked x) refl) (rw (contains_among b.known.store.tracked x here) refl) in
       let fewer = g.fewer in
       rw g.rows (omega (arith, less, cells_le, fewer))
@@ -66,6 +66,6 @@ module _ {W : Type 0} (a b : State W) (g : Grows a b) where
       not_there true e = absurd (was_not (among_contains a.known.store.tracked x e))
       not_there false e = refl
   news_less (anew fewer) =
-      let cells_le = sum_le (unknown_at (all_known a)) (unknown_at (all_known b)) (length a.setting.rows + 1) (λ q lt. point_le q) in
+      let cells_le = sum_le (unknown_at (all_known a)) (unknown_at (all_known b)) (length a.path.given.rows + 1) (λ q lt. point_le q) in
       let t = tracked_le (2 ^ 32) in
       rw g.rows (omega (arith, fewer, t, cells_le))

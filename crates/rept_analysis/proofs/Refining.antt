@@ -6,28 +6,28 @@ use Rattle.rept_analysis.proofs.Stopping.{answered}
 use Rattle.std.proofs.Common.{◌≡◌, ◌≤◌, length, arith, inl, inr, ℕ, true, Some, None, Result, Ok, Err, refl, subst, ◌∙◌}
 use Rattle.std.specs.Prelude.{⊤, OnOk, IsOk, ◌⊎◌}
 use Rattle.rept_report.specs.declared.conflict.ConflictKind.{ConflictKind}
-use Rattle.rept_report.specs.Setting.{Setting, HasLaws}
+use Rattle.rept_report.specs.Setting.{HasLaws}
 use Rattle.rept_report.specs.Closure.{ClosureHas, IsConsistent, IsReport}
 use Rattle.rept_report.specs.Soundness.{AlwaysHolds, IsSound, HasNoExecution}
 use Rattle.rept_report.proofs.Soundness.{closure_sound, conflict_sound, report_sound}
 use Rattle.rept_analysis.specs.declared.stop.Stop.{Stop}
 use Rattle.rept_analysis.specs.declared.stop.Stop.TheVariants.{Conflict, OutOfMemory}
-use Rattle.rept_analysis.specs.State.{State}
+use Rattle.rept_analysis.specs.State.{State, Path, along}
 use Rattle.rept_analysis.specs.Kept.{register_answer, answers, IsKept}
 use Rattle.rept_analysis.specs.Refined.{KeepsAnswers, IsEnded, IsStopped, Outcome}
 
 module _ {W : Type 0} (old new : State W) where
-  pub path_of : (r : Result ⊤ Stop) → Outcome old new r → new.setting ≡ old.setting
-  path_of (Ok u) h = h.setting
-  path_of (Err (Conflict kind)) h = h.setting
-  path_of (Err OutOfMemory) h = h.setting
+  pub path_of : (r : Result ⊤ Stop) → Outcome old new r → new.path ≡ old.path
+  path_of (Ok u) h = h.path
+  path_of (Err (Conflict kind)) h = h.path
+  path_of (Err OutOfMemory) h = h.path
 
   pub kept_of : (r : Result ⊤ Stop) → Outcome old new r → KeepsAnswers old new
   kept_of (Ok u) h = h.kept
   kept_of (Err (Conflict kind)) h = h.kept
   kept_of (Err OutOfMemory) h = h.kept
 
-  pub report_of : (r : Result ⊤ Stop) → Outcome old new r → OnOk r (IsReport new.setting (answers new))
+  pub report_of : (r : Result ⊤ Stop) → Outcome old new r → OnOk r (IsReport (along new.path) (answers new))
   report_of (Ok u) h = h.finished.report
   report_of (Err e) h = tt
 
@@ -35,19 +35,19 @@ module _ {W : Type 0} (old new : State W) where
   complete_of (Ok u) h = h.complete
   complete_of (Err e) h = tt
 
-  pub consistent_of : (r : Result ⊤ Stop) → Outcome old new r → OnOk r (IsConsistent old.setting)
-  consistent_of (Ok u) h = subst (λ (S : Setting W). IsConsistent S) h.setting h.finished.report.consistent
+  pub consistent_of : (r : Result ⊤ Stop) → Outcome old new r → OnOk r (IsConsistent (along old.path))
+  consistent_of (Ok u) h = subst (λ (P : Path W). IsConsistent (along P)) h.path h.finished.report.consistent
   consistent_of (Err e) h = tt
 
   pub stopped_of : (r : Result ⊤ Stop) (kind : ConflictKind) → Outcome old new r → r ≡ Err (Conflict kind) → IsStopped old new kind
   stopped_of r kind h e = subst (λ (x : Result ⊤ Stop). Outcome old new x) e h
 
-  pub sound_of : HasLaws new.setting → (r : Result ⊤ Stop) → Outcome old new r → OnOk r (IsSound new.setting (answers new))
-  sound_of laws (Ok u) h = report_sound new.setting laws (answers new) h.finished.report
+  pub sound_of : HasLaws (along new.path) → (r : Result ⊤ Stop) → Outcome old new r → OnOk r (IsSound (along new.path) (answers new))
+  sound_of laws (Ok u) h = report_sound (along new.path) laws (answers new) h.finished.report
   sound_of laws (Err e) h = tt
 
-  pub impossible_of : HasLaws old.setting → (r : Result ⊤ Stop) (kind : ConflictKind) → Outcome old new r → r ≡ Err (Conflict kind) → HasNoExecution old.setting
-  impossible_of laws r kind h e = conflict_sound old.setting laws kind (stopped_of r kind h e).has
+  pub impossible_of : HasLaws (along old.path) → (r : Result ⊤ Stop) (kind : ConflictKind) → Outcome old new r → r ≡ Err (Conflict kind) → HasNoExecution (along old.path)
+  impossible_of laws r kind h e = conflict_sound (along old.path) laws kind (stopped_of r kind h e).has
 
   -- where memory can't run out, it ends with a report or a conflict
   pub ended_or_stopped : (r : Result ⊤ Stop) → Outcome old new r → (r ≡ Err OutOfMemory → ⊥) → IsOk r ⊎ ((kind : ConflictKind) × (r ≡ Err (Conflict kind)))
@@ -56,7 +56,7 @@ module _ {W : Type 0} (old new : State W) where
   ended_or_stopped (Err OutOfMemory) h never = absurd (never refl)
 
   -- so it is Ok where the closure has no conflict
-  pub exact_of : (r : Result ⊤ Stop) → Outcome old new r → (r ≡ Err OutOfMemory → ⊥) → IsConsistent old.setting → IsOk r
+  pub exact_of : (r : Result ⊤ Stop) → Outcome old new r → (r ≡ Err OutOfMemory → ⊥) → IsConsistent (along old.path) → IsOk r
   exact_of r h never consistent =
       elim (ended_or_stopped r h never) [
         | inl ok ↦ ok
@@ -64,25 +64,25 @@ module _ {W : Type 0} (old new : State W) where
       ]
 
   -- and names one where it has any
-  pub refused_of : (r : Result ⊤ Stop) → Outcome old new r → (r ≡ Err OutOfMemory → ⊥) → (kind : ConflictKind) → ClosureHas old.setting kind → (named : ConflictKind) × (r ≡ Err (Conflict named))
+  pub refused_of : (r : Result ⊤ Stop) → Outcome old new r → (r ≡ Err OutOfMemory → ⊥) → (kind : ConflictKind) → ClosureHas (along old.path) kind → (named : ConflictKind) × (r ≡ Err (Conflict named))
   refused_of (Ok u) h never kind has = absurd (consistent_of (Ok u) h kind has)
   refused_of (Err (Conflict named)) h never kind has = (named, refl)
   refused_of (Err OutOfMemory) h never kind has = absurd (never refl)
 
 module _ {W : Type 0} (s : State W) (kept : IsKept s) where
   pub stopped_again : (kind : ConflictKind) → s.conflict ≡ Some kind → IsStopped s s kind
-  stopped_again kind e = record { setting = refl; recorded = e; has = kept.stopped kind e; kept = λ p r v x. x }
+  stopped_again kind e = record { path = refl; recorded = e; has = kept.stopped kind e; kept = λ p r v x. x }
 
   pub ended_again : s.complete ≡ true → s.conflict ≡ None → IsEnded s s
-  ended_again complete calm = record { setting = refl; complete = complete; conflict = calm; finished = kept.finished complete; kept = λ p r v x. x }
+  ended_again complete calm = record { path = refl; complete = complete; conflict = calm; finished = kept.finished complete; kept = λ p r v x. x }
 
 -- what is answered of a register holds in every execution; x0 is 0
-pub answer_sound : {W : Type 0} (s : State W) → HasLaws s.setting → IsKept s → (p r v : ℕ) → p ≤ length s.setting.rows → register_answer s p r ≡ Some v → AlwaysHolds s.setting p (Register r) v
+pub answer_sound : {W : Type 0} (s : State W) → HasLaws (along s.path) → IsKept s → (p r v : ℕ) → p ≤ length s.path.given.rows → register_answer s p r ≡ Some v → AlwaysHolds (along s.path) p (Register r) v
 answer_sound s laws kept p r v early e =
     elim (cases_eq r 0) [
       | inl z ↦
           let is : Some 0 ≡ Some v = rw z at e in
           let value : 0 ≡ v = same_some is in
-          λ run x. rw z ((x.states p early).zero ∙ value)
-      | inr ne ↦ closure_sound s.setting laws (record { point = p; cell = Register r; value = v }) (answered s laws kept p r v e (omega (arith, ne)))
+          λ run x. rw z (x.zero p early ∙ value)
+      | inr ne ↦ closure_sound (along s.path) laws (record { point = p; cell = Register r; value = v }) (answered s laws kept p r v e (omega (arith, ne)))
     ]

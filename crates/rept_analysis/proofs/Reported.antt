@@ -20,11 +20,12 @@ use Rattle.rept_report.specs.Implied.{with_implied, IsListed, IsClosed}
 use Rattle.rept_report.proofs.Places.{oldest_all}
 use Rattle.rept_report.proofs.Registers.{may_write_same, range_same}
 use Rattle.rept_report.proofs.Implied.{trace_report}
-use Rattle.rept_analysis.specs.State.{State, all_known}
+use Rattle.rept_analysis.specs.State.{State, all_known, along}
 use Rattle.rept_analysis.specs.Drawing.{IsTracked, IsSettled, IsRowDrawn}
 use Rattle.rept_analysis.specs.Kept.{is_among, answers, IsKept}
 use Rattle.rept_analysis.proofs.Learning.{trace_known, known_words}
 use Rattle.rept_analysis.proofs.Following.{seen_drawn}
+use Rattle.rept_analysis.proofs.Along.{last_at, early_at, point_is, over_carried}
 
 pub among_contains : (xs : List ℕ) (a : ℕ) → is_among xs a ≡ true → Contains xs a
 among_contains [] a e = absurd (false≢true e)
@@ -47,9 +48,9 @@ row_in [] i h = absurd (omega (arith, h))
 row_in (x ∷ xs) zero h = (x, refl)
 row_in (x ∷ xs) (suc i) h = row_in xs i (omega (arith, h))
 
-module _ {W : Type 0} (s : State W) (laws : HasLaws s.setting) (kept : IsKept s) (settled : IsSettled s) where
+module _ {W : Type 0} (s : State W) (laws : HasLaws (along s.path)) (kept : IsKept s) (settled : IsSettled s) where
   abbrev S : Setting W
-  S = s.setting
+  S = along s.path
 
   abbrev K : Knowledge
   K = all_known s
@@ -63,8 +64,8 @@ module _ {W : Type 0} (s : State W) (laws : HasLaws s.setting) (kept : IsKept s)
   spared : (i a : ℕ) → may_write S K i a ≡ false → may_write S (told (oldest s.filled s.known.log)) i a ≡ false
   spared i a e = may_write_same S (told (oldest s.filled s.known.log)) K log_same i a ∙ e
 
-  row_at : (i : ℕ) (row : StepRow) → slice_get S.rows i ≡ Some row → IsRowDrawn row i s
-  row_at i row found = settled.drawn.rows i (slice_get_within S.rows i row found) row found
+  row_at : (i : ℕ) (row : StepRow) → slice_get s.path.given.rows i ≡ Some row → IsRowDrawn row i s
+  row_at i row found = settled.drawn.rows i (slice_get_within s.path.given.rows i row found) row found
 
   moved : (f : Fact) (p : ℕ) (c : Cell) → f.point ≡ p → f.cell ≡ c → K p c ≡ Some f.value → K f.point f.cell ≡ Some f.value
   moved f p c ep ec h = rw (ep, ec) h
@@ -78,25 +79,27 @@ module _ {W : Type 0} (s : State W) (laws : HasLaws s.setting) (kept : IsKept s)
   carried_known : (f : Fact) → IsListed (is_among s.known.store.tracked) f.cell → IsCarried S K f → K f.point f.cell ≡ Some f.value
   carried_known f listed (last_byte a p c e) = moved f _ (Byte a) p c (settled.drawn.bytes a (is_tracked f a listed c) f.value e)
   carried_known f listed (onward a p q is c h e) =
-      let at = settled.drawn.carried a p (is_tracked f a listed c) h.inside in
-      moved f (p + 1) (Byte a) (is ∙ h.next) c (at.onward f.value (spared p a h.spared) e)
+      let over = over_carried s.path K a p q h in
+      let at = settled.drawn.carried a p (is_tracked f a listed c) over.inside in
+      moved f (p + 1) (Byte a) (is ∙ over.next) c (at.onward f.value (spared p a over.spared) e)
   carried_known f listed (back a p q is c h e) =
-      let at = settled.drawn.carried a p (is_tracked f a listed c) h.inside in
-      moved f p (Byte a) is c (at.back f.value (spared p a h.spared) (rw (← h.next) e))
+      let over = over_carried s.path K a p q h in
+      let at = settled.drawn.carried a p (is_tracked f a listed c) over.inside in
+      moved f p (Byte a) is c (at.back f.value (spared p a over.spared) (rw (← over.next) e))
 
   closed_conclusions : (f : Fact) → IsListed (is_among s.known.store.tracked) f.cell → Concludes S K f → K f.point f.cell ≡ Some f.value
   closed_conclusions f listed h = go h.by
     where
       go : Follows S K f → K f.point f.cell ≡ Some f.value
-      go (last_value r p c e) = let cell = register_cell f r h.cell c in moved f _ (Register r) p c (settled.drawn.last r f.value cell.0 cell.1 e)
+      go (last_value r p c e) = let cell = register_cell f r h.cell c in moved f _ (Register r) (last_at s.path f.point p) c (settled.drawn.last r f.value cell.0 cell.1 e)
       go (kept_onward i r row found p c kept' e) = let cell = register_cell f r h.cell c in moved f (i + 1) (Register r) p c (((row_at i row found).registers r cell.0 cell.1 kept').onward f.value e)
       go (kept_back i r row found p c kept' e) = let cell = register_cell f r h.cell c in moved f i (Register r) p c (((row_at i row found).registers r cell.0 cell.1 kept').back f.value e)
       go (carried x) = carried_known f listed x
-      go (drawn i row d found x p c v) = rw (p, c, v) ((row_at i row found).drawn d (seen_drawn s laws (known_words s kept) i row found (slice_get_within S.rows i row found) d x))
+      go (drawn i row d found x p c v) = rw (p ∙ point_is s.path i d.when d.cell, c, v) ((row_at i row found).drawn d (seen_drawn s laws (known_words s kept) i row found (slice_get_within s.path.given.rows i row found) d x))
       go (only_value r set c is only) =
           let cell = register_cell f r h.cell c in
-          let early = h.early in
-          moved f f.point (Register r) refl c (settled.drawn.singles f.point (omega (arith, early)) r cell.1 set f.value (settled.fitted f.point h.early r cell.1 ∙ range_same S (told (oldest s.filled s.known.log)) K log_same f.point r ∙ is) only cell.0)
+          let early = early_at s.path f.cell f.point h.early in
+          moved f f.point (Register r) refl c (settled.drawn.singles f.point (omega (arith, early)) r cell.1 set f.value (settled.fitted f.point early r cell.1 ∙ range_same S (told (oldest s.filled s.known.log)) K log_same f.point r ∙ is) only cell.0)
 
   pub settled_closed : IsClosed S K (is_among s.known.store.tracked)
   settled_closed = record {

@@ -18,7 +18,7 @@ use Rattle.rept_view.specs.declared.drawn.Drawn.{Drawn}
 use Rattle.rept_view.specs.declared.drawn.When.{When}
 use Rattle.rept_view.specs.declared.drawn.When.TheVariants.{Before}
 use Rattle.rept_view.specs.Rules.{offset_of}
-use Rattle.rept_report.specs.Setting.{Setting, HasLaws}
+use Rattle.rept_report.specs.Setting.{HasLaws}
 use Rattle.rept_report.specs.Views.{point_of}
 use Rattle.rept_report.proofs.Told.{same_some, none_some}
 use Rattle.rept_report.proofs.ViewLaws.{known_more}
@@ -27,6 +27,7 @@ use Rattle.rept_log.specs.Known.{Known, knows, known_change, AddsByte, HasNoRoom
 use Rattle.rept_analysis.specs.Sums.{one_if, count_true, sum_to}
 use Rattle.rept_analysis.specs.Room.{places_of, places_at, bytes_at, marked, unread, IsDrawable, IsDrawnAt, IsSlotLearnt, OwnByte, own_at, IsOwnByte, IsByteTracked, HasRoom}
 use Rattle.rept_analysis.proofs.Sums.{count_le, count_less, sum_le, sum_less}
+use Rattle.rept_analysis.specs.State.{Path, along}
 
 -- the same marks but one
 abbrev unmark : (ℕ → ℕ → Bool) → ℕ → ℕ → ℕ → ℕ → Bool
@@ -122,8 +123,8 @@ same_row e = cc
 same_byte : {a b : ℕ} → Byte a ≡ Byte b → a ≡ b
 same_byte e = cc
 
-module _ {W : Type 0} (S : Setting W) (old new : List Fact) (more : (p r v : ℕ) → told old p (Register r) ≡ Some v → told new p (Register r) ≡ Some v) where
-  pub drawable_more : (i : ℕ) (d : Drawn) → IsDrawable S old i d → IsDrawable S new i d
+module _ {W : Type 0} (P : Path W) (old new : List Fact) (more : (p r v : ℕ) → told old p (Register r) ≡ Some v → told new p (Register r) ≡ Some v) where
+  pub drawable_more : (i : ℕ) (d : Drawn) → IsDrawable P old i d → IsDrawable P new i d
   drawable_more i d h = record {
     row = h.row;
     found = h.found;
@@ -137,7 +138,7 @@ module _ {W : Type 0} (S : Setting W) (old new : List Fact) (more : (p r v : ℕ
     known = known_more (told old) (told new) more i h.base_register h.base h.known;
   }
 
-  pub own_byte_more : (b : OwnByte) → IsOwnByte S old b → IsOwnByte S new b
+  pub own_byte_more : (b : OwnByte) → IsOwnByte P old b → IsOwnByte P new b
   own_byte_more b h = record {
     row = h.row;
     found = h.found;
@@ -151,10 +152,10 @@ module _ {W : Type 0} (S : Setting W) (old new : List Fact) (more : (p r v : ℕ
   }
 
 -- two conclusions of one slot are on one byte at one point
-slot_same : {W : Type 0} (S : Setting W) → HasLaws S → (log : List Fact) (i : ℕ) (d e : Drawn) (a b : ℕ) → IsDrawable S log i d → d.cell ≡ Byte a → IsDrawable S log i e → e.cell ≡ Byte b → d.slot ≡ e.slot → (d.when ≡ e.when) × (a ≡ b)
-slot_same S laws log i d e a b h on_a g on_b slot =
+slot_same : {W : Type 0} (P : Path W) → HasLaws (along P) → (log : List Fact) (i : ℕ) (d e : Drawn) (a b : ℕ) → IsDrawable P log i d → d.cell ≡ Byte a → IsDrawable P log i e → e.cell ≡ Byte b → d.slot ≡ e.slot → (d.when ≡ e.when) × (a ≡ b)
+slot_same P laws log i d e a b h on_a g on_b slot =
     let row : h.row ≡ g.row = same_row (sym h.found ∙ g.found) in
-    let drawn = subst (λ (x : StepRow). Contains (S.rules.draw x h.view) d) row h.drawn in
+    let drawn = subst (λ (x : StepRow). Contains (P.rules.draw x h.view) d) row h.drawn in
     let read = subst (λ (x : StepRow). first_read x.instr ≡ Some h.base_register) row h.read in
     let register : h.base_register ≡ g.base_register = same_some (sym read ∙ g.read) in
     let seen = subst (λ (r : ℕ). h.view.register Before r ≡ Some h.base) register h.seen in
@@ -163,8 +164,8 @@ slot_same S laws log i d e a b h on_a g on_b slot =
     laws.rules.slot_once g.row h.view g.view d e a b g.base_register h.lawful g.lawful drawn g.drawn on_a on_b g.read (seen ∙ ap Some base ∙ sym g.seen) slot
 
 -- one byte of a row has one address
-own_same : {W : Type 0} (S : Setting W) (log : List Fact) (i j a b : ℕ) → IsOwnByte S log (own_at i j a) → IsOwnByte S log (own_at i j b) → a ≡ b
-own_same S log i j a b h g =
+own_same : {W : Type 0} (P : Path W) (log : List Fact) (i j a b : ℕ) → IsOwnByte P log (own_at i j a) → IsOwnByte P log (own_at i j b) → a ≡ b
+own_same P log i j a b h g =
     let row : h.row ≡ g.row = same_row (sym h.found ∙ g.found) in
     let read = subst (λ (x : StepRow). first_read x.instr ≡ Some h.base_register) row h.read in
     let register : h.base_register ≡ g.base_register = same_some (sym read ∙ g.read) in
@@ -173,39 +174,39 @@ own_same S log i j a b h g =
     let address = subst (λ (x : StepRow). a ≡ beside (plus h.base (offset_of x.instr)) j) row h.address in
     subst (λ (x : ℕ). a ≡ beside (plus x (offset_of g.row.instr)) j) base address ∙ sym g.address
 
-row_places : {W : Type 0} (S : Setting W) (i : ℕ) (row : StepRow) → slice_get S.rows i ≡ Some row → places_at S i ≡ S.rules.places row
-row_places S i row found = ap (λ (x : Option StepRow). places_of S.rules x) found
+row_places : {W : Type 0} (P : Path W) (i : ℕ) (row : StepRow) → slice_get P.given.rows i ≡ Some row → places_at P i ≡ P.rules.places row
+row_places P i row found = ap (λ (x : Option StepRow). places_of P.rules x) found
 
 -- a slot of a row, and a byte of it
-drawn_slot : {W : Type 0} (S : Setting W) → HasLaws S → (log : List Fact) (i : ℕ) (d : Drawn) (a : ℕ) → IsDrawable S log i d → d.cell ≡ Byte a → (i < length S.rows) × (d.slot < places_at S i)
-drawn_slot S laws log i d a h on_a =
+drawn_slot : {W : Type 0} (P : Path W) → HasLaws (along P) → (log : List Fact) (i : ℕ) (d : Drawn) (a : ℕ) → IsDrawable P log i d → d.cell ≡ Byte a → (i < length P.given.rows) × (d.slot < places_at P i)
+drawn_slot P laws log i d a h on_a =
     let below = laws.rules.slot_inside h.row h.view d a h.lawful h.drawn on_a in
-    let places = row_places S i h.row h.found in
-    (slice_get_within S.rows i h.row h.found, omega (arith, below, places))
+    let places = row_places P i h.row h.found in
+    (slice_get_within P.given.rows i h.row h.found, omega (arith, below, places))
 
-own_byte : {W : Type 0} (S : Setting W) (log : List Fact) (i j a : ℕ) → IsOwnByte S log (own_at i j a) → (i < length S.rows) × (j < bytes_at S i)
-own_byte S log i j a h =
-    let below : j < S.rules.places h.row = h.below_places in
+own_byte : {W : Type 0} (P : Path W) (log : List Fact) (i j a : ℕ) → IsOwnByte P log (own_at i j a) → (i < length P.given.rows) × (j < bytes_at P i)
+own_byte P log i j a h =
+    let below : j < P.rules.places h.row = h.below_places in
     let four : j < 4 = h.below_four in
-    let places = row_places S i h.row h.found in
-    (slice_get_within S.rows i h.row h.found, omega (arith, below, four, places))
+    let places = row_places P i h.row h.found in
+    (slice_get_within P.given.rows i h.row h.found, omega (arith, below, four, places))
 
-module _ {W : Type 0} (S : Setting W) (old new : Known) (more : (p : ℕ) (c : Cell) (v : ℕ) → knows old p c ≡ Some v → knows new p c ≡ Some v) where
-  slot_more : (i j : ℕ) → IsSlotLearnt S old i j → IsSlotLearnt S new i j
+module _ {W : Type 0} (P : Path W) (old new : Known) (more : (p : ℕ) (c : Cell) (v : ℕ) → knows old p c ≡ Some v → knows new p c ≡ Some v) where
+  slot_more : (i j : ℕ) → IsSlotLearnt P old i j → IsSlotLearnt P new i j
   slot_more i j h = record {
     conclusion = h.conclusion;
     address = h.address;
     value = h.value;
     slot = h.slot;
     cell = h.cell;
-    drawn = drawable_more S old.log new.log (λ p r v e. more p (Register r) v e) i h.conclusion h.drawn;
+    drawn = drawable_more P old.log new.log (λ p r v e. more p (Register r) v e) i h.conclusion h.drawn;
     byte = more (point_of i h.conclusion.when) (Byte h.address) h.value h.byte;
   }
 
-  byte_more : ((a : ℕ) → Contains old.store.tracked a → Contains new.store.tracked a) → (i j : ℕ) → IsByteTracked S old i j → IsByteTracked S new i j
+  byte_more : ((a : ℕ) → Contains old.store.tracked a → Contains new.store.tracked a) → (i j : ℕ) → IsByteTracked P old i j → IsByteTracked P new i j
   byte_more stays i j h = record {
     address = h.address;
-    own = own_byte_more S old.log new.log (λ p r v e. more p (Register r) v e) (own_at i j h.address) h.own;
+    own = own_byte_more P old.log new.log (λ p r v e. more p (Register r) v e) (own_at i j h.address) h.own;
     tracked = stays h.address h.tracked;
   }
 
@@ -213,9 +214,9 @@ module _ {W : Type 0} (S : Setting W) (old new : Known) (more : (p : ℕ) (c : C
   same_tracked tracked a at = subst (λ (xs : List ℕ). Contains xs a) (sym tracked) at
 
   -- where no less is known, and no less room is left
-  pub room_like : old.store.spare ≤ new.store.spare → old.left ≤ new.left → new.store.tracked ≡ old.store.tracked → new.store.places ≡ old.store.places → HasRoom S old → HasRoom S new
+  pub room_like : old.store.spare ≤ new.store.spare → old.left ≤ new.left → new.store.tracked ≡ old.store.tracked → new.store.places ≡ old.store.places → HasRoom P old → HasRoom P new
   room_like spare left tracked places r =
-      let read = unread_more (length S.rows) old new more tracked in
+      let read = unread_more (length P.given.rows) old new more tracked in
       let count : length new.store.tracked ≡ length old.store.tracked = ap length tracked in
       let old_spare = r.spare in
       let old_log = r.log in
@@ -231,11 +232,11 @@ module _ {W : Type 0} (S : Setting W) (old new : Known) (more : (p : ℕ) (c : C
       }
 
   -- the byte of the dump was learnt
-  pub room_last : (joins : Bool) (p a v : ℕ) → p ≡ length S.rows → Contains old.store.tracked a → AddsByte (known_change joins old new) (record { point = p; address = a; value = v }) false → HasRoom S old → HasRoom S new
+  pub room_last : (joins : Bool) (p a v : ℕ) → p ≡ length P.given.rows → Contains old.store.tracked a → AddsByte (known_change joins old new) (record { point = p; address = a; value = v }) false → HasRoom P old → HasRoom P new
   room_last joins p a v end tracked adds r =
-      let was : old.store.fact (length S.rows) a ≡ None = subst (λ (q : ℕ). old.store.fact q a ≡ None) end adds.store.none in
-      let is : new.store.fact (length S.rows) a ≡ Some v = subst (λ (q : ℕ). new.store.fact q a ≡ Some v) end adds.store.here in
-      let read = unread_less (length S.rows) old new more a v adds.store.tracked tracked was is in
+      let was : old.store.fact (length P.given.rows) a ≡ None = subst (λ (q : ℕ). old.store.fact q a ≡ None) end adds.store.none in
+      let is : new.store.fact (length P.given.rows) a ≡ Some v = subst (λ (q : ℕ). new.store.fact q a ≡ Some v) end adds.store.here in
+      let read = unread_less (length P.given.rows) old new more a v adds.store.tracked tracked was is in
       let count : length new.store.tracked ≡ length old.store.tracked = ap length adds.store.tracked in
       let taken = adds.store.spare in
       let places = adds.store.places in
@@ -254,51 +255,51 @@ module _ {W : Type 0} (S : Setting W) (old new : Known) (more : (p : ℕ) (c : C
       }
 
 -- a slot that isn't marked is of a byte that is known
-slot_known : {W : Type 0} (S : Setting W) → HasLaws S → (k : Known) → (i : ℕ) (d : Drawn) (a : ℕ) → IsDrawable S k.log i d → d.cell ≡ Byte a → IsSlotLearnt S k i d.slot → (v : ℕ) × (k.store.fact (point_of i d.when) a ≡ Some v)
-slot_known S laws k i d a h on_a l =
-    let same = slot_same S laws k.log i l.conclusion d l.address a l.drawn l.cell h on_a l.slot in
+slot_known : {W : Type 0} (P : Path W) → HasLaws (along P) → (k : Known) → (i : ℕ) (d : Drawn) (a : ℕ) → IsDrawable P k.log i d → d.cell ≡ Byte a → IsSlotLearnt P k i d.slot → (v : ℕ) × (k.store.fact (point_of i d.when) a ≡ Some v)
+slot_known P laws k i d a h on_a l =
+    let same = slot_same P laws k.log i l.conclusion d l.address a l.drawn l.cell h on_a l.slot in
     let point = subst (λ (w : When). k.store.fact (point_of i w) l.address ≡ Some l.value) same.0 l.byte in
     (l.value, subst (λ (x : ℕ). k.store.fact (point_of i d.when) x ≡ Some l.value) same.1 point)
 
 -- so where nothing is known of the byte, its slot is marked
-slot_marked : {W : Type 0} (S : Setting W) → HasLaws S → (k : Known) → (r : HasRoom S k) → (p a : ℕ) → (place : IsDrawnAt S k.log p a) → k.store.fact p a ≡ None → r.unlearnt place.number place.conclusion.slot ≡ true
-slot_marked S laws k r p a place none =
+slot_marked : {W : Type 0} (P : Path W) → HasLaws (along P) → (k : Known) → (r : HasRoom P k) → (p a : ℕ) → (place : IsDrawnAt P k.log p a) → k.store.fact p a ≡ None → r.unlearnt place.number place.conclusion.slot ≡ true
+slot_marked P laws k r p a place none =
     elim (cases_Bool (r.unlearnt place.number place.conclusion.slot)) [
       | inl is ↦ is
       | inr isnt ↦
-          let known = slot_known S laws k place.number place.conclusion a place.drawn place.cell (r.learnt place.number place.conclusion.slot isnt) in
+          let known = slot_known P laws k place.number place.conclusion a place.drawn place.cell (r.learnt place.number place.conclusion.slot isnt) in
           let here : k.store.fact p a ≡ Some known.0 = subst (λ (q : ℕ). k.store.fact q a ≡ Some known.0) (sym place.point) known.1 in
           absurd (none_some (sym none ∙ here))
     ]
 
 -- a byte that rows let one conclude was learnt
-module _ {W : Type 0} (S : Setting W) (laws : HasLaws S) (old new : Known) (more : (p : ℕ) (c : Cell) (v : ℕ) → knows old p c ≡ Some v → knows new p c ≡ Some v) (joins : Bool) (p a v : ℕ) (place : IsDrawnAt S old.log p a) (adds : AddsByte (known_change joins old new) (record { point = p; address = a; value = v }) true) (r : HasRoom S old) where
+module _ {W : Type 0} (P : Path W) (laws : HasLaws (along P)) (old new : Known) (more : (p : ℕ) (c : Cell) (v : ℕ) → knows old p c ≡ Some v → knows new p c ≡ Some v) (joins : Bool) (p a v : ℕ) (place : IsDrawnAt P old.log p a) (adds : AddsByte (known_change joins old new) (record { point = p; address = a; value = v }) true) (r : HasRoom P old) where
   abbrev i : ℕ
   i = place.number
 
   abbrev slot : ℕ
   slot = place.conclusion.slot
 
-  fewer : marked (places_at S) (unmark r.unlearnt i slot) (length S.rows) < marked (places_at S) r.unlearnt (length S.rows)
+  fewer : marked (places_at P) (unmark r.unlearnt i slot) (length P.given.rows) < marked (places_at P) r.unlearnt (length P.given.rows)
   fewer =
-      let inside = drawn_slot S laws old.log i place.conclusion a place.drawn place.cell in
-      unmark_fewer r.unlearnt i slot (places_at S) (length S.rows) inside.0 inside.1 (slot_marked S laws old r p a place adds.store.none)
+      let inside = drawn_slot P laws old.log i place.conclusion a place.drawn place.cell in
+      unmark_fewer r.unlearnt i slot (places_at P) (length P.given.rows) inside.0 inside.1 (slot_marked P laws old r p a place adds.store.none)
 
-  here : IsSlotLearnt S new i slot
+  here : IsSlotLearnt P new i slot
   here = record {
     conclusion = place.conclusion;
     address = a;
     value = v;
     slot = refl;
     cell = place.cell;
-    drawn = drawable_more S old.log new.log (λ q s w e. more q (Register s) w e) i place.conclusion place.drawn;
+    drawn = drawable_more P old.log new.log (λ q s w e. more q (Register s) w e) i place.conclusion place.drawn;
     byte = subst (λ (q : ℕ). new.store.fact q a ≡ Some v) place.point adds.store.here;
   }
 
-  pub room_drawn : HasRoom S new
+  pub room_drawn : HasRoom P new
   room_drawn =
       let less = fewer in
-      let read = unread_more (length S.rows) old new more adds.store.tracked in
+      let read = unread_more (length P.given.rows) old new more adds.store.tracked in
       let count : length new.store.tracked ≡ length old.store.tracked = ap length adds.store.tracked in
       let taken = adds.store.spare in
       let places = adds.store.places in
@@ -313,25 +314,25 @@ module _ {W : Type 0} (S : Setting W) (laws : HasLaws S) (old new : Known) (more
         log = omega (arith, old_log, left, less);
         places = omega (arith, old_places, count, places);
         learnt = λ x y e. elim (unmark_cases r.unlearnt i slot x y e) [
-          | inl is ↦ subst (λ (z : ℕ). IsSlotLearnt S new z y) (sym is.0) (subst (λ (z : ℕ). IsSlotLearnt S new i z) (sym is.1) here)
-          | inr was ↦ slot_more S old new more x y (r.learnt x y was)
+          | inl is ↦ subst (λ (z : ℕ). IsSlotLearnt P new z y) (sym is.0) (subst (λ (z : ℕ). IsSlotLearnt P new i z) (sym is.1) here)
+          | inr was ↦ slot_more P old new more x y (r.learnt x y was)
         ];
-        tracked = λ x y e. byte_more S old new more (same_tracked S old new more adds.store.tracked) x y (r.tracked x y e);
+        tracked = λ x y e. byte_more P old new more (same_tracked P old new more adds.store.tracked) x y (r.tracked x y e);
       }
 
 -- a byte of a row was tracked
-module _ {W : Type 0} (S : Setting W) (old : Known) (r : HasRoom S old) (i j a : ℕ) (own : IsOwnByte S old.log (own_at i j a)) (was_not : Contains old.store.tracked a → ⊥) where
+module _ {W : Type 0} (P : Path W) (old : Known) (r : HasRoom P old) (i j a : ℕ) (own : IsOwnByte P old.log (own_at i j a)) (was_not : Contains old.store.tracked a → ⊥) where
   byte_marked : r.untracked i j ≡ true
   byte_marked =
       elim (cases_Bool (r.untracked i j)) [
         | inl is ↦ is
         | inr isnt ↦
             let h = r.tracked i j isnt in
-            absurd (was_not (subst (λ (x : ℕ). Contains old.store.tracked x) (own_same S old.log i j h.address a h.own own) h.tracked))
+            absurd (was_not (subst (λ (x : ℕ). Contains old.store.tracked x) (own_same P old.log i j h.address a h.own own) h.tracked))
       ]
 
-  fewer_bytes : marked (bytes_at S) (unmark r.untracked i j) (length S.rows) < marked (bytes_at S) r.untracked (length S.rows)
-  fewer_bytes = let inside = own_byte S old.log i j a own in unmark_fewer r.untracked i j (bytes_at S) (length S.rows) inside.0 inside.1 byte_marked
+  fewer_bytes : marked (bytes_at P) (unmark r.untracked i j) (length P.given.rows) < marked (bytes_at P) r.untracked (length P.given.rows)
+  fewer_bytes = let inside = own_byte P old.log i j a own in unmark_fewer r.untracked i j (bytes_at P) (length P.given.rows) inside.0 inside.1 byte_marked
 
   -- there was a place for it
   pub room_to_track : length old.store.tracked < old.store.places
@@ -345,13 +346,13 @@ module _ {W : Type 0} (S : Setting W) (old : Known) (r : HasRoom S old) (i j a :
     still : (b : ℕ) → Contains old.store.tracked b → Contains new.store.tracked b
     still b at = rw h.tracked (Contains-append_left old.store.tracked (a ∷ []) b at)
 
-    tracked_here : IsByteTracked S new i j
+    tracked_here : IsByteTracked P new i j
     tracked_here = record { address = a; own = rw h.log own; tracked = rw h.tracked (Contains-push old.store.tracked a) }
 
-    pub room_tracked : HasRoom S new
+    pub room_tracked : HasRoom P new
     room_tracked =
         let less = fewer_bytes in
-        let read = unread_track (length S.rows) old new a h in
+        let read = unread_track (length P.given.rows) old new a h in
         let count : length new.store.tracked ≡ length old.store.tracked + 1 = let long = length_push old.store.tracked a in rw h.tracked (omega (arith, long)) in
         let spare = h.spare in
         let places = h.places in
@@ -365,18 +366,18 @@ module _ {W : Type 0} (S : Setting W) (old : Known) (r : HasRoom S old) (i j a :
           spare = omega (arith, read, old_spare, spare, less);
           log = omega (arith, old_log, left);
           places = omega (arith, old_places, count, places, less);
-          learnt = λ x y e. slot_more S old new same_knows x y (r.learnt x y e);
+          learnt = λ x y e. slot_more P old new same_knows x y (r.learnt x y e);
           tracked = λ x y e. elim (unmark_cases r.untracked i j x y e) [
-            | inl is ↦ subst (λ (z : ℕ). IsByteTracked S new z y) (sym is.0) (subst (λ (z : ℕ). IsByteTracked S new i z) (sym is.1) tracked_here)
-            | inr was ↦ byte_more S old new same_knows still x y (r.tracked x y was)
+            | inl is ↦ subst (λ (z : ℕ). IsByteTracked P new z y) (sym is.0) (subst (λ (z : ℕ). IsByteTracked P new i z) (sym is.1) tracked_here)
+            | inr was ↦ byte_more P old new same_knows still x y (r.tracked x y was)
           ];
         }
 
 -- there is room for a byte that rows let one conclude
-pub room_to_draw : {W : Type 0} (S : Setting W) → HasLaws S → (k : Known) → HasRoom S k → (p a : ℕ) → IsDrawnAt S k.log p a → HasNoRoom k p a true → ⊥
-room_to_draw S laws k r p a place full =
-    let inside = drawn_slot S laws k.log place.number place.conclusion a place.drawn place.cell in
-    let less = unmark_fewer r.unlearnt place.number place.conclusion.slot (places_at S) (length S.rows) inside.0 inside.1 (slot_marked S laws k r p a place full.none) in
+pub room_to_draw : {W : Type 0} (P : Path W) → HasLaws (along P) → (k : Known) → HasRoom P k → (p a : ℕ) → IsDrawnAt P k.log p a → HasNoRoom k p a true → ⊥
+room_to_draw P laws k r p a place full =
+    let inside = drawn_slot P laws k.log place.number place.conclusion a place.drawn place.cell in
+    let less = unmark_fewer r.unlearnt place.number place.conclusion.slot (places_at P) (length P.given.rows) inside.0 inside.1 (slot_marked P laws k r p a place full.none) in
     let spare = r.spare in
     let log = r.log in
     elim full.full [
@@ -385,9 +386,9 @@ room_to_draw S laws k r p a place full =
     ]
 
 -- and for the byte of the dump at a tracked address
-pub room_to_read : {W : Type 0} (S : Setting W) (k : Known) → HasRoom S k → (p a : ℕ) → p ≡ length S.rows → Contains k.store.tracked a → HasNoRoom k p a false → ⊥
-room_to_read S k r p a end tracked full =
-    let some = unread_some (length S.rows) k a tracked (subst (λ (q : ℕ). k.store.fact q a ≡ None) end full.none) in
+pub room_to_read : {W : Type 0} (P : Path W) (k : Known) → HasRoom P k → (p a : ℕ) → p ≡ length P.given.rows → Contains k.store.tracked a → HasNoRoom k p a false → ⊥
+room_to_read P k r p a end tracked full =
+    let some = unread_some (length P.given.rows) k a tracked (subst (λ (q : ℕ). k.store.fact q a ≡ None) end full.none) in
     let spare = r.spare in
     elim full.full [
       | inl both ↦ absurd (false≢true both.0)
@@ -395,12 +396,12 @@ room_to_read S k r p a end tracked full =
     ]
 
 -- all is marked at first
-pub room_new : {W : Type 0} (S : Setting W) (k : Known) (bytes : ℕ) → bytes ≡ sum_to (places_at S) (length S.rows) → k.store.tracked ≡ [] → k.left ≡ bytes → bytes ≤ k.store.places → 2 * bytes ≤ k.store.spare → HasRoom S k
-room_new S k bytes is tracked left places spare =
-    let slots = marked_all (places_at S) (length S.rows) in
-    let own = marked_all (bytes_at S) (length S.rows) in
-    let less = sum_le (places_at S) (bytes_at S) (length S.rows) (λ i lt. omega arith) in
-    let none : unread (length S.rows) k ≡ 0 = rw tracked refl in
+pub room_new : {W : Type 0} (P : Path W) (k : Known) (bytes : ℕ) → bytes ≡ sum_to (places_at P) (length P.given.rows) → k.store.tracked ≡ [] → k.left ≡ bytes → bytes ≤ k.store.places → 2 * bytes ≤ k.store.spare → HasRoom P k
+room_new P k bytes is tracked left places spare =
+    let slots = marked_all (places_at P) (length P.given.rows) in
+    let own = marked_all (bytes_at P) (length P.given.rows) in
+    let less = sum_le (places_at P) (bytes_at P) (length P.given.rows) (λ i lt. omega arith) in
+    let none : unread (length P.given.rows) k ≡ 0 = rw tracked refl in
     let empty : length k.store.tracked ≡ 0 = rw tracked refl in
     record {
       unlearnt = λ x y. true;

@@ -5,7 +5,7 @@ use mathlib.Core.Path.{fun_ext}
 use Rattle.rept_reason.specs.declared.fact.Cell.{Cell}
 use Rattle.rept_reason.specs.declared.fact.Cell.TheVariants.{Register, Byte}
 use Rattle.rept_reason.specs.Facts.{told}
-use Rattle.rept_report.specs.Setting.{Setting, HasLaws}
+use Rattle.rept_report.specs.Setting.{HasLaws}
 use Rattle.rept_report.specs.Spots.{passage}
 use Rattle.rept_report.specs.Views.{Carries, may_write}
 use Rattle.rept_report.specs.Conclusions.IsCarried.{onward, back}
@@ -24,7 +24,7 @@ use Rattle.rept_versions.specs.declared.facts.Stretch.{Stretch}
 use Rattle.rept_versions.specs.Facts.{Told, Store, change, Between, Spreads, Carries as StoreCarries, Nexts}
 use Rattle.rept_log.proofs.Stores.{stays_same}
 use Rattle.rept_log.specs.Known.{Known, knows, known_change, AddsByte, SameLog}
-use Rattle.rept_analysis.specs.State.{State, all_known}
+use Rattle.rept_analysis.specs.State.{State, all_known, Path, along}
 use Rattle.rept_report.specs.Why.{fact_of}
 use Rattle.rept_analysis.specs.Drawing.{Knows, IsTracked, Grows, IsBrought, IsSpared, IsSparedBetween, IsSpreadTo, IsCarriedFrom, IsCarriedAt, IsAccess}
 use Rattle.rept_analysis.specs.Drawing.HasNews.{fact}
@@ -36,9 +36,10 @@ use Rattle.rept_analysis.proofs.Passing.{passes_more}
 use Rattle.rept_analysis.proofs.Learning.{with_known, same_known, kept_same, known_words, new_byte}
 use Rattle.rept_analysis.proofs.Reserve.{room_like}
 use Rattle.rept_analysis.specs.Room.{HasRoom}
+use Rattle.rept_analysis.proofs.Along.{carried_over}
 
 -- the same log, facts and addresses
-pub kept_like : {W : Type 0} (s : State W) (k k' : Known) → k'.last ≡ k.last → k'.log ≡ k.log → k'.store.fact ≡ k.store.fact → k'.store.tracked ≡ k.store.tracked → s.complete ≡ false → (s.work.joins ≡ true → HasRoom s.setting k') → IsKept (with_known s k) → IsKept (with_known s k')
+pub kept_like : {W : Type 0} (s : State W) (k k' : Known) → k'.last ≡ k.last → k'.log ≡ k.log → k'.store.fact ≡ k.store.fact → k'.store.tracked ≡ k.store.tracked → s.complete ≡ false → (s.work.joins ≡ true → HasRoom s.path k') → IsKept (with_known s k) → IsKept (with_known s k')
 kept_like s k k' last log facts tracked open_ roomy kept = record {
   few = kept.few;
   registers = kept.registers;
@@ -63,12 +64,12 @@ kept_like s k k' last log facts tracked open_ roomy kept = record {
     same p (Byte a) = rw facts refl
 
 -- a byte that a row may not write is brought over it
-module _ {W : Type 0} (s : State W) (laws : HasLaws s.setting) (kept : IsKept s) (i a v : ℕ) (inside : i < length s.setting.rows) (small : a < 2 ^ 32) (spared : IsSpared i a s) where
-  carries : IsQuiet s.setting (all_known s) → Carries s.setting (all_known s) (passage a i (i + 1))
-  carries quiet = record { inside = inside; next = refl; spared = missed spared }
+module _ {W : Type 0} (s : State W) (laws : HasLaws (along s.path)) (kept : IsKept s) (i a v : ℕ) (inside : i < length s.path.given.rows) (small : a < 2 ^ 32) (spared : IsSpared i a s) where
+  carries : IsQuiet (along s.path) (all_known s) → Carries (along s.path) (all_known s) (passage a i (i + 1))
+  carries quiet = carried_over s.path (all_known s) a i inside (missed spared)
     where
-      missed : IsSpared i a s → may_write s.setting (all_known s) i a ≡ false
-      missed (inl old) = spared_more s.setting laws (told (oldest s.filled s.known.log)) (all_known s) (λ p r w e. oldest_less s.filled s.known.log kept.once p (Register r) w e) (known_words s kept) quiet i a small old
+      missed : IsSpared i a s → may_write (along s.path) (all_known s) i a ≡ false
+      missed (inl old) = spared_more (along s.path) laws (told (oldest s.filled s.known.log)) (all_known s) (λ p r w e. oldest_less s.filled s.known.log kept.once p (Register r) w e) (known_words s kept) quiet i a small old
       missed (inr now) = now quiet
 
   pub up_brought : Knows i (Byte a) v s → IsBrought s (fact_of (i + 1) (Byte a) v)
@@ -77,12 +78,12 @@ module _ {W : Type 0} (s : State W) (laws : HasLaws s.setting) (kept : IsKept s)
   pub down_brought : Knows (i + 1) (Byte a) v s → IsBrought s (fact_of i (Byte a) v)
   down_brought h quiet = back a i (i + 1) refl refl (carries quiet) h
 
-pub spared_after : {W : Type 0} (s t : State W) → HasLaws s.setting → IsKept t → Grows s t → (i a : ℕ) → a < 2 ^ 32 → IsSpared i a s → IsSpared i a t
-spared_after s t laws kept g i a small (inl old) = inl (rw (g.setting, g.older) old)
-spared_after s t laws kept g i a small (inr now) = inr (subst (λ (S : Setting _). IsQuiet S (all_known t) → may_write S (all_known t) i a ≡ false) (sym g.setting) (λ quiet.
-    spared_more s.setting laws (all_known s) (all_known t) (λ p r v e. g.more p (Register r) v e) (known_words t kept) quiet i a small (now (quiet_less s.setting laws (all_known s) (all_known t) (λ p r v e. g.more p (Register r) v e) quiet))))
+pub spared_after : {W : Type 0} (s t : State W) → HasLaws (along s.path) → IsKept t → Grows s t → (i a : ℕ) → a < 2 ^ 32 → IsSpared i a s → IsSpared i a t
+spared_after s t laws kept g i a small (inl old) = inl (rw (g.path, g.older) old)
+spared_after s t laws kept g i a small (inr now) = inr (subst (λ (P : Path _). IsQuiet (along P) (all_known t) → may_write (along P) (all_known t) i a ≡ false) (sym g.path) (λ quiet.
+    spared_more (along s.path) laws (all_known s) (all_known t) (λ p r v e. g.more p (Register r) v e) (known_words t kept) quiet i a small (now (quiet_less (along s.path) laws (all_known s) (all_known t) (λ p r v e. g.more p (Register r) v e) quiet))))
 
-module _ {W : Type 0} (s : State W) (laws : HasLaws s.setting) (kept : IsKept s) (open_ : s.complete ≡ false) (a v : ℕ) (small : a < 2 ^ 32) (tracked : IsTracked a s) where
+module _ {W : Type 0} (s : State W) (laws : HasLaws (along s.path)) (kept : IsKept s) (open_ : s.complete ≡ false) (a v : ℕ) (small : a < 2 ^ 32) (tracked : IsTracked a s) where
   -- one fact more
   abbrev with_fact : Known → ℕ → Known
   with_fact k p = record { last = k.last; log = k.log; store = record { fact = λ q b. cond (eqb q p && eqb b a) (Some v) (k.store.fact q b); tracked = k.store.tracked; spare = k.store.spare; places = k.store.places }; left = k.left }
@@ -159,11 +160,11 @@ module _ {W : Type 0} (s : State W) (laws : HasLaws s.setting) (kept : IsKept s)
         | inr ne ↦ fact_else (chain pt d).known (pt (suc d)) q a (λ x f. ne x) ∙ e
       ]
 
-  module _ (pt : ℕ → ℕ) (D : ℕ) (early : (d : ℕ) → d ≤ D → pt d ≤ length s.setting.rows) (free : (d w : ℕ) → d ≤ D → s.known.store.fact (pt d) a ≡ Some w → w ≡ v) (start : s.known.store.fact (pt 0) a ≡ Some v) (reach : (d : ℕ) → d < D → (t : State W) → HasLaws t.setting → IsKept t → Grows s t → Knows (pt d) (Byte a) v t → IsBrought t (fact_of (pt (suc d)) (Byte a) v)) where
-    step : (t : State W) → IsKept t → Grows s t → (p : ℕ) → p ≤ length s.setting.rows → t.known.store.fact p a ≡ None → IsBrought t (fact_of p (Byte a) v) → IsKept (with_known t (with_fact t.known p)) × Grows t (with_known t (with_fact t.known p))
+  module _ (pt : ℕ → ℕ) (D : ℕ) (early : (d : ℕ) → d ≤ D → pt d ≤ length s.path.given.rows) (free : (d w : ℕ) → d ≤ D → s.known.store.fact (pt d) a ≡ Some w → w ≡ v) (start : s.known.store.fact (pt 0) a ≡ Some v) (reach : (d : ℕ) → d < D → (t : State W) → HasLaws (along t.path) → IsKept t → Grows s t → Knows (pt d) (Byte a) v t → IsBrought t (fact_of (pt (suc d)) (Byte a) v)) where
+    step : (t : State W) → IsKept t → Grows s t → (p : ℕ) → p ≤ length s.path.given.rows → t.known.store.fact p a ≡ None → IsBrought t (fact_of p (Byte a) v) → IsKept (with_known t (with_fact t.known p)) × Grows t (with_known t (with_fact t.known p))
     step t kept_t g p le none brought =
-        let early_t : p ≤ length t.setting.rows = rw g.rows le in
-        let both = new_byte t kept_t true p a v early_t small (g.tracked a tracked) (g.complete ∙ open_) (brought_follows t p a v early_t small brought) false (λ _. brought) (with_fact t.known p) (adds t.known p none) kept_t.once (λ more j. room_like t.setting t.known (with_fact t.known p) more (omega arith) (omega arith) refl refl (kept_t.roomy j)) in
+        let early_t : p ≤ length t.path.given.rows = rw g.rows le in
+        let both = new_byte t kept_t true p a v early_t small (g.tracked a tracked) (g.complete ∙ open_) (brought_follows t p a v early_t small brought) false (λ _. brought) (with_fact t.known p) (adds t.known p none) kept_t.once (λ more j. room_like t.path t.known (with_fact t.known p) more (omega arith) (omega arith) refl refl (kept_t.roomy j)) in
         (both.0, both.1.grows)
 
     chain_kept : (d : ℕ) → d ≤ D → IsKept (chain pt d) × Grows s (chain pt d) × Knows (pt d) (Byte a) v (chain pt d)
@@ -172,7 +173,7 @@ module _ {W : Type 0} (s : State W) (laws : HasLaws s.setting) (kept : IsKept s)
       where
         next : IsKept (chain pt d) × Grows s (chain pt d) × Knows (pt d) (Byte a) v (chain pt d) → (x : Option ℕ) → (chain pt d).known.store.fact (pt (suc d)) a ≡ x → IsKept (chain pt (suc d)) × Grows s (chain pt (suc d)) × Knows (pt (suc d)) (Byte a) v (chain pt (suc d))
         next (k, g, h) None none =
-            let laws_t : HasLaws (chain pt d).setting = subst (λ (S : Setting W). HasLaws S) (sym g.setting) laws in
+            let laws_t : HasLaws (along (chain pt d).path) = subst (λ (P : Path W). HasLaws (along P)) (sym g.path) laws in
             let both = step (chain pt d) k g (pt (suc d)) (early (suc d) le) none (reach d (omega (arith, le)) (chain pt d) laws_t k g h) in
             (both.0, Grows_trans s (chain pt d) (chain pt (suc d)) g both.1, fact_here (chain pt d).known (pt (suc d)))
         next (k, g, h) (Some w) some =
@@ -197,10 +198,10 @@ module _ {W : Type 0} (s : State W) (laws : HasLaws s.setting) (kept : IsKept s)
         let g : Grows s (with_known s (chain pt D).known) = subst (λ (x : State W). Grows s x) (chain_is pt D) t.1 in
         let facts : k.store.fact ≡ (chain pt D).known.store.fact = fun_ext (λ (q : ℕ). fun_ext (λ (b : ℕ). same q b)) in
         let k_log = log ∙ sym (chain_log pt D) in
-        let roomy : s.work.joins ≡ true → HasRoom s.setting k = λ j. room_like s.setting s.known k (λ p c w e. more_of p c w (g.more p c w e) facts k_log) (spare j) (omega (arith, left)) same_tracked places (kept.roomy j) in (
+        let roomy : s.work.joins ≡ true → HasRoom s.path k = λ j. room_like s.path s.known k (λ p c w e. more_of p c w (g.more p c w e) facts k_log) (spare j) (omega (arith, left)) same_tracked places (kept.roomy j) in (
           kept_like s (chain pt D).known k (last ∙ sym (chain_last pt D)) k_log facts (same_tracked ∙ sym (chain_tracked pt D)) open_ roomy at,
           record {
-            setting = refl;
+            path = refl;
             rows = refl;
             spans = refl;
             filled = refl;
@@ -224,7 +225,7 @@ module _ {W : Type 0} (s : State W) (laws : HasLaws s.setting) (kept : IsKept s)
         more_of p (Byte b) w e facts k_log = rw facts e
 
   -- a store in which the value was spread from a point to another one
-  module _ (k : Known) (from to : ℕ) (last : k.last ≡ s.known.last) (log : k.log ≡ s.known.log) (left : k.left ≡ s.known.left) (from_early : from ≤ length s.setting.rows) (to_early : to ≤ length s.setting.rows) (known : Knows from (Byte a) v s) (spared : IsSparedBetween from to a s) (spreads : Spreads (change s.work.joins s.known.store k.store) (record { address = a; from = from; to = to; value = v })) where
+  module _ (k : Known) (from to : ℕ) (last : k.last ≡ s.known.last) (log : k.log ≡ s.known.log) (left : k.left ≡ s.known.left) (from_early : from ≤ length s.path.given.rows) (to_early : to ≤ length s.path.given.rows) (known : Knows from (Byte a) v s) (spared : IsSparedBetween from to a s) (spreads : Spreads (change s.work.joins s.known.store k.store) (record { address = a; from = from; to = to; value = v })) where
     start_up : s.known.store.fact (from + 0) a ≡ Some v
     start_up = let e : from ≡ from + 0 = omega arith in subst (λ (p : ℕ). s.known.store.fact p a ≡ Some v) e known
 
@@ -234,9 +235,9 @@ module _ {W : Type 0} (s : State W) (laws : HasLaws s.setting) (kept : IsKept s)
     up : from ≤ to → IsKept (with_known s k) × Grows s (with_known s k)
     up le = chain_done (λ d. from + d) (to - from) (λ d h. omega (arith, h, to_early, le)) (λ d w h e. spreads.free (from + d) w (inl (omega arith, omega (arith, h, le))) e) start_up reach k last log left spreads.tracked spreads.places spreads.spare same
       where
-        reach : (d : ℕ) → d < to - from → (t : State W) → HasLaws t.setting → IsKept t → Grows s t → Knows (from + d) (Byte a) v t → IsBrought t (fact_of (from + suc d) (Byte a) v)
+        reach : (d : ℕ) → d < to - from → (t : State W) → HasLaws (along t.path) → IsKept t → Grows s t → Knows (from + d) (Byte a) v t → IsBrought t (fact_of (from + suc d) (Byte a) v)
         reach d lt t laws_t kept_t g h =
-            let inside : from + d < length t.setting.rows = rw g.rows (omega (arith, lt, to_early)) in
+            let inside : from + d < length t.path.given.rows = rw g.rows (omega (arith, lt, to_early)) in
             let at = up_brought t laws_t kept_t (from + d) a v inside small (spared_after s t laws kept_t g (from + d) a small (spared (from + d) (inl (omega arith, omega (arith, lt))))) h in
             let next : from + d + 1 ≡ from + suc d = omega arith in
             subst (λ (p : ℕ). IsBrought t (fact_of p (Byte a) v)) next at
@@ -261,9 +262,9 @@ module _ {W : Type 0} (s : State W) (laws : HasLaws s.setting) (kept : IsKept s)
     down : to ≤ from → IsKept (with_known s k) × Grows s (with_known s k)
     down le = chain_done (λ d. from - d) (from - to) (λ d h. omega (arith, from_early)) (λ d w h e. spreads.free (from - d) w (inr (omega (arith, h, le), omega arith)) e) start_down reach k last log left spreads.tracked spreads.places spreads.spare same
       where
-        reach : (d : ℕ) → d < from - to → (t : State W) → HasLaws t.setting → IsKept t → Grows s t → Knows (from - d) (Byte a) v t → IsBrought t (fact_of (from - suc d) (Byte a) v)
+        reach : (d : ℕ) → d < from - to → (t : State W) → HasLaws (along t.path) → IsKept t → Grows s t → Knows (from - d) (Byte a) v t → IsBrought t (fact_of (from - suc d) (Byte a) v)
         reach d lt t laws_t kept_t g h =
-            let inside : from - suc d < length t.setting.rows = rw g.rows (omega (arith, lt, from_early)) in
+            let inside : from - suc d < length t.path.given.rows = rw g.rows (omega (arith, lt, from_early)) in
             let next : from - d ≡ from - suc d + 1 = omega (arith, lt) in
             let above : Knows (from - suc d + 1) (Byte a) v t = subst (λ (p : ℕ). Knows p (Byte a) v t) next h in
             down_brought t laws_t kept_t (from - suc d) a v inside small (spared_after s t laws kept_t g (from - suc d) a small (spared (from - suc d) (inr (omega (arith, lt), omega (arith, lt))))) above
@@ -293,11 +294,11 @@ module _ {W : Type 0} (s : State W) (laws : HasLaws s.setting) (kept : IsKept s)
         ]
 
 -- what a store's answer to `carry` comes to
-module _ {W : Type 0} (s : State W) (laws : HasLaws s.setting) (kept : IsKept s) (open_ : s.complete ≡ false) (a from to v : ℕ) (small : a < 2 ^ 32) (from_early : from ≤ length s.setting.rows) (to_early : to ≤ length s.setting.rows) (known : Knows from (Byte a) v s) (spared : IsSparedBetween from to a s) where
+module _ {W : Type 0} (s : State W) (laws : HasLaws (along s.path)) (kept : IsKept s) (open_ : s.complete ≡ false) (a from to v : ℕ) (small : a < 2 ^ 32) (from_early : from ≤ length s.path.given.rows) (to_early : to ≤ length s.path.given.rows) (known : Knows from (Byte a) v s) (spared : IsSparedBetween from to a s) where
   tracked : IsTracked a s
   tracked = kept.listed from a v known
 
-  between_early : (q : ℕ) → Between from to q → q ≤ length s.setting.rows
+  between_early : (q : ℕ) → Between from to q → q ≤ length s.path.given.rows
   between_early q (inl y) = let z = y.1 in omega (arith, z, to_early)
   between_early q (inr y) = let z = y.1 in omega (arith, z, from_early)
 
@@ -341,7 +342,7 @@ module _ {W : Type 0} (s : State W) (laws : HasLaws s.setting) (kept : IsKept s)
       let r = stops.reaches in
       let both = spread k log r.before r.toward r.spreads in
       let t = with_known s k in
-      let laws_t : HasLaws t.setting = laws in
+      let laws_t : HasLaws (along t.path) = laws in
       (both.0, (both.1, record { is_known = both.1.more stop (Byte a) found stops.other; differs = stops.differs; follows = brought_follows t stop a v (between_early stop r.within) small (next_brought k both.0 both.1 r.before stop r.next r.toward r.within (r.spreads.here r.before (itself r.before r.toward))) }, value))
     where
       itself : (before : ℕ) → Between from to before → Between from before before

@@ -18,7 +18,7 @@ use Rattle.rept_report.proofs.Places.{oldest_more, oldest_less}
 use Rattle.rept_report.proofs.ViewLaws.{known_fact}
 use Rattle.rept_report.proofs.Monotony.{quiet_less}
 use Rattle.rept_report.proofs.Traces.{derived_below, least_conflict, clash_closure}
-use Rattle.rept_analysis.specs.State.{State, all_known}
+use Rattle.rept_analysis.specs.State.{State, all_known, along}
 use Rattle.rept_analysis.specs.Drawing.{IsClash, IsSettled, IsRowDrawn}
 use Rattle.rept_analysis.specs.Kept.{register_answer, IsKept}
 use Rattle.rept_analysis.specs.Refined.{clash_kind}
@@ -35,22 +35,22 @@ logged_in (e ∷ es) f h = either (λ k. logged_in es f k) e.logged h
     either older true (inr k) = inr (older k)
     either older false k = inr (older k)
 
-module _ {W : Type 0} (s : State W) (laws : HasLaws s.setting) (kept : IsKept s) where
+module _ {W : Type 0} (s : State W) (laws : HasLaws (along s.path)) (kept : IsKept s) where
   -- what is quiet was quiet at each place before
-  pub quiet_before : (t u : ℕ) → u ≤ t → IsQuiet s.setting (told (oldest t s.known.log)) → IsQuiet s.setting (told (oldest u s.known.log))
-  quiet_before t u le quiet = quiet_less s.setting laws (told (oldest u s.known.log)) (told (oldest t s.known.log)) (λ p r v e. oldest_more u t s.known.log kept.once le p (Register r) v e) quiet
+  pub quiet_before : (t u : ℕ) → u ≤ t → IsQuiet (along s.path) (told (oldest t s.known.log)) → IsQuiet (along s.path) (told (oldest u s.known.log))
+  quiet_before t u le quiet = quiet_less (along s.path) laws (told (oldest u s.known.log)) (told (oldest t s.known.log)) (λ p r v e. oldest_more u t s.known.log kept.once le p (Register r) v e) quiet
 
   -- what the least loud prefix shows is a conflict of the closure
-  pub shown_conflict : (t : ℕ) → ((u : ℕ) → u < t → IsQuiet s.setting (told (oldest u s.known.log))) → (kind : ConflictKind) → Shows s.setting (told (oldest t s.known.log)) kind → ClosureHas s.setting kind
-  shown_conflict t quiet kind shows = least_conflict s.setting laws kept.traced.entries kept.traced.trace t (λ u below. rw kept.traced.logged (quiet u below)) kind (rw kept.traced.logged shows)
+  pub shown_conflict : (t : ℕ) → ((u : ℕ) → u < t → IsQuiet (along s.path) (told (oldest u s.known.log))) → (kind : ConflictKind) → Shows (along s.path) (told (oldest t s.known.log)) kind → ClosureHas (along s.path) kind
+  shown_conflict t quiet kind shows = least_conflict (along s.path) laws kept.traced.entries kept.traced.trace t (λ u below. rw kept.traced.logged (quiet u below)) kind (rw kept.traced.logged shows)
 
   -- so is a clash on a quiet log
-  pub clash_conflict : (p : ℕ) (c : Cell) (known value : ℕ) → IsQuiet s.setting (all_known s) → IsClash s (record { point = p; cell = c; value = value }) known → ClosureHas s.setting (clash_kind p c known value)
+  pub clash_conflict : (p : ℕ) (c : Cell) (known value : ℕ) → IsQuiet (along s.path) (all_known s) → IsClash s (record { point = p; cell = c; value = value }) known → ClosureHas (along s.path) (clash_kind p c known value)
   clash_conflict p c known value quiet clash =
       let same = trace_known s kept in
-      let calm = subst (λ (K : Knowledge). IsQuiet s.setting K) (sym same) quiet in
-      let follows = subst (λ (K : Knowledge). Concludes s.setting K (record { point = p; cell = c; value = value })) (sym same) (clash.follows quiet) in
-      let both = clash_closure s.setting laws kept.traced.entries kept.traced.trace calm (record { point = p; cell = c; value = value }) known follows (kept.traced.agree p c ∙ clash.is_known) in
+      let calm = subst (λ (K : Knowledge). IsQuiet (along s.path) K) (sym same) quiet in
+      let follows = subst (λ (K : Knowledge). Concludes (along s.path) K (record { point = p; cell = c; value = value })) (sym same) (clash.follows quiet) in
+      let both = clash_closure (along s.path) laws kept.traced.entries kept.traced.trace calm (record { point = p; cell = c; value = value }) known follows (kept.traced.agree p c ∙ clash.is_known) in
       elim (cases_lt known value) [
         | inl lt ↦ rw (cond-true (ltb known value) (TwoValues p c known value) (TwoValues p c value known) (lt-ltb known value lt)) (both.0 lt)
         | inr le ↦ rw (cond-false (ltb known value) (TwoValues p c known value) (TwoValues p c value known) (le-ltb known value le)) (both.1 (more le))
@@ -60,9 +60,9 @@ module _ {W : Type 0} (s : State W) (laws : HasLaws s.setting) (kept : IsKept s)
       more le = let differs = clash.differs in elim (cases_lt value known) [ inl lt ↦ lt | inr ge ↦ absurd (differs (omega (arith, le, ge))) ]
 
   -- what is answered of registers is of the closure
-  pub answered : (p r v : ℕ) → register_answer s p r ≡ Some v → 0 < r → InClosure s.setting (record { point = p; cell = Register r; value = v })
+  pub answered : (p r v : ℕ) → register_answer s p r ≡ Some v → 0 < r → InClosure (along s.path) (record { point = p; cell = Register r; value = v })
   answered p r v e named =
-      let d = derived_below s.setting laws kept.traced.entries kept.traced.trace s.shown (λ u below. rw kept.traced.logged (kept.calm u below)) in
+      let d = derived_below (along s.path) laws kept.traced.entries kept.traced.trace s.shown (λ u below. rw kept.traced.logged (kept.calm u below)) in
       elim (known_fact (told (oldest s.shown s.known.log)) p r v e) [
         | inl z ↦ let zero_is = z.0 in absurd (omega (arith, named, zero_is))
         | inr h ↦
@@ -71,10 +71,10 @@ module _ {W : Type 0} (s : State W) (laws : HasLaws s.setting) (kept : IsKept s)
       ]
 
   abbrev stopped_at : ℕ → ConflictKind → State W
-  stopped_at limit kind = record { setting = s.setting; known = s.known; spans = s.spans; filled = s.filled; shown = limit; complete = s.complete; conflict = Some kind; work = s.work }
+  stopped_at limit kind = record { path = s.path; known = s.known; spans = s.spans; filled = s.filled; shown = limit; complete = s.complete; conflict = Some kind; work = s.work }
 
   -- an analysis that stops at a place
-  pub kept_stopped : s.complete ≡ false → (limit : ℕ) (kind : ConflictKind) → limit ≤ length s.known.log → ((u : ℕ) → u < limit → IsQuiet s.setting (told (oldest u s.known.log))) → ClosureHas s.setting kind → IsKept (stopped_at limit kind)
+  pub kept_stopped : s.complete ≡ false → (limit : ℕ) (kind : ConflictKind) → limit ≤ length s.known.log → ((u : ℕ) → u < limit → IsQuiet (along s.path) (told (oldest u s.known.log))) → ClosureHas (along s.path) kind → IsKept (stopped_at limit kind)
   kept_stopped open_ limit kind within quiet found = record {
     few = kept.few;
     registers = kept.registers;
@@ -86,7 +86,7 @@ module _ {W : Type 0} (s : State W) (laws : HasLaws s.setting) (kept : IsKept s)
     listed = kept.listed;
     shown = within;
     calm = quiet;
-    stopped = λ kind' e. subst (ClosureHas s.setting) (some_kind e) found;
+    stopped = λ kind' e. subst (ClosureHas (along s.path)) (some_kind e) found;
     finished = λ e. absurd (false≢true (sym open_ ∙ e));
     room = kept.room;
     rows = kept.rows;
@@ -98,10 +98,10 @@ module _ {W : Type 0} (s : State W) (laws : HasLaws s.setting) (kept : IsKept s)
       some_kind e = cc
 
   abbrev shown_to : ℕ → State W
-  shown_to limit = record { setting = s.setting; known = s.known; spans = s.spans; filled = s.filled; shown = limit; complete = s.complete; conflict = s.conflict; work = s.work }
+  shown_to limit = record { path = s.path; known = s.known; spans = s.spans; filled = s.filled; shown = limit; complete = s.complete; conflict = s.conflict; work = s.work }
 
   -- one that answers more
-  pub kept_shown : s.complete ≡ false → (limit : ℕ) → limit ≤ length s.known.log → ((u : ℕ) → u < limit → IsQuiet s.setting (told (oldest u s.known.log))) → IsKept (shown_to limit)
+  pub kept_shown : s.complete ≡ false → (limit : ℕ) → limit ≤ length s.known.log → ((u : ℕ) → u < limit → IsQuiet (along s.path) (told (oldest u s.known.log))) → IsKept (shown_to limit)
   kept_shown open_ limit within quiet = record {
     few = kept.few;
     registers = kept.registers;
@@ -122,7 +122,7 @@ module _ {W : Type 0} (s : State W) (laws : HasLaws s.setting) (kept : IsKept s)
   }
 
   abbrev finished_at : State W
-  finished_at = record { setting = s.setting; known = s.known; spans = s.spans; filled = s.filled; shown = length s.known.log; complete = true; conflict = s.conflict; work = s.work }
+  finished_at = record { path = s.path; known = s.known; spans = s.spans; filled = s.filled; shown = length s.known.log; complete = true; conflict = s.conflict; work = s.work }
 
   again : (i : ℕ) (row : StepRow) → IsRowDrawn row i s → IsRowDrawn row i finished_at
   again i row d = record {
@@ -143,7 +143,7 @@ module _ {W : Type 0} (s : State W) (laws : HasLaws s.setting) (kept : IsKept s)
     traced = record { entries = kept.traced.entries; trace = kept.traced.trace; logged = kept.traced.logged; agree = kept.traced.agree };
     listed = kept.listed;
     shown = omega arith;
-    calm = λ u below. quiet_less s.setting laws (told (oldest u s.known.log)) (all_known s) (λ p r v e. oldest_less u s.known.log kept.once p (Register r) v e) settled.quiet;
+    calm = λ u below. quiet_less (along s.path) laws (told (oldest u s.known.log)) (all_known s) (λ p r v e. oldest_less u s.known.log kept.once p (Register r) v e) settled.quiet;
     stopped = kept.stopped;
     finished = λ _. record {
       settled = record { quiet = settled.quiet; fitted = settled.fitted; filled = settled.filled; drawn = record { last = settled.drawn.last; rows = λ i inside row found. again i row (settled.drawn.rows i inside row found); bytes = settled.drawn.bytes; carried = λ a i at inside. let k = settled.drawn.carried a i at inside in record { onward = k.onward; back = k.back }; singles = settled.drawn.singles } };

@@ -1,5 +1,9 @@
--- What is said while not all is learnt. This project's own.
-use Rattle.std.specs.Prelude.{ℕ, zero, suc}
+-- What is said while not all is learnt, and of a byte between two points. This project's own.
+use Rattle.std.specs.Prelude.{◌≡◌, ℕ, zero, suc, ◌<◌, ◌≤◌, false}
+use Rattle.rept_reason.specs.Facts.{Knowledge}
+use Rattle.rept_report.specs.Setting.{Setting}
+use Rattle.rept_report.specs.Spots.{Passage}
+use Rattle.rept_report.specs.Views.{may_write}
 use Rattle.rept_report.specs.declared.writer.Writer.{Writer}
 use Rattle.rept_report.specs.declared.writer.Writer as writers
 
@@ -7,3 +11,7 @@ use Rattle.rept_report.specs.declared.writer.Writer as writers
 abbrev pub unsaid : ℕ → Writer
 unsaid zero = writers.TheVariants.None
 unsaid (suc j) = writers.TheVariants.MayWrite j
+
+-- no row between the two points may write the byte
+abbrev pub NoneMayWrite : {W : Type 0} → Setting W → Knowledge → Passage → Type 0
+NoneMayWrite S K x = (k : ℕ) → x.from ≤ k → k < x.to → may_write S K k x.address ≡ false

@@ -1,10 +1,11 @@
 -- How many rows a path has, of which kind, and how much is known along it. This project's own; what a store and an environment call
 -- are is in the RISC-V unprivileged manual 20191213, chapters 2.6 and 2.8.
-use Rattle.std.specs.Prelude.{◌≡◌, ℕ, ◌+◌, Bool, true, false, not, List, length, Option, Some, None, is_some, slice_get}
+use Rattle.std.specs.Prelude.{◌≡◌, ℕ, ◌+◌, Bool, true, false, not, Option, Some, None, is_some}
 use Rattle.rept_isa.specs.declared.instr.Instr.{Instr}
 use Rattle.rept_isa.specs.declared.instr.Instr.TheVariants.{Store, Ecall}
 use Rattle.rept_isa.specs.declared.row.StepRow.{StepRow}
 use Rattle.rept_reason.specs.Facts.{Knowledge, register_known, register_fact}
+use Rattle.rept_span.specs.Ranges.{Legs}
 use Rattle.rept_report.specs.Setting.{Setting}
 use Rattle.rept_report.specs.declared.counts.Counts.{Counts}
 use Rattle.rept_analysis.specs.Sums.{count_true, sum_to}
@@ -32,12 +33,12 @@ row_is None test = false
 row_is (Some row) test = test row.instr
 
 -- how many of the first n rows are environment calls
-abbrev pub calls_below : List StepRow → ℕ → ℕ
-calls_below rows n = count_true (λ i. row_is (slice_get rows i) is_call) n
+abbrev pub calls_below : Legs → ℕ → ℕ
+calls_below legs n = count_true (λ i. row_is (legs.row i) is_call) n
 
 -- how many of them are stores of a known base, or of an unknown one
-abbrev pub stores_below : List StepRow → Knowledge → Bool → ℕ → ℕ
-stores_below rows K known n = count_true (λ i. row_is (slice_get rows i) (is_store known K i)) n
+abbrev pub stores_below : Legs → Knowledge → Bool → ℕ → ℕ
+stores_below legs K known n = count_true (λ i. row_is (legs.row i) (is_store known K i)) n
 
 -- how many of the first n registers other than x0 are known at a point
 abbrev pub known_at : Knowledge → ℕ → ℕ → ℕ
@@ -49,8 +50,8 @@ known_below K n = sum_to (λ p. known_at K p 32) n
 
 -- these are the numbers of a path along which so much is known
 pub record IsCounted {W : Type 0} (S : Setting W) (K : Knowledge) (counts : Counts) : Type 0 where
-  pub steps : counts.steps ≡ length S.rows
-  pub calls : counts.calls ≡ calls_below S.rows (length S.rows)
-  pub registers : counts.registers ≡ known_below K (length S.rows + 1)
-  pub exact : counts.exact ≡ stores_below S.rows K true (length S.rows)
-  pub inexact : counts.inexact ≡ stores_below S.rows K false (length S.rows)
+  pub steps : counts.steps ≡ S.legs.count
+  pub calls : counts.calls ≡ calls_below S.legs S.legs.count
+  pub registers : counts.registers ≡ known_below K (S.legs.count + 1)
+  pub exact : counts.exact ≡ stores_below S.legs K true S.legs.count
+  pub inexact : counts.inexact ≡ stores_below S.legs K false S.legs.count

@@ -28,7 +28,7 @@ use Rattle.rept_writing.specs.declared.list.Writing.{Writing}
 use Rattle.rept_analysis.specs.declared.pass.Pass.TheVariants.{Cut}
 use Rattle.rept_analysis.specs.Work.{left, row_past}
 use Rattle.rept_analysis.specs.Room.{IsDrawable, IsDrawnAt, own_at, IsOwnByte}
-use Rattle.rept_analysis.specs.State.{State, all_known}
+use Rattle.rept_analysis.specs.State.{State, all_known, along}
 
 -- the cell is known to have the value
 abbrev pub Knows : {W : Type 0} → ℕ → Cell → ℕ → State W → Type 0
@@ -39,8 +39,8 @@ IsTracked a s = Contains s.known.store.tracked a
 
 -- another state of the same analysis, which knows no less
 pub record Grows {W : Type 0} (old new : State W) : Type 0 where
-  pub setting : new.setting ≡ old.setting
-  pub rows : new.setting.rows ≡ old.setting.rows
+  pub path : new.path ≡ old.path
+  pub rows : new.path.given.rows ≡ old.path.given.rows
   pub spans : new.spans ≡ old.spans
   pub filled : new.filled ≡ old.filled
   pub shown : new.shown ≡ old.shown
@@ -58,7 +58,7 @@ pub record Grows {W : Type 0} (old new : State W) : Type 0 where
 
 -- a cell is known that wasn't, an address is tracked that wasn't, or rules were drawn
 pub data HasNews {W : Type 0} (old new : State W) : Type 0 where
-  fact : (p : ℕ) (c : Cell) (v : ℕ) → p ≤ length old.setting.rows → IsCell c → all_known old p c ≡ None → Knows p c v new → HasNews old new
+  fact : (p : ℕ) (c : Cell) (v : ℕ) → p ≤ length old.path.given.rows → IsCell c → all_known old p c ≡ None → Knows p c v new → HasNews old new
   address : (a : ℕ) → a < 2 ^ 32 → (IsTracked a old → ⊥) → IsTracked a new → HasNews old new
   anew : left new.work.drawn < left old.work.drawn → HasNews old new
 
@@ -75,11 +75,11 @@ pub record Drew {W : Type 0} (old new : State W) (learnt : Bool) (P : State W �
 
 -- the fact follows from what is known, if that leaves no range empty and no turn wrong
 abbrev pub IsFollowing : {W : Type 0} → State W → Fact → Type 0
-IsFollowing s f = IsQuiet s.setting (all_known s) → Concludes s.setting (all_known s) f
+IsFollowing s f = IsQuiet (along s.path) (all_known s) → Concludes (along s.path) (all_known s) f
 
 -- it does so by being carried
 abbrev pub IsBrought : {W : Type 0} → State W → Fact → Type 0
-IsBrought s f = IsQuiet s.setting (all_known s) → IsCarried s.setting (all_known s) f
+IsBrought s f = IsQuiet (along s.path) (all_known s) → IsCarried (along s.path) (all_known s) f
 
 -- a fact that follows, where another value of its cell is known
 pub record IsClash {W : Type 0} (s : State W) (f : Fact) (known : ℕ) : Type 0 where
@@ -94,7 +94,7 @@ IsHalt s OutOfMemory = s.work.joins ≡ false
 
 -- the sets are those of some of the facts
 abbrev pub IsFitted : {W : Type 0} → State W → Type 0
-IsFitted s = IsFilled (way_of s.setting) s.spans (told (oldest s.filled s.known.log))
+IsFitted s = IsFilled (way_of (along s.path)) s.spans (told (oldest s.filled s.known.log))
 
 -- a register has one value before and after row i
 pub record IsKeptAt {W : Type 0} (i r : ℕ) (s : State W) : Type 0 where
@@ -107,8 +107,8 @@ KeptBelow n row i s = (r : ℕ) → 0 < r → r < n → written_by row.instr ≢
 
 -- a byte has one value before and after row i, which may not write it by the facts of which the sets are
 pub record IsCarriedAt {W : Type 0} (i a : ℕ) (s : State W) : Type 0 where
-  pub onward : (v : ℕ) → may_write s.setting (told (oldest s.filled s.known.log)) i a ≡ false → Knows i (Byte a) v s → Knows (i + 1) (Byte a) v s
-  pub back : (v : ℕ) → may_write s.setting (told (oldest s.filled s.known.log)) i a ≡ false → Knows (i + 1) (Byte a) v s → Knows i (Byte a) v s
+  pub onward : (v : ℕ) → may_write (along s.path) (told (oldest s.filled s.known.log)) i a ≡ false → Knows i (Byte a) v s → Knows (i + 1) (Byte a) v s
+  pub back : (v : ℕ) → may_write (along s.path) (told (oldest s.filled s.known.log)) i a ≡ false → Knows (i + 1) (Byte a) v s → Knows i (Byte a) v s
 
 -- a conclusion of row i is known
 abbrev pub KnowsDrawn : {W : Type 0} → ℕ → Drawn → State W → Type 0
@@ -120,11 +120,11 @@ DrawnBelow n list i s = (k : ℕ) (d : Drawn) → k < n → slice_get list k ≡
 
 -- so are all that the row lets one draw
 abbrev pub DrawnKnown : {W : Type 0} → StepRow → ℕ → State W → Type 0
-DrawnKnown row i s = (d : Drawn) → Contains (s.setting.rules.draw row (around s.known i)) d → KnowsDrawn i d s
+DrawnKnown row i s = (d : Drawn) → Contains (s.path.rules.draw row (around s.known i)) d → KnowsDrawn i d s
 
 -- the bytes that the row's rules look at are tracked
 abbrev pub IsRowTracked : {W : Type 0} → StepRow → ℕ → State W → Type 0
-IsRowTracked row i s = (a : ℕ) → IsRowByte s.setting.rules row (around s.known i) a → IsTracked a s
+IsRowTracked row i s = (a : ℕ) → IsRowByte s.path.rules row (around s.known i) a → IsTracked a s
 
 -- all that row i lets one conclude is known
 pub record IsRowDrawn {W : Type 0} (row : StepRow) (i : ℕ) (s : State W) : Type 0 where
@@ -133,22 +133,22 @@ pub record IsRowDrawn {W : Type 0} (row : StepRow) (i : ℕ) (s : State W) : Typ
   pub drawn : DrawnKnown row i s
 
 abbrev pub IsRowClosed : {W : Type 0} → ℕ → State W → Type 0
-IsRowClosed i s = (row : StepRow) → slice_get s.setting.rows i ≡ Some row → IsRowDrawn row i s
+IsRowClosed i s = (row : StepRow) → slice_get s.path.given.rows i ≡ Some row → IsRowDrawn row i s
 
 abbrev pub RowsClosedBelow : {W : Type 0} → ℕ → State W → Type 0
 RowsClosedBelow n s = (i : ℕ) → i < n → IsRowClosed i s
 
 -- the last value of a register is known after the last row
 abbrev pub LastKnown : {W : Type 0} → ℕ → State W → Type 0
-LastKnown r s = (v : ℕ) → 0 < r → slice_get s.setting.last r ≡ Some v → Knows (length s.setting.rows) (Register r) v s
+LastKnown r s = (v : ℕ) → 0 < r → slice_get s.path.given.last r ≡ Some v → Knows (length s.path.given.rows) (Register r) v s
 
 -- so are those of the registers below x(n)
 abbrev pub LastKnownBelow : {W : Type 0} → ℕ → State W → Type 0
-LastKnownBelow n s = (r v : ℕ) → 0 < r → r < n → slice_get s.setting.last r ≡ Some v → Knows (length s.setting.rows) (Register r) v s
+LastKnownBelow n s = (r v : ℕ) → 0 < r → r < n → slice_get s.path.given.last r ≡ Some v → Knows (length s.path.given.rows) (Register r) v s
 
 -- the byte of the dump is known after the last row
 abbrev pub LastByteKnown : {W : Type 0} → ℕ → State W → Type 0
-LastByteKnown a s = (v : ℕ) → s.setting.dump a ≡ Some v → Knows (length s.setting.rows) (Byte a) v s
+LastByteKnown a s = (v : ℕ) → s.path.given.dump a ≡ Some v → Knows (length s.path.given.rows) (Byte a) v s
 
 -- so are those of the first n tracked addresses
 abbrev pub LastBytesBelow : {W : Type 0} → ℕ → State W → Type 0
@@ -156,7 +156,7 @@ LastBytesBelow n s = (k a : ℕ) → k < n → slice_get s.known.store.tracked k
 
 -- a set of one value is known
 abbrev pub SingleKnown : {W : Type 0} → ℕ → ℕ → State W → Type 0
-SingleKnown p r s = (set : _) (v : ℕ) → entry_at s.spans p r ≡ Some set → s.setting.sets.as_exact set ≡ Some v → 0 < r → Knows p (Register r) v s
+SingleKnown p r s = (set : _) (v : ℕ) → entry_at s.spans p r ≡ Some set → s.path.sets.as_exact set ≡ Some v → 0 < r → Knows p (Register r) v s
 
 abbrev pub PointSingles : {W : Type 0} → ℕ → ℕ → State W → Type 0
 PointSingles n p s = (r : ℕ) → r < n → SingleKnown p r s
@@ -167,14 +167,14 @@ SinglesBelow n s = (p : ℕ) → p < n → PointSingles 32 p s
 -- all one-step conclusions are known, with the sets as they are
 pub record IsDrawnAll {W : Type 0} (s : State W) : Type 0 where
   pub last : LastKnownBelow 32 s
-  pub rows : RowsClosedBelow (length s.setting.rows) s
+  pub rows : RowsClosedBelow (length s.path.given.rows) s
   pub bytes : (a : ℕ) → IsTracked a s → LastByteKnown a s
-  pub carried : (a i : ℕ) → IsTracked a s → i < length s.setting.rows → IsCarriedAt i a s
-  pub singles : SinglesBelow (length s.setting.rows + 1) s
+  pub carried : (a i : ℕ) → IsTracked a s → i < length s.path.given.rows → IsCarriedAt i a s
+  pub singles : SinglesBelow (length s.path.given.rows + 1) s
 
 -- the same path and facts, with other sets
 pub record SameFacts {W : Type 0} (old new : State W) : Type 0 where
-  pub setting : new.setting ≡ old.setting
+  pub path : new.path ≡ old.path
   pub known : new.known ≡ old.known
   pub shown : new.shown ≡ old.shown
   pub complete : new.complete ≡ old.complete
@@ -184,7 +184,7 @@ pub record SameFacts {W : Type 0} (old new : State W) : Type 0 where
 
 -- another state of the same analysis, which answers the same
 pub record Continues {W : Type 0} (old new : State W) : Type 0 where
-  pub setting : new.setting ≡ old.setting
+  pub path : new.path ≡ old.path
   pub shown : new.shown ≡ old.shown
   pub complete : new.complete ≡ old.complete
   pub conflict : new.conflict ≡ old.conflict
@@ -192,7 +192,7 @@ pub record Continues {W : Type 0} (old new : State W) : Type 0 where
 
 -- all is learnt: no range is empty and no turn wrong, the sets are those of all facts, and each conclusion is known
 pub record IsSettled {W : Type 0} (s : State W) : Type 0 where
-  pub quiet : IsQuiet s.setting (all_known s)
+  pub quiet : IsQuiet (along s.path) (all_known s)
   pub fitted : IsFitted s
   pub filled : s.filled ≡ length s.known.log
   pub drawn : IsDrawnAll s
@@ -203,7 +203,7 @@ IsLearntAt p r x s = (v : ℕ) → x ≡ Known v → 0 < r → Knows p (Register
 
 -- these are the bytes that row i may write by the facts of which the sets are
 abbrev pub IsAccess : {W : Type 0} → ℕ → CallAccess → State W → Type 0
-IsAccess i access s = (a : ℕ) → a < 2 ^ 32 → call_hits access a ≡ may_write s.setting (told (oldest s.filled s.known.log)) i a
+IsAccess i access s = (a : ℕ) → a < 2 ^ 32 → call_hits access a ≡ may_write (along s.path) (told (oldest s.filled s.known.log)) i a
 
 -- the bytes from an address on are tracked
 abbrev pub AreTrackedFrom : {W : Type 0} → ℕ → ℕ → State W → Type 0
@@ -211,7 +211,7 @@ AreTrackedFrom start n s = (k : ℕ) → k < n → IsTracked (beside start k) s
 
 -- one of the bytes that a row's rules look at, whose base is known
 abbrev pub IsRowAddress : {W : Type 0} → ℕ → State W → Type 0
-IsRowAddress a s = (i : ℕ) × (j : ℕ) × IsOwnByte s.setting s.known.log (own_at i j a)
+IsRowAddress a s = (i : ℕ) × (j : ℕ) × IsOwnByte s.path s.known.log (own_at i j a)
 
 -- so are those from an address on
 abbrev pub AreRowAddresses : {W : Type 0} → ℕ → ℕ → State W → Type 0
@@ -219,8 +219,8 @@ AreRowAddresses start n s = (k : ℕ) → k < n → IsRowAddress (beside start k
 
 -- There is room for the byte at a point: a row lets one conclude it, and the log keeps it, or the path ends there.
 abbrev pub HasPlace : {W : Type 0} → Bool → ℕ → ℕ → State W → Type 0
-HasPlace true p a s = IsDrawnAt s.setting s.known.log p a
-HasPlace false p a s = p ≡ length s.setting.rows
+HasPlace true p a s = IsDrawnAt s.path s.known.log p a
+HasPlace false p a s = p ≡ length s.path.given.rows
 
 -- a conclusion that follows, on a cell that can be learnt
 pub record IsConclusion {W : Type 0} (i : ℕ) (d : Drawn) (s : State W) : Type 0 where
@@ -228,7 +228,7 @@ pub record IsConclusion {W : Type 0} (i : ℕ) (d : Drawn) (s : State W) : Type 
   pub fits : Fits d.cell d.value
   pub follows : d.value < 2 ^ 32 → IsFollowing s (fact_of (point_of i d.when) d.cell d.value)
   pub tracked : (a : ℕ) → d.cell ≡ Byte a → IsTracked a s
-  pub byte : (a : ℕ) → d.cell ≡ Byte a → IsDrawable s.setting s.known.log i d
+  pub byte : (a : ℕ) → d.cell ≡ Byte a → IsDrawable s.path s.known.log i d
 
 abbrev pub AreConclusions : {W : Type 0} → ℕ → List Drawn → State W → Type 0
 AreConclusions i list s = (k : ℕ) (d : Drawn) → slice_get list k ≡ Some d → IsConclusion i d s
@@ -238,21 +238,21 @@ abbrev pub IsBroughtTo : {W : Type 0} → ℕ → ℕ → ℕ → State W → Ty
 IsBroughtTo from to a s = (v : ℕ) → Knows from (Byte a) v s → Knows to (Byte a) v s
 
 abbrev pub RowsClosed : {W : Type 0} → State W → Type 0
-RowsClosed s = RowsClosedBelow (length s.setting.rows) s
+RowsClosed s = RowsClosedBelow (length s.path.given.rows) s
 
 abbrev pub LastBytesKnown : {W : Type 0} → State W → Type 0
 LastBytesKnown s = (a : ℕ) → IsTracked a s → LastByteKnown a s
 
 abbrev pub SinglesKnown : {W : Type 0} → State W → Type 0
-SinglesKnown s = SinglesBelow (length s.setting.rows + 1) s
+SinglesKnown s = SinglesBelow (length s.path.given.rows + 1) s
 
 -- row i may not write the byte, by the facts of which the sets are
 abbrev pub IsSparedAt : {W : Type 0} → ℕ → ℕ → State W → Type 0
-IsSparedAt i a s = may_write s.setting (told (oldest s.filled s.known.log)) i a ≡ false
+IsSparedAt i a s = may_write (along s.path) (told (oldest s.filled s.known.log)) i a ≡ false
 
 -- row i may not write the byte, by all that is known by now, if that leaves no range empty and no turn wrong
 abbrev pub IsSparedNow : {W : Type 0} → ℕ → ℕ → State W → Type 0
-IsSparedNow i a s = IsQuiet s.setting (all_known s) → may_write s.setting (all_known s) i a ≡ false
+IsSparedNow i a s = IsQuiet (along s.path) (all_known s) → may_write (along s.path) (all_known s) i a ≡ false
 
 -- it may not, by the one or by the other
 abbrev pub IsSpared : {W : Type 0} → ℕ → ℕ → State W → Type 0
@@ -272,7 +272,7 @@ IsCarriedFrom a from to s = (i : ℕ) → from ≤ i → i < to → IsCarriedAt 
 
 -- over all rows
 abbrev pub IsCarriedAlong : {W : Type 0} → ℕ → State W → Type 0
-IsCarriedAlong a s = IsCarriedFrom a 0 (length s.setting.rows) s
+IsCarriedAlong a s = IsCarriedFrom a 0 (length s.path.given.rows) s
 
 -- so are the first n tracked bytes
 abbrev pub CarriedAlongBelow : {W : Type 0} → ℕ → State W → Type 0
@@ -294,7 +294,7 @@ past list (suc k) = row_past (slice_get list k)
 -- a row of such a list, with the bytes that it may write; no row between the one before it and this one may write
 pub record IsWriting {W : Type 0} (list : List Writing) (k : ℕ) (w : Writing) (s : State W) : Type 0 where
   pub low : past list k ≤ w.row
-  pub inside : w.row < length s.setting.rows
+  pub inside : w.row < length s.path.given.rows
   pub access : IsAccess w.row w.access s
   pub silent : IsSilent (past list k) w.row s
 
@@ -307,4 +307,4 @@ pub record AreWritingsBefore {W : Type 0} (n : ℕ) (list : List Writing) (s : S
 -- the sets are those of some of the facts, and the rows that may write by these are listed
 pub record AreWritings {W : Type 0} (s : State W) : Type 0 where
   pub fitted : IsFitted s
-  pub listed : AreWritingsBefore (length s.setting.rows) s.work.writing s
+  pub listed : AreWritingsBefore (length s.path.given.rows) s.work.writing s

@@ -17,7 +17,7 @@ use Rattle.rept_analysis.specs.declared.pass.Pass.{Pass}
 use Rattle.rept_analysis.specs.declared.pass.Pass.TheVariants.{Never, With, Cut}
 use Rattle.rept_analysis.specs.Cells.{cells_known}
 use Rattle.rept_analysis.specs.Room.{HasRoom}
-use Rattle.rept_analysis.specs.State.{State, all_known}
+use Rattle.rept_analysis.specs.State.{State, all_known, along}
 use Rattle.rept_analysis.specs.Drawing.{IsTracked, IsSettled, Knows, KnowsDrawn}
 
 -- whether an address is one of these
@@ -31,18 +31,18 @@ register_answer s p r = register_known (told (oldest s.shown s.known.log)) p r
 
 -- all that an analysis says that has ended: what it knows, and the bytes of the dump that no row may write
 abbrev pub answers : {W : Type 0} → State W → Knowledge
-answers s = with_implied s.setting (all_known s) (is_among s.known.store.tracked)
+answers s = with_implied (along s.path) (all_known s) (is_among s.known.store.tracked)
 
 -- how the facts were learnt
 pub record IsTraced {W : Type 0} (s : State W) : Type 0 where
   pub entries : List Entry
-  pub trace : IsTrace s.setting entries
+  pub trace : IsTrace (along s.path) entries
   pub logged : logged_of entries ≡ s.known.log
   pub agree : (p : ℕ) (c : Cell) → told (facts_of entries) p c ≡ all_known s p c
 
 pub record IsFinished {W : Type 0} (s : State W) : Type 0 where
   pub settled : IsSettled s
-  pub report : IsReport s.setting (answers s)
+  pub report : IsReport (along s.path) (answers s)
   pub all : s.shown ≡ length s.known.log
 
 -- The row's rules were drawn from something that was seen around the row, in which so many of its cells were known: what they let one
@@ -50,8 +50,8 @@ pub record IsFinished {W : Type 0} (s : State W) : Type 0 where
 pub record IsDrawnWith {W : Type 0} (row : StepRow) (i k : ℕ) (s : State W) : Type 0 where
   pub view : Seen
   pub lawful : IsLawful view
-  pub count : cells_known s.setting.rules row view ≡ k
-  pub learnt : (d : Drawn) → Contains (s.setting.rules.draw row view) d → KnowsDrawn i d s
+  pub count : cells_known s.path.rules row view ≡ k
+  pub learnt : (d : Drawn) → Contains (s.path.rules.draw row view) d → KnowsDrawn i d s
   pub less : (w : When) (c : Cell) (v : ℕ) → seen_cell view w c ≡ Some v → seen_cell (around s.known i) w c ≡ Some v
 
 -- what is kept of how far they were drawn is so
@@ -61,19 +61,19 @@ IsPass row i (With k) s = IsDrawnWith row i k s
 IsPass row i Cut s = Unit {0}
 
 pub record IsKept {W : Type 0} (s : State W) : Type 0 where
-  pub few : length s.setting.rows ≤ 65536
-  pub registers : length s.setting.last ≡ 32
-  pub last_is : s.known.last ≡ length s.setting.rows
-  pub sized : s.spans.points ≡ length s.setting.rows + 1
+  pub few : length s.path.given.rows ≤ 65536
+  pub registers : length s.path.given.last ≡ 32
+  pub last_is : s.known.last ≡ length s.path.given.rows
+  pub sized : s.spans.points ≡ length s.path.given.rows + 1
   pub filled : s.filled ≤ length s.known.log
   pub once : OnceEach s.known.log
   pub traced : IsTraced s
   pub listed : (p a v : ℕ) → Knows p (Byte a) v s → IsTracked a s
   pub shown : s.shown ≤ length s.known.log
-  pub calm : (u : ℕ) → u < s.shown → IsQuiet s.setting (told (oldest u s.known.log))
-  pub stopped : (kind : ConflictKind) → s.conflict ≡ Some kind → ClosureHas s.setting kind
+  pub calm : (u : ℕ) → u < s.shown → IsQuiet (along s.path) (told (oldest u s.known.log))
+  pub stopped : (kind : ConflictKind) → s.conflict ≡ Some kind → ClosureHas (along s.path) kind
   pub finished : s.complete ≡ true → IsFinished s
-  pub room : length s.setting.rows ≤ s.work.room
-  pub rows : length s.work.drawn ≡ length s.setting.rows
-  pub drawn : (i : ℕ) (row : StepRow) (pass : Pass) → slice_get s.setting.rows i ≡ Some row → slice_get s.work.drawn i ≡ Some pass → IsPass row i pass s
-  pub roomy : s.work.joins ≡ true → HasRoom s.setting s.known
+  pub room : length s.path.given.rows ≤ s.work.room
+  pub rows : length s.work.drawn ≡ length s.path.given.rows
+  pub drawn : (i : ℕ) (row : StepRow) (pass : Pass) → slice_get s.path.given.rows i ≡ Some row → slice_get s.work.drawn i ≡ Some pass → IsPass row i pass s
+  pub roomy : s.work.joins ≡ true → HasRoom s.path s.known

@@ -13,4 +13,4 @@ unknown_at K p = count_true (λ r. is_none (K p (Register r))) 32 + count_true (
 
 -- how many cells aren't known, how many addresses aren't tracked, and how often rules can be drawn still
 abbrev pub measure : {W : Type 0} → State W → ℕ
-measure s = sum_to (unknown_at (all_known s)) (length s.setting.rows + 1) + count_true (λ a. not (is_among s.known.store.tracked a)) (2 ^ 32) + left s.work.drawn
+measure s = sum_to (unknown_at (all_known s)) (length s.path.given.rows + 1) + count_true (λ a. not (is_among s.known.store.tracked a)) (2 ^ 32) + left s.work.drawn

@@ -1,5 +1,5 @@
 -- How an analysis looks for reasons. This project's own.
-use Rattle.std.specs.Prelude.{◌≡◌, ℕ, ◌+◌, List, length, Some}
+use Rattle.std.specs.Prelude.{◌≡◌, ℕ, ◌+◌, List, Some}
 use Rattle.rept_reason.specs.declared.fact.Fact.{Fact}
 use Rattle.rept_reason.specs.Facts.{told}
 use Rattle.rept_span.specs.Filled.{View, IsFilled}
@@ -14,12 +14,12 @@ basis_at a t = record { rows = a.rows; last = a.last; exe = a.exe; core = a.core
 
 -- sets that are filled from these facts
 pub record AreSetsOf {W : Type 0} (S : Setting W) (facts : List Fact) (spans : View W) : Type 0 where
-  pub sized : spans.points ≡ length S.rows + 1
+  pub sized : spans.points ≡ S.legs.count + 1
   pub filled : IsFilled (way_of S) spans (told facts)
 
 -- All that an analysis answers, and all that it holds but for how often rules were drawn, is as it was.
 pub record KeepsAll {W : Type 0} (old new : State W) : Type 0 where
-  pub setting : new.setting ≡ old.setting
+  pub path : new.path ≡ old.path
   pub known : new.known ≡ old.known
   pub spans : new.spans ≡ old.spans
   pub filled : new.filled ≡ old.filled

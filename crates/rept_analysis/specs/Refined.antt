@@ -9,12 +9,12 @@ use Rattle.rept_report.specs.Closure.{ClosureHas}
 use Rattle.rept_report.specs.Log.{oldest}
 use Rattle.rept_analysis.specs.declared.stop.Stop.{Stop}
 use Rattle.rept_analysis.specs.declared.stop.Stop.TheVariants.{Conflict, OutOfMemory}
-use Rattle.rept_analysis.specs.State.{State}
+use Rattle.rept_analysis.specs.State.{State, along}
 use Rattle.rept_analysis.specs.Kept.{register_answer, IsFinished}
 
 -- each prefix of the log that is shorter than this leaves no set empty and no turn wrong
 abbrev pub QuietBelow : {W : Type 0} → State W → ℕ → Type 0
-QuietBelow s t = (u : ℕ) → u < t → IsQuiet s.setting (told (oldest u s.known.log))
+QuietBelow s t = (u : ℕ) → u < t → IsQuiet (along s.path) (told (oldest u s.known.log))
 
 -- what was answered of registers still is
 abbrev pub KeepsAnswers : {W : Type 0} → State W → State W → Type 0
@@ -22,7 +22,7 @@ KeepsAnswers old new = (p r v : ℕ) → register_answer old p r ≡ Some v → 
 
 -- all is learnt
 pub record IsEnded {W : Type 0} (old new : State W) : Type 0 where
-  pub setting : new.setting ≡ old.setting
+  pub path : new.path ≡ old.path
   pub complete : new.complete ≡ true
   pub conflict : new.conflict ≡ None
   pub finished : IsFinished new
@@ -30,14 +30,14 @@ pub record IsEnded {W : Type 0} (old new : State W) : Type 0 where
 
 -- the closure has a conflict, which is kept
 pub record IsStopped {W : Type 0} (old new : State W) (kind : ConflictKind) : Type 0 where
-  pub setting : new.setting ≡ old.setting
+  pub path : new.path ≡ old.path
   pub recorded : new.conflict ≡ Some kind
-  pub has : ClosureHas old.setting kind
+  pub has : ClosureHas (along old.path) kind
   pub kept : KeepsAnswers old new
 
 -- memory ran out, and a later call goes on
 pub record IsPaused {W : Type 0} (old new : State W) : Type 0 where
-  pub setting : new.setting ≡ old.setting
+  pub path : new.path ≡ old.path
   pub complete : new.complete ≡ old.complete
   pub conflict : new.conflict ≡ old.conflict
   pub kept : KeepsAnswers old new

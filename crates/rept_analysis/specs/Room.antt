@@ -13,10 +13,10 @@ use Rattle.rept_view.specs.declared.drawn.When.TheVariants.{Before}
 use Rattle.rept_view.specs.declared.drawn.Drawn.{Drawn}
 use Rattle.rept_view.specs.Seen.{Seen, IsLawful}
 use Rattle.rept_view.specs.Rules.{Rules, offset_of}
-use Rattle.rept_report.specs.Setting.{Setting}
 use Rattle.rept_report.specs.Views.{point_of}
 use Rattle.rept_log.specs.Known.{Known}
 use Rattle.rept_analysis.specs.Sums.{one_if, count_true, sum_to}
+use Rattle.rept_analysis.specs.State.{Path}
 
 -- how many byte facts a row lets one conclude at most
 abbrev pub places_of : Rules → Option StepRow → ℕ
@@ -24,12 +24,12 @@ places_of rules None = 0
 places_of rules (Some row) = rules.places row
 
 -- so many has row i
-abbrev pub places_at : {W : Type 0} → Setting W → ℕ → ℕ
-places_at S i = places_of S.rules (slice_get S.rows i)
+abbrev pub places_at : {W : Type 0} → Path W → ℕ → ℕ
+places_at P i = places_of P.rules (slice_get P.given.rows i)
 
 -- how many bytes its rules look at
-abbrev pub bytes_at : {W : Type 0} → Setting W → ℕ → ℕ
-bytes_at S i = min (places_at S i) 4
+abbrev pub bytes_at : {W : Type 0} → Path W → ℕ → ℕ
+bytes_at P i = min (places_at P i) 4
 
 -- of all the numbers below `width i`, for each i below n, how many are marked
 abbrev pub marked : (ℕ → ℕ) → (ℕ → ℕ → Bool) → ℕ → ℕ
@@ -40,12 +40,12 @@ abbrev pub unread : ℕ → Known → ℕ
 unread last k = sum_by (λ a. one_if (is_none (k.store.fact last a))) k.store.tracked
 
 -- a conclusion that row i's rules let one draw, from something that was seen around the row, in which its base was what is known now
-pub record IsDrawable {W : Type 0} (S : Setting W) (log : List Fact) (i : ℕ) (d : Drawn) : Type 0 where
+pub record IsDrawable {W : Type 0} (P : Path W) (log : List Fact) (i : ℕ) (d : Drawn) : Type 0 where
   pub row : StepRow
-  pub found : slice_get S.rows i ≡ Some row
+  pub found : slice_get P.given.rows i ≡ Some row
   pub view : Seen
   pub lawful : IsLawful view
-  pub drawn : Contains (S.rules.draw row view) d
+  pub drawn : Contains (P.rules.draw row view) d
   pub base_register : ℕ
   pub base : ℕ
   pub read : first_read row.instr ≡ Some base_register
@@ -53,21 +53,21 @@ pub record IsDrawable {W : Type 0} (S : Setting W) (log : List Fact) (i : ℕ) (
   pub known : register_known (told log) i base_register ≡ Some base
 
 -- such a conclusion on this byte at this point
-pub record IsDrawnAt {W : Type 0} (S : Setting W) (log : List Fact) (p a : ℕ) : Type 0 where
+pub record IsDrawnAt {W : Type 0} (P : Path W) (log : List Fact) (p a : ℕ) : Type 0 where
   pub number : ℕ
   pub conclusion : Drawn
   pub point : p ≡ point_of number conclusion.when
   pub cell : conclusion.cell ≡ Byte a
-  pub drawn : IsDrawable S log number conclusion
+  pub drawn : IsDrawable P log number conclusion
 
 -- the byte of row i's slot j is known
-pub record IsSlotLearnt {W : Type 0} (S : Setting W) (k : Known) (i j : ℕ) : Type 0 where
+pub record IsSlotLearnt {W : Type 0} (P : Path W) (k : Known) (i j : ℕ) : Type 0 where
   pub conclusion : Drawn
   pub address : ℕ
   pub value : ℕ
   pub slot : conclusion.slot ≡ j
   pub cell : conclusion.cell ≡ Byte address
-  pub drawn : IsDrawable S k.log i conclusion
+  pub drawn : IsDrawable P k.log i conclusion
   pub byte : k.store.fact (point_of i conclusion.when) address ≡ Some value
 
 -- a byte of a row: its number among those that the rules of the row look at, and its address
@@ -80,30 +80,30 @@ abbrev pub own_at : ℕ → ℕ → ℕ → OwnByte
 own_at i j a = record { row = i; number = j; address = a }
 
 -- that it is one of the row, whose base is known
-pub record IsOwnByte {W : Type 0} (S : Setting W) (log : List Fact) (b : OwnByte) : Type 0 where
+pub record IsOwnByte {W : Type 0} (P : Path W) (log : List Fact) (b : OwnByte) : Type 0 where
   pub row : StepRow
-  pub found : slice_get S.rows b.row ≡ Some row
+  pub found : slice_get P.given.rows b.row ≡ Some row
   pub base_register : ℕ
   pub base : ℕ
   pub read : first_read row.instr ≡ Some base_register
   pub known : register_known (told log) b.row base_register ≡ Some base
-  pub below_places : b.number < S.rules.places row
+  pub below_places : b.number < P.rules.places row
   pub below_four : b.number < 4
   pub address : b.address ≡ beside (plus base (offset_of row.instr)) b.number
 
 -- it is tracked
-pub record IsByteTracked {W : Type 0} (S : Setting W) (k : Known) (i j : ℕ) : Type 0 where
+pub record IsByteTracked {W : Type 0} (P : Path W) (k : Known) (i j : ℕ) : Type 0 where
   pub address : ℕ
-  pub own : IsOwnByte S k.log (own_at i j address)
+  pub own : IsOwnByte P k.log (own_at i j address)
   pub tracked : Contains k.store.tracked address
 
 -- The room that is left is enough for each slot whose byte isn't known, for each byte of a row that isn't tracked, and for the byte of
 -- the dump at each tracked address at which none is known.
-pub record HasRoom {W : Type 0} (S : Setting W) (k : Known) : Type 0 where
+pub record HasRoom {W : Type 0} (P : Path W) (k : Known) : Type 0 where
   pub unlearnt : ℕ → ℕ → Bool
   pub untracked : ℕ → ℕ → Bool
-  pub spare : marked (places_at S) unlearnt (length S.rows) + marked (bytes_at S) untracked (length S.rows) + unread (length S.rows) k ≤ k.store.spare
-  pub log : marked (places_at S) unlearnt (length S.rows) ≤ k.left
-  pub places : length k.store.tracked + marked (bytes_at S) untracked (length S.rows) ≤ k.store.places
-  pub learnt : (i j : ℕ) → unlearnt i j ≡ false → IsSlotLearnt S k i j
-  pub tracked : (i j : ℕ) → untracked i j ≡ false → IsByteTracked S k i j
+  pub spare : marked (places_at P) unlearnt (length P.given.rows) + marked (bytes_at P) untracked (length P.given.rows) + unread (length P.given.rows) k ≤ k.store.spare
+  pub log : marked (places_at P) unlearnt (length P.given.rows) ≤ k.left
+  pub places : length k.store.tracked + marked (bytes_at P) untracked (length P.given.rows) ≤ k.store.places
+  pub learnt : (i j : ℕ) → unlearnt i j ≡ false → IsSlotLearnt P k i j
+  pub tracked : (i j : ℕ) → untracked i j ≡ false → IsByteTracked P k i j

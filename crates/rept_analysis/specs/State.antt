@@ -14,6 +14,7 @@ use Rattle.rept_versions.specs.Facts.{Store}
 use Rattle.rept_log.specs.Known.{Held, Known, known_of, knows}
 use Rattle.rept_report.specs.declared.conflict.ConflictKind.{ConflictKind}
 use Rattle.rept_report.specs.Setting.{Setting}
+use Rattle.rept_report.specs.OneThread.{Given, one_thread}
 use Rattle.rept_reason.specs.Facts.{Knowledge}
 use Rattle.rept_writing.specs.declared.list.Writing.{Writing}
 use Rattle.rept_analysis.specs.declared.pass.Pass.{Pass}
@@ -36,9 +37,21 @@ pub record Whole (B W R : Type 0) : Type 0 where
   pub conflict : Option ConflictKind
   pub work : Work
 
--- the same, with the setting in which it is read
+-- what is given of one thread, and what it is read by: the kind of sets of values that is followed along its path, and the rules of its
+-- rows
+pub record Path (W : Type 0) : Type 0 where
+  pub sets : Sets W
+  pub moves : Moves W
+  pub rules : Rules
+  pub given : Given
+
+-- the setting of which a report of the path speaks
+abbrev pub along : {W : Type 0} → Path W → Setting W
+along p = one_thread p.sets p.moves p.rules p.given
+
+-- the same, with the path along which it is read
 pub record State (W : Type 0) : Type 0 where
-  pub setting : Setting W
+  pub path : Path W
   pub known : Known
   pub spans : View W
   pub filled : ℕ
@@ -47,12 +60,20 @@ pub record State (W : Type 0) : Type 0 where
   pub conflict : Option ConflictKind
   pub work : Work
 
+abbrev pub path_of : {B W R : Type 0} → Sets W → Moves W → Rules → Whole B W R → Path W
+path_of sets moves rules a = record {
+  sets = sets;
+  moves = moves;
+  rules = rules;
+  given = record { rows = a.rows; last = a.last; dump = byte_at a.exe a.core; image_end = greatest_end a.exe };
+}
+
 abbrev pub setting_of : {B W R : Type 0} → Sets W → Moves W → Rules → Whole B W R → Setting W
-setting_of sets moves rules a = record { sets = sets; moves = moves; rules = rules; rows = a.rows; last = a.last; dump = byte_at a.exe a.core; image_end = greatest_end a.exe }
+setting_of sets moves rules a = along (path_of sets moves rules a)
 
 abbrev pub state_of : {B W R : Type 0} → Sets W → Moves W → Rules → (B → Store) → Whole B W R → State W
 state_of sets moves rules store a = record {
-  setting = setting_of sets moves rules a;
+  path = path_of sets moves rules a;
   known = known_of store a.known;
   spans = a.spans;
   filled = a.filled;
@@ -64,7 +85,7 @@ state_of sets moves rules store a = record {
 
 -- the same with other work
 abbrev pub with_work : {W : Type 0} → State W → Work → State W
-with_work s w = record { setting = s.setting; known = s.known; spans = s.spans; filled = s.filled; shown = s.shown; complete = s.complete; conflict = s.conflict; work = w }
+with_work s w = record { path = s.path; known = s.known; spans = s.spans; filled = s.filled; shown = s.shown; complete = s.complete; conflict = s.conflict; work = w }
 
 -- the same with another list of rows that may write
 abbrev pub with_writing : {W : Type 0} → State W → List Writing → State W

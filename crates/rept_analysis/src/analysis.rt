@@ -11,7 +11,7 @@ ghost use Rattle.rept_reason.specs.Facts.{told, flat, register_known};
 ghost use Rattle.rept_span.specs.Filled.{entry_at};
 ghost use Rattle.rept_dump.specs.Memory.{byte_at};
 ghost use Rattle.rept_report.specs.declared.conflict.ConflictKind.{ConflictKind};
-ghost use Rattle.rept_analysis.specs.State.{HasRegisters, setting_of, state_of};
+ghost use Rattle.rept_analysis.specs.State.{HasRegisters, path_of, setting_of, state_of};
 ghost use Rattle.rept_report.specs.Why.{fact_of};
 ghost use Rattle.rept_analysis.specs.Kept.{IsKept, register_answer, answers};
 ghost use Rattle.rept_analysis.specs.Refined.{KeepsAnswers};
@@ -240,7 +240,7 @@ impl<'a, B: ByteFacts, W: Transfer, R: RowRules> Analysis<'a, B, W, R> {
     /// joins bytes that stand side by side, since `prepare` took all memory. So it is then Ok exactly where the closure has no conflict. What
     /// was answered of registers is answered still.
     pub fn refine(&mut self) -> Result<(), Stop>
-        ensures path { (setting_of W.sets W.moves R.rules self.new) ≡ (setting_of W.sets W.moves R.rules self.old) }
+        ensures path { (path_of W.sets W.moves R.rules self.new) ≡ (path_of W.sets W.moves R.rules self.old) }
         ensures kept { KeepsAnswers (state_of W.sets W.moves R.rules B.store self.old) (state_of W.sets W.moves R.rules B.store self.new) }
         ensures report { OnOk result (IsReport (setting_of W.sets W.moves R.rules self.new) (answers (state_of W.sets W.moves R.rules B.store self.new))) }
         ensures complete { OnOk result (self.new.complete ≡ true) }

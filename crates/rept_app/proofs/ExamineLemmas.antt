@@ -8,8 +8,8 @@ use Rattle.rept_path.specs.declared.fault.PathFault.{PathFault}
 use Rattle.rept_path.specs.declared.fault.PathFault.TheVariants as fault
 use Rattle.rept_path.specs.declared.rebuilding.Path.{Path}
 use Rattle.rept_ports.specs.Port.{Port, Move}
-use Rattle.rept_report.specs.Soundness.{HasNoExecution}
-use Rattle.rept_found.specs.Crash.{Crash, setting}
+use Rattle.rept_found.specs.Truth.{HasNoExecution}
+use Rattle.rept_found.specs.Crash.{Crash, route}
 use Rattle.rept_serve.specs.Serving.{Reading}
 use Rattle.rept_app.specs.Delivered.{Says, Tells}
 use Rattle.rept_app.specs.Ends.{Stopped, Yields, PortsEnd}
@@ -171,8 +171,8 @@ module _ (t : CrashTrace) (reading : Reading) (text : List ℕ) (status : Status
   studies_walk path is (inr (inl (a, account, inr h))) = inr (inr (path, a, is, account, h))
   studies_walk path is (inr (inr h)) = inr (inl h)
 
-pub path_excludes : (t : CrashTrace) (path : Path) → ((others : Path) → IsTracePath t.crash t.trace t.from others → path ≡ others) → HasNoExecution (setting t.crash path.steps) → PathExcludes t
-path_excludes t path only none others is = subst (λ (p : Path). HasNoExecution (setting t.crash p.steps)) (only others is) none
+pub path_excludes : (t : CrashTrace) (path : Path) → ((others : Path) → IsTracePath t.crash t.trace t.from others → path ≡ others) → HasNoExecution (route t.crash path.steps) → PathExcludes t
+path_excludes t path only none others is = subst (λ (p : Path). HasNoExecution (route t.crash p.steps)) (only others is) none
 
 -- where a session may have been held over a path, so it may over its trace and its files
 pub study_holds : {P : Type 0} (t : CrashTrace) (path : Path) (status : Status) → IsTracePath t.crash t.trace t.from path → P ⊎ StudyHolds (crash_path t.crash path) status → P ⊎ WalkHolds t status

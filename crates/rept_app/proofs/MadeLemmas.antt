@@ -18,11 +18,9 @@ use Rattle.rept_ports.specs.Causes.{OneFault}
 use Rattle.rept_ports.specs.Port.{Port, Move, move}
 use Rattle.rept_reason.specs.Facts.{Knowledge}
 use Rattle.rept_report.specs.Closure.{ClosureHas, IsConsistent, IsReport}
-use Rattle.rept_report.specs.Setting.{Runs}
-use Rattle.rept_report.specs.Soundness.{HasNoExecution}
 use Rattle.rept_report.specs.declared.conflict.ConflictKind.{ConflictKind}
-use Rattle.rept_found.specs.Crash.{Crash, last_value, last_values, setting}
-use Rattle.rept_found.specs.Truth.{IsTrueReport}
+use Rattle.rept_found.specs.Crash.{Crash, last_value, last_values, setting, route}
+use Rattle.rept_found.specs.Truth.{Executes, HasNoExecution, IsTrueReport}
 use Rattle.rept_make.specs.Files.{bytes_of_words}
 use Rattle.rept_make.specs.Laid.{laid}
 use Rattle.rept_make.specs.Made.{IsMade}
@@ -82,7 +80,7 @@ module _ (seed steps : ℕ) (made : Made) (m : IsMade seed steps made) where
   abbrev run_made : ℕ → State
   run_made = λ i. laid (bytes_of_words m.words) (m.run i)
 
-  runs_made : Runs (setting crash_made m.rows) run_made
+  runs_made : Executes (route crash_made m.rows) run_made
   runs_made = m.execution (last_values m.status) (last_size m.status) (λ r above below. last_at m.status r above below)
 
   abbrev opening_made : Opening
@@ -92,7 +90,7 @@ module _ (seed steps : ℕ) (made : Made) (m : IsMade seed steps made) where
   opens_made = record { bytes = refl; read = reads_made; path = path_made }
 
   -- so the closure has no conflict
-  consistent_made : ((kind : ConflictKind) → ClosureHas (setting crash_made m.rows) kind → HasNoExecution (setting crash_made m.rows)) → IsConsistent (setting crash_made m.rows)
+  consistent_made : ((kind : ConflictKind) → ClosureHas (setting crash_made m.rows) kind → HasNoExecution (route crash_made m.rows)) → IsConsistent (setting crash_made m.rows)
   consistent_made none kind has = none kind has run_made runs_made
 
   abbrev AfterCore : Status → Option ElfFault → Type 0
@@ -101,14 +99,14 @@ module _ (seed steps : ℕ) (made : Made) (m : IsMade seed steps made) where
   abbrev AfterExe : Status → Option ElfFault → Type 0
   AfterExe status o = MatchOption o (AfterCore status (core_image_fault made.core)) (λ _. Yields ends.Executable status)
 
-  pub session_made : ((kind : ConflictKind) → ClosureHas (setting crash_made m.rows) kind → HasNoExecution (setting crash_made m.rows)) → (status : Status) → FilesEnd (made_bytes made) status → EndsSession status
+  pub session_made : ((kind : ConflictKind) → ClosureHas (setting crash_made m.rows) kind → HasNoExecution (route crash_made m.rows)) → (status : Status) → FilesEnd (made_bytes made) status → EndsSession status
   session_made none status h =
       let notes : (said : Result (List ℕ) CoreFault) → NotesSay (length made.core) (segments made.core) said → NoteYields (made_bytes made) said status =
       subst (AfterCore status) m.core_read (subst (AfterExe status) m.exe_read h) in
       let walk : WalkYields (trace_in (made_bytes made) m.status) status = notes (Ok m.status) m.notes in
       (walk.walked (path_of m.rows) path_made).report (consistent_made none)
 
-pub made_holds : (seed steps : ℕ) → ((crash : Crash) (rows : List StepRow) (known : Knowledge) → IsReport (setting crash rows) known → IsTrueReport (setting crash rows) known) → MadeHolds seed steps
+pub made_holds : (seed steps : ℕ) → ((crash : Crash) (rows : List StepRow) (known : Knowledge) → IsReport (setting crash rows) known → IsTrueReport (route crash rows) known) → MadeHolds seed steps
 made_holds seed steps true_of made m =
     (opening_made seed steps made m, opens_made seed steps made m, (run_made seed steps made m, runs_made seed steps made m), λ known report. true_of (crash_made seed steps made m) m.rows known report)
 

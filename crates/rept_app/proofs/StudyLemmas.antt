@@ -4,10 +4,10 @@ use Rattle.rept_partial.specs.declared.range.Range.{Range}
 use Rattle.rept_path.specs.declared.rebuilding.Path.{Path}
 use Rattle.rept_ports.specs.Port.{Port, Move}
 use Rattle.rept_report.specs.Closure.{ClosureHas, IsConsistent}
-use Rattle.rept_report.specs.Setting.{Setting}
+use Rattle.rept_analysis.specs.State.{Path as AnalysedPath}
 use Rattle.rept_report.specs.declared.conflict.ConflictKind.{ConflictKind}
 use Rattle.rept_analysis.specs.Kept.{answers}
-use Rattle.rept_found.specs.Crash.{Crash, end_pc, setting}
+use Rattle.rept_found.specs.Crash.{Crash, end_pc, setting, route}
 use Rattle.rept_found.specs.Telling.{Account, told_of}
 use Rattle.rept_found.specs.View.{View, IsFoundIn, state_in}
 use Rattle.rept_serve.specs.Serving.{Reading}
@@ -30,13 +30,13 @@ module _ (crash : Crash) (path : Path) (reading : Reading) where
   conflict_studies kind has text status (inr h) = inr (inr h)
 
 -- what is told of an analysis that has ended, and of which it is the account
-module _ (v : View) (crash : Crash) (path : Path) (found : IsFoundIn (setting crash path.steps) (end_pc crash.note) v) where
+module _ (v : View) (crash : Crash) (path : Path) (found : IsFoundIn (route crash path.steps) (end_pc crash.note) v) where
   abbrev pub account_of : Account
   account_of = record { known = answers (state_in v); log = (state_in v).known.log; end_pc = v.end_pc; skipped = path.skipped }
 
-  pub held_studies : (reading : Reading) (text : List ℕ) (status : Status) → Holds (told_of (state_in v).setting account_of) reading text status → Studies (crash_path crash path) reading text status
+  pub held_studies : (reading : Reading) (text : List ℕ) (status : Status) → Holds (told_of (state_in v).path account_of) reading text status → Studies (crash_path crash path) reading text status
   held_studies reading text status h =
-      inr (inl (account_of, record { report = found.report; log = found.log; ends = found.ends; skipped = refl }, subst (λ (S : Setting Range). Holds (told_of S account_of) reading text status) found.setting h))
+      inr (inl (account_of, record { report = found.report; log = found.log; ends = found.ends; skipped = refl }, subst (λ (P : AnalysedPath Range). Holds (told_of P account_of) reading text status) found.path h))
 
 -- where the closure is consistent, a session is held
 pub held_causes : (crash : Crash) (path : Path) (source sink : Move Port) (status : Status) → IsConsistent (setting crash path.steps) → IsCaused source sink status → IsStudied (crash_path crash path) source sink status

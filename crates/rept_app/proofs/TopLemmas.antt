@@ -9,7 +9,7 @@ use Rattle.rept_path.specs.declared.rebuilding.Path.{Path}
 use Rattle.rept_reason.specs.Facts.{Knowledge}
 use Rattle.rept_report.specs.Closure.{IsReport}
 use Rattle.rept_session.specs.Shown.{Told as ToldOf}
-use Rattle.rept_found.specs.Crash.{Crash, setting}
+use Rattle.rept_found.specs.Crash.{Crash, setting, route}
 use Rattle.rept_found.specs.Telling.{told_of}
 use Rattle.rept_found.specs.Truth.{IsTrueReport}
 use Rattle.rept_serve.specs.Serving.{Reading}
@@ -21,7 +21,7 @@ use Rattle.rept_app.specs.Lines.{status_of}
 use Rattle.rept_app.specs.Loading.{CrashBytes, crash_bytes, Loading, loading, loading_by, fetched, fetched_all, limit_of, MatchLoading, Fits, FitBefore, name_of, loads_to, ComesTo, LoadRefuses, MeaningStops, LoadingStops, LoadsAll, NamesNone, IsAsked, first_packet}
 use Rattle.rept_app.specs.Loading.Loading.{Refused, Loaded, MadeRun}
 use Rattle.rept_app.specs.MadeRun.{Sums}
-use Rattle.rept_app.specs.Told.{Given, given, Examined, Summed, summary_line, Opening, Writes, Holds, ReportHolds, MadeHolds, AskedHolds, NoExecution, crash_at, setting_at}
+use Rattle.rept_app.specs.Told.{Given, given, Examined, Summed, summary_line, Opening, Writes, Holds, ReportHolds, MadeHolds, AskedHolds, NoExecution, crash_at, route_at}
 use Rattle.rept_app.specs.Top.{TopCauses, LacksFile, LoadEnds, LoadsOf, EndsBy, EndsByFiles, AskedEnds, NoneFails, Completes}
 use Rattle.rept_words.specs.Words.{Names, Meaning, meaning_of}
 use Rattle.rept_words.specs.Words.Meaning.{Open, Made}
@@ -228,7 +228,7 @@ module _ (words : List (List ℕ)) (files : Files) where
     examined_excludes none o opens = subst (λ (b : CrashBytes). FilesExclude b) (same_files o.bytes opens.loaded) none o.note opens.read o.path opens.path
 
 -- what is told of the report of any path and crash, is told of that of the files
-pub reports_hold : (words : List (List ℕ)) (files : Files) → ((crash : Crash) (rows : List StepRow) (known : Knowledge) → IsReport (setting crash rows) known → IsTrueReport (setting crash rows) known) → ReportHolds words files
+pub reports_hold : (words : List (List ℕ)) (files : Files) → ((crash : Crash) (rows : List StepRow) (known : Knowledge) → IsReport (setting crash rows) known → IsTrueReport (route crash rows) known) → ReportHolds words files
 reports_hold words files true_of o known opens report = true_of (crash_at o) o.path.steps known report
 
 -- a session that was cut short ends with one of two statuses
@@ -254,9 +254,9 @@ completed g shelf source sink status c (inl (text, inl h, appended, calm)) calm_
 completed g shelf source sink status c (inl (text, inr (inl (kind, comes, loads, says)), appended, calm)) calm_ports = absurd (calm_ports.loaded (c.load says.ending).rose)
 completed g shelf source sink status c (inl (text, inr (inr (inl says)), appended, calm)) calm_ports = inl says.ending
 completed g shelf source sink status c (inl (text, inr (inr (inr (inl (o, a, opens, account, cut)))), appended, calm)) calm_ports =
-    elim (cut_ends (told_of (setting_at o) a) g.reading text status cut) [ inl e ↦ absurd (calm_ports.read (c.ports.input e).rose) | inr e ↦ inl e ]
+    elim (cut_ends (told_of (route_at o) a) g.reading text status cut) [ inl e ↦ absurd (calm_ports.read (c.ports.input e).rose) | inr e ↦ inl e ]
 completed g shelf source sink status c (inl (text, inr (inr (inr (inr (seed, steps, named, (made, is, o, opens, a, account, left, cut))))), appended, calm)) calm_ports =
-    elim (cut_ends (told_of (setting_at o) a) (record { input = summary_line; left = left }) text status cut) [ inl e ↦ absurd (calm_ports.read (c.ports.input e).rose) | inr e ↦ inl e ]
+    elim (cut_ends (told_of (route_at o) a) (record { input = summary_line; left = left }) text status cut) [ inl e ↦ absurd (calm_ports.read (c.ports.input e).rose) | inr e ↦ inl e ]
 
 -- a count that rose by at most one stands as it was, or one fault was counted
 counted : (before now : ℕ) → before ≤ now → now ≤ before + 1 → (now ≡ before) ⊎ OneFault before now

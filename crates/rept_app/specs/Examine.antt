@@ -7,9 +7,9 @@ use Rattle.rept_path.specs.declared.fault.PathFault.{PathFault}
 use Rattle.rept_path.specs.declared.rebuilding.Path.{Path}
 use Rattle.rept_ports.specs.Port.{Port, Move}
 use Rattle.rept_report.specs.Closure.{ClosureHas, IsConsistent}
-use Rattle.rept_report.specs.Soundness.{HasNoExecution}
+use Rattle.rept_found.specs.Truth.{HasNoExecution}
 use Rattle.rept_report.specs.declared.conflict.ConflictKind.{ConflictKind}
-use Rattle.rept_found.specs.Crash.{setting}
+use Rattle.rept_found.specs.Crash.{setting, route}
 use Rattle.rept_found.specs.Telling.{Account, told_of}
 use Rattle.rept_serve.specs.Serving.{Reading}
 use Rattle.rept_app.specs.Delivered.{Says}
@@ -26,7 +26,7 @@ use Rattle.rept_app.specs.declared.status.Status.TheVariants as ends
 -- the session over the path's report was cut short
 abbrev pub WalkCut : CrashTrace → Reading → List ℕ → Status → Type 0
 WalkCut t reading text status =
-    (path : Path) × (a : Account) × IsTracePath t.crash t.trace t.from path × IsAccountOf (crash_path t.crash path) a × CutOff (told_of (setting t.crash path.steps) a) reading text status
+    (path : Path) × (a : Account) × IsTracePath t.crash t.trace t.from path × IsAccountOf (crash_path t.crash path) a × CutOff (told_of (route t.crash path.steps) a) reading text status
 
 -- all of it; or memory ran out; or the session was cut short
 abbrev pub Walks : CrashTrace → Reading → List ℕ → Status → Type 0
@@ -91,7 +91,7 @@ FilesHold bytes status =
 
 -- no execution of the path ends in the crash
 abbrev pub PathExcludes : CrashTrace → Type 0
-PathExcludes t = (path : Path) → IsTracePath t.crash t.trace t.from path → HasNoExecution (setting t.crash path.steps)
+PathExcludes t = (path : Path) → IsTracePath t.crash t.trace t.from path → HasNoExecution (route t.crash path.steps)
 
 abbrev pub FilesExclude : CrashBytes → Type 0
 FilesExclude bytes = (note : List ℕ) → Reads bytes note → PathExcludes (trace_in bytes note)

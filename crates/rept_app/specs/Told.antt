@@ -11,13 +11,13 @@ use Rattle.rept_ports.specs.Shelves.{Files, Shelved}
 use Rattle.rept_machine.specs.State.{State}
 use Rattle.rept_reason.specs.Facts.{Knowledge}
 use Rattle.rept_report.specs.Closure.{ClosureHas, IsConsistent, IsReport}
-use Rattle.rept_report.specs.Setting.{Setting, Runs}
-use Rattle.rept_report.specs.Soundness.{HasNoExecution}
+use Rattle.rept_report.specs.Setting.{Setting}
 use Rattle.rept_report.specs.declared.conflict.ConflictKind.{ConflictKind}
 use Rattle.rept_analysis.specs.Logged.{IsLogOf}
-use Rattle.rept_found.specs.Crash.{Crash, end_pc, setting}
+use Rattle.rept_analysis.specs.State.{Path as AnalysedPath}
+use Rattle.rept_found.specs.Crash.{Crash, end_pc, route, setting}
 use Rattle.rept_found.specs.Telling.{Account, told_of}
-use Rattle.rept_found.specs.Truth.{IsTrueReport}
+use Rattle.rept_found.specs.Truth.{Executes, HasNoExecution, IsTrueReport}
 use Rattle.rept_serve.specs.Serving.{Reading}
 use Rattle.rept_make.specs.Made.{IsMade}
 use Rattle.rept_make.specs.declared.made.Made.{Made}
@@ -41,6 +41,10 @@ pub record CrashPath : Type 0 where
 abbrev pub crash_path : Crash → Path → CrashPath
 crash_path crash path = record { crash = crash; path = path }
 
+-- the steps of the path, and what is given besides
+abbrev pub route_of : CrashPath → AnalysedPath Range
+route_of p = route p.crash p.path.steps
+
 -- the analysis of the path
 abbrev pub setting_of : CrashPath → Setting Range
 setting_of p = setting p.crash p.path.steps
@@ -57,7 +61,7 @@ pub record IsAccountOf (p : CrashPath) (a : Account) : Type 0 where
 abbrev pub Analysed : CrashPath → List ℕ → List ℕ → Status → Type 0
 Analysed p input text status =
     ((kind : ConflictKind) × ClosureHas (setting_of p) kind × Says (refusal.Inconsistent kind) text status)
-    ⊎ ((a : Account) × IsAccountOf p a × Replies (told_of (setting_of p) a) input text status)
+    ⊎ ((a : Account) × IsAccountOf p a × Replies (told_of (route_of p) a) input text status)
 
 -- the bytes of a trace file, the number of the packet to begin from, and the crash in which the path ends
 pub record CrashTrace : Type 0 where
@@ -121,6 +125,9 @@ crash_at o = crash_in o.bytes.exe o.bytes.core o.note
 abbrev pub path_at : Opening → CrashPath
 path_at o = crash_path (crash_at o) o.path
 
+abbrev pub route_at : Opening → AnalysedPath Range
+route_at o = route_of (path_at o)
+
 abbrev pub setting_at : Opening → Setting Range
 setting_at o = setting_of (path_at o)
 
@@ -140,7 +147,7 @@ pub record OpensMade (made : Made) (o : Opening) : Type 0 where
 abbrev pub SumCut : ℕ → ℕ → List ℕ → Status → Type 0
 SumCut seed steps text status =
     (made : Made) × IsMade seed steps made × (o : Opening) × OpensMade made o × (a : Account) × IsAccountOf (path_at o) a
-    × (left : Option (List ℕ)) × CutOff (told_of (setting_at o) a) (record { input = summary_line; left = left }) text status
+    × (left : Option (List ℕ)) × CutOff (told_of (route_at o) a) (record { input = summary_line; left = left }) text status
 
 -- What a call was given, where its ports tell it: its words, the files, how many loads the shelf was asked for before the call and
 -- after it, and the bytes of the input with those that are left of it.
@@ -170,7 +177,7 @@ abbrev pub Interrupted : Given → List ℕ → Status → Type 0
 Interrupted g text status =
     ((kind : FileKind) × ComesTo g.words g.files kind × (g.loads.after ≡ loads_to kind g.loads.before) × Says (refusal.LoadFault kind) text status)
     ⊎ Says refusal.OutOfMemory text status
-    ⊎ ((o : Opening) × (a : Account) × Opens g.words g.files o × IsAccountOf (path_at o) a × CutOff (told_of (setting_at o) a) g.reading text status)
+    ⊎ ((o : Opening) × (a : Account) × Opens g.words g.files o × IsAccountOf (path_at o) a × CutOff (told_of (route_at o) a) g.reading text status)
     ⊎ ((seed : ℕ) × (steps : ℕ) × (meaning_of g.words ≡ Some (MadeWords seed steps)) × SumCut seed steps text status)
 
 -- what is written where the output doesn't fail
@@ -184,18 +191,18 @@ Holds words files = (o : Opening) × Opens words files o × IsConsistent (settin
 -- what is told of the report holds in every execution of the path that ends in the dump: in the registers of the note, and with the
 -- bytes of memory that the files have
 abbrev pub ReportHolds : List (List ℕ) → Files → Type 0
-ReportHolds words files = (o : Opening) (known : Knowledge) → Opens words files o → IsReport (setting_at o) known → IsTrueReport (setting_at o) known
+ReportHolds words files = (o : Opening) (known : Knowledge) → Opens words files o → IsReport (setting_at o) known → IsTrueReport (route_at o) known
 
 -- no execution of the path ends in the dump
 abbrev pub NoExecution : List (List ℕ) → Files → Type 0
-NoExecution words files = (o : Opening) → Opens words files o → HasNoExecution (setting_at o)
+NoExecution words files = (o : Opening) → Opens words files o → HasNoExecution (route_at o)
 
 -- The files of a made crash come to a path, of which an execution ends in the dump: what is told of its report isn't told of nothing.
 -- It holds in each such execution.
 abbrev pub MadeHolds : ℕ → ℕ → Type 0
 MadeHolds seed steps =
     (made : Made) → IsMade seed steps made
-    → (o : Opening) × OpensMade made o × ((run : ℕ → State) × Runs (setting_at o) run) × ((known : Knowledge) → IsReport (setting_at o) known → IsTrueReport (setting_at o) known)
+    → (o : Opening) × OpensMade made o × ((run : ℕ → State) × Executes (route_at o) run) × ((known : Knowledge) → IsReport (setting_at o) known → IsTrueReport (route_at o) known)
 
 -- the same of words that ask for a made run
 abbrev pub AskedHolds : Option Meaning → Type 0

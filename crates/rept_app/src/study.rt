@@ -3,9 +3,9 @@
 ghost use Rattle.std.specs.Prelude.{◌≡◌, ◌⊎◌, ◌<◌, length, IfSome};
 ghost use Rattle.rept_dump.specs.Dump.{registers_of};
 ghost use Rattle.rept_ports.specs.Port.{move};
-ghost use Rattle.rept_report.specs.Soundness.{HasNoExecution};
+ghost use Rattle.rept_found.specs.Truth.{HasNoExecution};
 ghost use Rattle.rept_steps.specs.Linked.{EndBefore};
-ghost use Rattle.rept_found.specs.Crash.{crash_of, end_pc, setting};
+ghost use Rattle.rept_found.specs.Crash.{crash_of, end_pc, setting, route};
 ghost use Rattle.rept_app.specs.Delivered.{Delivers};
 ghost use Rattle.rept_app.specs.Study.{Studies, IsStudied, StudyHolds};
 ghost use Rattle.rept_app.specs.Told.{crash_path};
@@ -33,7 +33,7 @@ pub fn study<S: Source, K: Sink>(
     ensures text { IfSome (S.port input.old).bytes (λ bytes. Delivers (Studies (crash_path (crash_of dump.now) path.now) (record { input = bytes; left = (S.port input.new).bytes })) (move (K.port out.old) (K.port out.new)) result) }
     ensures causes { IsStudied (crash_path (crash_of dump.now) path.now) (move (S.port input.old) (S.port input.new)) (move (K.port out.old) (K.port out.new)) result }
     ensures stays { (input.new ≡ input.old) ⊎ StudyHolds (crash_path (crash_of dump.now) path.now) result }
-    ensures impossible { result ≡ Status.Inconsistent → HasNoExecution (setting (crash_of dump.now) path.now.steps) }
+    ensures impossible { result ≡ Status.Inconsistent → HasNoExecution (route (crash_of dump.now) path.now.steps) }
 {
     match search(alloc, &path.steps, dump) {
         Ok(mut found) => hold(alloc, &mut found, path.skipped, input, out),

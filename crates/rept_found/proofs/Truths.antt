@@ -1,27 +1,36 @@
 -- What is told of a report holds in every execution, and reasons rest on it.
-use Rattle.std.proofs.Common.{◌≡◌, ℕ, ◌<◌, ◌≤◌, ◌^◌, Bool, true, eqb, List, All, Option, Some, None, inl, inr, refl, sym, ap, subst, ◌∙◌}
+use Rattle.std.proofs.Common.{◌≡◌, ℕ, ◌+◌, ◌<◌, ◌≤◌, ◌^◌, Bool, true, cond, eqb, List, All, Option, Some, None, inl, inr, refl, sym, ap, subst, ◌∙◌, arith}
 use mathlib.Core.Path.{fun_ext}
-use Rattle.std.proofs.lemmas.Bool.{cases_eq, cond-true, cond-false, eq-eqb, ne_eqb}
+use Rattle.std.proofs.lemmas.Bool.{cases_eq, cond-true, cond-false, eq-eqb, ne_eqb, leb-true}
+use Rattle.std.proofs.lemmas.List.Elements.{All-weaker}
 use Rattle.rept_isa.specs.declared.row.StepRow.{StepRow}
 use Rattle.rept_machine.specs.State.{State}
 use Rattle.rept_partial.specs.Ranges.{range_sets, range_lawful}
 use Rattle.rept_partial.specs.declared.range.Range.{Range}
 use Rattle.rept_reason.specs.declared.fact.Fact.{Fact}
+use Rattle.rept_reason.specs.declared.reason.Looked.{Looked}
 use Rattle.rept_reason.specs.declared.fact.Cell.{Cell}
 use Rattle.rept_reason.specs.declared.fact.Cell.TheVariants.{Register, Byte}
 use Rattle.rept_reason.specs.Facts.{Knowledge, register_known}
 use Rattle.rept_rules.specs.Base.{base_rules}
 use Rattle.rept_span.specs.RangeMoves.{range_moves}
 use Rattle.rept_span.specs.Ranges.{range}
-use Rattle.rept_report.specs.Setting.{Setting, Runs, Uses, way_of}
+use Rattle.rept_report.specs.Setting.{Setting, Uses, way_of}
+use Rattle.rept_report.specs.Runs.{Runs, StepWrites as RowWrites, is_call}
+use Rattle.rept_report.specs.OneThread.{run_of}
+use Rattle.rept_report.specs.Spots.{spot}
+use Rattle.rept_report.specs.declared.writer.Writer.{Writer}
+use Rattle.rept_report.specs.declared.writer.Writer as writers
 use Rattle.rept_report.specs.Views.{all_words}
-use Rattle.rept_report.specs.Soundness.{IsSound}
-use Rattle.rept_report.specs.Why.{Because, IsReason, IsGiven, RangeAlwaysHolds}
+use Rattle.rept_report.specs.Soundness.{IsSound, HasNoExecution as HasNoRun, WriterHolds as WriterHoldsIn}
+use Rattle.rept_report.specs.Why.{Because, IsReason, IsGiven, RangeAlwaysHolds as RangeHoldsInRuns}
 use Rattle.rept_report.specs.Implied.{HasEnded, known_at_end}
 use Rattle.rept_report.specs.Log.{Entry, logged_of}
-use Rattle.rept_found.specs.Crash.{Crash, setting}
+use Rattle.rept_report.proofs.OneThread.{rows_within, are_points, execution_runs, none_later, writes_told}
+use Rattle.rept_analysis.specs.State.{Path, along}
+use Rattle.rept_found.specs.Crash.{Crash, route, setting}
 use Rattle.rept_found.specs.Telling.{last_writer, left_of, shown_of}
-use Rattle.rept_found.specs.Truth.{IsTrueOf, IsTrueReason, IsTrueReport}
+use Rattle.rept_found.specs.Truth.{Executes, HasNoExecution, StepWrites, WriterHolds, RangeAlwaysHolds, IsTrueOf, IsTrueReason, IsTrueReport}
 use Rattle.rept_found.proofs.Tellings.{last_writer_is}
 
 some_is : {x v : ℕ} → Some x ≡ Some v → x ≡ v
@@ -40,27 +49,64 @@ left_true : (o : Option Range) (v : ℕ) → v < 2 ^ 32 → ((set : Range) → o
 left_true None v small in_set = range_lawful.bounds all_words v (range_lawful.unknown v small)
 left_true (Some set) v small in_set = range_lawful.bounds set v (in_set set refl)
 
+-- An execution of the path is a run, so what holds in every run holds in it.
+module _ (P : Path Range) where
+  runs : (states : ℕ → State) → Executes P states → Runs (along P) (run_of states)
+  runs states x = execution_runs P.sets P.moves P.rules P.given states x
+
+  -- where there is no run, there is no execution
+  pub no_execution : HasNoRun (along P) → HasNoExecution P
+  no_execution none states x = none (run_of states) (runs states x)
+
+  -- what a step writes, it writes in the run
+  step_row : (states : ℕ → State) (j a : ℕ) → StepWrites P states j a → RowWrites (along P) (run_of states) j a
+  step_row states j a h = record {
+    row = h.row;
+    is_row = h.is_row;
+    writes = writes_told P.sets P.moves P.rules P.given h.row.instr P.given.image_end (states j).register (states (j + 1)).register (states j).memory (states (j + 1)).memory (states j).memory (states (cond (is_call h.row.instr) j (j + 1))).memory a h.writes;
+  }
+
+  row_step : (states : ℕ → State) (j a : ℕ) → RowWrites (along P) (run_of states) j a → StepWrites P states j a
+  row_step states j a h = record {
+    row = h.row;
+    is_row = h.is_row;
+    writes = writes_told P.sets P.moves P.rules P.given h.row.instr P.given.image_end (states j).register (states (j + 1)).register (states j).memory (states (cond (is_call h.row.instr) j (j + 1))).memory (states j).memory (states (j + 1)).memory a h.writes;
+  }
+
+  writer_true : (states : ℕ → State) (p a : ℕ) (w : Writer) → WriterHoldsIn (along P) (run_of states) (spot p a) w → WriterHolds P states (spot p a) w
+  writer_true states p a (writers.TheVariants.Writes j) h = (row_step states j a h.0, λ k above low w. none_later P.sets P.moves P.rules P.given (run_of states) p a j h.2 k above low (step_row states k a w))
+  writer_true states p a (writers.TheVariants.MayWrite j) h = λ k above low w. none_later P.sets P.moves P.rules P.given (run_of states) p a j h k above low (step_row states k a w)
+  writer_true states p a writers.TheVariants.Several h = tt
+  writer_true states p a writers.TheVariants.None h = λ k low w. let high = leb-true p k (h.1 k (step_row states k a w)) in omega (arith, low, high)
+
+  -- so do ranges
+  ranges_true : (xs : List Looked) → All (RangeHoldsInRuns (along P)) xs → All (RangeAlwaysHolds P) xs
+  ranges_true xs h = All-weaker (RangeHoldsInRuns (along P)) (RangeAlwaysHolds P) (λ x holds states e. holds (run_of states) (runs states e)) xs h
+
 module _ (crash : Crash) (rows : List StepRow) (K : Knowledge) where
   abbrev Here : Setting Range
   Here = setting crash rows
 
-  answers_true : IsSound Here K → (end : ℕ) (run : ℕ → State) → Runs Here run → IsTrueOf Here (shown_of Here K end) run
+  abbrev There : Path Range
+  There = route crash rows
+
+  answers_true : IsSound Here K → (end : ℕ) (run : ℕ → State) → Executes There run → IsTrueOf There (shown_of There K end) run
   answers_true sound end run x = record {
-    registers = λ p r v early e. register_true K (run p) p r v (x.states p early).zero (λ known. sound.facts p (Register r) v known run x) e;
-    ranges = λ p r early. left_true (range (way_of Here) K p r) ((run p).register r) ((x.states p early).words r) (λ set is. sound.ranges p r set early is run x);
-    bytes = λ p a v e. sound.facts p (Byte a) v e run x;
-    writers = λ p a early small. sound.writers p a (last_writer Here K p a) early small (last_writer_is Here K p a) run x;
+    registers = λ p r v early e. register_true K (run p) p r v (x.states p early).zero (λ known. sound.facts p (Register r) v known (run_of run) (runs There run x)) e;
+    ranges = λ p r early. left_true (range (way_of Here) K p r) ((run p).register r) ((x.states p early).words r) (λ set is. sound.ranges p r set early is (run_of run) (runs There run x));
+    bytes = λ p a v e. sound.facts p (Byte a) v e (run_of run) (runs There run x);
+    writers = λ p a early small. writer_true There run p a (last_writer Here K p a) (sound.writers p a (last_writer Here K p a) early small (last_writer_is There K p a) (run_of run) (runs There run x));
   }
 
   -- what the laws of reasons say of an order in which the report was learnt
-  reason_true : (es : List Entry) (tracked : ℕ → Bool) (log : List Fact) (why : Because) → ((p : ℕ) (c : Cell) → known_at_end Here es tracked p c ≡ K p c) → All (IsGiven (known_at_end Here es tracked)) why.premises → All (RangeAlwaysHolds Here) why.ranges → IsTrueReason Here K why
+  reason_true : (es : List Entry) (tracked : ℕ → Bool) (log : List Fact) (why : Because) → ((p : ℕ) (c : Cell) → known_at_end Here es tracked p c ≡ K p c) → All (IsGiven (known_at_end Here es tracked)) why.premises → All (RangeHoldsInRuns Here) why.ranges → IsTrueReason There K why
   reason_true es tracked log why same premises ranges =
       let whole : known_at_end Here es tracked ≡ K = fun_ext (λ p. fun_ext (λ c. same p c)) in
-      record { premises = subst (λ (L : Knowledge). All (IsGiven L) why.premises) whole premises; ranges = ranges }
+      record { premises = subst (λ (L : Knowledge). All (IsGiven L) why.premises) whole premises; ranges = ranges_true There why.ranges ranges }
 
   pub report_true : IsSound Here K
       → ((es : List Entry) (tracked : ℕ → Bool) (f : Fact) (why : Because) → HasEnded Here es tracked → IsReason Here (logged_of es) f why → All (IsGiven (known_at_end Here es tracked)) why.premises)
-      → ((es : List Entry) (tracked : ℕ → Bool) (f : Fact) (why : Because) → HasEnded Here es tracked → IsReason Here (logged_of es) f why → All (RangeAlwaysHolds Here) why.ranges) → IsTrueReport Here K
+      → ((es : List Entry) (tracked : ℕ → Bool) (f : Fact) (why : Because) → HasEnded Here es tracked → IsReason Here (logged_of es) f why → All (RangeHoldsInRuns Here) why.ranges) → IsTrueReport There K
   report_true sound premises ranges = record {
     answers = answers_true sound;
     reasons = λ log f why l is.
@@ -69,4 +115,4 @@ module _ (crash : Crash) (rows : List StepRow) (K : Knowledge) where
   }
 
 pub uses_here : (crash : Crash) (rows : List StepRow) → Uses (setting crash rows) range_sets range_moves base_rules
-uses_here crash rows = record { its_sets = refl; its_moves = refl; its_rules = refl }
+uses_here crash rows = record { its_sets = refl; its_moves = refl; its_rules = refl; its_legs = rows_within rows; its_moments = are_points rows }

@@ -12,6 +12,7 @@ use Rattle.rept_partial.specs.declared.range.Range.{Range}
 use Rattle.rept_report.specs.Setting.{Setting}
 use Rattle.rept_rules.specs.Base.{base_rules}
 use Rattle.rept_span.specs.RangeMoves.{range_moves}
+use Rattle.rept_analysis.specs.State.{Path, along}
 
 -- an executable and the core file of its crash: the segments of each, and the descriptor of the register note
 pub record Crash : Type 0 where
@@ -36,13 +37,14 @@ last_values note = map (last_value note) (range_with_len 0 32)
 
 -- A path over the executable, and the registers and bytes of the core file in which it ends. Values are followed as ranges, and the
 -- rows let one draw what the rules of RV32IM say.
-abbrev pub setting : Crash → List StepRow → Setting Range
-setting crash rows = record {
+abbrev pub route : Crash → List StepRow → Path Range
+route crash rows = record {
   sets = range_sets;
   moves = range_moves;
   rules = base_rules;
-  rows = rows;
-  last = last_values crash.note;
-  dump = byte_at crash.exe crash.core;
-  image_end = greatest_end crash.exe;
+  given = record { rows = rows; last = last_values crash.note; dump = byte_at crash.exe crash.core; image_end = greatest_end crash.exe };
 }
+
+-- the setting of which a report of that path speaks
+abbrev pub setting : Crash → List StepRow → Setting Range
+setting crash rows = along (route crash rows)

@@ -1,5 +1,5 @@
 -- What a session tells of a report: what is known, and what follows from it. This project's own.
-use Rattle.std.specs.Prelude.{ℕ, zero, suc, ◌+◌, true, false, List, length, Option, Some, None, if◌then◌else◌}
+use Rattle.std.specs.Prelude.{ℕ, zero, suc, ◌+◌, true, false, List, Option, Some, None, if◌then◌else◌}
 use Rattle.rept_partial.specs.declared.range.Range.{Range}
 use Rattle.rept_reason.specs.declared.fact.Fact.{Fact}
 use Rattle.rept_reason.specs.declared.fact.Cell.TheVariants.{Byte}
@@ -12,6 +12,7 @@ use Rattle.rept_report.specs.Setting.{Setting, way_of}
 use Rattle.rept_report.specs.Views.{all_words, may_write, is_sure}
 use Rattle.rept_report.specs.Why.{IsReason}
 use Rattle.rept_analysis.specs.Counts.{calls_below, stores_below, known_below}
+use Rattle.rept_analysis.specs.State.{Path, along}
 use Rattle.rept_session.specs.Shown.{Shown, Told, told}
 
 -- of a step that may write a byte: whether it is known that it does
@@ -31,23 +32,23 @@ left_of (Some set) = set
 -- how many steps, environment calls, known registers, and stores to known and to unknown addresses there are
 abbrev pub counts_of : Setting Range → Knowledge → Counts
 counts_of S K = record {
-  steps = length S.rows;
-  calls = calls_below S.rows (length S.rows);
-  registers = known_below K (length S.rows + 1);
-  exact = stores_below S.rows K true (length S.rows);
-  inexact = stores_below S.rows K false (length S.rows);
+  steps = S.legs.count;
+  calls = calls_below S.legs S.legs.count;
+  registers = known_below K (S.legs.count + 1);
+  exact = stores_below S.legs K true S.legs.count;
+  inexact = stores_below S.legs K false S.legs.count;
 }
 
 -- what is shown of a report, over a path that leads to an address
-abbrev pub shown_of : Setting Range → Knowledge → ℕ → Shown
-shown_of S K end = record {
-  rows = S.rows;
+abbrev pub shown_of : Path Range → Knowledge → ℕ → Shown
+shown_of P K end = record {
+  rows = P.given.rows;
   end_pc = end;
   register = register_known K;
-  range = λ p r. left_of (range (way_of S) K p r);
+  range = λ p r. left_of (range (way_of (along P)) K p r);
   byte = λ p a. K p (Byte a);
-  writer = λ p a. last_writer S K p a;
-  counts = counts_of S K;
+  writer = λ p a. last_writer (along P) K p a;
+  counts = counts_of (along P) K;
 }
 
 -- a report, the order in which it was learnt, and what a session tells besides: the address after the last step, and how many packets
@@ -59,5 +60,5 @@ pub record Account : Type 0 where
   pub skipped : ℕ
 
 -- what a session tells of it, with reasons by that order
-abbrev pub told_of : Setting Range → Account → Told
-told_of S a = told (shown_of S a.known a.end_pc) a.skipped (IsReason S a.log)
+abbrev pub told_of : Path Range → Account → Told
+told_of P a = told (shown_of P a.known a.end_pc) a.skipped (IsReason (along P) a.log)

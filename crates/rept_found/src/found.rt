@@ -7,8 +7,8 @@ ghost use Rattle.rept_dump.specs.declared.status.Status.{Status};
 ghost use Rattle.rept_steps.specs.Linked.{EndBefore};
 ghost use Rattle.rept_report.specs.declared.conflict.ConflictKind.{ConflictKind};
 ghost use Rattle.rept_report.specs.Closure.{ClosureHas};
-ghost use Rattle.rept_report.specs.Soundness.{HasNoExecution};
-ghost use Rattle.rept_found.specs.Crash.{crash_of, end_pc, setting};
+ghost use Rattle.rept_found.specs.Crash.{crash_of, end_pc, route, setting};
+ghost use Rattle.rept_found.specs.Truth.{HasNoExecution};
 ghost use Rattle.rept_found.specs.View.{IsFoundIn};
 
 use rept_analysis::{Analysis, Stop};
@@ -43,9 +43,9 @@ impl<'a> Model for Found<'a> {
 pub fn search<'a>(alloc: Global, steps: &'a Steps, dump: &'a Dump<'a>) -> Result<Found<'a>, Stop>
     requires steps { 0 < length steps.now }
     requires end { (s : Status) → IsStatus (registers_of dump.now) s → EndBefore steps.now s.pc }
-    ensures found { IfOk result (IsFoundIn (setting (crash_of dump.now) steps.now) (end_pc (registers_of dump.now))) }
+    ensures found { IfOk result (IsFoundIn (route (crash_of dump.now) steps.now) (end_pc (registers_of dump.now))) }
     ensures conflict { (kind : ConflictKind) → result ≡ Err (Stop.Conflict kind) → ClosureHas (setting (crash_of dump.now) steps.now) kind }
-    ensures impossible { (kind : ConflictKind) → result ≡ Err (Stop.Conflict kind) → HasNoExecution (setting (crash_of dump.now) steps.now) }
+    ensures impossible { (kind : ConflictKind) → result ≡ Err (Stop.Conflict kind) → HasNoExecution (route (crash_of dump.now) steps.now) }
 {
     let status = dump.status();
     let Ok(mut analysis) = Analysis::<SpanFacts, Range, Base>::prepare(

@@ -4,7 +4,7 @@ ghost use Rattle.std.specs.Prelude.{List};
 ghost use Rattle.rept_isa.specs.declared.row.StepRow.{StepRow};
 ghost use Rattle.rept_reason.specs.Facts.{Knowledge};
 ghost use Rattle.rept_report.specs.Closure.{IsReport};
-ghost use Rattle.rept_found.specs.Crash.{Crash, setting};
+ghost use Rattle.rept_found.specs.Crash.{Crash, route, setting};
 ghost use Rattle.rept_found.specs.Truth.{IsTrueReport};
 
 use rept_partial::Range;
@@ -13,7 +13,7 @@ use rept_rules::Base;
 
 /// What a session tells of a report holds in every execution of the path that ends in the crash, and its reasons rest on the report.
 pub fn reports_are_true()
-    ensures { (crash : Crash) (rows : List StepRow) (K : Knowledge) → IsReport (setting crash rows) K → IsTrueReport (setting crash rows) K }
+    ensures { (crash : Crash) (rows : List StepRow) (K : Knowledge) → IsReport (setting crash rows) K → IsTrueReport (route crash rows) K }
 {
     reports_are_sound::<Range, Base>();
     facts_have_reasons::<Range, Base>();

@@ -12,12 +12,13 @@ use std::alloc::Global;
 impl<'a> Findings for Found<'a> {
     ghost use Rattle.rept_report.specs.Why.{IsReason};
     ghost use Rattle.rept_analysis.specs.Kept.{answers};
+    ghost use Rattle.rept_analysis.specs.State.{along};
     ghost use Rattle.rept_found.specs.Telling.{shown_of};
     ghost use Rattle.rept_found.specs.View.{state_in};
 
-    ghost shown = { λ f. shown_of (state_in f).setting (answers (state_in f)) f.end_pc };
+    ghost shown = { λ f. shown_of (state_in f).path (answers (state_in f)) f.end_pc };
 
-    ghost reasons = { λ f fact why. IsReason (state_in f).setting (state_in f).known.log fact why };
+    ghost reasons = { λ f fact why. IsReason (along (state_in f).path) (state_in f).known.log fact why };
 
     fn rows(&self) -> &[StepRow] {
         self.analysis.account();

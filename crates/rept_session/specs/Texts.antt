@@ -73,10 +73,11 @@ unfoldable pub memory_lines : Shown → ℕ → ℕ → ℕ → List ℕ
 memory_lines s point address count =
     flat_map (λ k. memory_line s point (wrapped (address + 16 * k)) (min 16 (count - 16 * k))) (range_with_len 0 ((count + 15) / 16))
 
--- `writes J`, `may write J` or `none`
+-- `writes J`, `may write J`, `several` or `none`
 abbrev pub writer_text : Writer → List ℕ
 writer_text (writer.Writes j) = codes "writes " ++ decimal j
 writer_text (writer.MayWrite j) = codes "may write " ++ decimal j
+writer_text writer.Several = codes "several"
 writer_text writer.None = codes "none"
 
 abbrev pub writer_line : Writer → List ℕ

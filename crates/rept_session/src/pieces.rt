@@ -78,6 +78,7 @@ pub fn push_writer(text: &mut Text, writer: Writer) -> Result<(), OutOfMemory>
     match writer {
         Writer::Writes(step) => push_numbered(text, b"writes ", step),
         Writer::MayWrite(step) => push_numbered(text, b"may write ", step),
+        Writer::Several => text.push(b"several"),
         Writer::None => text.push(b"none"),
     }
 }

@@ -1,6 +1,6 @@
 //! What an analysis answers of ranges, bytes, writers and numbers.
 
-ghost use Rattle.std.specs.Prelude.{◌≡◌, ◌+◌, ◌-◌, ◌<◌, ◌≤◌, ℕ, length, true, false, Some, None, slice_get, is_some};
+ghost use Rattle.std.specs.Prelude.{◌≡◌, ◌+◌, ◌<◌, ◌≤◌, ℕ, length, true, false, Some, None, slice_get, is_some};
 ghost use Rattle.rept_reason.specs.declared.fact.Cell.TheVariants.{Byte};
 ghost use Rattle.rept_reason.specs.Facts.{told, register_fact};
 ghost use Rattle.rept_span.specs.Filled.{entry_at};
@@ -8,7 +8,7 @@ ghost use Rattle.rept_span.specs.Ranges.{range};
 ghost use Rattle.rept_report.specs.Setting.{way_of};
 ghost use Rattle.rept_report.specs.Views.{may_write, is_sure};
 ghost use Rattle.rept_report.specs.Closure.{InClosure};
-ghost use Rattle.rept_report.specs.Implied.{untouched, implied};
+ghost use Rattle.rept_report.specs.Implied.{is_settled, implied};
 ghost use Rattle.rept_report.specs.Spots.{spot};
 ghost use Rattle.rept_report.specs.Writers.{IsWriter};
 ghost use Rattle.rept_report.specs.Log.{oldest};
@@ -78,7 +78,7 @@ impl<'a, B: ByteFacts, W: Transfer, R: RowRules> Analysis<'a, B, W, R> {
     fn is_untouched(&self, point: u32, a: u32) -> bool
         requires point { point ≤ length self.now.rows }
         requires fitted { IsFitted (state_of W.sets W.moves R.rules B.store self.now) }
-        ensures { result ≡ untouched (may_write (setting_of W.sets W.moves R.rules self.now) (told (oldest self.now.filled self.now.known.log))) point (length self.now.rows - point) a }
+        ensures { result ≡ is_settled (setting_of W.sets W.moves R.rules self.now) (told (oldest self.now.filled self.now.known.log)) (spot point a) }
     {
         let count = self.count();
         for i in point..count {

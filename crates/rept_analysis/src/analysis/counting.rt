@@ -6,6 +6,7 @@ ghost use Rattle.rept_report.specs.Log.{oldest};
 ghost use Rattle.rept_analysis.specs.State.{setting_of, state_of};
 ghost use Rattle.rept_analysis.specs.Kept.{answers};
 ghost use Rattle.rept_analysis.specs.Counts.{is_call, base_of, is_store, row_is, calls_below, stores_below, known_at, known_below, IsCounted};
+ghost use Rattle.rept_span.specs.Ranges.{legs_of};
 
 use super::{Analysis, register};
 use rept_isa::{Instr, Reg, reads};
@@ -71,7 +72,7 @@ impl<'a, B: ByteFacts, W: Transfer, R: RowRules> Analysis<'a, B, W, R> {
 
     /// How many rows are environment calls.
     fn calls(&self) -> u32
-        ensures { result ≡ calls_below self.now.rows (length self.now.rows) }
+        ensures { result ≡ calls_below (legs_of self.now.rows) (length self.now.rows) }
     {
         let count = self.count();
         let mut sum = 0;
@@ -109,7 +110,7 @@ impl<'a, B: ByteFacts, W: Transfer, R: RowRules> Analysis<'a, B, W, R> {
 
     /// How many rows are such stores.
     fn stores(&self, known: bool) -> u32
-        ensures { result ≡ stores_below self.now.rows (told (oldest self.now.shown self.now.known.log)) known (length self.now.rows) }
+        ensures { result ≡ stores_below (legs_of self.now.rows) (told (oldest self.now.shown self.now.known.log)) known (length self.now.rows) }
     {
         let count = self.count();
         let mut sum = 0;

@@ -4,7 +4,7 @@ ghost use Rattle.std.specs.Prelude.{◌≡◌, ◌+◌, ◌<◌, ◌≤◌, leng
 ghost use Rattle.rept_reason.specs.declared.fact.Cell.TheVariants.{Register, Byte};
 ghost use Rattle.rept_report.specs.Log.{oldest};
 ghost use Rattle.rept_report.specs.Why.{Because, IsDrawnBecause, IsKnownBecause, IsCarriedBecause};
-ghost use Rattle.rept_log.specs.Fronts.{front_of, stands, told_by};
+ghost use Rattle.rept_log.specs.Fronts.{front_of, stands, told_by, setting_in};
 ghost use Rattle.rept_analysis.specs.State.{setting_of, state_of};
 ghost use Rattle.rept_analysis.specs.Reasoned.{basis_at, AreSetsOf, KeepsAll};
 
@@ -78,8 +78,8 @@ impl<'a, B: ByteFacts, W: Transfer, R: RowRules> Analysis<'a, B, W, R> {
         requires point { fact.now.point ≤ length self.old.rows }
         requires cell { fact.now.cell ≡ Register r }
         requires named { 0 < r }
-        ensures found { IfOk result (λ found. IfSome found (λ reason. IsKnownBecause (front_of W.sets W.moves R.rules (basis_at self.old limit)).setting (stands (front_of W.sets W.moves R.rules (basis_at self.old limit))) fact.now (told_by reason))) }
-        ensures none { IfOk result (λ found. IfNone found ((why : Because) → IsKnownBecause (front_of W.sets W.moves R.rules (basis_at self.old limit)).setting (stands (front_of W.sets W.moves R.rules (basis_at self.old limit))) fact.now why → ⊥)) }
+        ensures found { IfOk result (λ found. IfSome found (λ reason. IsKnownBecause (setting_in (front_of W.sets W.moves R.rules (basis_at self.old limit))) (stands (front_of W.sets W.moves R.rules (basis_at self.old limit))) fact.now (told_by reason))) }
+        ensures none { IfOk result (λ found. IfNone found ((why : Because) → IsKnownBecause (setting_in (front_of W.sets W.moves R.rules (basis_at self.old limit))) (stands (front_of W.sets W.moves R.rules (basis_at self.old limit))) fact.now why → ⊥)) }
         ensures same { KeepsAll (state_of W.sets W.moves R.rules B.store self.old) (state_of W.sets W.moves R.rules B.store self.new) }
     {
         let _len = self.known.len();
@@ -105,8 +105,8 @@ impl<'a, B: ByteFacts, W: Transfer, R: RowRules> Analysis<'a, B, W, R> {
         requires within { limit ≤ length self.old.known.log }
         requires sets { AreSetsOf (setting_of W.sets W.moves R.rules self.old) (oldest limit self.old.known.log) spans.now }
         requires point { fact.now.point ≤ length self.old.rows }
-        ensures found { IfOk result (λ found. IfSome found (λ reason. IsDrawnBecause (front_of W.sets W.moves R.rules (basis_at self.old limit)).setting (stands (front_of W.sets W.moves R.rules (basis_at self.old limit))) fact.now (told_by reason))) }
-        ensures none { IfOk result (λ found. IfNone found ((why : Because) → IsDrawnBecause (front_of W.sets W.moves R.rules (basis_at self.old limit)).setting (stands (front_of W.sets W.moves R.rules (basis_at self.old limit))) fact.now why → ⊥)) }
+        ensures found { IfOk result (λ found. IfSome found (λ reason. IsDrawnBecause (setting_in (front_of W.sets W.moves R.rules (basis_at self.old limit))) (stands (front_of W.sets W.moves R.rules (basis_at self.old limit))) fact.now (told_by reason))) }
+        ensures none { IfOk result (λ found. IfNone found ((why : Because) → IsDrawnBecause (setting_in (front_of W.sets W.moves R.rules (basis_at self.old limit))) (stands (front_of W.sets W.moves R.rules (basis_at self.old limit))) fact.now why → ⊥)) }
         ensures same { KeepsAll (state_of W.sets W.moves R.rules B.store self.old) (state_of W.sets W.moves R.rules B.store self.new) }
     {
         let _len = self.known.len();
@@ -134,8 +134,8 @@ impl<'a, B: ByteFacts, W: Transfer, R: RowRules> Analysis<'a, B, W, R> {
         requires sets { AreSetsOf (setting_of W.sets W.moves R.rules self.now) (oldest limit self.now.known.log) spans.now }
         requires point { fact.now.point ≤ length self.now.rows }
         requires cell { fact.now.cell ≡ Byte a }
-        ensures found { IfOk result (λ found. IfSome found (λ reason. IsCarriedBecause (front_of W.sets W.moves R.rules (basis_at self.now limit)).setting (front_of W.sets W.moves R.rules (basis_at self.now limit)).facts fact.now (told_by reason))) }
-        ensures none { IfOk result (λ found. IfNone found ((why : Because) → IsCarriedBecause (front_of W.sets W.moves R.rules (basis_at self.now limit)).setting (front_of W.sets W.moves R.rules (basis_at self.now limit)).facts fact.now why → ⊥)) }
+        ensures found { IfOk result (λ found. IfSome found (λ reason. IsCarriedBecause (setting_in (front_of W.sets W.moves R.rules (basis_at self.now limit))) (front_of W.sets W.moves R.rules (basis_at self.now limit)).facts fact.now (told_by reason))) }
+        ensures none { IfOk result (λ found. IfNone found ((why : Because) → IsCarriedBecause (setting_in (front_of W.sets W.moves R.rules (basis_at self.now limit))) (front_of W.sets W.moves R.rules (basis_at self.now limit)).facts fact.now why → ⊥)) }
     {
         let _len = self.known.len();
         let front: Front<'_, '_, B, W, R> = Front::new(

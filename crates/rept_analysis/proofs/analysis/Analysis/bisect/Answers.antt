@@ -1,14 +1,14 @@
 use Rattle.std.proofs.Common.{◌+◌, ◌/◌, ◌-◌, List, subst, arith}
 use Rattle.rept_reason.specs.declared.fact.Fact.{Fact}
 use Rattle.rept_reason.specs.Facts.{told}
-use Rattle.rept_report.specs.Setting.{Setting}
 use Rattle.rept_report.specs.Log.{oldest}
 use Rattle.rept_report.specs.Conflicts.{IsQuiet}
 use Rattle.rept_report.proofs.Places.{oldest_all}
 use Rattle.rept_log.specs.Known.{Known}
-use Rattle.rept_analysis.specs.State.{state_of}
+use Rattle.rept_analysis.specs.State.{state_of, Path, along}
 use Rattle.rept_analysis.proofs.Ending.{Same_itself, Same_trans, back_to}
 use Rattle.rept_analysis.proofs.Stopping.{quiet_before}
+use Rattle.rept_report.proofs.OneThread.{rows_within, are_points}
 use Rattle.rept_analysis.proofs.analysis.Analysis.bisect.Goals as goal
 
 pub loop-low-init : goal.loop-low-init
@@ -21,7 +21,7 @@ loop-low-init g c =
       low = omega arith;
       high = omega (arith, e);
       quiet = λ u below. absurd (omega (arith, below));
-      loud = λ q. c.requires.loud (subst (λ (fs : List Fact). IsQuiet s.setting (told fs)) all q);
+      loud = λ q. c.requires.loud (subst (λ (fs : List Fact). IsQuiet (along s.path) (told fs)) all q);
     }
 
 pub loop-low-preserved-then-quiet : goal.loop-low-preserved-then-quiet
@@ -31,11 +31,11 @@ loop-low-preserved-then-quiet g c =
     let i = c.loop-low.invariant in
     let less = c.loop-low-test.true in
     let middle = c.loop-low.low + (c.loop-low.high - c.loop-low.low) / 2 in
-    let here = back_to a b i.same (λ (S : Setting g.row.W.Denot) (k : Known). IsQuiet S (told (oldest middle k.log))) (c.is_quiet-quiet.ensures.quiet c.if-quiet.true) in
+    let here = back_to a b i.same (λ (P : Path g.row.W.Denot) (k : Known). IsQuiet (along P) (told (oldest middle k.log))) (c.is_quiet-quiet.ensures.quiet c.if-quiet.true) in
     record {
       same = Same_trans a b _ i.same c.is_quiet-quiet.ensures.same;
       low = omega (arith, less);
       high = i.high;
-      quiet = λ u below. quiet_before a (record { sets = g.met.W.Partial.lawful; moves = g.met.W.Transfer.covers; rules = g.met.R.RowRules.lawful }) c.held.ensures middle u (omega (arith, below)) here;
+      quiet = λ u below. quiet_before a (record { sets = g.met.W.Partial.lawful; moves = g.met.W.Transfer.covers; rules = g.met.R.RowRules.lawful; legs = rows_within _; moments = are_points _ }) c.held.ensures middle u (omega (arith, below)) here;
       loud = i.loud;
     }

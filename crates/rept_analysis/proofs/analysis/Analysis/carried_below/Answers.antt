@@ -1,7 +1,7 @@
 use Rattle.std.proofs.Common.{◌≡◌, ◌∙◌, IfOk, IfNone, sym, subst}
 use Rattle.rept_report.specs.Log.{oldest}
 use Rattle.rept_report.specs.Why.{Because, IsCarriedBecause}
-use Rattle.rept_log.specs.Fronts.{Basis, front_of}
+use Rattle.rept_log.specs.Fronts.{Basis, front_of, setting_in}
 use Rattle.rept_analysis.specs.State.{Whole, setting_of}
 use Rattle.rept_analysis.specs.Reasoned.{basis_at, AreSetsOf}
 use Rattle.rept_analysis.proofs.Fronts.{front_is, basis_is}
@@ -13,4 +13,4 @@ new-front-requires-clause-front g c = rw c.as_slice.ensures.value (front_is _ c.
 pub returns-clause-none : goal.returns-clause-none
 returns-clause-none g c =
     let basis = subst (λ (x : Whole g.row.B.Denot g.row.W.Denot g.row.R.Denot). c.new-front.result ≡ basis_at x c.args.limit) c.self.view_is (basis_is c.new-front.result _ _ _ _ _ c.new-front.ensures.rows (c.new-front.ensures.last ∙ c.as_slice.ensures.value) c.new-front.ensures.memory c.new-front.ensures.facts) in
-    subst (λ (y : Basis). IfOk c.carried.result (λ found. IfNone found ((why : Because) → IsCarriedBecause (front_of g.W.Partial.sets g.W.Transfer.moves g.R.RowRules.rules y).setting (front_of g.W.Partial.sets g.W.Transfer.moves g.R.RowRules.rules y).facts c.args.fact.now why → ⊥))) basis c.carried.ensures.none
+    subst (λ (y : Basis). IfOk c.carried.result (λ found. IfNone found ((why : Because) → IsCarriedBecause (setting_in (front_of g.W.Partial.sets g.W.Transfer.moves g.R.RowRules.rules y)) (front_of g.W.Partial.sets g.W.Transfer.moves g.R.RowRules.rules y).facts c.args.fact.now why → ⊥))) basis c.carried.ensures.none

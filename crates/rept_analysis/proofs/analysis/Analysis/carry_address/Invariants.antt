@@ -11,7 +11,7 @@ invariant-loop-self g l =
       drew : Drew (st l.fn.self) (st l.self) l.learnt (IsCarriedFrom l.a 0 l.from);
       from : l.from ≡ past (st l.fn.self).work.writing l.k;
       within : l.k ≤ length (st l.fn.self).work.writing;
-      rows : l.rows ≡ length (st l.fn.self).setting.rows;
+      rows : l.rows ≡ length (st l.fn.self).path.given.rows;
     }
 
 abbrev pub decreases-loop-self : goal.decreases-loop-self

@@ -4,6 +4,7 @@ use Rattle.rept_analysis.specs.Drawing.{KnowsDrawn, DrawnBelow}
 use Rattle.rept_analysis.proofs.Drawn.{Drew_both, Drew_as, Grows_trans, drawn_more}
 use Rattle.rept_analysis.proofs.Learning.{known_words}
 use Rattle.rept_analysis.proofs.Following.{conclusion_more, slice_read}
+use Rattle.rept_report.proofs.OneThread.{rows_within, are_points}
 use Rattle.rept_analysis.proofs.analysis.Analysis.conclude_all.Goals as goal
 
 pub conclude-requires-clause-conclusion : goal.conclude-requires-clause-conclusion
@@ -13,7 +14,7 @@ conclude-requires-clause-conclusion g c =
     let grows = c.loop-drawn.invariant.grows in
     let words = grows.words (known_words s c.held.ensures) in
     let below : c.loop-drawn.drawn-index < length c.args.list.now = omega arith in
-    conclusion_more s t (record { sets = g.met.W.Partial.lawful; moves = g.met.W.Transfer.covers; rules = g.met.R.RowRules.lawful }) grows words c.args.i c.drawn-item.result (c.requires.conclusions c.loop-drawn.drawn-index c.drawn-item.result (slice_read c.args.list.now c.loop-drawn.drawn-index c.drawn-item.result below c.drawn-item.is))
+    conclusion_more s t (record { sets = g.met.W.Partial.lawful; moves = g.met.W.Transfer.covers; rules = g.met.R.RowRules.lawful; legs = rows_within _; moments = are_points _ }) grows words c.args.i c.drawn-item.result (c.requires.conclusions c.loop-drawn.drawn-index c.drawn-item.result (slice_read c.args.list.now c.loop-drawn.drawn-index c.drawn-item.result below c.drawn-item.is))
 
 pub returns-in_err-new-clause-grows : goal.returns-in_err-new-clause-grows
 returns-in_err-new-clause-grows g c = Grows_trans _ _ _ c.loop-drawn.invariant.grows c.conclude.ensures.grows

@@ -5,12 +5,13 @@ use Rattle.rept_analysis.specs.Drawing.{IsLearntAt, SingleKnown}
 use Rattle.rept_analysis.proofs.Drawn.{Drew_as, Drew_same}
 use Rattle.rept_analysis.proofs.Learning.{known_words}
 use Rattle.rept_analysis.proofs.Following.{single_follows, single_known, no_single, same_flat}
+use Rattle.rept_report.proofs.OneThread.{rows_within, are_points}
 use Rattle.rept_analysis.proofs.analysis.Analysis.draw_single.Goals as goal
 
 pub learn_if-requires-clause-follows : goal.learn_if-requires-clause-follows
 learn_if-requires-clause-follows g c =
     let s = state_of g.W.Partial.sets g.W.Transfer.moves g.R.RowRules.rules g.B.ByteFacts.store c.args.self.now in
-    λ v is named in_file small. single_follows s (record { sets = g.met.W.Partial.lawful; moves = g.met.W.Transfer.covers; rules = g.met.R.RowRules.lawful }) (known_words s c.held.ensures) c.held.ensures.once c.requires.fitted c.args.point c.args.r v c.span-span.result c.requires.point named in_file small c.span-span.ensures (sym c.as_exact.ensures ∙ c.in-Some.is ∙ ap Some (same_flat is))
+    λ v is named in_file small. single_follows s (record { sets = g.met.W.Partial.lawful; moves = g.met.W.Transfer.covers; rules = g.met.R.RowRules.lawful; legs = rows_within _; moments = are_points _ }) (known_words s c.held.ensures) c.held.ensures.once c.requires.fitted c.args.point c.args.r v c.span-span.result c.requires.point named in_file small c.span-span.ensures (sym c.as_exact.ensures ∙ c.in-Some.is ∙ ap Some (same_flat is))
 
 pub returns-in_ok-learnt-in-Some-clause-drew : goal.returns-in_ok-learnt-in-Some-clause-drew
 returns-in_ok-learnt-in-Some-clause-drew g c =

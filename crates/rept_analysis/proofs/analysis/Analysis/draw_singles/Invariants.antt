@@ -9,5 +9,5 @@ invariant-loop-point g l =
     record {
       grows : Grows (st l.fn.self) (st l.self);
       drew : Drew (st l.fn.self) (st l.self) l.learnt (SinglesBelow l.point);
-      count : l.count ≡ length (st l.fn.self).setting.rows;
+      count : l.count ≡ length (st l.fn.self).path.given.rows;
     }

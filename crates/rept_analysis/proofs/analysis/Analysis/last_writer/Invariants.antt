@@ -1,7 +1,7 @@
 use Rattle.rept_reason.specs.Facts.{told}
 use Rattle.rept_report.specs.Log.{oldest}
 use Rattle.rept_report.specs.Spots.{passage}
-use Rattle.rept_report.specs.Writers.{NoneMayWrite}
+use Rattle.rept_analysis.specs.Answers.{NoneMayWrite}
 use Rattle.rept_analysis.specs.State.{setting_of}
 use Rattle.rept_analysis.proofs.analysis.Analysis.last_writer.Given as goal
 

@@ -2,6 +2,7 @@ use Rattle.std.proofs.Common.{sym, ◌∙◌}
 use Rattle.std.proofs.lemmas.Bool.{true≢false}
 use Rattle.rept_analysis.specs.State.{state_of}
 use Rattle.rept_analysis.proofs.Refining.{path_of, kept_of, report_of, complete_of, consistent_of, stopped_of, sound_of, impossible_of, exact_of, refused_of}
+use Rattle.rept_report.proofs.OneThread.{rows_within, are_points}
 use Rattle.rept_analysis.proofs.analysis.Analysis.refine.Goals as goal
 
 pub returns-clause-path : goal.returns-clause-path
@@ -26,10 +27,10 @@ pub returns-clause-recorded : goal.returns-clause-recorded
 returns-clause-recorded g c = λ kind e. (stopped_of (state_of g.W.Partial.sets g.W.Transfer.moves g.R.RowRules.rules g.B.ByteFacts.store c.args.self.now) (state_of g.W.Partial.sets g.W.Transfer.moves g.R.RowRules.rules g.B.ByteFacts.store c.outcome-outcome.new.self) c.outcome-outcome.result kind c.outcome-outcome.ensures.outcome e).recorded
 
 pub returns-clause-sound : goal.returns-clause-sound
-returns-clause-sound g c = sound_of (state_of g.W.Partial.sets g.W.Transfer.moves g.R.RowRules.rules g.B.ByteFacts.store c.args.self.now) (state_of g.W.Partial.sets g.W.Transfer.moves g.R.RowRules.rules g.B.ByteFacts.store c.outcome-outcome.new.self) (record { sets = g.met.W.Partial.lawful; moves = g.met.W.Transfer.covers; rules = g.met.R.RowRules.lawful }) c.outcome-outcome.result c.outcome-outcome.ensures.outcome
+returns-clause-sound g c = sound_of (state_of g.W.Partial.sets g.W.Transfer.moves g.R.RowRules.rules g.B.ByteFacts.store c.args.self.now) (state_of g.W.Partial.sets g.W.Transfer.moves g.R.RowRules.rules g.B.ByteFacts.store c.outcome-outcome.new.self) (record { sets = g.met.W.Partial.lawful; moves = g.met.W.Transfer.covers; rules = g.met.R.RowRules.lawful; legs = rows_within _; moments = are_points _ }) c.outcome-outcome.result c.outcome-outcome.ensures.outcome
 
 pub returns-clause-impossible : goal.returns-clause-impossible
-returns-clause-impossible g c = λ kind e. impossible_of (state_of g.W.Partial.sets g.W.Transfer.moves g.R.RowRules.rules g.B.ByteFacts.store c.args.self.now) (state_of g.W.Partial.sets g.W.Transfer.moves g.R.RowRules.rules g.B.ByteFacts.store c.outcome-outcome.new.self) (record { sets = g.met.W.Partial.lawful; moves = g.met.W.Transfer.covers; rules = g.met.R.RowRules.lawful }) c.outcome-outcome.result kind c.outcome-outcome.ensures.outcome e
+returns-clause-impossible g c = λ kind e. impossible_of (state_of g.W.Partial.sets g.W.Transfer.moves g.R.RowRules.rules g.B.ByteFacts.store c.args.self.now) (state_of g.W.Partial.sets g.W.Transfer.moves g.R.RowRules.rules g.B.ByteFacts.store c.outcome-outcome.new.self) (record { sets = g.met.W.Partial.lawful; moves = g.met.W.Transfer.covers; rules = g.met.R.RowRules.lawful; legs = rows_within _; moments = are_points _ }) c.outcome-outcome.result kind c.outcome-outcome.ensures.outcome e
 
 pub returns-clause-joins : goal.returns-clause-joins
 returns-clause-joins g c = λ joins e. true≢false (sym joins ∙ c.outcome-outcome.ensures.plain e)

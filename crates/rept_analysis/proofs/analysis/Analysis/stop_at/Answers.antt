@@ -6,6 +6,7 @@ use Rattle.rept_analysis.specs.State.{Whole, setting_of, state_of}
 use Rattle.rept_analysis.specs.Refined.{QuietBelow}
 use Rattle.rept_analysis.proofs.Ending.{known_later}
 use Rattle.rept_analysis.proofs.Stopping.{kept_stopped}
+use Rattle.rept_report.proofs.OneThread.{rows_within, are_points}
 use Rattle.rept_analysis.proofs.analysis.Analysis.stop_at.Goals as goal
 
 pub invariant_of-self : goal.invariant_of-self
@@ -15,11 +16,11 @@ invariant_of-self g c =
     let within = subst (λ (x : Whole g.row.B.Denot g.row.W.Denot g.row.R.Denot). c.args.limit ≤ length x.known.log) (sym c.self.view_is) c.requires.within in
     let quiet = subst (λ (x : Whole g.row.B.Denot g.row.W.Denot g.row.R.Denot). QuietBelow (state_of g.W.Partial.sets g.W.Transfer.moves g.R.RowRules.rules g.B.ByteFacts.store x) c.args.limit) (sym c.self.view_is) c.requires.quiet in
     let found = subst (λ (x : Whole g.row.B.Denot g.row.W.Denot g.row.R.Denot). ClosureHas (setting_of g.W.Partial.sets g.W.Transfer.moves g.R.RowRules.rules x) c.args.kind) (sym c.self.view_is) c.requires.kind in
-    kept_stopped (state_of g.W.Partial.sets g.W.Transfer.moves g.R.RowRules.rules g.B.ByteFacts.store a) (record { sets = g.met.W.Partial.lawful; moves = g.met.W.Transfer.covers; rules = g.met.R.RowRules.lawful }) c.self.invariant open_ c.args.limit c.args.kind within quiet found
+    kept_stopped (state_of g.W.Partial.sets g.W.Transfer.moves g.R.RowRules.rules g.B.ByteFacts.store a) (record { sets = g.met.W.Partial.lawful; moves = g.met.W.Transfer.covers; rules = g.met.R.RowRules.lawful; legs = rows_within _; moments = are_points _ }) c.self.invariant open_ c.args.limit c.args.kind within quiet found
 
 pub returns-clause-ended : goal.returns-clause-ended
 returns-clause-ended g c =
     let a : Whole g.row.B.Denot g.row.W.Denot g.row.R.Denot = record { rows = c.self.inside.rows.now; last = c.self.inside.last.items; exe = exe_of c.self.inside.dump; core = core_of c.self.inside.dump; known = c.self.inside.known; spans = c.self.inside.spans; filled = c.self.inside.filled; rules = c.self.inside.rules; shown = c.self.inside.shown; complete = c.self.inside.complete; conflict = c.self.inside.conflict; work = work_of g.B.ByteFacts.JOINS (g.R.RowRules.draws c.self.inside.rules) c.self.inside.writing c.self.inside.drawn } in
     let later = subst (λ (x : Whole g.row.B.Denot g.row.W.Denot g.row.R.Denot). x.shown ≤ c.args.limit) (sym c.self.view_is) c.requires.later in
     let found = subst (λ (x : Whole g.row.B.Denot g.row.W.Denot g.row.R.Denot). ClosureHas (setting_of g.W.Partial.sets g.W.Transfer.moves g.R.RowRules.rules x) c.args.kind) (sym c.self.view_is) c.requires.kind in
-    rw (← c.self.view_is) (record { setting = refl; recorded = refl; has = found; kept = λ p r v e. known_later a.known.log c.self.invariant.once a.shown c.args.limit later p r v e })
+    rw (← c.self.view_is) (record { path = refl; recorded = refl; has = found; kept = λ p r v e. known_later a.known.log c.self.invariant.once a.shown c.args.limit later p r v e })

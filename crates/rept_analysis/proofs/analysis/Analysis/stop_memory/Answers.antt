@@ -1,18 +1,18 @@
 use Rattle.std.proofs.Common.{◌∙◌, ◌<◌, ℕ, arith}
 use Rattle.rept_reason.specs.Facts.{told}
-use Rattle.rept_report.specs.Setting.{Setting}
 use Rattle.rept_report.specs.Conflicts.{IsQuiet}
 use Rattle.rept_report.specs.Log.{oldest}
 use Rattle.rept_log.specs.Known.{Known}
-use Rattle.rept_analysis.specs.State.{state_of}
+use Rattle.rept_analysis.specs.State.{state_of, Path, along}
 use Rattle.rept_analysis.proofs.Ending.{forth, back_to, stopped_from, paused_from, quiet_part}
 use Rattle.rept_analysis.proofs.Stopping.{quiet_before}
+use Rattle.rept_report.proofs.OneThread.{rows_within, are_points}
 use Rattle.rept_analysis.proofs.analysis.Analysis.stop_memory.Goals as goal
 
 pub stop_least-requires-clause-loud : goal.stop_least-requires-clause-loud
 stop_least-requires-clause-loud g c =
     let a = state_of g.W.Partial.sets g.W.Transfer.moves g.R.RowRules.rules g.B.ByteFacts.store c.args.self.now in
-    λ q. c.is_quiet-quiet.ensures.loud c.if-not-quiet.true (quiet_part a c.len-len.result c.len-len.ensures.value (back_to a (state_of g.W.Partial.sets g.W.Transfer.moves g.R.RowRules.rules g.B.ByteFacts.store c.is_quiet-quiet.new.self) c.is_quiet-quiet.ensures.same (λ (S : Setting g.row.W.Denot) (k : Known). IsQuiet S (told k.log)) q))
+    λ q. c.is_quiet-quiet.ensures.loud c.if-not-quiet.true (quiet_part a c.len-len.result c.len-len.ensures.value (back_to a (state_of g.W.Partial.sets g.W.Transfer.moves g.R.RowRules.rules g.B.ByteFacts.store c.is_quiet-quiet.new.self) c.is_quiet-quiet.ensures.same (λ (P : Path g.row.W.Denot) (k : Known). IsQuiet (along P) (told k.log)) q))
 
 pub returns-then-not-quiet-clause-ended : goal.returns-then-not-quiet-clause-ended
 returns-then-not-quiet-clause-ended g c = stopped_from (state_of g.W.Partial.sets g.W.Transfer.moves g.R.RowRules.rules g.B.ByteFacts.store c.args.self.now) (state_of g.W.Partial.sets g.W.Transfer.moves g.R.RowRules.rules g.B.ByteFacts.store c.is_quiet-quiet.new.self) c.is_quiet-quiet.ensures.same _ _ c.stop_least.ensures.ended
@@ -20,8 +20,8 @@ returns-then-not-quiet-clause-ended g c = stopped_from (state_of g.W.Partial.set
 pub show-requires-clause-quiet : goal.show-requires-clause-quiet
 show-requires-clause-quiet g c =
     let a = state_of g.W.Partial.sets g.W.Transfer.moves g.R.RowRules.rules g.B.ByteFacts.store c.args.self.now in
-    forth a (state_of g.W.Partial.sets g.W.Transfer.moves g.R.RowRules.rules g.B.ByteFacts.store c.is_quiet-quiet.new.self) c.is_quiet-quiet.ensures.same (λ (S : Setting g.row.W.Denot) (k : Known). (u : ℕ) → u < c.len-len.result → IsQuiet S (told (oldest u k.log)))
-    (λ u below. quiet_before a (record { sets = g.met.W.Partial.lawful; moves = g.met.W.Transfer.covers; rules = g.met.R.RowRules.lawful }) c.held.ensures c.len-len.result u (omega (arith, below)) (c.is_quiet-quiet.ensures.quiet c.if-not-quiet.false))
+    forth a (state_of g.W.Partial.sets g.W.Transfer.moves g.R.RowRules.rules g.B.ByteFacts.store c.is_quiet-quiet.new.self) c.is_quiet-quiet.ensures.same (λ (P : Path g.row.W.Denot) (k : Known). (u : ℕ) → u < c.len-len.result → IsQuiet (along P) (told (oldest u k.log)))
+    (λ u below. quiet_before a (record { sets = g.met.W.Partial.lawful; moves = g.met.W.Transfer.covers; rules = g.met.R.RowRules.lawful; legs = rows_within _; moments = are_points _ }) c.held.ensures c.len-len.result u (omega (arith, below)) (c.is_quiet-quiet.ensures.quiet c.if-not-quiet.false))
 
 pub returns-clause-ended : goal.returns-clause-ended
 returns-clause-ended g c = paused_from (state_of g.W.Partial.sets g.W.Transfer.moves g.R.RowRules.rules g.B.ByteFacts.store c.args.self.now) (state_of g.W.Partial.sets g.W.Transfer.moves g.R.RowRules.rules g.B.ByteFacts.store c.is_quiet-quiet.new.self) c.is_quiet-quiet.ensures.same (state_of g.W.Partial.sets g.W.Transfer.moves g.R.RowRules.rules g.B.ByteFacts.store c.show.new.self) c.show.ensures.ended

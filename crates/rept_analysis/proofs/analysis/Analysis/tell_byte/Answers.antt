@@ -5,6 +5,7 @@ use Rattle.rept_analysis.specs.State.{Whole, state_of}
 use Rattle.rept_report.specs.Why.{fact_of}
 use Rattle.rept_analysis.specs.Drawing.{IsTracked, IsFollowing, IsBrought, HasPlace}
 use Rattle.rept_analysis.proofs.Learning.{told_byte}
+use Rattle.rept_report.proofs.OneThread.{rows_within, are_points}
 use Rattle.rept_analysis.proofs.analysis.Analysis.tell_byte.Goals as goal
 
 pub invariant_of-self : goal.invariant_of-self
@@ -16,7 +17,7 @@ invariant_of-self g c =
     let brought = subst (λ (x : Whole g.row.B.Denot g.row.W.Denot g.row.R.Denot). c.args.keep ≡ false → IsBrought (state_of g.W.Partial.sets g.W.Transfer.moves g.R.RowRules.rules g.B.ByteFacts.store x) (fact_of c.args.point (Byte c.args.a) c.args.value)) (sym c.self.view_is) c.requires.brought in
     let place = subst (λ (x : Whole g.row.B.Denot g.row.W.Denot g.row.R.Denot). HasPlace c.args.keep c.args.point c.args.a (state_of g.W.Partial.sets g.W.Transfer.moves g.R.RowRules.rules g.B.ByteFacts.store x)) (sym c.self.view_is) c.requires.place in
     let small : c.args.a < 2 ^ 32 = omega arith in
-    (told_byte _ (record { sets = g.met.W.Partial.lawful; moves = g.met.W.Transfer.covers; rules = g.met.R.RowRules.lawful }) c.self.invariant g.B.ByteFacts.JOINS c.args.point c.args.a c.args.value early small tracked open_ follows c.args.keep brought place (known_of g.B.ByteFacts.store c.learn_byte-answer.new.self) c.len-len.ensures.once c.learn_byte-answer.result c.learn_byte-answer.ensures).0
+    (told_byte _ (record { sets = g.met.W.Partial.lawful; moves = g.met.W.Transfer.covers; rules = g.met.R.RowRules.lawful; legs = rows_within _; moments = are_points _ }) c.self.invariant g.B.ByteFacts.JOINS c.args.point c.args.a c.args.value early small tracked open_ follows c.args.keep brought place (known_of g.B.ByteFacts.store c.learn_byte-answer.new.self) c.len-len.ensures.once c.learn_byte-answer.result c.learn_byte-answer.ensures).0
 
 pub returns : goal.returns
 returns g c =
@@ -27,4 +28,4 @@ returns g c =
     let brought = subst (λ (x : Whole g.row.B.Denot g.row.W.Denot g.row.R.Denot). c.args.keep ≡ false → IsBrought (state_of g.W.Partial.sets g.W.Transfer.moves g.R.RowRules.rules g.B.ByteFacts.store x) (fact_of c.args.point (Byte c.args.a) c.args.value)) (sym c.self.view_is) c.requires.brought in
     let place = subst (λ (x : Whole g.row.B.Denot g.row.W.Denot g.row.R.Denot). HasPlace c.args.keep c.args.point c.args.a (state_of g.W.Partial.sets g.W.Transfer.moves g.R.RowRules.rules g.B.ByteFacts.store x)) (sym c.self.view_is) c.requires.place in
     let small : c.args.a < 2 ^ 32 = omega arith in
-    rw (← c.self.view_is) (told_byte _ (record { sets = g.met.W.Partial.lawful; moves = g.met.W.Transfer.covers; rules = g.met.R.RowRules.lawful }) c.self.invariant g.B.ByteFacts.JOINS c.args.point c.args.a c.args.value early small tracked open_ follows c.args.keep brought place (known_of g.B.ByteFacts.store c.learn_byte-answer.new.self) c.len-len.ensures.once c.learn_byte-answer.result c.learn_byte-answer.ensures).1
+    rw (← c.self.view_is) (told_byte _ (record { sets = g.met.W.Partial.lawful; moves = g.met.W.Transfer.covers; rules = g.met.R.RowRules.lawful; legs = rows_within _; moments = are_points _ }) c.self.invariant g.B.ByteFacts.JOINS c.args.point c.args.a c.args.value early small tracked open_ follows c.args.keep brought place (known_of g.B.ByteFacts.store c.learn_byte-answer.new.self) c.len-len.ensures.once c.learn_byte-answer.result c.learn_byte-answer.ensures).1

@@ -4,14 +4,16 @@ use Rattle.rept_report.specs.Why.IsReason.{of_register}
 use Rattle.rept_report.proofs.Reasons.{entry_within}
 use Rattle.rept_log.proofs.Reasoning.{none_after}
 use Rattle.rept_analysis.specs.State.{state_of}
+use Rattle.rept_analysis.proofs.Explaining.{front_finds}
 use Rattle.rept_analysis.proofs.Fronts.{no_known, some_after}
+use Rattle.rept_report.proofs.OneThread.{rows_within, are_points}
 use Rattle.rept_analysis.proofs.analysis.Analysis.why_register.Goals as goal
 
 pub known_below-requires-clause-within : goal.known_below-requires-clause-within
 known_below-requires-clause-within g c = let below = entry_within c.args.self.now.known.log c.in-Some.place c.args.fact.now c.in-Some.ensures.found in omega (arith, below)
 
 pub returns-in_ok-spans-in-Some-clause-none : goal.returns-in_ok-spans-in-Some-clause-none
-returns-in_ok-spans-in-Some-clause-none g c = IfOk-weaker c.known_below.result _ _ (λ found h. none_after _ _ found (λ none. no_known (state_of g.W.Partial.sets g.W.Transfer.moves g.R.RowRules.rules g.B.ByteFacts.store c.args.self.now) (record { sets = g.met.W.Partial.lawful; moves = g.met.W.Transfer.covers; rules = g.met.R.RowRules.lawful }) c.held.ensures (c.held.ensures.finished c.requires.complete) c.args.fact.now c.args.r c.in-Some.place c.requires.cell c.in-Some.ensures.found none) h) c.known_below.ensures.none
+returns-in_ok-spans-in-Some-clause-none g c = IfOk-weaker c.known_below.result _ _ (λ found h. none_after _ _ found (λ none. no_known (state_of g.W.Partial.sets g.W.Transfer.moves g.R.RowRules.rules g.B.ByteFacts.store c.args.self.now) (record { sets = g.met.W.Partial.lawful; moves = g.met.W.Transfer.covers; rules = g.met.R.RowRules.lawful; legs = rows_within _; moments = are_points _ }) c.held.ensures (c.held.ensures.finished c.requires.complete) c.args.fact.now c.args.r c.in-Some.place c.requires.cell c.in-Some.ensures.found none) h) c.known_below.ensures.none
 
 pub returns-in_ok-spans-in-Some-clause-reason : goal.returns-in_ok-spans-in-Some-clause-reason
-returns-in_ok-spans-in-Some-clause-reason g c = IfOk-weaker c.known_below.result _ _ (λ found h. some_after _ _ found (λ reason by. of_register c.in-Some.place c.args.r c.requires.cell c.in-Some.ensures.found by) h) c.known_below.ensures.found
+returns-in_ok-spans-in-Some-clause-reason g c = IfOk-weaker c.known_below.result _ _ (λ found h. some_after _ _ found (λ reason by. of_register c.in-Some.place c.args.r _ (front_finds (state_of g.W.Partial.sets g.W.Transfer.moves g.R.RowRules.rules g.B.ByteFacts.store c.args.self.now) (record { sets = g.met.W.Partial.lawful; moves = g.met.W.Transfer.covers; rules = g.met.R.RowRules.lawful; legs = rows_within _; moments = are_points _ }) c.held.ensures (c.held.ensures.finished c.requires.complete) c.in-Some.place) c.requires.cell c.in-Some.ensures.found by) h) c.known_below.ensures.found
