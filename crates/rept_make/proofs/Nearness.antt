@@ -101,11 +101,17 @@ module _ (at slot next : ℕ) (s t : State) (here : at ≡ 65536 + 4 * slot) (n 
   tame Ebreak e f lt straight h = absurd f
   tame (Counter rd csr) e f lt straight h = absurd f
 
+  lands : (image_end : ℕ) → HasEffect (Jalr 1 23 (pos 0)) image_end at next s t → next ≡ 65800
+  unfolding word
+  lands e h = let target = n.target in h.onward ∙ (rw target refl)
+
+  pub jump_lands : (instr : Instr) (image_end : ℕ) → slot ≡ 64 → IsPlaced slot instr → HasEffect instr image_end at next s t → next ≡ 65800
+  jump_lands instr e is p h = lands e (subst (λ (i : Instr). HasEffect i e at next s t) (p.jump is) h)
+
   fixed_jump : (image_end : ℕ) → HasEffect (Jalr 1 23 (pos 0)) image_end at next s t → Next t next
   unfolding word
   fixed_jump e h =
-      let target = n.target in
-      let onto : next ≡ 65800 = h.onward ∙ (rw target refl) in
+      let onto : next ≡ 65800 = lands e h in
       (near_sets 1 _ s t n h.link (λ e. omega arith) (λ e. omega arith) (λ e. omega arith) (λ e. omega arith) (λ e. omega arith), (66, omega arith, omega arith))
 
   fixed_number : (image_end : ℕ) → s.register 0 ≡ 0 → slot < 255 → HasEffect (Imm Addi 17 0 (pos 172)) image_end at next s t → Next t next

@@ -1,11 +1,12 @@
 -- One step more of a made run.
-use Rattle.std.proofs.Common.{◌≡◌, ℕ, zero, suc, ◌+◌, ◌-◌, ◌*◌, ◌/◌, ◌%◌, ◌<◌, ◌≤◌, ◌==◌, nat_le, List, [], ◌∷◌, ◌++◌, length, get_or, slice_get, Option, Some, MatchOption, IsTrue, ◌↔◌, Bool, true, false, cond, refl, sym, ◌∙◌, ap, subst, arith, ◌⊎◌, inl, inr, length-append}
+use Rattle.std.proofs.Common.{◌≡◌, ℕ, zero, suc, pos, negsuc, ◌+◌, ◌-◌, ◌*◌, ◌/◌, ◌%◌, ◌<◌, ◌≤◌, ◌==◌, nat_le, List, [], ◌∷◌, ◌++◌, length, get_or, slice_get, Option, None, Some, MatchOption, IsTrue, ◌↔◌, Bool, true, false, cond, refl, sym, ◌∙◌, ap, subst, arith, ◌⊎◌, inl, inr, length-append}
 use Rattle.std.proofs.lemmas.Bool.{cases_eq}
 use Rattle.std.proofs.lemmas.Bool.Decides.{nat_tests}
 use Rattle.std.proofs.lemmas.List.Elements.{All-nil, All-push}
 use Rattle.std.proofs.lemmas.Option.{slice_get_within, slice_get-get_or}
 use Rattle.rept_isa.specs.declared.instr.Instr.{Instr}
 use Rattle.rept_isa.specs.declared.instr.Instr.TheVariants.{Lui, Auipc, Jal, Jalr, Branch, Load, Store, Imm, Op, Fence, Ecall, Ebreak, Counter}
+use Rattle.rept_isa.specs.declared.instr.ImmOp.TheVariants.{Addi}
 use Rattle.rept_isa.specs.declared.row.StepRow.{StepRow}
 use Rattle.rept_isa.specs.Words.{IsWord}
 use Rattle.rept_isa.specs.Numbers.{plus, following}
@@ -13,19 +14,20 @@ use Rattle.rept_isa.proofs.WordLemmas.{one_instruction}
 use Rattle.rept_steps.specs.Linked.{BeginAt, EndBefore}
 use Rattle.rept_machine.specs.State.{State, IsState}
 use Rattle.rept_machine.specs.declared.machine.Machine.{Machine}
-use Rattle.rept_machine.specs.Machine.{state_of, pc_of, code_of, base_of, next_word, word_of_code, IsNext}
+use Rattle.rept_machine.specs.Machine.{state_of, pc_of, code_of, base_of, next_word, word_of_code, IsNext, IsNotRunnable, Halts}
+use Rattle.rept_machine.specs.declared.machine.Halt.TheVariants as halt
 use Rattle.rept_machine.specs.Arithmetic.{branch_holds}
 use Rattle.rept_machine.specs.Step.{HasEffect, IsStep}
 use Rattle.rept_machine.specs.Choices.{Picks}
 use Rattle.rept_path.specs.declared.flow.Flow.{Flow}
-use Rattle.rept_path.specs.Code.{flow_of}
-use Rattle.rept_encode.specs.Walkable.{MayLead, calls, IsStepped}
+use Rattle.rept_path.specs.Code.{flow_of, jumps_far}
+use Rattle.rept_encode.specs.Walkable.{MayLead, calls, IsStepped, IsJumpEnd}
 use Rattle.rept_make.specs.Code.{made_instr, IsTame, IsPlaced}
 use Rattle.rept_make.specs.Run.{IsMadeRow, IsMadeRun}
 use Rattle.rept_make.specs.Ran.{Ran}
 use Rattle.rept_make.specs.Start.{start_registers}
 use Rattle.rept_make.specs.Words.{SpellsAt, IsCode}
-use Rattle.rept_make.proofs.Nearness.{Next, near_step}
+use Rattle.rept_make.proofs.Nearness.{Next, near_step, jump_lands}
 
 -- whether a call
 not_call : (b : Bool) (i : Instr) → (IsTrue b ↔ (i ≡ Ecall)) → (i ≡ Ecall → ⊥) → b ≡ false
@@ -89,6 +91,71 @@ leads slot instr e at next s t p even h = elim (cases_eq slot 64) [
     ]
   ]
 ]
+
+-- only the jump of slot 64 is uninferable, only slot 192 is a call, and no instruction is a breakpoint
+tame_stays : (instr : Instr) → IsTame instr → jumps_far (flow_of instr) ≡ false
+tame_stays (Imm op rd rs1 imm) f = refl
+tame_stays (Op op rd rs1 rs2) f = refl
+tame_stays (Load op rd rs1 imm) f = refl
+tame_stays (Store op rs1 rs2 imm) f = refl
+tame_stays (Branch op rs1 rs2 imm) f = refl
+tame_stays (Lui rd imm) f = absurd f
+tame_stays (Auipc rd imm) f = absurd f
+tame_stays (Jal rd imm) f = absurd f
+tame_stays (Jalr rd rs1 imm) f = absurd f
+tame_stays Fence f = absurd f
+tame_stays Ecall f = absurd f
+tame_stays Ebreak f = absurd f
+tame_stays (Counter rd csr) f = absurd f
+
+tame_runs : (instr : Instr) → IsTame instr → (instr ≡ Ecall → ⊥) × (instr ≡ Ebreak → ⊥)
+tame_runs (Imm op rd rs1 imm) f = (λ e. cc, λ e. cc)
+tame_runs (Op op rd rs1 rs2) f = (λ e. cc, λ e. cc)
+tame_runs (Load op rd rs1 imm) f = (λ e. cc, λ e. cc)
+tame_runs (Store op rs1 rs2 imm) f = (λ e. cc, λ e. cc)
+tame_runs (Branch op rs1 rs2 imm) f = (λ e. cc, λ e. cc)
+tame_runs (Lui rd imm) f = absurd f
+tame_runs (Auipc rd imm) f = absurd f
+tame_runs (Jal rd imm) f = absurd f
+tame_runs (Jalr rd rs1 imm) f = absurd f
+tame_runs Fence f = absurd f
+tame_runs Ecall f = absurd f
+tame_runs Ebreak f = absurd f
+tame_runs (Counter rd csr) f = absurd f
+
+pub far_slot : (slot : ℕ) (instr : Instr) → IsPlaced slot instr → jumps_far (flow_of instr) ≡ true → slot ≡ 64
+far_slot slot instr p far = elim (cases_eq slot 64) [
+  | inl x ↦ x
+  | inr a ↦ elim (cases_eq slot 191) [
+    | inl x ↦ let i = p.number x in let bad : false ≡ true = subst (λ (y : Instr). jumps_far (flow_of y) ≡ true) i far in let no : ⊥ = cc in absurd no
+    | inr b ↦ elim (cases_eq slot 192) [
+      | inl x ↦ let i = p.call x in let bad : false ≡ true = subst (λ (y : Instr). jumps_far (flow_of y) ≡ true) i far in let no : ⊥ = cc in absurd no
+      | inr c ↦ elim (cases_eq slot 255) [
+        | inl x ↦ let i = p.back x in let bad : false ≡ true = subst (λ (y : Instr). jumps_far (flow_of y) ≡ true) i far in let no : ⊥ = cc in absurd no
+        | inr d ↦ let bad : false ≡ true = sym (tame_stays instr (p.tame a b c d)) ∙ far in let no : ⊥ = cc in absurd no
+      ]
+    ]
+  ]
+]
+
+pub no_breakpoint : (slot : ℕ) (instr : Instr) → IsPlaced slot instr → instr ≡ Ebreak → ⊥
+no_breakpoint slot instr p e = elim (cases_eq slot 64) [
+  | inl x ↦ let bad : Jalr 1 23 (pos 0) ≡ Ebreak = sym (p.jump x) ∙ e in cc
+  | inr a ↦ elim (cases_eq slot 191) [
+    | inl x ↦ let bad : Imm Addi 17 0 (pos 172) ≡ Ebreak = sym (p.number x) ∙ e in cc
+    | inr b ↦ elim (cases_eq slot 192) [
+      | inl x ↦ let bad : Ecall ≡ Ebreak = sym (p.call x) ∙ e in cc
+      | inr c ↦ elim (cases_eq slot 255) [
+        | inl x ↦ let bad : Jal 0 (negsuc 1019) ≡ Ebreak = sym (p.back x) ∙ e in cc
+        | inr d ↦ (tame_runs instr (p.tame a b c d)).1 e
+      ]
+    ]
+  ]
+]
+
+-- no call stands in slot 66
+pub no_call_there : (instr : Instr) → IsPlaced 66 instr → instr ≡ Ecall → ⊥
+no_call_there instr p e = (tame_runs instr (p.tame (λ x. omega arith) (λ x. omega arith) (λ x. omega arith) (λ x. omega arith))).0 e
 
 -- the word at a slot
 word_there : (words : List ℕ) (j a base : ℕ) → length words ≡ 256 → j < 256 → base ≡ 65536 → a ≡ 65536 + 4 * j → word_of_code words base a ≡ Some (get_or words j 0)
@@ -188,6 +255,36 @@ module _ (seed : ℕ) (words : List ℕ) (code : IsCode seed words) (old new : M
         ];
       }
 
+  -- the row that is new follows no uninferable jump where it is a call
+  landed_on : (before : ℕ) (last : StepRow) → length (rows ++ row ∷ []) ≡ before + 1 → slice_get (rows ++ row ∷ []) before ≡ Some last → jumps_far (flow_of last.instr) ≡ true → pc_of new ≡ 65800
+  landed_on before last size get far = elim (get_push rows row before last get) [
+    | inl g ↦ let w = slice_get_within rows before last g in let l : length (rows ++ row ∷ []) ≡ length rows + 1 = length-append rows (row ∷ []) in let no : ⊥ = omega arith in absurd no
+    | inr g ↦
+        let here : jumps_far (flow_of row.instr) ≡ true = subst (λ (r : StepRow). jumps_far (flow_of r.instr) ≡ true) (sym g.1) far in
+        let slot : ran.slot.0 ≡ 64 = far_slot ran.slot.0 row.instr placed here in
+        next ∙ jump_lands row.at ran.slot.0 row.next (state_of old) (state_of new) there ran.near row.instr 0 slot placed (lawful 0)
+  ]
+
+  no_call_here : pc_of old ≡ 65800 → row.instr ≡ Ecall → ⊥
+  no_call_here lands e =
+      let where_it_is = ran.slot.2 in
+      let slot : ran.slot.0 ≡ 66 = omega arith in
+      no_call_there row.instr (subst (λ (k : ℕ). IsPlaced k row.instr) slot placed) e
+
+  entered_on : (i : ℕ) → IsJumpEnd (rows ++ row ∷ []) i → ⊥
+  entered_on i end = elim (get_push rows row i end.call end.follows) [
+    | inl g ↦ elim (get_push rows row end.before end.jump end.jumps) [
+      | inl f ↦ ran.entered i (record { jump = end.jump; call = end.call; before = end.before; next = end.next; jumps = f; far = end.far; follows = g; is_call = end.is_call })
+      | inr f ↦ let w = slice_get_within rows i end.call g in let a = end.next in let b = f.0 in omega arith
+    ]
+    | inr g ↦ elim (get_push rows row end.before end.jump end.jumps) [
+      | inl f ↦
+          let is_so : IsTrue row.call = subst (λ (r : StepRow). r.call ≡ true) (sym g.1) end.is_call in
+          no_call_here (ran.landed end.before end.jump (sym g.0 ∙ end.next) f end.far) (call.0 is_so)
+      | inr f ↦ let a = end.next in let b = f.0 in let e = g.0 in omega arith
+    ]
+  ]
+
   push_some : (xs : List StepRow) → (xs ++ row ∷ [] ≡ []) → ⊥
   push_some [] e = cc
   push_some (x ∷ xs) e = cc
@@ -205,6 +302,8 @@ module _ (seed : ℕ) (words : List ℕ) (code : IsCode seed words) (old new : M
     start = λ none. absurd (push_some rows none);
     ends = rw next ends;
     steps = All-push IsStepped rows row ran.steps stepped;
+    landed = landed_on;
+    entered = entered_on;
   }
 
 -- Before the first step.
@@ -221,6 +320,8 @@ ran_first seed words m code base pc registers memory state = record {
   start = λ none. pc;
   ends = tt;
   steps = All-nil IsStepped;
+  landed = λ before last size. omega arith;
+  entered = λ i end. let get = end.jumps in cc;
 }
 
 above_zero : (r : ℕ) → (suc r == 0) ≡ false
@@ -231,3 +332,17 @@ start_of seed regs v zero is e = e
 start_of seed regs v (suc r) is e =
     let t = above_zero r in
     e ∙ ap (λ (b : Bool). cond b 0 (get_or regs (suc r) 0)) t ∙ ap (λ (xs : List ℕ). get_or xs (suc r) 0) is
+
+-- the machine of a made run halts only where memory is wanting
+module _ (seed : ℕ) (words : List ℕ) (m : Machine) (rows : List StepRow) (code : IsCode seed words) (ran : Ran seed words m rows) where
+  word_next : next_word m ≡ Some (get_or words ran.slot.0 0)
+  word_next = ap (λ (xs : List ℕ). word_of_code xs (base_of m) (pc_of m)) ran.code ∙ word_there words ran.slot.0 (pc_of m) (base_of m) code.size ran.slot.1 ran.base ran.slot.2
+
+  pub has_code : {P : Type 0} (address : ℕ) → Halts m (halt.NotCode address) → P
+  has_code address h = let bad : Some (get_or words ran.slot.0 0) ≡ None = sym word_next ∙ h.1 in let no : ⊥ = cc in absurd no
+
+  pub has_instruction : {P : Type 0} (address : ℕ) → Halts m (halt.NotRunnable address) → P
+  has_instruction address h =
+      let refused : IsNotRunnable (get_or words ran.slot.0 0) = subst (λ (o : Option ℕ). MatchOption o ⊥ IsNotRunnable) word_next h.1 in
+      let spelled = code.spells ran.slot.0 ran.slot.1 in
+      absurd (no_breakpoint ran.slot.0 (made_instr seed ran.slot.0) spelled.placed (refused (made_instr seed ran.slot.0) spelled.spelled))

@@ -1,12 +1,13 @@
 -- A machine that has made the steps of a made run so far. It stands in private contracts alone.
-use Rattle.std.specs.Prelude.{◌≡◌, ℕ, ◌+◌, ◌*◌, ◌<◌, List, [], length}
+use Rattle.std.specs.Prelude.{◌≡◌, ℕ, ◌+◌, ◌*◌, ◌<◌, List, [], length, slice_get, Some, true}
 use Rattle.std.specs.List.{All}
 use Rattle.rept_isa.specs.declared.row.StepRow.{StepRow}
 use Rattle.rept_steps.specs.Linked.{EndBefore}
 use Rattle.rept_machine.specs.State.{State, IsState}
 use Rattle.rept_machine.specs.declared.machine.Machine.{Machine}
 use Rattle.rept_machine.specs.Machine.{state_of, pc_of, code_of, base_of}
-use Rattle.rept_encode.specs.Walkable.{IsStepped}
+use Rattle.rept_path.specs.Code.{flow_of, jumps_far}
+use Rattle.rept_encode.specs.Walkable.{IsStepped, IsJumpEnd}
 use Rattle.rept_make.specs.Near.{Near}
 use Rattle.rept_make.specs.Run.{IsMadeRun}
 
@@ -22,3 +23,6 @@ pub record Ran (seed : ℕ) (words : List ℕ) (m : Machine) (rows : List StepRo
   pub start : rows ≡ [] → pc_of m ≡ 65536
   pub ends : EndBefore rows (pc_of m)
   pub steps : All IsStepped rows
+  -- the only uninferable jump leads to slot 66, where no call stands
+  pub landed : (before : ℕ) (last : StepRow) → length rows ≡ before + 1 → slice_get rows before ≡ Some last → jumps_far (flow_of last.instr) ≡ true → pc_of m ≡ 65800
+  pub entered : (i : ℕ) → IsJumpEnd rows i → ⊥

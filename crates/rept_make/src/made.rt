@@ -2,7 +2,7 @@
 
 ghost use Rattle.std.specs.Prelude.{◌≡◌, ◌+◌, ◌^◌, ◌<◌, ◌≤◌, ℕ, length, slice_index, IfOk};
 ghost use Rattle.rept_machine.specs.Machine.{state_of, pc_of};
-ghost use Rattle.rept_encode.specs.Walkable.{IsWalkable};
+ghost use Rattle.rept_encode.specs.Walkable.{IsWalkable, IsJumpEnd};
 ghost use Rattle.rept_encode.specs.Encoded.{Tells};
 ghost use Rattle.rept_make.specs.Made.{IsMade};
 ghost use Rattle.rept_make.specs.Ran.{Ran};
@@ -12,7 +12,7 @@ use crate::code::{made_code, start_registers};
 use crate::files::{core_file, executable};
 use crate::run::{Run, make_run};
 use crate::slot::register;
-use rept_encode::encode;
+use rept_encode::{EncodeFault, encode};
 use rept_machine::Machine;
 use rept_steps::Steps;
 use rept_word::{OutOfMemory, Text};
@@ -54,15 +54,19 @@ fn saved_bytes(alloc: Global, machine: &Machine<'_>) -> Result<Vec<u8>, AllocErr
     Ok(bytes)
 }
 
-/// The trace of the steps.
+/// The trace of steps of which no call directly follows an uninferable jump, so that nothing but memory can be wanting.
 fn trace_of(alloc: Global, steps: &Steps) -> Result<Text, OutOfMemory>
-    requires { IsWalkable steps.now }
+    requires walkable { IsWalkable steps.now }
+    requires entered { (i : ℕ) → IsJumpEnd steps.now i → ⊥ }
     ensures tells { IfOk result (λ trace. Tells trace steps.now) }
     ensures few { IfOk result (λ trace. length trace < 2 ^ 32) }
 {
     match encode(alloc, steps) {
         Ok(trace) => Ok(trace),
-        Err(_) => Err(AllocError),
+        Err(fault) => match fault {
+            EncodeFault::OutOfMemory => Err(AllocError),
+            EncodeFault::JumpEnds(_) => unreachable!(),
+        },
     }
 }
 
@@ -82,7 +86,8 @@ fn save(alloc: Global, code: &[u32], run: &Run<'_>) -> Result<Made, OutOfMemory>
 
 /// The made crash of a seed: a program of 256 words from 0x10000 on that is drawn from it, the core file after so many of its steps,
 /// from 1 to 20,000, and the trace of these steps. The files are read back as the path of these steps, of which an execution exists
-/// that ends in the dump: the run itself.
+/// that ends in the dump: the run itself. The code never halts, and the trace of each of its runs can be written: an `Err` is a want of memory
+/// and no other fault.
 pub fn make(alloc: Global, seed: u32, steps: u32) -> Result<Made, OutOfMemory>
     requires some { 1 ≤ steps }
     requires few { steps ≤ 20000 }

@@ -5,23 +5,31 @@ ghost use Rattle.rept_make.specs.Start.{start_registers};
 ghost use Rattle.rept_make.specs.Ran.{Ran};
 ghost use Rattle.rept_make.specs.Words.{IsCode};
 
-use rept_machine::Machine;
-use rept_steps::Steps;
+use rept_machine::{Halt, Machine};
+use rept_steps::{PushFault, Steps};
 use rept_word::OutOfMemory;
 use std::alloc::{AllocError, Global};
 
-/// Makes one step and notes it.
+/// Makes one step and notes it. A seed's code never halts, so nothing but memory can be wanting.
 fn step(machine: &mut Machine<'_>, steps: &mut Steps) -> Result<(), OutOfMemory>
-    requires { (seed : ℕ) × (words : List ℕ) × IsCode seed words × Ran seed words machine.old steps.old }
+    requires made { (seed : ℕ) × (words : List ℕ) × IsCode seed words × Ran seed words machine.old steps.old }
+    requires few { length steps.old < 65536 }
     ensures ran { OnOk result ((seed : ℕ) (words : List ℕ) → IsCode seed words → Ran seed words machine.old steps.old → Ran seed words machine.new steps.new) }
     ensures size { OnOk result (length steps.new ≡ length steps.old + 1) }
 {
-    let Ok(row) = machine.step() else {
-        return Err(AllocError);
+    let row = match machine.step() {
+        Ok(row) => row,
+        Err(halt) => match halt {
+            Halt::OutOfMemory => return Err(AllocError),
+            Halt::NotCode(_) | Halt::NotRunnable(_) => unreachable!(),
+        },
     };
     match steps.push(row) {
         Ok(()) => Ok(()),
-        Err(_) => Err(AllocError),
+        Err(fault) => match fault {
+            PushFault::OutOfMemory => Err(AllocError),
+            PushFault::Full => unreachable!(),
+        },
     }
 }
 
@@ -42,6 +50,7 @@ pub fn make_run<'a>(
 ) -> Result<Run<'a>, OutOfMemory>
     requires code { IsCode seed code.now }
     requires registers { registers ≡ start_registers seed }
+    requires few { count ≤ 65536 }
     ensures ran { IfOk result (λ run. Ran seed code.now run.machine run.steps) }
     ensures count { IfOk result (λ run. length run.steps ≡ count) }
 {

@@ -2,6 +2,7 @@
 //! and ports over the system.
 #![tactic(auto)]
 
+pub mod arguments;
 pub mod host;
 pub mod lines;
 pub mod shelf;
@@ -9,6 +10,7 @@ pub mod sink;
 pub mod source;
 pub mod traits;
 
+pub use arguments::{Unreadable, words_of};
 pub use host::{DiskShelf, StdSink, StdSource};
 pub use lines::{BoundedLines, Line, LineFault};
 pub use shelf::{CalmShelf, MemShelf};

@@ -4,10 +4,13 @@ use rept_ports::{
     BoundedLines, CalmShelf, CalmSource, DiskShelf, Failed, Line, LineFault, LoadFault, MemShelf,
     MemSink, MemSource, OutOfMemory, Shelf, Sink, Source, StdSink, StdSource, write_all,
 };
-use std::alloc::Global;
-use std::io::{Read, Write};
+use std::alloc::{Allocator, Global};
+use std::cell::Cell;
+use std::fs::{Metadata, OpenOptions};
+use std::io::{ErrorKind, Read, Write};
 use std::os::fd::AsRawFd;
 use std::process::Abort;
+use std::rt::Files;
 use std::test::Fail;
 use std::{fs, io};
 
@@ -253,5 +256,113 @@ fn std_sink(rt: HostRuntime) -> Result<(), Fail> {
     fs::remove_file(&rt, PATH)?;
     let mut full = StdSink::new(fs::create(&rt, "/dev/full")?);
     assert_eq!(rt; full.write(b"c"), Err(Failed));
+    Ok(())
+}
+
+/// A device, or a file system, whose first call fails, and whose later ones succeed.
+#[derive(Drop)]
+struct FailsFirst<D> {
+    device: D,
+    failed: Cell<bool>,
+}
+
+impl<D> FailsFirst<D> {
+    fn new(device: D) -> FailsFirst<D> {
+        FailsFirst {
+            device,
+            failed: Cell::new(false),
+        }
+    }
+
+    fn call(&self) -> io::Result<()> {
+        if self.failed.replace(true) {
+            return Ok(());
+        }
+        Err(io::Error::from(ErrorKind::TimedOut))
+    }
+}
+
+impl<D> Read for FailsFirst<D> {
+    fn read(&mut self, _buf: &mut [u8]) -> io::Result<usize> {
+        self.call()?;
+        Ok(0)
+    }
+}
+
+impl<D> Write for FailsFirst<D> {
+    fn write(&mut self, buf: &[u8]) -> io::Result<usize> {
+        self.call()?;
+        Ok(buf.len())
+    }
+
+    fn flush(&mut self) -> io::Result<()> {
+        Ok(())
+    }
+}
+
+impl<D: Files> Files for FailsFirst<D> {
+    type File = D::File;
+
+    type Dir = D::Dir;
+
+    fn open_file(&self, how: &OpenOptions, path: &str) -> io::Result<D::File> {
+        self.call()?;
+        self.device.open_file(how, path)
+    }
+
+    fn open_dir(&self, path: &str) -> io::Result<D::Dir> {
+        self.device.open_dir(path)
+    }
+
+    fn metadata(&self, path: &str) -> io::Result<Metadata> {
+        self.device.metadata(path)
+    }
+
+    fn symlink_metadata(&self, path: &str) -> io::Result<Metadata> {
+        self.device.symlink_metadata(path)
+    }
+
+    fn copy(&self, from: &str, to: &str) -> io::Result<u64> {
+        self.device.copy(from, to)
+    }
+
+    fn rename(&self, from: &str, to: &str) -> io::Result<()> {
+        self.device.rename(from, to)
+    }
+
+    fn remove_file(&self, path: &str) -> io::Result<()> {
+        self.device.remove_file(path)
+    }
+
+    fn create_dir(&self, path: &str) -> io::Result<()> {
+        self.device.create_dir(path)
+    }
+
+    fn remove_dir(&self, path: &str) -> io::Result<()> {
+        self.device.remove_dir(path)
+    }
+
+    fn remove_dir_all<B: Allocator>(&self, alloc: B, path: &str) -> io::Result<()> {
+        self.device.remove_dir_all(alloc, path)
+    }
+}
+
+// A device that fails once is told at that call, and asked no second time.
+#[test]
+fn one_fault_is_told(rt: HostRuntime) -> Result<(), Fail> {
+    let mut source = StdSource::new(FailsFirst::new(()));
+    check_reads(&rt, &mut source, &[Err(Failed), Ok(b"")]);
+    let mut sink = StdSink::new(FailsFirst::new(()));
+    assert_eq!(rt; sink.write(b"ab"), Err(Failed));
+    assert_eq!(rt; sink.write(b"ab"), Ok(2));
+    const PATH: &str = "rept_ports_one_fault";
+    fs::write(&rt, PATH, b"ab".as_slice())?;
+    let mut shelf = DiskShelf::new(FailsFirst::new(&rt));
+    let loads: [(&str, usize, Result<&[u8], LoadFault>); 2] = [
+        (PATH, 9, Err(LoadFault::Failed)),
+        (PATH, 9, Ok(b"ab")),
+    ];
+    check_loads(&rt, rt.alloc(), &mut shelf, &loads);
+    fs::remove_file(&rt, PATH)?;
     Ok(())
 }

@@ -1,6 +1,7 @@
 //! Why no trace was written, with its line and its code.
 
-ghost use Rattle.std.specs.Prelude.{◌≤◌};
+ghost use Rattle.std.specs.Prelude.{◌≡◌};
+ghost use Rattle.rept_recording.specs.Process.{number_of_stop};
 
 use rept_simlog::Refusal;
 use thiserror::Error;
@@ -40,7 +41,7 @@ pub enum Stop {
 impl Stop {
     /// The exit status.
     pub fn number(self) -> u8
-        ensures some { 1 ≤ result }
+        ensures { result ≡ number_of_stop self }
     {
         match self {
             Stop::Refused(Refusal::OutOfMemory) | Stop::OutOfMemory => 11,

@@ -1,5 +1,6 @@
 -- Lines of a log, and the steps between them.
 use Rattle.std.proofs.Common.{◌≡◌, ℕ, zero, suc, ◌+◌, ◌<◌, List, [], ◌∷◌, ◌++◌, length, get_or, slice_get, Option, Some, false, refl, sym, ◌∙◌, ap, subst, arith, inl, inr, ◌⊎◌, length-append}
+use Rattle.std.proofs.lemmas.Bool.{cases_eq}
 use Rattle.std.proofs.lemmas.List.Elements.{All-from_get_or}
 use Rattle.std.proofs.lemmas.Option.{slice_get_within, slice_get-get_or}
 use Rattle.rept_isa.specs.declared.instr.Instr.TheVariants.{Fence}
@@ -14,7 +15,7 @@ use Rattle.rept_simlog.specs.declared.refusal.Refusal.{Refusal}
 use Rattle.rept_simlog.specs.declared.refusal.Refusal.TheVariants.{Executable, NoNumber, NoInstruction, NoStep, JumpEnds, NoSteps, OutOfMemory}
 use Rattle.rept_simlog.specs.Log.{IsNumber, IsLine, AreEntriesThen}
 use Rattle.rept_simlog.specs.Recorded.{IsStepRefused, IsWalkFault}
-use Rattle.rept_simlog.specs.Walk.{IsStepBetween, AddsRow, Along, GoAlong, EndsJump, Records}
+use Rattle.rept_simlog.specs.Walk.{IsStepBetween, AddsRow, Along, GoAlong, MayStep, MayGo, EndsJump, Records}
 
 -- one entry more
 pub entries_push : (before : ℕ) (bytes rest line after : List ℕ) (entries : List Entry) (entry : Entry) → AreEntriesThen before bytes entries rest → 0 < length rest → IsLine rest line after → entry.line ≡ before + length entries + 1 → IsNumber line entry.address → AreEntriesThen before bytes (entries ++ entry ∷ []) after
@@ -28,16 +29,16 @@ pub size_push : (old new : List Entry) (entry : Entry) → new ≡ old ++ entry 
 size_push old new entry e = ap (length {A = Entry}) e ∙ length-append old (entry ∷ [])
 
 -- a fault between two entries is one of all
-pub lift_fault : (code : List ElfSegment) (entries : List Entry) (i : ℕ) (from to : Entry) (r : Refusal) → slice_get entries i ≡ Some from → slice_get entries (i + 1) ≡ Some to → IsStepRefused code from to r → IsWalkFault code entries r
-lift_fault code entries i from to (NoInstruction k fault) a b h =
+pub lift_fault : (code : List ElfSegment) (entries : List Entry) (i : ℕ) (from to : Entry) (r : Refusal) → MayGo code entries i → slice_get entries i ≡ Some from → slice_get entries (i + 1) ≡ Some to → IsStepRefused code from to r → IsWalkFault code entries r
+lift_fault code entries i from to (NoInstruction k fault) go a b h =
     let w = slice_get_within entries (i + 1) to b in
-    record { i = i; entry = from; there = a; early = w; line = h.0; looked = h.1 }
-lift_fault code entries i from to (NoStep k) a b h = let n = h.1 in record { i = i; from = from; to = to; instr = n.0; there = a; next = b; line = h.0; looked = n.1; none = n.2 }
-lift_fault code entries i from to OutOfMemory a b h = tt
-lift_fault code entries i from to (JumpEnds k) a b h = absurd h
-lift_fault code entries i from to NoSteps a b h = absurd h
-lift_fault code entries i from to (NoNumber k) a b h = absurd h
-lift_fault code entries i from to (Executable fault) a b h = absurd h
+    record { i = i; entry = from; there = a; early = w; first = go; line = h.0; looked = h.1 }
+lift_fault code entries i from to (NoStep k) go a b h = let n = h.1 in record { i = i; from = from; to = to; instr = n.0; there = a; next = b; first = go; line = h.0; looked = n.1; none = n.2 }
+lift_fault code entries i from to OutOfMemory go a b h = tt
+lift_fault code entries i from to (JumpEnds k) go a b h = absurd h
+lift_fault code entries i from to NoSteps go a b h = absurd h
+lift_fault code entries i from to (NoNumber k) go a b h = absurd h
+lift_fault code entries i from to (Executable fault) go a b h = absurd h
 
 get_push : (rows : List StepRow) (row : StepRow) (i : ℕ) (r : StepRow) → slice_get (rows ++ row ∷ []) i ≡ Some r → (slice_get rows i ≡ Some r) ⊎ ((i ≡ length rows) × (row ≡ r))
 get_push [] row zero r h = inr (refl, (cc))
@@ -63,6 +64,15 @@ along_push code entries old new i from to before size a b x = λ j row f t get g
           let s : IsStepBetween code from to row = subst (λ (r : StepRow). IsStepBetween code from to r) h.1 x.step in
           subst (λ (u : Entry). IsStepBetween code f u row) same_to (subst (λ (u : Entry). IsStepBetween code u to row) same_from s)
     ]
+
+pub go_push : (code : List ElfSegment) (entries : List Entry) (i : ℕ) (from to : Entry) → MayGo code entries i → slice_get entries i ≡ Some from → slice_get entries (i + 1) ≡ Some to → MayStep code from to → MayGo code entries (i + 1)
+go_push code entries i from to before a b step = λ j f t lt get_f get_t. elim (cases_eq j i) [
+  | inl e ↦
+      let same_from : from ≡ f = same_entry entries i j from f (sym e) a get_f in
+      let same_to : to ≡ t = same_entry entries (i + 1) (j + 1) to t (ap (λ (k : ℕ). k + 1) (sym e)) b get_t in
+      subst (λ (u : Entry). MayStep code f u) same_to (subst (λ (u : Entry). MayStep code u to) same_from step)
+  | inr ne ↦ before j f t (omega arith) get_f get_t
+]
 
 pub rows_size : (code : List ElfSegment) (old new : List StepRow) (from to : Entry) → AddsRow code old new from to → length new ≡ length old + 1
 rows_size code old new from to x = ap (length {A = StepRow}) x.rows ∙ length-append old (x.row ∷ [])

@@ -33,16 +33,29 @@ pub record GoAlong (code : List ElfSegment) (entries : List Entry) (rows : List 
   pub along : Along code entries rows
   pub ends : (last : Entry) → slice_get entries (length rows) ≡ Some last → EndBefore rows last.address
 
--- The entry of this line number has no instruction at its address, by this fault; the last entry needs none.
+-- An instruction stands at the first entry's address, and may lead to the second one's.
+pub record MayStep (code : List ElfSegment) (from to : Entry) : Type 0 where
+  pub instr : Instr
+  pub looked : look code from.address ≡ Ok instr
+  pub leads : MayLead (flow_of instr) from.address to.address
+  pub aligned : from.address % 4 ≡ 0
+
+-- The code can go along the first entries, so many steps.
+abbrev pub MayGo : List ElfSegment → List Entry → ℕ → Type 0
+MayGo code entries count = (i : ℕ) (from to : Entry) → i < count → slice_get entries i ≡ Some from → slice_get entries (i + 1) ≡ Some to → MayStep code from to
+
+-- The entry of this line number is the first one from which the code can't go on, since it has no instruction at its address, by this
+-- fault; the last entry needs none.
 pub record LacksInstruction (code : List ElfSegment) (entries : List Entry) (number : ℕ) (fault : PathFault) : Type 0 where
   pub i : ℕ
   pub entry : Entry
   pub there : slice_get entries i ≡ Some entry
   pub early : i + 1 < length entries
+  pub first : MayGo code entries i
   pub line : entry.line ≡ number
   pub looked : look code entry.address ≡ Err fault
 
--- The code can't come to the entry of this line number from the one before it.
+-- The entry of this line number is the first one to which the code can't come from the one before it.
 pub record LacksStep (code : List ElfSegment) (entries : List Entry) (number : ℕ) : Type 0 where
   pub i : ℕ
   pub from : Entry
@@ -50,6 +63,7 @@ pub record LacksStep (code : List ElfSegment) (entries : List Entry) (number : �
   pub instr : Instr
   pub there : slice_get entries i ≡ Some from
   pub next : slice_get entries (i + 1) ≡ Some to
+  pub first : MayGo code entries i
   pub line : to.line ≡ number
   pub looked : look code from.address ≡ Ok instr
   pub none : MayLead (flow_of instr) from.address to.address → from.address % 4 ≡ 0 → ⊥

@@ -1,6 +1,6 @@
 //! The trace of a log.
 
-ghost use Rattle.std.specs.Prelude.{◌≡◌, ◌<◌, ◌^◌, length, slice_get, Some, IfOk, IfErr};
+ghost use Rattle.std.specs.Prelude.{◌≡◌, ◌<◌, ◌≤◌, ◌^◌, length, slice_get, Some, IfOk, IfErr};
 ghost use Rattle.rept_elf.specs.Image.{segments_of};
 ghost use Rattle.rept_simlog.specs.declared.log.Entry.{Entry};
 ghost use Rattle.rept_simlog.specs.Log.{last_entries};
@@ -20,7 +20,8 @@ const MOST: usize = 65537;
 
 /// The last entries, as many as are recorded.
 fn last_entries(entries: &[Entry]) -> &[Entry]
-    ensures { result.now ≡ last_entries entries.now }
+    ensures last { result.now ≡ last_entries entries.now }
+    ensures few { length result.now ≤ 65537 }
 {
     if entries.len() > MOST {
         return &entries[entries.len() - MOST..];
@@ -30,6 +31,7 @@ fn last_entries(entries: &[Entry]) -> &[Entry]
 
 /// The trace of the steps of entries.
 fn record_entries(alloc: Global, image: &Image<'_>, entries: &[Entry]) -> Result<Text, Refusal>
+    requires { length entries.now ≤ 65537 }
     ensures ok { IfOk result (λ trace. Records (segments_of image.now) entries.now trace) }
     ensures err { IfErr result (λ refusal. IsWalkFault (segments_of image.now) entries.now refusal) }
 {
@@ -55,7 +57,9 @@ fn line_of(entries: &[Entry], i: u32) -> u32
 }
 
 /// The trace of the last 65,536 steps of a log over an executable. The log gives one executed address a line, of which the last is where
-/// the program stopped. What is written is read back as exactly these steps, with none skipped.
+/// the program stopped. What is written is read back as exactly these steps, with none skipped. A refusal names the first line that is
+/// no number, from which the code can't go on, to which it can't come, or that is a call after an uninferable jump; or it is a want of
+/// memory and no other fault.
 pub fn record(alloc: Global, exe: &[u8], log: &[u8]) -> Result<Text, Refusal>
     requires { length log.now < 2 ^ 32 }
     ensures ok { IfOk result (λ trace. IsRecorded exe.now log.now trace) }

@@ -1,0 +1,41 @@
+-- A process that writes the trace of a log: what its words ask for, and the number that it ends with. This project's own.
+use Rattle.std.specs.Prelude.{ℕ, List, [], ◌∷◌, Result, Ok, Err, OnOk, IfErr}
+use Rattle.rept_ports.specs.Port.{Port, Move}
+use Rattle.rept_ports.specs.Shelves.{Loads}
+use Rattle.rept_ports.specs.declared.arguments.Unreadable.{Unreadable}
+use Rattle.rept_ports.specs.declared.arguments.Unreadable.TheVariants as unreadable
+use Rattle.rept_simlog.specs.declared.refusal.Refusal.TheVariants as refusal
+use Rattle.rept_recording.specs.Worked.{Inputs, Writes, Ends}
+use Rattle.rept_recording.specs.declared.stop.Stop.{Stop}
+use Rattle.rept_recording.specs.declared.stop.Stop.TheVariants as stop
+
+-- the only word; or why none is taken
+abbrev pub asked : Result (List (List ℕ)) Unreadable → Result (List ℕ) Stop
+asked (Ok []) = Err stop.Usage
+asked (Ok (name ∷ [])) = Ok name
+asked (Ok (name ∷ second ∷ more)) = Err stop.Usage
+asked (Err unreadable.NotText) = Err stop.Usage
+asked (Err unreadable.OutOfMemory) = Err stop.OutOfMemory
+
+-- the trace was written, or this is why not
+pub record Records {T : Type 0} (from : Inputs) (out : Move Port) (result : Result T Stop) : Type 0 where
+  pub ok : OnOk result (Writes from out)
+  pub err : IfErr result (Ends from out)
+  pub loads : Loads from.shelf.before from.shelf.after result
+
+abbrev pub number_of_stop : Stop → ℕ
+number_of_stop (stop.Refused refusal.OutOfMemory) = 11
+number_of_stop (stop.Refused other) = 1
+number_of_stop stop.Usage = 2
+number_of_stop stop.LoadFault = 3
+number_of_stop stop.NoFile = 4
+number_of_stop stop.TooLarge = 5
+number_of_stop stop.InputFault = 9
+number_of_stop stop.OutputFault = 10
+number_of_stop stop.OutOfMemory = 11
+number_of_stop stop.TooMuchInput = 12
+
+-- 0 where the trace was written
+abbrev pub number_of_end : {T : Type 0} → Result T Stop → ℕ
+number_of_end (Ok done) = 0
+number_of_end (Err why) = number_of_stop why
