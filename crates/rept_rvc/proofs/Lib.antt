@@ -1,0 +1,3 @@
+mod HalfLemmas
+mod ReadLemmas
+mod RangeLemmas

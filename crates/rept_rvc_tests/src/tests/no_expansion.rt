@@ -1,0 +1,44 @@
+//! Made with GNU Binutils for Debian 2.40 (binutils-riscv64-linux-gnu) by `tools/halves`, which says how, and whose --all prints all 65,536 halves: rept_rvc::expand
+//! agreed with each of them.
+
+/// Halves that stand for none: by what objdump calls them, with the quadrant and bits 13 to 15.
+pub const NO_EXPANSION: [u16; 67] = [
+    // .2byte, 0 0
+    0x0004, 0x000c, 0x0018, 0x001c,
+    // .2byte, 0 4
+    0x8000, 0x91a0, 0x92b4, 0x9ffc,
+    // .2byte, 1 3
+    0x6001, 0x6381, 0x6e81, 0x6f81,
+    // .2byte, 1 4
+    0x9c01, 0x9c61, 0x9f35, 0x9ffd,
+    // .2byte, 2 2
+    0x4002, 0x5012, 0x5052, 0x507e,
+    // .2byte, 2 4
+    0x8002,
+    // c.addi16sp, 1 3
+    0x6101,
+    // c.fld, 0 1
+    0x2000, 0x3a24, 0x3b40, 0x3ffc,
+    // c.fldsp, 2 1
+    0x2002, 0x282e, 0x3dce, 0x3ffe,
+    // c.flw, 0 3
+    0x6000, 0x610c, 0x7af0, 0x7ffc,
+    // c.flwsp, 2 3
+    0x6002, 0x758e, 0x7e36, 0x7ffe,
+    // c.fsd, 0 5
+    0xa000, 0xa244, 0xa2ac, 0xbffc,
+    // c.fsdsp, 2 5
+    0xa002, 0xa08e, 0xbbca, 0xbffe,
+    // c.fsw, 0 7
+    0xe000, 0xe078, 0xee80, 0xfffc,
+    // c.fswsp, 2 7
+    0xe002, 0xf826, 0xf832, 0xfffe,
+    // c.slli, 2 0
+    0x1002, 0x1402, 0x1482, 0x1ffe,
+    // c.srai, 1 4
+    0x9401, 0x9475, 0x9515, 0x97fd,
+    // c.srli, 1 4
+    0x9001, 0x9281, 0x9335, 0x93fd,
+    // c.unimp, 0 0
+    0x0000,
+];
