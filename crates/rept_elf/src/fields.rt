@@ -1,6 +1,6 @@
 //! Little-endian fields of a file.
 
-ghost use Rattle.std.specs.Prelude.{◌≡◌, ◌≤◌, ◌+◌, length};
+ghost use Rattle.std.specs.Prelude.{◌≡◌, ◌≤◌, ◌+◌, length, drop};
 ghost use Rattle.rept_elf.specs.Header.{half_at, word_at};
 ghost use Rattle.rept_elf.specs.Segments.{part_of};
 
@@ -28,4 +28,11 @@ pub fn part(bytes: &[u8], offset: usize, size: usize) -> &[u8]
 {
     let rest = bytes.get(offset..).unwrap_or(&[]);
     rest.get(..size).unwrap_or(rest)
+}
+
+/// The bytes from an offset on.
+pub fn after(bytes: &[u8], offset: usize) -> &[u8]
+    ensures { result.now ≡ drop offset bytes.now }
+{
+    bytes.get(offset..).unwrap_or(&[])
 }
