@@ -12,7 +12,7 @@ mod segment;
 mod symbol;
 
 pub use fault::{ElfFault, Want};
-pub use fields::{after, half, part, word};
+pub use fields::{after, first_zero, half, part, word};
 pub use image::Image;
 pub use segment::{PF_W, PF_X, PT_LOAD, PT_NOTE, Segment};
 pub use symbol::Symbol;

@@ -1,13 +1,13 @@
 //! The symbols of a file's functions.
 
-ghost use Rattle.std.specs.Prelude.{◌≡◌, ◌==◌, ◌≤◌, ◌<◌, ◌+◌, length, IfSome};
-ghost use Rattle.std.specs.List.{find, position};
+ghost use Rattle.std.specs.Prelude.{◌≡◌, ◌≤◌, ◌+◌, length};
+ghost use Rattle.std.specs.List.{find};
 ghost use Rattle.std.specs.Option.{option_map};
 ghost use Rattle.rept_elf.specs.Header.{header_size};
 ghost use Rattle.rept_elf.specs.SectionParts.{entry_of, tables_of};
 ghost use Rattle.rept_elf.specs.Symbols.{symbol_from, symbols, is_function_at as is_function_of, name_at as name_of, symbol_tables, symbol_at, symbol_of};
 
-use crate::fields::{after, word};
+use crate::fields::{after, first_zero, word};
 use crate::section::{contents, section_at, section_count, symbol_section};
 
 /// The kind of a symbol that is a function's, the low four bits of `st_info`.
@@ -79,14 +79,6 @@ fn function_at(table: &[u8], a: u32) -> Option<TableEntry>
         }
     }
     None
-}
-
-/// Where the first zero byte stands.
-fn first_zero(bytes: &[u8]) -> Option<usize>
-    ensures place { result ≡ position (λ b. b == 0) bytes.now }
-    ensures within { IfSome result (λ place. place < length bytes.now) }
-{
-    bytes.iter().position(|b| *b == 0)
 }
 
 /// The name at an offset of a table of names, where it ends in the table.
