@@ -3,7 +3,7 @@ use Rattle.std.specs.Prelude.{ℕ, ◌+◌, ◌^◌, List, [], ◌∷◌, ◌++�
 use Rattle.rept_elf.specs.Header.{word_at, elf_magic, header_size, ei_class, ei_data, e_type, e_machine, e_phentsize, e_phnum, entry_offset}
 use Rattle.rept_elf.specs.Segments.{ElfSegment, segments, is_load}
 use Rattle.rept_elf.specs.declared.fault.Want.{Want}
-use Rattle.rept_elf.specs.declared.fault.Want.TheVariants.{Exec, Core}
+use Rattle.rept_elf.specs.declared.fault.Want.TheVariants.{Exec, Core, Shared}
 use Rattle.rept_elf.specs.declared.fault.ElfFault.{ElfFault}
 use Rattle.rept_elf.specs.declared.fault.ElfFault.TheVariants as fault
 
@@ -16,10 +16,11 @@ abbrev pub first_failure : List Check → Option ElfFault
 first_failure [] = None
 first_failure (c ∷ cs) = if c.passes then first_failure cs else Some c.fault
 
--- `ET_EXEC` or `ET_CORE`
-abbrev pub wanted_type : Want → ℕ
-wanted_type Exec = 2
-wanted_type Core = 4
+-- the type is a wanted one: `ET_EXEC` is 2, `ET_DYN`, of a shared object or a position-independent executable, 3, `ET_CORE` 4
+abbrev pub is_wanted : Want → ℕ → Bool
+is_wanted Exec kind = kind == 2
+is_wanted Core kind = kind == 4
+is_wanted Shared kind = (kind == 2) || (kind == 3)
 
 -- the checks of the header and of where the table stands
 abbrev pub header_checks : Want → List ℕ → List Check
@@ -28,7 +29,7 @@ header_checks want file =
     ∷ record { passes = ei_class file == 1; fault = fault.NotClass32 }
     ∷ record { passes = ei_data file == 1; fault = fault.NotLittle }
     ∷ record { passes = e_machine file == 243; fault = fault.NotRiscv }
-    ∷ record { passes = e_type file == wanted_type want; fault = fault.WrongType (e_type file) }
+    ∷ record { passes = is_wanted want (e_type file); fault = fault.WrongType (e_type file) }
     ∷ record { passes = e_phentsize file == 32; fault = fault.EntrySize (e_phentsize file) }
     ∷ record { passes = nat_le (e_phnum file) 4096; fault = fault.TooMany (e_phnum file) }
     ∷ record { passes = nat_le (entry_offset file (e_phnum file)) (length file); fault = fault.HeaderPastEnd }
@@ -38,6 +39,7 @@ header_checks want file =
 abbrev pub may_be_cut : Want → Bool
 may_be_cut Exec = false
 may_be_cut Core = true
+may_be_cut Shared = false
 
 -- the checks of the segment of an index
 abbrev pub segment_checks : Want → ℕ → ℕ → ElfSegment → List Check

@@ -1,4 +1,7 @@
 pub mod Checks
 pub mod Header
 pub mod Image
+pub mod SectionParts
+pub mod Sections
 pub mod Segments
+pub mod Symbols

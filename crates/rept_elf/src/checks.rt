@@ -2,7 +2,7 @@
 
 ghost use Rattle.std.specs.Prelude.{◌≡◌, length, OnOk};
 ghost use Rattle.std.specs.Result.{result_err};
-ghost use Rattle.rept_elf.specs.Checks.{header_checks, segment_checks, table_checks, first_failure, wanted_type};
+ghost use Rattle.rept_elf.specs.Checks.{header_checks, segment_checks, table_checks, first_failure, is_wanted as is_wanted_type};
 ghost use Rattle.rept_elf.specs.Header.{HasTable};
 ghost use Rattle.rept_elf.specs.Segments.{segments};
 ghost use Rattle.rept_elf.specs.Image.{segment_of};
@@ -25,6 +25,8 @@ const ELFDATA2LSB: u8 = 1;
 const EM_RISCV: u16 = 243;
 
 const ET_EXEC: u16 = 2;
+
+const ET_DYN: u16 = 3;
 
 const ET_CORE: u16 = 4;
 
@@ -52,7 +54,7 @@ pub fn check_header(bytes: &[u8], want: Want) -> Result<(), ElfFault>
         return Err(ElfFault::NotRiscv);
     }
     let kind = half(bytes, 16);
-    if kind != type_of(want) {
+    if !is_wanted(kind, want) {
         return Err(ElfFault::WrongType(kind));
     }
     let size = half(bytes, 42);
@@ -70,13 +72,14 @@ pub fn check_header(bytes: &[u8], want: Want) -> Result<(), ElfFault>
     Ok(())
 }
 
-/// The `e_type` of a wanted file.
-fn type_of(want: Want) -> u16
-    ensures { result ≡ wanted_type want }
+/// Whether this is an `e_type` of a wanted file.
+fn is_wanted(kind: u16, want: Want) -> bool
+    ensures { result ≡ is_wanted_type want kind }
 {
     match want {
-        Want::Exec => ET_EXEC,
-        Want::Core => ET_CORE,
+        Want::Exec => kind == ET_EXEC,
+        Want::Core => kind == ET_CORE,
+        Want::Shared => kind == ET_EXEC || kind == ET_DYN,
     }
 }
 
@@ -106,7 +109,7 @@ fn check_segment(segment: &Segment<'_>, index: u32, want: Want, size: usize) -> 
         return Err(ElfFault::AddressWrap(index));
     }
     let end = u64::from(segment.offset) + u64::from(segment.filesz);
-    if want == Want::Exec && end > size as u64 {
+    if want != Want::Core && end > size as u64 {
         return Err(ElfFault::SegmentPastEnd(index));
     }
     Ok(())

@@ -9,6 +9,9 @@ pub enum Want {
     Exec,
     /// A core file (`ET_CORE`).
     Core,
+    /// A file whose parts a program maps: an executable (`ET_EXEC`), or a shared object or position-independent
+    /// executable (`ET_DYN`).
+    Shared,
 }
 
 /// The first check that a file fails. The checks are made in the order of this list, the last three of them for each
@@ -45,7 +48,7 @@ pub enum ElfFault {
     /// `p_vaddr + p_memsz` is over 2^32. The segment's index is given.
     #[error("segment {0} ends past the last address")]
     AddressWrap(u32),
-    /// The file is an executable, and the segment ends past it. The segment's index is given.
+    /// The file is no core file, and the segment ends past it. The segment's index is given.
     #[error("segment {0} ends past the end of the file")]
     SegmentPastEnd(u32),
 }

@@ -1,6 +1,7 @@
 //! Little-endian fields of a file.
 
-ghost use Rattle.std.specs.Prelude.{◌≡◌, ◌≤◌, ◌+◌, length};
+ghost use Rattle.std.specs.Prelude.{◌≡◌, ◌==◌, ◌≤◌, ◌<◌, ◌+◌, length, drop, IfSome};
+ghost use Rattle.std.specs.List.{position};
 ghost use Rattle.rept_elf.specs.Header.{half_at, word_at};
 ghost use Rattle.rept_elf.specs.Segments.{part_of};
 
@@ -28,4 +29,19 @@ pub fn part(bytes: &[u8], offset: usize, size: usize) -> &[u8]
 {
     let rest = bytes.get(offset..).unwrap_or(&[]);
     rest.get(..size).unwrap_or(rest)
+}
+
+/// The bytes from an offset on.
+pub fn after(bytes: &[u8], offset: usize) -> &[u8]
+    ensures { result.now ≡ drop offset bytes.now }
+{
+    bytes.get(offset..).unwrap_or(&[])
+}
+
+/// Where the first zero byte stands, if there is one.
+pub fn first_zero(bytes: &[u8]) -> Option<usize>
+    ensures place { result ≡ position (λ b. b == 0) bytes.now }
+    ensures within { IfSome result (λ place. place < length bytes.now) }
+{
+    bytes.iter().position(|b| *b == 0)
 }

@@ -10,6 +10,7 @@ use crate::checks::{check_header, check_segments};
 use crate::entries::{entry, entry_count};
 use crate::fault::{ElfFault, Want};
 use crate::segment::{PT_LOAD, Segment};
+use crate::symbol::{Symbol, find_symbol};
 
 /// An executable or a core file whose header and segments passed the checks. It borrows the file's bytes.
 #[derive(Clone, Copy)]
@@ -21,6 +22,8 @@ pub struct Image<'a> {
 impl<'a> Image<'a> {
     ghost use Rattle.rept_elf.specs.Image.{file_of, segments_of, segment_of};
     ghost use Rattle.rept_elf.specs.Segments.{part_of};
+    ghost use Rattle.rept_elf.specs.Symbols.{symbol_at, symbol_of};
+    ghost use Rattle.std.specs.Option.{option_map};
 
     /// The file of these bytes, as a file of the wanted kind. A fault comes exactly where it is that of the first check
     /// that the file fails.
@@ -77,5 +80,15 @@ impl<'a> Image<'a> {
             }
         }
         end
+    }
+
+    /// The symbol of the function that has this address, as the file gives it: the first symbol of the first symbol table
+    /// that is a function's and begins at or before the address, and ends after it; a function of size 0 has one address.
+    /// None exactly where there is no such symbol, or where the section headers, the symbol table, the table of its
+    /// names or the symbol's name up to its zero byte isn't whole in the file.
+    pub fn symbol(&self, vaddr: u32) -> Option<Symbol<'a>>
+        ensures { option_map symbol_of result ≡ symbol_at (file_of self.now) vaddr }
+    {
+        find_symbol(self.bytes, vaddr)
     }
 }

@@ -7,12 +7,15 @@ mod entries;
 mod fault;
 mod fields;
 mod image;
+mod section;
 mod segment;
+mod symbol;
 
 pub use fault::{ElfFault, Want};
-pub use fields::{half, part, word};
+pub use fields::{after, first_zero, half, part, word};
 pub use image::Image;
 pub use segment::{PF_W, PF_X, PT_LOAD, PT_NOTE, Segment};
+pub use symbol::Symbol;
 
 #[cfg(test)]
 mod tests;

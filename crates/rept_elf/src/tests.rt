@@ -87,6 +87,15 @@ const CASES: &[(usize, &[Change], Want, Option<ElfFault>)] = &[
     (90, &[(16, b"\x04")], Want::Core, None),
     (96, &[(52, b"\x03\0\0\x70"), (72, b"\0")], Want::Exec, None),
     (96, &[(44, b"\0")], Want::Exec, None),
+    (96, &[], Want::Shared, None),
+    (96, &[(16, b"\x03")], Want::Shared, None),
+    (
+        96,
+        &[(16, b"\x04")],
+        Want::Shared,
+        Some(ElfFault::WrongType(4)),
+    ),
+    (95, &[], Want::Shared, Some(ElfFault::SegmentPastEnd(0))),
 ];
 
 #[test]
@@ -138,5 +147,144 @@ const TWO_SEGMENTS: [u8; 116] = *b"\x7fELF\x01\x01\x01\0\0\0\0\0\0\0\0\0\
 fn image_ends_by_another_segment_than_the_last(rt: HostRuntime) -> Result<(), Fail> {
     let image = Image::read(&TWO_SEGMENTS, Want::Exec)?;
     assert_eq!(rt; (image.count(), image.image_end()), (2, 0x12000));
+    Ok(())
+}
+
+// What follows the executable in a file with symbols, in words: at 96 the names, `start` at 1, `sum` at 7 and at 11 an `x`
+// that no zero byte ends; at 108 seven symbols, each its name, value, size and info, and five bytes more; at 228 four section
+// headers: none, symbols, names, symbols.
+const SYMBOLS: &[u32] = &[
+    0x6174_7300,
+    0x7300_7472,
+    0x7800_6d75,
+    0,
+    0,
+    0,
+    0,
+    1,
+    0x10000,
+    12,
+    0x11,
+    1,
+    0x10000,
+    4,
+    0x12,
+    7,
+    0x10004,
+    0,
+    0x02,
+    7,
+    0x10000,
+    8,
+    0x12,
+    11,
+    0x10008,
+    4,
+    0x12,
+    0,
+    0xffff_fffc,
+    8,
+    0x22,
+    0,
+    0,
+    0,
+    0,
+    0,
+    0,
+    0,
+    0,
+    0,
+    0,
+    0,
+    0,
+    0,
+    2,
+    0,
+    0,
+    108,
+    117,
+    2,
+    0,
+    4,
+    16,
+    0,
+    3,
+    0,
+    0,
+    96,
+    12,
+    0,
+    0,
+    1,
+    0,
+    0,
+    2,
+    0,
+    0,
+    108,
+    117,
+    9,
+    0,
+    4,
+    16,
+];
+
+const START: Option<(&[u8], u32)> = Some((b"start", 0x10000));
+
+// Changed words of that file, by their offsets, an address, and the name and value of its symbol. The rules are those of the
+// ELF specification: only `STT_FUNC` counts, the first such symbol wins, and sums don't wrap.
+const SOUGHT: &[(&[(usize, u32)], u32, Option<(&[u8], u32)>)] = &[
+    (&[], 0xffff, None),
+    (&[], 0x10000, START),
+    (&[], 0x10003, START),
+    (&[], 0x10004, Some((b"sum", 0x10004))),
+    (&[], 0x10005, Some((b"sum", 0x10000))),
+    (&[], 0x10007, Some((b"sum", 0x10000))),
+    (&[], 0x10008, None),
+    (&[], 0x1000c, None),
+    (&[], 0xffff_ffff, Some((b"", 0xffff_fffc))),
+    (&[], 0, None),
+    // The section headers end past the file: one more, or one byte later.
+    (&[(48, 5)], 0x10000, None),
+    (&[(32, 229)], 0x10000, None),
+    // The symbol table ends at the end of the file, and past it.
+    (&[(288, 280)], 0x10000, START),
+    (&[(288, 281)], 0x10000, None),
+    (&[(288, 0xffff_ffff)], 0x10000, None),
+    // It ends before the symbol.
+    (&[(288, 47)], 0x10000, None),
+    // It is linked to no section.
+    (&[(292, 4)], 0x10000, None),
+    // The names end past the file, and within a name.
+    (&[(328, 292)], 0x10000, START),
+    (&[(328, 293)], 0x10000, None),
+    (&[(328, 6)], 0x10000, None),
+    (&[(328, 7)], 0x10000, START),
+    // The name begins past the names.
+    (&[(140, 12)], 0x10000, None),
+    // The first symbol table is the one that is linked to no section.
+    (&[(272, 3)], 0x10000, None),
+];
+
+#[test]
+fn symbols(rt: HostRuntime) -> Result<(), Fail> {
+    for (i, (changes, address, wanted)) in SOUGHT.iter().enumerate() {
+        let mut file = Vec::from_slice(rt.alloc(), EXECUTABLE.as_slice())?;
+        for word in SYMBOLS.iter() {
+            file.extend_from_slice(word.to_le_bytes().as_slice())?;
+        }
+        for (at, word) in [(32, 228), (48, 4)].iter().chain(changes.iter()) {
+            for (k, byte) in word.to_le_bytes().iter().enumerate() {
+                let place = at.checked_add(k).and_then(|place| file.get_mut(place));
+                *place.ok_or("a change past the file")? = *byte;
+            }
+        }
+        let found = Image::read(file.as_slice(), Want::Exec)?.symbol(*address);
+        assert_eq!(rt;
+            found.map(|symbol| (symbol.name, symbol.value)),
+            *wanted,
+            "case {i}"
+        );
+    }
     Ok(())
 }

@@ -60,6 +60,27 @@ impl<R: Files> Shelf for DiskShelf<R> {
         }
         loaded
     }
+
+    /// The same, but `Missing` for a path that names a folder, a pipe, a device or a socket, or leads to one by links; it is
+    /// looked at before it is opened.
+    fn load_regular(
+        &mut self,
+        alloc: Global,
+        name: &str,
+        limit: usize,
+    ) -> Result<Vec<u8>, LoadFault>
+        ensures within { IfOk result (λ v. length v.items ≤ limit) }
+        ensures loads { Loads (record { files = None; loads = self.old.loads; faults = self.old.faults }) (record { files = None; loads = self.new.loads; faults = self.new.faults }) result }
+        ensures err { IfErr result (LoadFails (record { files = None; loads = self.old.loads; faults = self.old.faults }) (record { files = None; loads = self.new.loads; faults = self.new.faults }) name.now limit) }
+        ensures counts { self.new.faults ≡ (if is_ok result then self.old.faults else next_count self.old.faults) }
+    {
+        self.loads = self.loads.saturating_add(1);
+        let loaded = read_regular(&self.rt, alloc, name, limit);
+        if loaded.is_err() {
+            self.faults = self.faults.saturating_add(1);
+        }
+        loaded
+    }
 }
 
 /// The bytes of a file of the system, of which at most one more than `limit` are read.
@@ -81,6 +102,22 @@ fn read_at_most<R: Files>(
         return Err(LoadFault::TooLarge);
     }
     Ok(bytes)
+}
+
+/// The same of a regular file alone.
+fn read_regular<R: Files>(
+    rt: &R,
+    alloc: Global,
+    name: &str,
+    limit: usize,
+) -> Result<Vec<u8>, LoadFault>
+    ensures { IfOk result (λ v. length v.items ≤ limit) }
+{
+    let found = fs::metadata(rt, name).map_err(|e| fault_of(&e))?;
+    if !found.is_file() {
+        return Err(LoadFault::Missing);
+    }
+    read_at_most(rt, alloc, name, limit)
 }
 
 fn fault_of(error: &io::Error) -> LoadFault {

@@ -53,6 +53,22 @@ pub trait Shelf {
         ensures bytes { IfOk result (λ v. IfSome (port self.old).files (λ files. files name.now ≡ Some v.items)) }
         ensures loads { Loads (port self.old) (port self.new) result }
         ensures err { IfErr result (LoadFails (port self.old) (port self.new) name.now limit) };
+
+    /// The same for a name that a stranger chose: what has the name and isn't a regular file is `Missing`, and isn't opened,
+    /// since opening a pipe or a device may block or do harm. All files of a shelf that tells its files are regular.
+    fn load_regular(
+        &mut self,
+        alloc: Global,
+        name: &str,
+        limit: usize,
+    ) -> Result<Vec<u8>, LoadFault>
+        ensures within { IfOk result (λ v. length v.items ≤ limit) }
+        ensures bytes { IfOk result (λ v. IfSome (port self.old).files (λ files. files name.now ≡ Some v.items)) }
+        ensures loads { Loads (port self.old) (port self.new) result }
+        ensures err { IfErr result (LoadFails (port self.old) (port self.new) name.now limit) }
+    {
+        self.load(alloc, name, limit)
+    }
 }
 
 /// Bytes that come in.

@@ -64,6 +64,8 @@ fn shelves_in_memory(rt: HostRuntime) -> Result<(), Fail> {
             ("c", 9, Err(LoadFault::Missing)),
         ],
     );
+    let regular = calm.load_regular(rt.alloc(), "a", 4);
+    assert_eq!(rt; regular.map(|bytes| bytes.len()), Ok(4));
     let mut failing = MemShelf::new(rt.alloc(), &[2])?;
     failing.put("a", b"abc")?;
     check_loads(
@@ -226,6 +228,33 @@ fn disk_shelf_takes_one_byte_past_the_limit(rt: HostRuntime) -> Result<(), Fail>
         let mut rest = [0u8; 512];
         assert_eq!(rt; reader.read(&mut rest)?, left, "{limit}");
     }
+    Ok(())
+}
+
+// What isn't a regular file isn't opened for a stranger's name: a folder, a device, and a pipe, whose bytes stay in it.
+#[test]
+fn disk_shelf_opens_regular_files_alone(rt: HostRuntime) -> Result<(), Fail> {
+    const PATH: &str = "rept_ports_regular";
+    fs::write(&rt, PATH, b"abc".as_slice())?;
+    let (mut reader, mut writer) = io::pipe(&rt)?;
+    assert_eq!(rt; writer.write(&[b'x'; 300])?, 300);
+    drop(writer);
+    let pipe = format!(in rt.alloc(); "/proc/self/fd/{}", reader.as_raw_fd())?;
+    let mut shelf = DiskShelf::new(&rt);
+    for (name, limit, want) in [
+        (PATH, 3, Ok(3)),
+        (PATH, 2, Err(LoadFault::TooLarge)),
+        ("rept_ports_no_such_file", 9, Err(LoadFault::Missing)),
+        (".", 9, Err(LoadFault::Missing)),
+        ("/dev/zero", 9, Err(LoadFault::Missing)),
+        (pipe.as_str(), 9, Err(LoadFault::Missing)),
+    ] {
+        let got = shelf.load_regular(rt.alloc(), name, limit);
+        assert_eq!(rt; got.map(|bytes| bytes.len()), want, "{name} {limit}");
+    }
+    let mut rest = [0u8; 512];
+    assert_eq!(rt; reader.read(&mut rest)?, 300);
+    fs::remove_file(&rt, PATH)?;
     Ok(())
 }
 

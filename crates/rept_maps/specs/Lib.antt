@@ -1,0 +1,3 @@
+pub mod FileMap
+pub mod Told
+pub mod Views

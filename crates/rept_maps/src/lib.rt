@@ -1,0 +1,16 @@
+//! The files that a crashed process had mapped, as its core file lists them, and images of these files. Nothing of a core
+//! file is copied.
+#![tactic(auto)]
+
+mod entry;
+mod fault;
+mod images;
+mod maps;
+
+pub use entry::Entry;
+pub use fault::MapFault;
+pub use images::Images;
+pub use maps::Maps;
+
+#[cfg(test)]
+mod tests;

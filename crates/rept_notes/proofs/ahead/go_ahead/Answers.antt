@@ -1,0 +1,12 @@
+use Rattle.std.proofs.Common.{refl}
+use Rattle.rept_elf.specs.Image.{file_of}
+use Rattle.rept_notes.proofs.Leaping.{no_leaps}
+use Rattle.rept_notes.proofs.ahead.go_ahead.Goals as goal
+
+pub loop-block-init : goal.loop-block-init
+loop-block-init c = record {
+  room = c.requires.room;
+  aheads = c.requires.aheads;
+  places = refl;
+  leaps = no_leaps c.args.kind (file_of c.args.core.now) 4096;
+}

@@ -1,0 +1,6 @@
+use Rattle.rept_notes.proofs.Leaping.{front_of_file}
+use Rattle.rept_notes.proofs.ahead.go_on.Goals as goal
+
+pub pass-requires-clause-front : goal.pass-requires-clause-front
+pass-requires-clause-front c =
+    rw c.after.ensures (front_of_file c.args.kind c.args.file.now c.args.segment.now.offset c.args.segment.now.filesz c.args.segment.now.body.now c.args.ahead c.requires.part c.requires.ahead)

@@ -1,0 +1,39 @@
+-- The sought notes that were found so far: their count, and the first.
+use Rattle.std.specs.Prelude.{◌≡◌, ℕ, ◌+◌, List, length, MatchBool, IsTrue, Result, Ok, Err}
+use Rattle.std.specs.List.{filter}
+use Rattle.std.specs.Option.{option_map, option_or}
+use Rattle.rept_elf.specs.Segments.{ElfSegment, is_note}
+use Rattle.rept_notes.specs.Notes.{Note as NoteOf, AreNotes, IsInFile, IsCutAt}
+use Rattle.rept_notes.specs.Sought.{Counted, is_sought, head}
+use Rattle.rept_notes.specs.declared.fault.NotePastEnd.{NotePastEnd}
+use Rattle.rept_notes.specs.declared.note.Note.{Note}
+use Rattle.rept_notes.specs.declared.note.Found.{Found}
+
+-- a note of the code
+abbrev pub note_of : Note → NoteOf
+note_of n = record { offset = n.offset; kind = n.kind; name = n.name.now; desc = n.desc.now }
+
+-- these notes were found
+pub record AreFound (found : Found) (notes : List NoteOf) : Type 0 where
+  pub counted : found.count ≡ length notes
+  pub first : option_map note_of found.first ≡ head notes
+
+-- these notes were found besides
+pub record Adds (found found' : Found) (notes : List NoteOf) : Type 0 where
+  pub counted : found'.count ≡ found.count + length notes
+  pub first : option_map note_of found'.first ≡ option_or (option_map note_of found.first) (head notes)
+
+-- the segment is whole, and its sought notes were found besides; a segment without notes has none
+abbrev pub PassesSegment : ℕ → ℕ → ElfSegment → Found → Found → Type 0
+PassesSegment kind size s found found' = MatchBool (is_note s)
+    (IsInFile size s × ((notes : List NoteOf) × AreNotes s.offset s.body notes × Adds found found' (filter (is_sought kind) notes)))
+    (found' ≡ found)
+
+-- the segment is a note segment that is cut at this offset of the file
+abbrev pub CutsSegment : ℕ → ElfSegment → ℕ → Type 0
+CutsSegment size s offset = IsTrue (is_note s) × IsCutAt size s offset
+
+-- what was found, as what the notes say
+abbrev pub said_of : Result Found NotePastEnd → Result Counted ℕ
+said_of (Ok found) = Ok (record { count = found.count; first = option_map note_of found.first })
+said_of (Err fault) = Err fault.offset

@@ -1,0 +1,4 @@
+pub mod Ahead
+pub mod Found
+pub mod Notes
+pub mod Sought

@@ -1,0 +1,11 @@
+//! The notes of a core file: those of one type that are named `CORE`. Nothing is copied, and no memory is taken.
+#![tactic(auto)]
+
+mod ahead;
+mod fault;
+mod note;
+mod notes;
+
+pub use fault::NotePastEnd;
+pub use note::{Found, Note};
+pub use notes::find_notes;
