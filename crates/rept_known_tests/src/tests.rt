@@ -74,7 +74,7 @@ fn common_words_by_every_value(rt: HostRuntime) {
 fn sets_by_hand(rt: HostRuntime) {
     assert_eq!(rt; pair(Bits::unknown()), (0, 0xffff_ffff));
     assert_eq!(rt; pair(Bits::exact(9)), (9, 0));
-    assert_eq!(rt; bits((8, 3)).meet(bits((1, 9))).map(pair), Some((9, 1)));
+    assert_eq!(rt; bits((8, 3)).meet(bits((1, 8))).map(pair), Some((9, 0)));
     assert_eq!(rt; bits((8, 3)).meet(bits((0, 3))).map(pair), None);
     assert_eq!(rt; (bits((8, 3)).lo(), bits((8, 3)).hi()), (8, 11));
     assert_eq!(rt;
