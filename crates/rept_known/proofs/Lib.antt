@@ -1,0 +1,5 @@
+pub mod Made
+pub mod PartsOrder
+pub mod NextWord
+pub mod Greatest
+pub mod BothMade
