@@ -92,6 +92,10 @@ path_fault_text (path.TooLong k) = codes "path 10 " ++ decimal k
 path_fault_text (path.Packet f) = codes "path 11 " ++ trace_fault_text f
 path_fault_text (path.Trapped k a) = codes "path 12 " ++ decimal k ++ codes " " ++ hex_word a
 path_fault_text path.OutOfMemory = codes "out-of-memory"
+path_fault_text (path.TimeBack k) = codes "path 14 " ++ decimal k
+path_fault_text (path.SliceOverlap process time) = codes "path 15 " ++ decimal process ++ codes " " ++ decimal time
+path_fault_text (path.UnknownThread k process) = codes "path 16 " ++ decimal k ++ codes " " ++ decimal process
+path_fault_text (path.OtherThread k process) = codes "path 17 " ++ decimal k ++ codes " " ++ decimal process
 
 -- a register as `x5`, a byte as its address
 abbrev pub cell_text : Cell → List ℕ

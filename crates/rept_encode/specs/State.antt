@@ -13,7 +13,7 @@ use Rattle.rept_steps.specs.Linked.{AreLinked}
 use Rattle.rept_path.specs.Code.{look, flow_of, sum, jumps_far}
 use Rattle.rept_path.specs.Packets.{low_bits, bits, reported, waiting}
 use Rattle.rept_path.specs.Moves.{Place, along}
-use Rattle.rept_path.specs.Route.{Route, place, marked}
+use Rattle.rept_path.specs.Route.{alone, Route, place, marked}
 use Rattle.rept_path.specs.Rows.{CarryCode}
 use Rattle.rept_path.specs.Trace.{starts, loses}
 use Rattle.rept_encode.specs.declared.bits.Bits.{Bits}
@@ -40,7 +40,7 @@ Moves code all past (row ∷ leg) = Moves code all past leg × Moved code all (a
 
 -- The packets, newest first, have this route, after which the trace runs and no stop is inferred.
 pub record Stands (code : List ElfSegment) (packets : List Packet) (legs : List (List StepRow)) : Type 0 where
-  pub route : Route code 0 packets legs
+  pub route : Route code (alone 0) packets legs
   pub runs : waiting packets ≡ false
   pub plain : marked code packets legs ≡ false
   pub some : 0 < length packets

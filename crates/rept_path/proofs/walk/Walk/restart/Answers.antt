@@ -12,8 +12,8 @@ returns-clause-ok c = λ privilege.
     let w = c.in_ok-go.ensures.ok in
     let old = c.args.self.now in
     let a = c.args.address in
-    let mid : Walk = record { at = old.at; steps = old.steps; bits = c.push_branch.new.bits; used = old.used; reported = a; inferred = false; waiting = old.waiting } in
-    walked (exe_of c.args.dump.now) c.args.number (Start c.args.branch privilege a) old mid c.go.new.self c.go.new.self c.requires.runs (_, sym c.in_ok-position_of.ensures) refl (c.in_ok-push_branch.ensures.bits privilege) refl refl (alone (exe_of c.args.dump.now) c.args.number (Some a) (aims.Start a) mid c.go.new.self w) refl refl refl refl w.counts w.kept.inferred (c.in_ok-go.ensures.rests refl) refl (λ _. refl) (λ _. refl)
+    let mid : Walk = record { at = old.at; steps = old.steps; bits = c.push_branch.new.bits; used = old.used; reported = a; inferred = false; waiting = old.waiting; room = old.room } in
+    walked (exe_of c.args.dump.now) c.args.number (Start c.args.branch privilege a) old mid c.go.new.self c.go.new.self c.requires.runs (_, sym c.in_ok-position_of.ensures) refl (c.in_ok-push_branch.ensures.bits privilege) refl refl refl (alone (exe_of c.args.dump.now) c.args.number (Some a) (aims.Start a) mid c.go.new.self w) refl refl refl refl refl w.counts w.kept.inferred (c.in_ok-go.ensures.rests refl) refl (λ _. refl) (λ _. refl)
 
 pub go-requires : goal.go-requires
 go-requires c =
