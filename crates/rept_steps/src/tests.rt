@@ -66,7 +66,7 @@ fn one_thread_is_a_run(rt: HostRuntime) -> Result<(), Fail> {
     assert_eq!(rt; thread.steps.end_pc(), 0x10008);
     assert_eq!(rt;
         thread.slices.all(),
-        &[Slice {
+        [Slice {
             stream: 0,
             begin: 0,
             end: u64::MAX,
