@@ -78,12 +78,13 @@ fn number_of(packet: &Packet) -> u128
             branch,
             privilege,
             address,
+            ..
         } => {
             let place = u128::from(address / 4);
             let rest = place + 0x4000_0000 * copies(place >= 0x2000_0000);
             3 + 16 * bit(branch) + 32 * u128::from(privilege) + 128 * rest
         }
-        Packet::Context { privilege } => 11 + 16 * u128::from(privilege),
+        Packet::Context { privilege, .. } => 11 + 16 * u128::from(privilege),
         Packet::Support { enabled, status } => 15 + 16 * bit(enabled) + 64 * status_number(status),
         Packet::Address { report } => 2 + 4 * report_number(&report),
         Packet::Map { map } => {
