@@ -66,8 +66,8 @@ core_fault_text (notes.ShortStatus size) = codes "core 2 " ++ decimal size
 core_fault_text (notes.NotePastEnd offset) = codes "core 3 " ++ decimal offset
 core_fault_text (notes.SeveralThreads count) = codes "core 4 " ++ decimal count
 
--- The number of a fault of the trace's bytes, and what it holds: the number of the byte of the header, or of the packet. The
--- packets are those of Efficient Trace for RISC-V 2.0.
+-- The number of a fault of the trace's bytes, and what it holds: the number of the byte of the header, of the packet or of the stream, or an
+-- offset. The packets are those of Efficient Trace for RISC-V 2.0.
 abbrev pub trace_fault_text : TraceFault → List ℕ
 trace_fault_text packets.BadMagic = codes "1"
 trace_fault_text (packets.BadHeader i) = codes "2 " ++ decimal i
@@ -75,6 +75,8 @@ trace_fault_text (packets.Truncated k) = codes "3 " ++ decimal k
 trace_fault_text (packets.Optional k) = codes "4 " ++ decimal k
 trace_fault_text (packets.Trap k) = codes "5 " ++ decimal k
 trace_fault_text (packets.BadSupport k) = codes "6 " ++ decimal k
+trace_fault_text (packets.StreamPastEnd s) = codes "7 " ++ decimal s
+trace_fault_text (packets.Rest offset) = codes "8 " ++ decimal offset
 
 -- The number of the reason why a trace has no path, and what it holds: numbers of packets and counts in decimal, addresses and
 -- code words in hexadecimal.

@@ -92,5 +92,7 @@ fn push_trace_fault(text: &mut Text, fault: &TraceFault) -> Result<(), OutOfMemo
         TraceFault::Optional(k) => push_numbered(text, b"4 ", *k),
         TraceFault::Trap(k) => push_numbered(text, b"5 ", *k),
         TraceFault::BadSupport(k) => push_numbered(text, b"6 ", *k),
+        TraceFault::StreamPastEnd(s) => push_numbered(text, b"7 ", u64::from(*s)),
+        TraceFault::Rest(offset) => push_numbered(text, b"8 ", *offset),
     }
 }

@@ -31,7 +31,7 @@ if_start : (b x y : Bool) → cond b (cond b x true ∷ []) [] ≡ cond b (x ∷
 if_start true x y = refl
 if_start false x y = refl
 
-start_bits : (code : List ElfSegment) (row : StepRow) (privilege : ℕ) → look code row.at ≡ Ok row.instr → bits_of code (Start (start_bit row) privilege row.at) ≡ bit_list row
+start_bits : (code : List ElfSegment) (row : StepRow) (privilege : ℕ) → look code row.at ≡ Ok row.instr → bits_of code (Start (start_bit row) privilege row.at 0 0) ≡ bit_list row
 start_bits code row privilege h = rw (branch_of code row.at row.instr h) (if_start (branch_row row) (passed row) true)
 
 pub starts_at : (code : List ElfSegment) (here : StepRow) → look code here.at ≡ Ok here.instr → Coded code (start_at here ∷ []) [] [] here []

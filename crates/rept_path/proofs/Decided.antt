@@ -90,22 +90,22 @@ module _ (code : List ElfSegment) where
   ]
 
   of_first : (packet : Packet) → starts (Some packet) ≡ true → ((leg : List StepRow) × FirstLeg code packet leg) ⊎ ((e : PathFault) × FirstFault code packet e)
-  of_first (Start branch privilege a) s = elim (position_of code a) [ inl p ↦ inl ([], (p, refl)) | inr f ↦ inr f ]
+  of_first (Start branch privilege a time context) s = elim (position_of code a) [ inl p ↦ inl ([], (p, refl)) | inr f ↦ inr f ]
   of_first (Address report) s = cc
   of_first (MapAddress count map report) s = cc
   of_first (Map map) s = cc
-  of_first (Context privilege) s = cc
+  of_first (Context privilege time context) s = cc
   of_first (Support enabled status) s = cc
 
   of_waiting : (packet : Packet) (met : Met) → ((leg : List StepRow) × WaitingLeg code packet met leg) ⊎ ((e : PathFault) × WaitingFault code packet met e)
-  of_waiting (Start branch privilege a) met = elim (result_of (gap_to_start code (stand_of met) a)) [
+  of_waiting (Start branch privilege a time context) met = elim (result_of (gap_to_start code (stand_of met) a)) [
     | inl g ↦ elim (position_of code a) [ inl p ↦ inl (g.0, (g.1, p)) | inr f ↦ inr (f.0, inr (g, f.1)) ]
     | inr f ↦ inr (f.0, inl f.1)
   ]
   of_waiting (Address report) met = inr (NoStart met.number, refl)
   of_waiting (MapAddress count map report) met = inr (NoStart met.number, refl)
   of_waiting (Map map) met = inr (NoStart met.number, refl)
-  of_waiting (Context privilege) met = inl ([], refl)
+  of_waiting (Context privilege time context) met = inl ([], refl)
   of_waiting (Support enabled status) met = inl ([], refl)
 
   of_running : (packet : Packet) (met : Met) → ((leg : List StepRow) × RunningLeg code packet met leg) ⊎ ((e : PathFault) × RunningFault code packet met e)

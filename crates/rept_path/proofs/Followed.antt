@@ -27,10 +27,10 @@ pub alone : (code : List ElfSegment) (k : ℕ) (target : Option ℕ) (aim : Aim)
 alone code k target aim old new w = record { leg = w.leg; goes = (w.leg, [], refl, w.goes, refl); seen = w.seen; counts = w.counts; kept = w.kept; grows = w.grows }
 
 -- Nothing is done at a packet that says nothing of the path.
-pub stays : (code : List ElfSegment) (k privilege : ℕ) (w : Walk) → Counts w → length w.bits.items ≤ w.used + 1 → Followed code (Context privilege) (from_to k w w)
-stays code k privilege w counts rests = record { leg = []; goes = go w.waiting; seen = refl; counts = counts; bits = sym (append-nil w.bits.items); reported = refl; waiting = refl; marked = refl; rests = rests; room = refl }
+pub stays : (code : List ElfSegment) (k privilege time context : ℕ) (w : Walk) → Counts w → length w.bits.items ≤ w.used + 1 → Followed code (Context privilege time context) (from_to k w w)
+stays code k privilege time context w counts rests = record { leg = []; goes = go w.waiting; seen = refl; counts = counts; bits = sym (append-nil w.bits.items); reported = refl; waiting = refl; marked = refl; rests = rests; room = refl }
   where
-    go : (b : Bool) → LegIn code (Context privilege) b (met k w) []
+    go : (b : Bool) → LegIn code (Context privilege time context) b (met k w) []
     go true = refl
     go false = record { admitted = (0, refl); legs = refl }
 
@@ -63,9 +63,9 @@ pub as_support : (code : List ElfSegment) (packet p : Packet) (waits : Bool) (be
 as_support code packet p waits before e same h = rw same h
 
 -- The moves after a start packet in a stretch are stopped by a fault.
-pub restart_fault : (code : List ElfSegment) (k : ℕ) (branch : Bool) (privilege a : ℕ) (old : Walk) (bits : List Bool) (e : PathFault) → ((at : ℕ) × (position code a ≡ Ok at)) → bits ≡ old.bits.items ++ bits_of code (Start branch privilege a)
-    → (e ≡ OutOfMemory) ⊎ PhaseFault code (course_by (record { packet = k; target = Some a; bits = bits; room = old.room }) (aims.Start a)) (here old) e → (e ≡ OutOfMemory) ⊎ RunningFault code (Start branch privilege a) (met k old) e
-restart_fault code k branch privilege a old bits e there all h = elim h [ inl m ↦ inl m | inr f ↦ inr (inr (there, inl (rw all at f))) ]
+pub restart_fault : (code : List ElfSegment) (k : ℕ) (branch : Bool) (privilege a time context : ℕ) (old : Walk) (bits : List Bool) (e : PathFault) → ((at : ℕ) × (position code a ≡ Ok at)) → bits ≡ old.bits.items ++ bits_of code (Start branch privilege a time context)
+    → (e ≡ OutOfMemory) ⊎ PhaseFault code (course_by (record { packet = k; target = Some a; bits = bits; room = old.room }) (aims.Start a)) (here old) e → (e ≡ OutOfMemory) ⊎ RunningFault code (Start branch privilege a time context) (met k old) e
+restart_fault code k branch privilege a time context old bits e there all h = elim h [ inl m ↦ inl m | inr f ↦ inr (inr (there, inl (rw all at f))) ]
 
 pub same_position : (code : List ElfSegment) (a at : ℕ) → position code a ≡ Ok at → at ≡ a
 same_position code a at h = go (look code a) h where
@@ -74,18 +74,18 @@ same_position code a at h = go (look code a) h where
   go (Err e) h = cc
 
 -- A stretch begins.
-pub started : (code : List ElfSegment) (k : ℕ) (branch : Bool) (privilege a at : ℕ) (old new : Walk) (leg : List StepRow) → old.waiting ≡ true → gap_to_start code (standing k old) a ≡ Ok leg → position code a ≡ Ok at → reverse new.steps ≡ leg ++ reverse old.steps
-    → new.at ≡ at → new.used ≡ 0 → new.bits.items ≡ bits_of code (Start branch privilege at) → length new.bits.items ≤ 1 → new.reported ≡ at → new.inferred ≡ false → new.waiting ≡ false → length new.steps ≤ old.room → new.room ≡ old.room → EndBefore new.steps a
-    → Followed code (Start branch privilege a) (from_to k old new)
-started code k branch privilege a at old new leg waits crosses admitted seen stands used bits size report plain runs few limit ends =
+pub started : (code : List ElfSegment) (k : ℕ) (branch : Bool) (privilege a time context at : ℕ) (old new : Walk) (leg : List StepRow) → old.waiting ≡ true → gap_to_start code (standing k old) a ≡ Ok leg → position code a ≡ Ok at → reverse new.steps ≡ leg ++ reverse old.steps
+    → new.at ≡ at → new.used ≡ 0 → new.bits.items ≡ bits_of code (Start branch privilege at time context) → length new.bits.items ≤ 1 → new.reported ≡ at → new.inferred ≡ false → new.waiting ≡ false → length new.steps ≤ old.room → new.room ≡ old.room → EndBefore new.steps a
+    → Followed code (Start branch privilege a time context) (from_to k old new)
+started code k branch privilege a time context at old new leg waits crosses admitted seen stands used bits size report plain runs few limit ends =
     let same = same_position code a at admitted in
     let there = stands ∙ same in
     record {
       leg = leg;
-      goes = subst (λ (b : Bool). LegIn code (Start branch privilege a) b (met k old) leg) (sym waits) (crosses, (rw same at admitted));
-      seen = subst (λ (b : Bool). here new ≡ place_after code (Start branch privilege a) (meets b (here old)) leg) (sym waits) (cc);
+      goes = subst (λ (b : Bool). LegIn code (Start branch privilege a time context) b (met k old) leg) (sym waits) (crosses, (rw same at admitted));
+      seen = subst (λ (b : Bool). here new ≡ place_after code (Start branch privilege a time context) (meets b (here old)) leg) (sym waits) (cc);
       counts = record { enough = rw used (omega arith); few = (let l = limit in omega (arith, few, l)); spare = rw used (omega arith); linked = rw there ends };
-      bits = subst (λ (b : Bool). new.bits.items ≡ bits_before (Start branch privilege a) b old.bits.items ++ bits_of code (Start branch privilege a)) (sym waits) (rw same at bits);
+      bits = subst (λ (b : Bool). new.bits.items ≡ bits_before (Start branch privilege a time context) b old.bits.items ++ bits_of code (Start branch privilege a time context)) (sym waits) (rw same at bits);
       reported = report ∙ same;
       waiting = runs;
       marked = plain;

@@ -123,11 +123,11 @@ module _ (code : List ElfSegment) where
   phases_other s (phase ∷ phases) e (inr (first, leg, f)) = phases_other (further code s first) phases e f
 
   admits_other : (packet : Packet) → Others (admits code packet)
-  admits_other (Start branch privilege a) = others_position a
+  admits_other (Start branch privilege a time context) = others_position a
   admits_other (Address report) = others_ok 0
   admits_other (MapAddress count map report) = others_ok 0
   admits_other (Map map) = others_ok 0
-  admits_other (Context privilege) = others_ok 0
+  admits_other (Context privilege time context) = others_ok 0
   admits_other (Support enabled status) = others_ok 0
 
   running_other : (packet : Packet) (met : Met) (e : PathFault) → RunningFault code packet met e → e ≢ OutOfMemory
@@ -138,12 +138,12 @@ module _ (code : List ElfSegment) where
   gap_other k last a = λ m. cc
 
   waiting_other : (packet : Packet) (met : Met) (e : PathFault) → WaitingFault code packet met e → e ≢ OutOfMemory
-  waiting_other (Start branch privilege a) met e (inl f) = others_gap (stand_of met) (record { address = a; otherwise = Gap met.number met.place.at a }) (gap_other met.number met.place.at a) e f
-  waiting_other (Start branch privilege a) met e (inr (closed, f)) = others_position a e f
+  waiting_other (Start branch privilege a time context) met e (inl f) = others_gap (stand_of met) (record { address = a; otherwise = Gap met.number met.place.at a }) (gap_other met.number met.place.at a) e f
+  waiting_other (Start branch privilege a time context) met e (inr (closed, f)) = others_position a e f
   waiting_other (Address report) met e f = λ m. cc
   waiting_other (MapAddress count map report) met e f = λ m. cc
   waiting_other (Map map) met e f = λ m. cc
-  waiting_other (Context privilege) met e f = elim f [ ]
+  waiting_other (Context privilege time context) met e f = elim f [ ]
   waiting_other (Support enabled status) met e f = elim f [ ]
 
   by_other : (packet : Packet) (waits : Bool) (met : Met) (e : PathFault) → FaultIn code packet waits met e → e ≢ OutOfMemory
@@ -151,11 +151,11 @@ module _ (code : List ElfSegment) where
   by_other packet false met e f = running_other packet met e f
 
   first_other : (packet : Packet) (e : PathFault) → FirstFault code packet e → e ≢ OutOfMemory
-  first_other (Start branch privilege a) e f = others_position a e f
+  first_other (Start branch privilege a time context) e f = others_position a e f
   first_other (Address report) e f = elim f [ ]
   first_other (MapAddress count map report) e f = elim f [ ]
   first_other (Map map) e f = elim f [ ]
-  first_other (Context privilege) e f = elim f [ ]
+  first_other (Context privilege time context) e f = elim f [ ]
   first_other (Support enabled status) e f = elim f [ ]
 
   fault_other : (origin : Origin) (packet : Packet) (earlier : List Packet) (legs : List (List StepRow)) (e : PathFault) → Fault code packet (record { origin = origin; packets = earlier; legs = legs }) e → e ≢ OutOfMemory

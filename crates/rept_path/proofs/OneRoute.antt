@@ -24,54 +24,54 @@ not_both : {A : Type 0} {r : Result A PathFault} {x : A} {y : PathFault} → r �
 not_both h g = cc
 
 one_first : (code : List ElfSegment) (packet : Packet) (a b : List StepRow) → FirstLeg code packet a → FirstLeg code packet b → a ≡ b
-one_first code (Start branch privilege p) a b x y = x.1 ∙ sym y.1
+one_first code (Start branch privilege p time context) a b x y = x.1 ∙ sym y.1
 one_first code (Address report) a b x y = elim x [ ]
 one_first code (MapAddress count map report) a b x y = elim x [ ]
 one_first code (Map map) a b x y = elim x [ ]
-one_first code (Context privilege) a b x y = elim x [ ]
+one_first code (Context privilege time context) a b x y = elim x [ ]
 one_first code (Support enabled status) a b x y = elim x [ ]
 
 first_or_fault : (code : List ElfSegment) (packet : Packet) (a : List StepRow) (e : PathFault) → FirstLeg code packet a → FirstFault code packet e → ⊥
-first_or_fault code (Start branch privilege p) a e x y = not_both x.0 y
+first_or_fault code (Start branch privilege p time context) a e x y = not_both x.0 y
 first_or_fault code (Address report) a e x y = x
 first_or_fault code (MapAddress count map report) a e x y = x
 first_or_fault code (Map map) a e x y = x
-first_or_fault code (Context privilege) a e x y = x
+first_or_fault code (Context privilege time context) a e x y = x
 first_or_fault code (Support enabled status) a e x y = x
 
 one_first_fault : (code : List ElfSegment) (packet : Packet) (d e : PathFault) → FirstFault code packet d → FirstFault code packet e → d ≡ e
-one_first_fault code (Start branch privilege p) d e x y = same_err x y
+one_first_fault code (Start branch privilege p time context) d e x y = same_err x y
 one_first_fault code (Address report) d e x y = elim x [ ]
 one_first_fault code (MapAddress count map report) d e x y = elim x [ ]
 one_first_fault code (Map map) d e x y = elim x [ ]
-one_first_fault code (Context privilege) d e x y = elim x [ ]
+one_first_fault code (Context privilege time context) d e x y = elim x [ ]
 one_first_fault code (Support enabled status) d e x y = elim x [ ]
 
 one_waiting : (code : List ElfSegment) (packet : Packet) (met : Met) (a b : List StepRow) → WaitingLeg code packet met a → WaitingLeg code packet met b → a ≡ b
-one_waiting code (Start branch privilege p) met a b x y = same_ok x.0 y.0
+one_waiting code (Start branch privilege p time context) met a b x y = same_ok x.0 y.0
 one_waiting code (Address report) met a b x y = elim x [ ]
 one_waiting code (MapAddress count map report) met a b x y = elim x [ ]
 one_waiting code (Map map) met a b x y = elim x [ ]
-one_waiting code (Context privilege) met a b x y = x ∙ sym y
+one_waiting code (Context privilege time context) met a b x y = x ∙ sym y
 one_waiting code (Support enabled status) met a b x y = x ∙ sym y
 
 waiting_or_fault : (code : List ElfSegment) (packet : Packet) (met : Met) (a : List StepRow) (e : PathFault) → WaitingLeg code packet met a → WaitingFault code packet met e → ⊥
-waiting_or_fault code (Start branch privilege p) met a e x y = elim y [ inl f ↦ not_both x.0 f | inr f ↦ not_both x.1 f.1 ]
+waiting_or_fault code (Start branch privilege p time context) met a e x y = elim y [ inl f ↦ not_both x.0 f | inr f ↦ not_both x.1 f.1 ]
 waiting_or_fault code (Address report) met a e x y = x
 waiting_or_fault code (MapAddress count map report) met a e x y = x
 waiting_or_fault code (Map map) met a e x y = x
-waiting_or_fault code (Context privilege) met a e x y = y
+waiting_or_fault code (Context privilege time context) met a e x y = y
 waiting_or_fault code (Support enabled status) met a e x y = y
 
 one_waiting_fault : (code : List ElfSegment) (packet : Packet) (met : Met) (d e : PathFault) → WaitingFault code packet met d → WaitingFault code packet met e → d ≡ e
-one_waiting_fault code (Start branch privilege p) met d e x y = elim x [
+one_waiting_fault code (Start branch privilege p time context) met d e x y = elim x [
   | inl f ↦ elim y [ inl g ↦ same_err f g | inr g ↦ absurd (not_both g.0.1 f) ]
   | inr f ↦ elim y [ inl g ↦ absurd (not_both f.0.1 g) | inr g ↦ same_err f.1 g.1 ]
 ]
 one_waiting_fault code (Address report) met d e x y = x ∙ sym y
 one_waiting_fault code (MapAddress count map report) met d e x y = x ∙ sym y
 one_waiting_fault code (Map map) met d e x y = x ∙ sym y
-one_waiting_fault code (Context privilege) met d e x y = elim x [ ]
+one_waiting_fault code (Context privilege time context) met d e x y = elim x [ ]
 one_waiting_fault code (Support enabled status) met d e x y = elim x [ ]
 
 one_by : (code : List ElfSegment) (packet : Packet) (waits : Bool) (met : Met) (a b : List StepRow) → LegIn code packet waits met a → LegIn code packet waits met b → a ≡ b

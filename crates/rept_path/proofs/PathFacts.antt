@@ -160,19 +160,19 @@ module _ (code : List ElfSegment) where
       All-same (CarriesCode code) leg (rest ++ first) is (All-append (CarriesCode code) rest first (of_phases (further code s first) phases rest xs) (reached (lead_of s phase) phase.aim s.place first x.reaches))
 
   of_first : (packet : Packet) (leg : List StepRow) → FirstLeg code packet leg → CarryCode code leg
-  of_first (Start branch privilege a) leg x = none leg x.1
+  of_first (Start branch privilege a time context) leg x = none leg x.1
   of_first (Address report) leg x = elim x [ ]
   of_first (MapAddress count map report) leg x = elim x [ ]
   of_first (Map map) leg x = elim x [ ]
-  of_first (Context privilege) leg x = elim x [ ]
+  of_first (Context privilege time context) leg x = elim x [ ]
   of_first (Support enabled status) leg x = elim x [ ]
 
   of_waiting : (packet : Packet) (met : Met) (leg : List StepRow) → WaitingLeg code packet met leg → CarryCode code leg
-  of_waiting (Start branch privilege a) met leg x = let g = gap_rows (stand_of met) (record { address = a; otherwise = Gap met.number met.place.at a }) leg x.0 in g.carry
+  of_waiting (Start branch privilege a time context) met leg x = let g = gap_rows (stand_of met) (record { address = a; otherwise = Gap met.number met.place.at a }) leg x.0 in g.carry
   of_waiting (Address report) met leg x = elim x [ ]
   of_waiting (MapAddress count map report) met leg x = elim x [ ]
   of_waiting (Map map) met leg x = elim x [ ]
-  of_waiting (Context privilege) met leg x = none leg x
+  of_waiting (Context privilege time context) met leg x = none leg x
   of_waiting (Support enabled status) met leg x = none leg x
 
   of_packet : (packet : Packet) (waits : Bool) (met : Met) (leg : List StepRow) → LegIn code packet waits met leg → CarryCode code leg
@@ -214,19 +214,19 @@ module _ (code : List ElfSegment) where
       rw there (phases_on_chain (further code s first) phases rest (reach_on_chain (lead_of s phase) phase.aim s.place first h x.reaches) xs)
 
   running_place : (packet : Packet) (p : Place) (leg : List StepRow) → place_after code packet (meets false p) leg ≡ along code p leg
-  running_place (Start branch privilege a) p leg = refl
+  running_place (Start branch privilege a time context) p leg = refl
   running_place (Address report) p leg = refl
   running_place (MapAddress count map report) p leg = refl
   running_place (Map map) p leg = refl
-  running_place (Context privilege) p leg = refl
+  running_place (Context privilege time context) p leg = refl
   running_place (Support enabled status) p leg = refl
 
   waiting_on_chain : (packet : Packet) (met : Met) (leg : List StepRow) → OnChain met.place → WaitingLeg code packet met leg → OnChain (place_after code packet (meets true met.place) leg)
-  waiting_on_chain (Start branch privilege a) met leg h x = let g = gap_rows (stand_of met) (record { address = a; otherwise = Gap met.number met.place.at a }) leg x.0 in g.leads met.place.rows h
+  waiting_on_chain (Start branch privilege a time context) met leg h x = let g = gap_rows (stand_of met) (record { address = a; otherwise = Gap met.number met.place.at a }) leg x.0 in g.leads met.place.rows h
   waiting_on_chain (Address report) met leg h x = elim x [ ]
   waiting_on_chain (MapAddress count map report) met leg h x = elim x [ ]
   waiting_on_chain (Map map) met leg h x = elim x [ ]
-  waiting_on_chain (Context privilege) met leg h x = rw x h
+  waiting_on_chain (Context privilege time context) met leg h x = rw x h
   waiting_on_chain (Support enabled status) met leg h x = rw x h
 
   packet_on_chain : (packet : Packet) (waits : Bool) (met : Met) (leg : List StepRow) → OnChain met.place → LegIn code packet waits met leg → OnChain (place_after code packet (meets waits met.place) leg)
@@ -234,11 +234,11 @@ module _ (code : List ElfSegment) where
   packet_on_chain packet false met leg h x = rw (running_place packet met.place leg) (phases_on_chain (with_bits code packet met) (phases_of packet met.marked met.reported) leg h x.legs)
 
   first_on_chain : (packet : Packet) (leg : List StepRow) (p : Place) → p.rows ≡ [] → FirstLeg code packet leg → OnChain (place_after code packet (meets true p) leg)
-  first_on_chain (Start branch privilege a) leg p none x = rw (x.1, none) tt
+  first_on_chain (Start branch privilege a time context) leg p none x = rw (x.1, none) tt
   first_on_chain (Address report) leg p none x = elim x [ ]
   first_on_chain (MapAddress count map report) leg p none x = elim x [ ]
   first_on_chain (Map map) leg p none x = elim x [ ]
-  first_on_chain (Context privilege) leg p none x = elim x [ ]
+  first_on_chain (Context privilege time context) leg p none x = elim x [ ]
   first_on_chain (Support enabled status) leg p none x = elim x [ ]
 
   route_on_chain : (origin : Origin) (packets : List Packet) (legs : List (List StepRow)) → Route code origin packets legs → OnChain (place code packets legs)

@@ -83,11 +83,11 @@ module _ (code : List ElfSegment) where
   leg_by packet false met path i j x = record { admitted = x.0; legs = phases_from path (with_bits code packet met) (phases_of packet met.marked met.reported) i j x.1 }
 
   first_none : (packet : Packet) (leg : List StepRow) → FirstLeg code packet leg → leg ≡ []
-  first_none (Start branch privilege a) leg x = x.1
+  first_none (Start branch privilege a time context) leg x = x.1
   first_none (Address report) leg x = elim x [ ]
   first_none (MapAddress count map report) leg x = elim x [ ]
   first_none (Map map) leg x = elim x [ ]
-  first_none (Context privilege) leg x = elim x [ ]
+  first_none (Context privilege time context) leg x = elim x [ ]
   first_none (Support enabled status) leg x = elim x [ ]
 
   module _ (skipped : ℕ) where

@@ -50,11 +50,11 @@ first_phase marked before = if marked then record { target = Some before; aim = 
 
 -- what a packet makes a running walk do, from the mark and the reported address before it
 abbrev pub phases_of : Packet → Bool → ℕ → List Phase
-phases_of (Start branch privilege a) marked before = record { target = Some a; aim = aims.Start a } ∷ []
+phases_of (Start branch privilege a time context) marked before = record { target = Some a; aim = aims.Start a } ∷ []
 phases_of (Address report) marked before = first_phase marked before ++ record { target = Some (sum before report.difference); aim = aims.Report (sum before report.difference) report.notify report.updiscon } ∷ []
 phases_of (MapAddress count map report) marked before = first_phase marked before ++ record { target = Some (sum before report.difference); aim = aims.Report (sum before report.difference) report.notify report.updiscon } ∷ []
 phases_of (Map map) marked before = first_phase marked before ++ record { target = None; aim = aims.LastBit } ∷ []
-phases_of (Context privilege) marked before = []
+phases_of (Context privilege time context) marked before = []
 phases_of (Support enabled NoChange) marked before = []
 phases_of (Support enabled EndedRep) marked before = []
 phases_of (Support enabled TraceLost) marked before = []
@@ -68,11 +68,11 @@ pub record Arrival : Type 0 where
 
 -- the mark after a packet, from the one before it
 abbrev pub mark_after : List ElfSegment → Packet → Bool → Arrival → Bool
-mark_after code (Start branch privilege a) marked x = false
+mark_after code (Start branch privilege a time context) marked x = false
 mark_after code (Address report) marked x = is_inferred code x.bits (aims.Report x.reported report.notify report.updiscon) x.place
 mark_after code (MapAddress count map report) marked x = is_inferred code x.bits (aims.Report x.reported report.notify report.updiscon) x.place
 mark_after code (Map map) marked x = false
-mark_after code (Context privilege) marked x = marked
+mark_after code (Context privilege time context) marked x = marked
 mark_after code (Support enabled status) marked x = marked
 
 -- where a packet meets the walk, and whether the trace waits there for a start packet
@@ -118,11 +118,11 @@ with_bits code packet met = record { packet = met.number; bits = met.bits ++ bit
 
 -- the address of a start packet must be a position
 abbrev pub admits : List ElfSegment → Packet → Result ℕ PathFault
-admits code (Start branch privilege a) = position code a
+admits code (Start branch privilege a time context) = position code a
 admits code (Address report) = Ok 0
 admits code (MapAddress count map report) = Ok 0
 admits code (Map map) = Ok 0
-admits code (Context privilege) = Ok 0
+admits code (Context privilege time context) = Ok 0
 admits code (Support enabled status) = Ok 0
 
 -- A packet while the trace runs has this leg.
@@ -135,36 +135,36 @@ RunningFault code packet met e = (admits code packet ≡ Err e) ⊎ (((a : ℕ) 
 
 -- A packet while the trace waits has this leg: a start packet that of the gap, the others none.
 abbrev pub WaitingLeg : List ElfSegment → Packet → Met → List StepRow → Type 0
-WaitingLeg code (Start branch privilege a) met leg = (gap_to_start code (stand_of met) a ≡ Ok leg) × (position code a ≡ Ok a)
+WaitingLeg code (Start branch privilege a time context) met leg = (gap_to_start code (stand_of met) a ≡ Ok leg) × (position code a ≡ Ok a)
 WaitingLeg code (Address report) met leg = ⊥
 WaitingLeg code (MapAddress count map report) met leg = ⊥
 WaitingLeg code (Map map) met leg = ⊥
-WaitingLeg code (Context privilege) met leg = leg ≡ []
+WaitingLeg code (Context privilege time context) met leg = leg ≡ []
 WaitingLeg code (Support enabled status) met leg = leg ≡ []
 
 abbrev pub WaitingFault : List ElfSegment → Packet → Met → PathFault → Type 0
-WaitingFault code (Start branch privilege a) met e = (gap_to_start code (stand_of met) a ≡ Err e) ⊎ (((rows : List StepRow) × (gap_to_start code (stand_of met) a ≡ Ok rows)) × (position code a ≡ Err e))
+WaitingFault code (Start branch privilege a time context) met e = (gap_to_start code (stand_of met) a ≡ Err e) ⊎ (((rows : List StepRow) × (gap_to_start code (stand_of met) a ≡ Ok rows)) × (position code a ≡ Err e))
 WaitingFault code (Address report) met e = e ≡ NoStart met.number
 WaitingFault code (MapAddress count map report) met e = e ≡ NoStart met.number
 WaitingFault code (Map map) met e = e ≡ NoStart met.number
-WaitingFault code (Context privilege) met e = ⊥
+WaitingFault code (Context privilege time context) met e = ⊥
 WaitingFault code (Support enabled status) met e = ⊥
 
 -- The first packet is a start packet, and adds no row.
 abbrev pub FirstLeg : List ElfSegment → Packet → List StepRow → Type 0
-FirstLeg code (Start branch privilege a) leg = (position code a ≡ Ok a) × (leg ≡ [])
+FirstLeg code (Start branch privilege a time context) leg = (position code a ≡ Ok a) × (leg ≡ [])
 FirstLeg code (Address report) leg = ⊥
 FirstLeg code (MapAddress count map report) leg = ⊥
 FirstLeg code (Map map) leg = ⊥
-FirstLeg code (Context privilege) leg = ⊥
+FirstLeg code (Context privilege time context) leg = ⊥
 FirstLeg code (Support enabled status) leg = ⊥
 
 abbrev pub FirstFault : List ElfSegment → Packet → PathFault → Type 0
-FirstFault code (Start branch privilege a) e = position code a ≡ Err e
+FirstFault code (Start branch privilege a time context) e = position code a ≡ Err e
 FirstFault code (Address report) e = ⊥
 FirstFault code (MapAddress count map report) e = ⊥
 FirstFault code (Map map) e = ⊥
-FirstFault code (Context privilege) e = ⊥
+FirstFault code (Context privilege time context) e = ⊥
 FirstFault code (Support enabled status) e = ⊥
 
 -- the first where the trace waits, and the second where it runs

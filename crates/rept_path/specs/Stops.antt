@@ -90,4 +90,4 @@ pub record StopIndices (run : Run) (skipped : ℕ) (path : List StepRow) (stops 
 
 -- The bytes hold whole packets, which have such stops on this path.
 abbrev pub HaveStops : RawRun → ℕ → List StepRow → Type 0
-HaveStops raw skipped path = (list : List Packet) × (stops : List ℕ) × Hold raw.bytes list × StopIndices (with_packets raw list) skipped path stops
+HaveStops raw skipped path = (list : List Packet) × (stops : List ℕ) × Hold raw.stream list × StopIndices (with_packets raw list) skipped path stops

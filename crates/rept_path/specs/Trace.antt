@@ -14,7 +14,7 @@ use Rattle.rept_path.specs.Route.{Route, Origin, alone, Fault, earlier_by, place
 use Rattle.rept_path.specs.Gap.{gap_to_end}
 
 abbrev pub starts : Option Packet → Bool
-starts (Some (Start branch privilege a)) = true
+starts (Some (Start branch privilege a time context)) = true
 starts _ = false
 
 abbrev pub loses : Packet → Bool

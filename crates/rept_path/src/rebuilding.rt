@@ -61,7 +61,7 @@ fn rebuild_once(
     dump: &Dump<'_>,
     from: u32,
 ) -> Result<Path, PathFault>
-    requires { length (rest_of packets) < 2 ^ 32 }
+    requires { length (rest_of packets).bytes < 2 ^ 32 }
     ensures path { IfOk result (λ path. IsTraced (raw_of packets.entry dump.now from) path.skipped path.steps) }
     ensures some { IfOk result (λ path. 0 < length path.steps) }
     ensures linked { IfOk result (λ path. AreLinked path.steps) }
@@ -100,7 +100,7 @@ pub fn rebuild(
     dump: &Dump<'_>,
     from: u32,
 ) -> Result<Path, PathFault>
-    requires { length (rest_of packets) < 2 ^ 32 }
+    requires { length (rest_of packets).bytes < 2 ^ 32 }
     ensures path { IfOk result (λ path. IsTraced (raw_of packets.entry dump.now from) path.skipped path.steps) }
     ensures some { IfOk result (λ path. 0 < length path.steps) }
     ensures linked { IfOk result (λ path. AreLinked path.steps) }

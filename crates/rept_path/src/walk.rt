@@ -477,8 +477,8 @@ impl Walk {
     ) -> Result<(), PathFault>
         requires counts { Counts self.old }
         requires waits { self.old.waiting ≡ true }
-        ensures ok { OnOk result ((privilege : ℕ) → Followed (exe_of dump.now) (Packet.Start branch privilege address) (from_to number self.old self.new)) }
-        ensures err { IfErr result (λ e. (privilege : ℕ) → (e ≡ OutOfMemory) ⊎ WaitingFault (exe_of dump.now) (Packet.Start branch privilege address) (met number self.old) e) }
+        ensures ok { OnOk result ((privilege time context : ℕ) → Followed (exe_of dump.now) (Packet.Start branch privilege address time context) (from_to number self.old self.new)) }
+        ensures err { IfErr result (λ e. (privilege time context : ℕ) → (e ≡ OutOfMemory) ⊎ WaitingFault (exe_of dump.now) (Packet.Start branch privilege address time context) (met number self.old) e) }
     {
         let otherwise = PathFault::Gap(number, self.at, address);
         self.join(dump, number, address, otherwise)?;
@@ -504,8 +504,8 @@ impl Walk {
         requires counts { Counts self.old }
         requires rests { length self.old.bits.items ≤ self.old.used + 1 }
         requires runs { self.old.waiting ≡ false }
-        ensures ok { OnOk result ((privilege : ℕ) → Followed (exe_of dump.now) (Packet.Start branch privilege address) (from_to number self.old self.new)) }
-        ensures err { IfErr result (λ e. (privilege : ℕ) → (e ≡ OutOfMemory) ⊎ RunningFault (exe_of dump.now) (Packet.Start branch privilege address) (met number self.old) e) }
+        ensures ok { OnOk result ((privilege time context : ℕ) → Followed (exe_of dump.now) (Packet.Start branch privilege address time context) (from_to number self.old self.new)) }
+        ensures err { IfErr result (λ e. (privilege time context : ℕ) → (e ≡ OutOfMemory) ⊎ RunningFault (exe_of dump.now) (Packet.Start branch privilege address time context) (met number self.old) e) }
     {
         position_of(dump, address)?;
         push_branch(&mut self.bits, dump, address, branch)?;

@@ -90,7 +90,7 @@ pub fn next_packet(rest: &mut Packets<'_>) -> Option<Packet>
 
 /// Goes through all packets.
 pub fn go_through<'a>(packets: Packets<'a>, from: u32) -> Result<Survey<'a>, TraceFault>
-    requires { length (rest_of packets) < 2 ^ 32 }
+    requires { length (rest_of packets).bytes < 2 ^ 32 }
     ensures ok { IfOk result (λ s. (list : List Packet) × Surveys (rest_of packets.entry) list from s) }
     ensures err { IfErr result (λ fault. (list : List Packet) × FailsAfter (number_of packets.entry) (rest_of packets.entry) list fault) }
 {
