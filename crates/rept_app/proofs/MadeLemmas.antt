@@ -10,6 +10,7 @@ use Rattle.rept_dump.specs.Registers.{Says as NotesSay}
 use Rattle.rept_dump.specs.declared.fault.CoreFault.{CoreFault}
 use Rattle.rept_isa.specs.declared.row.StepRow.{StepRow}
 use Rattle.rept_machine.specs.State.{State}
+use Rattle.rept_trace.specs.Stream.{plain}
 use Rattle.rept_path.specs.Traced.{IsTraced}
 use Rattle.rept_path.specs.declared.fault.PathFault.{PathFault}
 use Rattle.rept_path.specs.declared.fault.PathFault.TheVariants as fault
@@ -75,7 +76,7 @@ module _ (seed steps : ℕ) (made : Made) (m : IsMade seed steps made) where
   reads_made = record { exe_accepted = m.exe_read; core_accepted = m.core_read; noted = m.notes }
 
   path_made : IsTracePath crash_made made.trace 0 (path_of m.rows)
-  path_made = (m.rest, m.layout, subst (λ (p : ℕ). IsTraced (record { code = segments made.exe; bytes = m.rest; from = 0; pc = p }) 0 m.rows) (sym m.last_pc) m.path)
+  path_made = (m.rest, m.layout, subst (λ (p : ℕ). IsTraced (record { code = segments made.exe; stream = plain m.rest; from = 0; pc = p }) 0 m.rows) (sym m.last_pc) m.path)
 
   abbrev run_made : ℕ → State
   run_made = λ i. laid (bytes_of_words m.words) (m.run i)

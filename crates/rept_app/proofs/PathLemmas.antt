@@ -1,7 +1,7 @@
 -- The path of a trace file, by what its packets tell.
 use Rattle.std.proofs.Common.{◌≡◌, ℕ, List, ◌++◌, Result, Ok, Err, MatchResult, inl, inr, ap, sym, subst, ◌∙◌}
 use Rattle.rept_isa.specs.declared.row.StepRow.{StepRow}
-use Rattle.rept_trace.specs.Stream.{header, IsHeaderFault}
+use Rattle.rept_trace.specs.Stream.{header, plain, IsHeaderFault}
 use Rattle.rept_trace.specs.declared.fault.TraceFault.{TraceFault}
 use Rattle.rept_path.specs.Traced.{IsTraced, IsUntraced}
 use Rattle.rept_path.specs.declared.fault.PathFault.{PathFault}
@@ -18,12 +18,12 @@ module _ (crash : Crash) (trace : List ℕ) (from : ℕ) (bytes : List ℕ) (par
       by_header : header ++ others ≡ header ++ bytes → others ≡ bytes
       by_header same = cc
 
-  pub traced_after : (path : Path) → IsTracePath crash trace from path → IsTraced (record { code = crash.exe; bytes = bytes; from = from; pc = end_pc crash.note }) path.skipped path.steps
-  traced_after path (others, e, h) = subst (λ b. IsTraced (record { code = crash.exe; bytes = b; from = from; pc = end_pc crash.note }) path.skipped path.steps) (same_rest others e) h
+  pub traced_after : (path : Path) → IsTracePath crash trace from path → IsTraced (record { code = crash.exe; stream = plain bytes; from = from; pc = end_pc crash.note }) path.skipped path.steps
+  traced_after path (others, e, h) = subst (λ b. IsTraced (record { code = crash.exe; stream = plain b; from = from; pc = end_pc crash.note }) path.skipped path.steps) (same_rest others e) h
 
-  pub untraced_after : ((refused : TraceFault) → IsHeaderFault trace refused → ⊥) → (f : PathFault) → HasNoPath crash trace from f → IsUntraced (record { code = crash.exe; bytes = bytes; from = from; pc = end_pc crash.note }) 0 f
+  pub untraced_after : ((refused : TraceFault) → IsHeaderFault trace refused → ⊥) → (f : PathFault) → HasNoPath crash trace from f → IsUntraced (record { code = crash.exe; stream = plain bytes; from = from; pc = end_pc crash.note }) 0 f
   untraced_after fine f (inl (refused, h, e)) = absurd (fine refused h)
-  untraced_after fine f (inr (others, e, h)) = subst (λ b. IsUntraced (record { code = crash.exe; bytes = b; from = from; pc = end_pc crash.note }) 0 f) (same_rest others e) h
+  untraced_after fine f (inr (others, e, h)) = subst (λ b. IsUntraced (record { code = crash.exe; stream = plain b; from = from; pc = end_pc crash.note }) 0 f) (same_rest others e) h
 
 -- a path by its parts
 pub same_path : (r : Result Path PathFault) (other : Path) → MatchResult r (λ path. (path.skipped ≡ other.skipped) × (path.steps ≡ other.steps)) (λ e. e ≡ OutOfMemory) → MatchResult r (λ path. path ≡ other) (λ e. e ≡ OutOfMemory)

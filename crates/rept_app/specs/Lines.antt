@@ -66,8 +66,8 @@ core_fault_text (notes.ShortStatus size) = codes "core 2 " ++ decimal size
 core_fault_text (notes.NotePastEnd offset) = codes "core 3 " ++ decimal offset
 core_fault_text (notes.SeveralThreads count) = codes "core 4 " ++ decimal count
 
--- The number of a fault of the trace's bytes, and what it holds: the number of the byte of the header, or of the packet. The
--- packets are those of Efficient Trace for RISC-V 2.0.
+-- The number of a fault of the trace's bytes, and what it holds: the number of the byte of the header, of the packet or of the stream, or an
+-- offset. The packets are those of Efficient Trace for RISC-V 2.0.
 abbrev pub trace_fault_text : TraceFault → List ℕ
 trace_fault_text packets.BadMagic = codes "1"
 trace_fault_text (packets.BadHeader i) = codes "2 " ++ decimal i
@@ -75,6 +75,8 @@ trace_fault_text (packets.Truncated k) = codes "3 " ++ decimal k
 trace_fault_text (packets.Optional k) = codes "4 " ++ decimal k
 trace_fault_text (packets.Trap k) = codes "5 " ++ decimal k
 trace_fault_text (packets.BadSupport k) = codes "6 " ++ decimal k
+trace_fault_text (packets.StreamPastEnd s) = codes "7 " ++ decimal s
+trace_fault_text (packets.Rest offset) = codes "8 " ++ decimal offset
 
 -- The number of the reason why a trace has no path, and what it holds: numbers of packets and counts in decimal, addresses and
 -- code words in hexadecimal.
@@ -92,6 +94,10 @@ path_fault_text (path.TooLong k) = codes "path 10 " ++ decimal k
 path_fault_text (path.Packet f) = codes "path 11 " ++ trace_fault_text f
 path_fault_text (path.Trapped k a) = codes "path 12 " ++ decimal k ++ codes " " ++ hex_word a
 path_fault_text path.OutOfMemory = codes "out-of-memory"
+path_fault_text (path.TimeBack k) = codes "path 14 " ++ decimal k
+path_fault_text (path.SliceOverlap process time) = codes "path 15 " ++ decimal process ++ codes " " ++ decimal time
+path_fault_text (path.UnknownThread k process) = codes "path 16 " ++ decimal k ++ codes " " ++ decimal process
+path_fault_text (path.OtherThread k process) = codes "path 17 " ++ decimal k ++ codes " " ++ decimal process
 
 -- a register as `x5`, a byte as its address
 abbrev pub cell_text : Cell → List ℕ

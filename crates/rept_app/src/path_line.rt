@@ -28,6 +28,10 @@ pub fn push_path_fault(text: &mut Text, fault: &PathFault) -> Result<(), OutOfMe
         PathFault::Packet(fault) => push_trace_fault(text, fault),
         PathFault::Trapped(k, a) => push_packet(text, b"path 12 ", *k, *a),
         PathFault::OutOfMemory => text.push(b"out-of-memory"),
+        PathFault::TimeBack(k) => push_numbered(text, b"path 14 ", u64::from(*k)),
+        PathFault::SliceOverlap(process, time) => push_process(text, b"path 15 ", *process, *time),
+        PathFault::UnknownThread(k, process) => push_two_numbers(text, b"path 16 ", *k, *process),
+        PathFault::OtherThread(k, process) => push_two_numbers(text, b"path 17 ", *k, *process),
     }
 }
 
@@ -49,7 +53,16 @@ fn push_two_places(text: &mut Text, words: &[u8], a: u32, b: u32) -> Result<(), 
     Ok(())
 }
 
-/// Words, a packet's number and a count.
+/// Words, a process and a time.
+fn push_process(text: &mut Text, words: &[u8], process: u32, time: u64) -> Result<(), OutOfMemory>
+    ensures { OnOk result (text.new ≡ text.old ++ (words.now ++ decimal process ++ codes " " ++ decimal time)) }
+{
+    push_numbered(text, words, u64::from(process))?;
+    push_numbered(text, b" ", time)?;
+    Ok(())
+}
+
+/// Words, a packet's number, and a count or a process.
 fn push_two_numbers(text: &mut Text, words: &[u8], k: u32, count: u32) -> Result<(), OutOfMemory>
     ensures { OnOk result (text.new ≡ text.old ++ (words.now ++ decimal k ++ codes " " ++ decimal count)) }
 {
@@ -79,5 +92,7 @@ fn push_trace_fault(text: &mut Text, fault: &TraceFault) -> Result<(), OutOfMemo
         TraceFault::Optional(k) => push_numbered(text, b"4 ", *k),
         TraceFault::Trap(k) => push_numbered(text, b"5 ", *k),
         TraceFault::BadSupport(k) => push_numbered(text, b"6 ", *k),
+        TraceFault::StreamPastEnd(s) => push_numbered(text, b"7 ", u64::from(*s)),
+        TraceFault::Rest(offset) => push_numbered(text, b"8 ", *offset),
     }
 }

@@ -11,7 +11,7 @@ use Rattle.rept_path.specs.Code.{look, flow_of, sum, jumps_far, is_branch, branc
 use Rattle.rept_path.specs.Packets.{low_bits, bits, bits_of, reported, waits_after, waiting, begins}
 use Rattle.rept_path.specs.Moves.{Lead, Place, after, along, bits_fit, course_by}
 use Rattle.rept_path.specs.Legs.{PhaseLeg}
-use Rattle.rept_path.specs.Route.{Phase, lead_of, with_bits, phases_of, Arrival, mark_after, by_waiting, RunningLeg, WaitingLeg, met_by, Leg, place, marked, admits}
+use Rattle.rept_path.specs.Route.{alone, Phase, lead_of, with_bits, phases_of, Arrival, mark_after, by_waiting, RunningLeg, WaitingLeg, met_by, Leg, place, marked, admits}
 use Rattle.rept_path.proofs.MoveLemmas.{branch_of}
 use Rattle.rept_encode.specs.Bits.{passed, branch_row, count, bit_list}
 use Rattle.rept_encode.specs.Walkable.{calls, IsStepped}
@@ -78,9 +78,9 @@ pub record Sends (code : List ElfSegment) (packet : Packet) (before : ℕ) (phas
   pub runs : waits_after packet false ≡ false
   pub mark : (x : Arrival) → mark_after code packet false x ≡ false
 
-pub leg_after : (code : List ElfSegment) (packet : Packet) (earlier : List Packet) (legs : List (List StepRow)) (leg : List StepRow) (waits : Bool) → 0 < length earlier → waiting earlier ≡ waits → by_waiting waits (WaitingLeg code packet (met_by code 0 earlier legs) leg) (RunningLeg code packet (met_by code 0 earlier legs) leg) → Leg code packet (record { skipped = 0; packets = earlier; legs = legs }) leg
+pub leg_after : (code : List ElfSegment) (packet : Packet) (earlier : List Packet) (legs : List (List StepRow)) (leg : List StepRow) (waits : Bool) → 0 < length earlier → waiting earlier ≡ waits → by_waiting waits (WaitingLeg code packet (met_by code (alone 0) earlier legs) leg) (RunningLeg code packet (met_by code (alone 0) earlier legs) leg) → Leg code packet (record { origin = alone 0; packets = earlier; legs = legs }) leg
 leg_after code packet [] legs leg waits some w h = absurd (omega arith)
-leg_after code packet (last ∷ earlier) legs leg waits some w h = let met = met_by code 0 (last ∷ earlier) legs in subst (λ (b : Bool). by_waiting b (WaitingLeg code packet met leg) (RunningLeg code packet met leg)) (sym w) h
+leg_after code packet (last ∷ earlier) legs leg waits some w h = let met = met_by code (alone 0) (last ∷ earlier) legs in subst (λ (b : Bool). by_waiting b (WaitingLeg code packet met leg) (RunningLeg code packet met leg)) (sym w) h
 
 module _ (code : List ElfSegment) (packet : Packet) (packets : List Packet) (legs : List (List StepRow)) (leg : List StepRow) (phase : Phase) (stands : Stands code packets legs) (x : Sends code packet (reported packets) phase) where
   place_next : place code (packet ∷ packets) (leg ∷ legs) ≡ along code (place code packets legs) leg
@@ -97,13 +97,13 @@ module _ (code : List ElfSegment) (packet : Packet) (packets : List Packet) (leg
       let b = x.begun in
       rw (r, b) refl
 
-  pub by_packet : (next : StepRow) (rows : List StepRow) → PhaseLeg code (course_by (lead_of (with_bits code packet (met_by code 0 packets legs)) phase) phase.aim) (place code packets legs) leg → rows ≡ leg ++ (place code packets legs).rows → (along code (place code packets legs) leg).at ≡ next.at
+  pub by_packet : (next : StepRow) (rows : List StepRow) → PhaseLeg code (course_by (lead_of (with_bits code packet (met_by code (alone 0) packets legs)) phase) phase.aim) (place code packets legs) leg → rows ≡ leg ++ (place code packets legs).rows → (along code (place code packets legs) leg).at ≡ next.at
       → length (bits code packets ++ bits_of code packet) ≡ (along code (place code packets legs) leg).branches + count next → (branch_row next ≡ true → slice_get (bits code packets ++ bits_of code packet) (along code (place code packets legs) leg).branches ≡ Some (passed next)) → Coded code (packet ∷ packets) [] [] next rows
   unfolding waiting marked
   by_packet next rows taken seen at size bit =
       let m = stands.plain in
       let w = stands.runs in
-      let legs_here : RunningLeg code packet (met_by code 0 packets legs) leg = record { admitted = (0, x.admitted); legs = rw (m, x.phases) (leg, [], refl, taken, refl) } in
+      let legs_here : RunningLeg code packet (met_by code (alone 0) packets legs) leg = record { admitted = (0, x.admitted); legs = rw (m, x.phases) (leg, [], refl, taken, refl) } in
       let e : bits code (packet ∷ packets) ++ [] ≡ bits code packets ++ bits_of code packet = append-nil (bits code (packet ∷ packets)) ∙ bits_next in
       record {
         legs = leg ∷ legs;
@@ -155,8 +155,8 @@ module _ (code : List ElfSegment) (packets : List Packet) (n map : ℕ) (row : S
   by_report difference to clear =
       let x = report_sends code n map (reported packets) (record { difference = difference; notify = true; updiscon = false; irreport = false }) refl in
       let b = report_bits code n map (record { difference = difference; notify = true; updiscon = false; irreport = false }) in
-      let how : Lead = record { packet = 0 + length packets; target = Some here.at; bits = bits_there } in
-      let taken : PhaseLeg code (course_by how (aims.Report here.at true false)) from (row ∷ kept) = phase_leg code how (aims.Report here.at true false) from row kept c.moves.0 clear c.moves.1 (λ t. absurd (let near = c.moves.2 in cc)) (stop_there code bits_there here.at (along code from (row ∷ kept)) c.at here_fits) (fit_report code bits_there here.at true false (along code from (row ∷ kept)) here_fits) in
+      let how : Lead = record { packet = 0 + length packets; target = Some here.at; bits = bits_there; room = 65536 } in
+      let taken : PhaseLeg code (course_by how (aims.Report here.at true false)) from (row ∷ kept) = phase_leg code how (aims.Report here.at true false) from row kept refl c.moves.0 clear c.moves.1 (λ t. absurd (let near = c.moves.2 in cc)) (stop_there code bits_there here.at (along code from (row ∷ kept)) c.at here_fits) (fit_report code bits_there here.at true false (along code from (row ∷ kept)) here_fits) in
       by_packet code (report_packet n map (record { difference = difference; notify = true; updiscon = false; irreport = false })) packets c.legs (row ∷ kept) _ c.stands x here rows (rw (to, b) taken) c.seen c.at (rw b c.size) (λ t. rw b (c.bit t))
 
   -- a branch keeps its bit
@@ -181,10 +181,10 @@ module _ (code : List ElfSegment) (packets : List Packet) (n map : ℕ) (row : S
       let k : branches_at code here.at ≡ count here = counted code here placed in
       let one : count here ≡ 1 = rw branch refl in
       let there : is_branch code row.next ≡ true = rw at (branch_of code here.at here.instr placed ∙ branch) in
-      let how : Lead = record { packet = 0 + length packets; target = None; bits = bits_there } in
+      let how : Lead = record { packet = 0 + length packets; target = None; bits = bits_there; room = 65536 } in
       let left = left_over branch in
-      let taken : PhaseLeg code (course_by how aims.LastBit) from (row ∷ kept) = phase_leg code how aims.LastBit from row kept c.moves.0 (clear_map code bits_there from kept c.moves.0 left) c.moves.1 (λ t. absurd (let near = c.moves.2 in cc)) (stop_last code bits_there (along code from (row ∷ kept)) there here_fits) (fit_map code bits_there (along code from (row ∷ kept))) in
-      by_packet code (Map map) packets c.legs (row ∷ kept) _ c.stands (map_sends code map (reported packets)) here rows (subst (λ (xs : List Bool). PhaseLeg code (course_by (record { packet = 0 + length packets; target = None; bits = bits code packets ++ xs }) aims.LastBit) from (row ∷ kept)) (sym b) taken) c.seen c.at (rw b c.size) (λ t. rw b (c.bit t))
+      let taken : PhaseLeg code (course_by how aims.LastBit) from (row ∷ kept) = phase_leg code how aims.LastBit from row kept refl c.moves.0 (clear_map code bits_there from kept c.moves.0 left) c.moves.1 (λ t. absurd (let near = c.moves.2 in cc)) (stop_last code bits_there (along code from (row ∷ kept)) there here_fits) (fit_map code bits_there (along code from (row ∷ kept))) in
+      by_packet code (Map map) packets c.legs (row ∷ kept) _ c.stands (map_sends code map (reported packets)) here rows (subst (λ (xs : List Bool). PhaseLeg code (course_by (record { packet = 0 + length packets; target = None; bits = bits code packets ++ xs; room = 65536 }) aims.LastBit) from (row ∷ kept)) (sym b) taken) c.seen c.at (rw b c.size) (λ t. rw b (c.bit t))
 
 -- A report of the address to which an uninferable jump led.
 module _ (code : List ElfSegment) (packets : List Packet) (wait : List Bool) (kept : List StepRow) (here next : StepRow) (rows : List StepRow) (c : Coded code packets wait kept here rows) (s : Stepping code here next) (plain : calls (flow_of here.instr) ≡ false) (room : length rows < 65536) (n map : ℕ) (wanted : low_bits n map ≡ wait ++ bit_list next) where
@@ -202,7 +202,7 @@ module _ (code : List ElfSegment) (packets : List Packet) (wait : List Bool) (ke
       let report : Report = record { difference = difference; notify = false; updiscon = true; irreport = false } in
       let x = report_sends code n map (reported packets) (record { difference = difference; notify = false; updiscon = true; irreport = false }) refl in
       let b = report_bits code n map (record { difference = difference; notify = false; updiscon = true; irreport = false }) in
-      let how : Lead = record { packet = 0 + length packets; target = Some next.at; bits = all_there } in
+      let how : Lead = record { packet = 0 + length packets; target = Some next.at; bits = all_there; room = 65536 } in
       let k : branches_at code next.at ≡ count next = counted code next s.there in
       let branches = branches_next code packets wait kept here rows c next s plain room in
       let size : length all_there ≡ (along code from_there (here ∷ kept)).branches + count next = rw (all_is, branches) (length-append (bits code packets ++ wait) (bit_list next) ∙ ap (λ (m : ℕ). length (bits code packets ++ wait) + m) (length_bits next)) in
@@ -211,5 +211,5 @@ module _ (code : List ElfSegment) (packets : List Packet) (wait : List Bool) (ke
       let fit : bits_fit code all_there (along code from_there (here ∷ kept)) ≡ true = fits_there code all_there (along code from_there (here ∷ kept)) (size ∙ ap (λ (m : ℕ). (along code from_there (here ∷ kept)).branches + m) (sym there)) in
       let kept_moves : Moves code all_there from_there kept = rw all_is (moves_more code (bits code packets ++ wait) (bit_list next) from_there kept c.moves) in
       let last : Moved code all_there (along code from_there kept) here = rw all_is (moved_more code (bits code packets ++ wait) (bit_list next) (along code from_there kept) here (step_moved code packets wait kept here rows c next s plain room)) in
-      let taken : PhaseLeg code (course_by how (aims.Report next.at false true)) from_there (here ∷ kept) = phase_leg code how (aims.Report next.at false true) from_there here kept kept_moves (clear_jump code all_there next.at from_there kept kept_moves) last (λ t. ap (λ (a : ℕ). Some a) (sym at)) (stop_jump code all_there next.at false true from_there here kept far) (fit_report code all_there next.at false true (along code from_there (here ∷ kept)) fit) in
+      let taken : PhaseLeg code (course_by how (aims.Report next.at false true)) from_there (here ∷ kept) = phase_leg code how (aims.Report next.at false true) from_there here kept refl kept_moves (clear_jump code all_there next.at from_there kept kept_moves) last (λ t. ap (λ (a : ℕ). Some a) (sym at)) (stop_jump code all_there next.at false true from_there here kept far) (fit_report code all_there next.at false true (along code from_there (here ∷ kept)) fit) in
       by_packet code (report_packet n map (record { difference = difference; notify = false; updiscon = true; irreport = false })) packets c.legs (here ∷ kept) _ c.stands x next (here ∷ rows) (rw (to, b) taken) (ap (λ (xs : List StepRow). here ∷ xs) c.seen) at (rw b size) (λ t. rw b (rw all_is (get_bit next (bits code packets ++ wait) (along code from_there (here ∷ kept)).branches t branches)))

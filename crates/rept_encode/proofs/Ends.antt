@@ -17,7 +17,7 @@ use Rattle.rept_path.specs.Code.{look, flow_of, branches}
 use Rattle.rept_path.specs.Packets.{bits, bits_of, reported, waiting}
 use Rattle.rept_path.specs.Moves.{Place, Stand, by_bit, successor, ◌>>=◌, way_by}
 use Rattle.rept_path.specs.Gap.{row, Goal, Edge, by_successor, by_flow, crossing, gap, gap_to_start}
-use Rattle.rept_path.specs.Route.{Met, stand_of, met_by, place, marked}
+use Rattle.rept_path.specs.Route.{alone, Met, stand_of, met_by, place, marked}
 use Rattle.rept_path.specs.Trace.{starts, loses, Window, stand_after, IsPath}
 use Rattle.rept_path.proofs.GapLemmas.{gap_ok}
 use Rattle.rept_path.proofs.MoveLemmas.{branch_of}
@@ -31,7 +31,7 @@ if_start : (b x y : Bool) → cond b (cond b x true ∷ []) [] ≡ cond b (x ∷
 if_start true x y = refl
 if_start false x y = refl
 
-start_bits : (code : List ElfSegment) (row : StepRow) (privilege : ℕ) → look code row.at ≡ Ok row.instr → bits_of code (Start (start_bit row) privilege row.at) ≡ bit_list row
+start_bits : (code : List ElfSegment) (row : StepRow) (privilege : ℕ) → look code row.at ≡ Ok row.instr → bits_of code (Start (start_bit row) privilege row.at 0 0) ≡ bit_list row
 start_bits code row privilege h = rw (branch_of code row.at row.instr h) (if_start (branch_row row) (passed row) true)
 
 pub starts_at : (code : List ElfSegment) (here : StepRow) → look code here.at ≡ Ok here.instr → Coded code (start_at here ∷ []) [] [] here []
@@ -69,7 +69,7 @@ crosses code n e bit Call l b = let t : (e.to == following e.at) ≡ true = at_t
 crosses code n e bit Stop l b = elim l [ ]
 
 -- the gap after a row
-pub gap_row : (code : List ElfSegment) (s : Stand) (otherwise : PathFault) (r : StepRow) → s.place.at ≡ r.at → look code r.at ≡ Ok r.instr → IsStepped r → (branch_row r ≡ true → slice_get s.bits s.place.branches ≡ Some (passed r)) → length s.place.rows < 65536 → gap code s (record { address = r.next; otherwise = otherwise }) ≡ Ok (r ∷ [])
+pub gap_row : (code : List ElfSegment) (s : Stand) (otherwise : PathFault) (r : StepRow) → s.place.at ≡ r.at → look code r.at ≡ Ok r.instr → IsStepped r → (branch_row r ≡ true → slice_get s.bits s.place.branches ≡ Some (passed r)) → length s.place.rows < s.room → gap code s (record { address = r.next; otherwise = otherwise }) ≡ Ok (r ∷ [])
 gap_row code s otherwise r at here h b lt =
     let p = s.place in
     let called = h.call in
@@ -90,7 +90,7 @@ module _ (code : List ElfSegment) (packets : List Packet) (here next : StepRow) 
   q = place code (ended ∷ packets) ([] ∷ c.legs)
 
   abbrev met : Met
-  met = met_by code 0 (ended ∷ packets) ([] ∷ c.legs)
+  met = met_by code (alone 0) (ended ∷ packets) ([] ∷ c.legs)
 
   same_place : q ≡ place code packets c.legs
   unfolding place

@@ -13,7 +13,7 @@ use Rattle.rept_trace.specs.declared.packet.Report.{Report}
 use Rattle.rept_trace.specs.declared.packet.Packet.{Packet}
 use Rattle.rept_trace.specs.declared.packet.Packet.TheVariants.{Support, Map}
 use Rattle.rept_trace.specs.declared.packet.Qual.TheVariants.{EndedRep}
-use Rattle.rept_trace.specs.Stream.{header, Hold}
+use Rattle.rept_trace.specs.Stream.{header, plain, Hold}
 use Rattle.rept_path.specs.declared.flow.Flow.{Flow}
 use Rattle.rept_path.specs.declared.flow.Flow.TheVariants.{Plain, Branch, Jump, Fixed, Far, Call, Stop}
 use Rattle.rept_path.specs.Code.{look, flow_of, sum, branches, jumps_far}
@@ -76,10 +76,10 @@ text_on text new packets packet t a =
       rest = t.rest ++ length a.payload ∷ a.payload;
       layout = a.appended ∙ ap (λ (xs : List ℕ). xs ++ length a.payload ∷ a.payload) t.layout ∙ append_assoc header t.rest (length a.payload ∷ a.payload);
       holds = λ later more h.
-          let one : Hold (t.rest ++ (length a.payload ∷ (a.payload ++ later))) (reverse packets ++ packet ∷ more) = t.holds (length a.payload ∷ (a.payload ++ later)) (packet ∷ more) (later, (a.payload, (a.some, record { zeros = 0; layout = refl }), a.spells), h) in
+          let one : Hold (plain (t.rest ++ (length a.payload ∷ (a.payload ++ later)))) (reverse packets ++ packet ∷ more) = t.holds (length a.payload ∷ (a.payload ++ later)) (packet ∷ more) (plain later, (a.payload, (a.some, record { zeros = 0; layout = refl }), a.spells, refl), h) in
           let e : (t.rest ++ length a.payload ∷ a.payload) ++ later ≡ t.rest ++ (length a.payload ∷ (a.payload ++ later)) = append_assoc t.rest (length a.payload ∷ a.payload) later in
           let f : reverse (packet ∷ packets) ++ more ≡ reverse packets ++ packet ∷ more = ap (λ (xs : List Packet). xs ++ more) (reverse-cons packet packets) ∙ append_assoc (reverse packets) (packet ∷ []) more in
-          subst (λ (xs : List ℕ). Hold xs (reverse (packet ∷ packets) ++ more)) (sym e) (subst (λ (ps : List Packet). Hold (t.rest ++ (length a.payload ∷ (a.payload ++ later))) ps) (sym f) one);
+          subst (λ (xs : List ℕ). Hold (plain xs) (reverse (packet ∷ packets) ++ more)) (sym e) (subst (λ (ps : List Packet). Hold (plain (t.rest ++ (length a.payload ∷ (a.payload ++ later)))) ps) (sym f) one);
     }
 
 pub longer : (text new : List ℕ) (packet : Packet) → Appends text new packet → length new ≤ length text + 11
@@ -411,8 +411,8 @@ stood_tells rows n most s last given t get size = record {
   rest = t.text.rest;
   layout = t.text.layout;
   path = λ code pc carry end.
-      let held : Hold (t.text.rest ++ []) (reverse t.packets ++ []) = t.text.holds [] [] (record { zeros = 0; layout = refl }) in
-      let whole : Hold t.text.rest (reverse t.packets) = subst (λ (xs : List ℕ). Hold xs (reverse t.packets)) (append-nil t.text.rest) (subst (λ (ps : List Packet). Hold (t.text.rest ++ []) ps) (append-nil (reverse t.packets)) held) in
+      let held : Hold (plain (t.text.rest ++ [])) (reverse t.packets ++ []) = t.text.holds [] [] (record { zeros = 0; layout = refl }) in
+      let whole : Hold (plain t.text.rest) (reverse t.packets) = subst (λ (xs : List ℕ). Hold (plain xs) (reverse t.packets)) (append-nil t.text.rest) (subst (λ (ps : List Packet). Hold (plain (t.text.rest ++ [])) ps) (append-nil (reverse t.packets)) held) in
       let c = t.lead code last carry get in
       let step = all_at IsStepped rows n last get given.walkable.steps in
       let p = ends code t.packets last (reverse (take n rows)) c (all_at (CarriesCode code) rows n last get carry) step (room_at rows n last get given.few) t.begun in

@@ -10,8 +10,8 @@ use Rattle.rept_trace.specs.declared.packet.Qual.{Qual}
 use Rattle.rept_trace.specs.declared.packet.Qual.TheVariants.{NoChange, EndedRep, TraceLost, EndedNtr}
 use Rattle.rept_trace.specs.declared.packet.Packet.{Packet}
 use Rattle.rept_trace.specs.declared.packet.Packet.TheVariants.{Start, Context, Support, Address, Map, MapAddress}
-use Rattle.rept_trace.specs.Fits.{IsWordAddress, FieldsFit}
-use Rattle.rept_trace.specs.Grammar.{changes, map_width, qual_number, IsReport, IsPacket}
+use Rattle.rept_trace.specs.Fits.{IsWordAddress, StampFits, FieldsFit}
+use Rattle.rept_trace.specs.Grammar.{changes, map_width, qual_number, untimed, stamp_of, IsReport, IsStamp, IsPacket}
 use Rattle.rept_encode.specs.Written.{bit, copies, differ, high, notify_bit, updiscon_bit, report_number, number_of, ten_bytes, IsSilent}
 
 byte_there : (n j : ℕ) → j < 10 → get_or (ten_bytes n) j 0 ≡ n / 2 ^ (8 * j) % 256
@@ -141,23 +141,33 @@ reports number i r part le word silent =
 whole_number : (number : ℕ) → number / 2 ^ 0 ≡ number
 whole_number number = let e : number / 1 ≡ number = omega arith in e
 
-start_spells : (branch : Bool) (privilege a : ℕ) → privilege < 4 → IsWordAddress a → IsPacket (ten_bytes (number_of (Start branch privilege a))) (Start branch privilege a)
-start_spells branch privilege a small word =
-    let number : ℕ = number_of (Start branch privilege a) in
+-- a trace without times and contexts has them as 0
+no_stamp : (p : List ℕ) (i time context : ℕ) → StampFits untimed time context → IsStamp untimed p i (stamp_of time context)
+no_stamp p i time context fits =
+    let t = fits.0 in
+    let c = fits.1 in
+    let time_is : time ≡ 0 = omega arith in
+    let context_is : context ≡ 0 = omega arith in
+    record { clock = time_is ∙ sym (field_zero p i); process = context_is ∙ sym (field_zero p (i + 0)) }
+
+start_spells : (branch : Bool) (privilege a time context : ℕ) → privilege < 4 → IsWordAddress a → StampFits untimed time context → IsPacket untimed (ten_bytes (number_of (Start branch privilege a time context))) (Start branch privilege a time context)
+start_spells branch privilege a time context small word stamped =
+    let number : ℕ = number_of (Start branch privilege a time context) in
     let b = bit_small branch in
     let w = word.0 in
     let even = word.1 in
-    let p0 = whole_number (number_of (Start branch privilege a)) in
-    let p2 : number_of (Start branch privilege a) / 2 ^ 2 ≡ 4 * bit branch + 8 * privilege + 32 * (a / 4 + 2 ^ 30 * copies (high (a / 4))) = omega arith in
-    let p4 : number_of (Start branch privilege a) / 2 ^ 4 ≡ bit branch + 2 * (privilege + 4 * (a / 4 + 2 ^ 30 * copies (high (a / 4)))) = omega arith in
-    let p5 : number_of (Start branch privilege a) / 2 ^ 5 ≡ privilege + 4 * (a / 4 + 2 ^ 30 * copies (high (a / 4))) = omega arith in
-    let p7 : number_of (Start branch privilege a) / 2 ^ 7 ≡ a / 4 + 2 ^ 30 * copies (high (a / 4)) = omega arith in
-    let f7 : field (ten_bytes (number_of (Start branch privilege a))) 7 30 ≡ a / 4 = field_at number 7 _ p7 30 (omega arith) ∙ omega arith in
+    let p0 = whole_number (number_of (Start branch privilege a time context)) in
+    let p2 : number_of (Start branch privilege a time context) / 2 ^ 2 ≡ 4 * bit branch + 8 * privilege + 32 * (a / 4 + 2 ^ 30 * copies (high (a / 4))) = omega arith in
+    let p4 : number_of (Start branch privilege a time context) / 2 ^ 4 ≡ bit branch + 2 * (privilege + 4 * (a / 4 + 2 ^ 30 * copies (high (a / 4)))) = omega arith in
+    let p5 : number_of (Start branch privilege a time context) / 2 ^ 5 ≡ privilege + 4 * (a / 4 + 2 ^ 30 * copies (high (a / 4))) = omega arith in
+    let p7 : number_of (Start branch privilege a time context) / 2 ^ 7 ≡ a / 4 + 2 ^ 30 * copies (high (a / 4)) = omega arith in
+    let f7 : field (ten_bytes (number_of (Start branch privilege a time context))) 7 30 ≡ a / 4 = field_at number 7 _ p7 30 (omega arith) ∙ omega arith in
     record {
       format = field_at number 0 _ p0 2 (omega arith) ∙ omega arith;
       subformat = field_at number 2 _ p2 2 (omega arith) ∙ omega arith;
       branch_bit = sym (bit_at number 4 _ p4 (omega arith) ∙ odd_bit branch (privilege + 4 * (a / 4 + 2 ^ 30 * copies (high (a / 4)))));
       level = sym (field_at number 5 _ p5 2 (omega arith) ∙ omega arith);
+      stamp = no_stamp (ten_bytes (number_of (Start branch privilege a time context))) 7 time context stamped;
       place = omega (arith, f7);
     }
 
@@ -167,7 +177,7 @@ qual_small EndedRep = omega arith
 qual_small TraceLost = omega arith
 qual_small EndedNtr = omega arith
 
-support_spells : (enabled : Bool) (status : Qual) → IsPacket (ten_bytes (number_of (Support enabled status))) (Support enabled status)
+support_spells : (enabled : Bool) (status : Qual) → IsPacket untimed (ten_bytes (number_of (Support enabled status))) (Support enabled status)
 support_spells enabled status =
     let number : ℕ = number_of (Support enabled status) in
     let b = bit_small enabled in
@@ -187,19 +197,20 @@ support_spells enabled status =
       options = field_at number 8 _ p8 5 (omega arith) ∙ omega arith;
     }
 
-context_spells : (privilege : ℕ) → privilege < 4 → IsPacket (ten_bytes (number_of (Context privilege))) (Context privilege)
-context_spells privilege small =
-    let number : ℕ = number_of (Context privilege) in
-    let p0 = whole_number (number_of (Context privilege)) in
-    let p2 : number_of (Context privilege) / 2 ^ 2 ≡ 2 + 4 * privilege = omega arith in
-    let p4 : number_of (Context privilege) / 2 ^ 4 ≡ privilege = omega arith in
+context_spells : (privilege time context : ℕ) → privilege < 4 → StampFits untimed time context → IsPacket untimed (ten_bytes (number_of (Context privilege time context))) (Context privilege time context)
+context_spells privilege time context small stamped =
+    let number : ℕ = number_of (Context privilege time context) in
+    let p0 = whole_number (number_of (Context privilege time context)) in
+    let p2 : number_of (Context privilege time context) / 2 ^ 2 ≡ 2 + 4 * privilege = omega arith in
+    let p4 : number_of (Context privilege time context) / 2 ^ 4 ≡ privilege = omega arith in
     record {
       format = field_at number 0 _ p0 2 (omega arith) ∙ omega arith;
       subformat = field_at number 2 _ p2 2 (omega arith) ∙ omega arith;
       level = sym (field_at number 4 _ p4 2 (omega arith) ∙ omega arith);
+      stamp = no_stamp (ten_bytes (number_of (Context privilege time context))) 6 time context stamped;
     }
 
-map_spells : (map : ℕ) → map < 2 ^ 31 → IsPacket (ten_bytes (number_of (Map map))) (Map map)
+map_spells : (map : ℕ) → map < 2 ^ 31 → IsPacket untimed (ten_bytes (number_of (Map map))) (Map map)
 map_spells map small =
     let number : ℕ = number_of (Map map) in
     let p0 = whole_number (number_of (Map map)) in
@@ -211,7 +222,7 @@ map_spells map small =
       bits = sym (field_at number 7 _ p7 31 (omega arith) ∙ omega arith);
     }
 
-address_spells : (report : Report) → IsWordAddress report.difference → report.irreport ≡ false → IsPacket (ten_bytes (number_of (Address report))) (Address report)
+address_spells : (report : Report) → IsWordAddress report.difference → report.irreport ≡ false → IsPacket untimed (ten_bytes (number_of (Address report))) (Address report)
 address_spells report word silent =
     let number : ℕ = number_of (Address report) in
     let p0 = whole_number (number_of (Address report)) in
@@ -224,7 +235,7 @@ address_spells report word silent =
 narrow : (count : ℕ) → map_width count ≤ 31
 narrow count = grind (arith, nat_tests)
 
-map_address_spells : (count map : ℕ) (report : Report) → 0 < count → count ≤ 31 → map < 2 ^ map_width count → IsWordAddress report.difference → report.irreport ≡ false → IsPacket (ten_bytes (number_of (MapAddress count map report))) (MapAddress count map report)
+map_address_spells : (count map : ℕ) (report : Report) → 0 < count → count ≤ 31 → map < 2 ^ map_width count → IsWordAddress report.difference → report.irreport ≡ false → IsPacket untimed (ten_bytes (number_of (MapAddress count map report))) (MapAddress count map report)
 map_address_spells count map report some few small word silent =
     let number : ℕ = number_of (MapAddress count map report) in
     let w : ℕ = map_width count in
@@ -245,9 +256,9 @@ map_address_spells count map report some few small word silent =
       fields = reports number (7 + map_width count) report pw (omega arith) word silent;
     }
 
-pub spells : (packet : Packet) → FieldsFit packet → IsSilent packet → IsPacket (ten_bytes (number_of packet)) packet
-spells (Start branch privilege a) f s = start_spells branch privilege a f.0 f.1
-spells (Context privilege) f s = context_spells privilege f
+pub spells : (packet : Packet) → FieldsFit untimed packet → IsSilent packet → IsPacket untimed (ten_bytes (number_of packet)) packet
+spells (Start branch privilege a time context) f s = start_spells branch privilege a time context f.0 f.1 f.2
+spells (Context privilege time context) f s = context_spells privilege time context f.0 f.1
 spells (Support enabled status) f s = support_spells enabled status
 spells (Address report) f s = address_spells report f s
 spells (Map map) f s = map_spells map f

@@ -57,31 +57,31 @@ leads k at next Far bit target l c b t = let e = t refl in rw e refl
 leads k at next Call bit target l c b t = cc
 leads k at next Stop bit target l c b t = elim l [ ]
 
-pub room : (n k : ℕ) (r : Result ℕ PathFault) → n < 65536 → cond (nat_le 65536 n) (Err (TooLong k)) r ≡ r
-room n k r lt = elim (leb_tells 65536 n) [ inl t ↦ absurd (omega arith) | inr t ↦ rw t.0 refl ]
+pub room : (most n k : ℕ) (r : Result ℕ PathFault) → n < most → cond (nat_le most n) (Err (TooLong k)) r ≡ r
+room most n k r lt = elim (leb_tells most n) [ inl t ↦ absurd (omega arith) | inr t ↦ rw t.0 refl ]
 
 pub position_ok : (code : List ElfSegment) (a : ℕ) (i : Instr) → look code a ≡ Ok i → position code a ≡ Ok a
 position_ok code a i h = rw h refl
 
-next_is : (code : List ElfSegment) (how : Lead) (p : Place) (i j : Instr) (next : ℕ) → look code p.at ≡ Ok i → look code next ≡ Ok j → successor how.packet p.at (flow_of i) (way_by (slice_get how.bits p.branches) how.target) ≡ Ok next → length p.rows < 65536 → next_of code how p ≡ Ok next
+next_is : (code : List ElfSegment) (how : Lead) (p : Place) (i j : Instr) (next : ℕ) → look code p.at ≡ Ok i → look code next ≡ Ok j → successor how.packet p.at (flow_of i) (way_by (slice_get how.bits p.branches) how.target) ≡ Ok next → length p.rows < how.room → next_of code how p ≡ Ok next
 unfolding next_of
 next_is code how p i j next here there leads lt =
-    let f : ℕ → Result ℕ PathFault = λ a. cond (nat_le 65536 (length p.rows)) (Err (TooLong how.packet)) (position code a) in
+    let f : ℕ → Result ℕ PathFault = λ a. cond (nat_le how.room (length p.rows)) (Err (TooLong how.packet)) (position code a) in
     let g : Instr → Result ℕ PathFault = λ i. successor how.packet p.at (flow_of i) (way_by (slice_get how.bits p.branches) how.target) >>= f in
     let one : next_of code how p ≡ (Ok i >>= g) = ap (λ (r : Result Instr PathFault). r >>= g) here in
     let two : (Ok i >>= g) ≡ (Ok next >>= f) = ap (λ (r : Result ℕ PathFault). r >>= f) leads in
-    one ∙ two ∙ room (length p.rows) how.packet (position code next) lt ∙ position_ok code next j there
+    one ∙ two ∙ room how.room (length p.rows) how.packet (position code next) lt ∙ position_ok code next j there
 
 pub moved_more : (code : List ElfSegment) (all more : List Bool) (p : Place) (row : StepRow) → Moved code all p row → Moved code (all ++ more) p row
 moved_more code all more p row m = record { at = m.at; here = m.here; goes = m.goes; there = m.there; step = m.step; plain = m.plain; bit = λ t. get_front all more p.branches (passed row) (m.bit t); room = m.room }
 
-pub move_is : (code : List ElfSegment) (how : Lead) (p : Place) (row : StepRow) → Moved code how.bits p row → (jumps_far (flow_of row.instr) ≡ true → how.target ≡ Some row.next) → IsMove code how p row
-move_is code how p row m t =
+pub move_is : (code : List ElfSegment) (how : Lead) (p : Place) (row : StepRow) → how.room ≡ 65536 → Moved code how.bits p row → (jumps_far (flow_of row.instr) ≡ true → how.target ≡ Some row.next) → IsMove code how p row
+move_is code how p row limit m t =
     let lead = m.step.lead in
     let here : look code p.at ≡ Ok row.instr = rw m.at m.here in
     let s : successor how.packet p.at (flow_of row.instr) (way_by (slice_get how.bits p.branches) how.target) ≡ Ok row.next = rw m.at (leads how.packet row.at row.next (flow_of row.instr) (slice_get how.bits p.branches) how.target lead m.plain m.bit t) in
     record {
-      next = next_is code how p row.instr m.goes row.next here m.there s m.room;
+      next = next_is code how p row.instr m.goes row.next here m.there s (rw limit m.room);
       at = sym m.at;
       instr = here;
       call = m.step.call ∙ m.plain;

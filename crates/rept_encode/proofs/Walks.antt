@@ -19,16 +19,16 @@ abbrev pub Clear : List ElfSegment → List Bool → Aim → Place → List Step
 Clear code all aim past [] = Unit {0}
 Clear code all aim past (row ∷ leg) = Clear code all aim past leg × (stops code all aim (along code past (row ∷ leg)) ≡ false)
 
-pub passes : (code : List ElfSegment) (how : Lead) (aim : Aim) (past : Place) (leg : List StepRow) → Moves code how.bits past leg → Clear code how.bits aim past leg → Passes code (course_by how aim) past leg
-passes code how aim past [] m c = tt
-passes code how aim past (row ∷ leg) m c =
+pub passes : (code : List ElfSegment) (how : Lead) (aim : Aim) (past : Place) (leg : List StepRow) → how.room ≡ 65536 → Moves code how.bits past leg → Clear code how.bits aim past leg → Passes code (course_by how aim) past leg
+passes code how aim past [] limit m c = tt
+passes code how aim past (row ∷ leg) limit m c =
     let far = m.2 in
-    (passes code how aim past leg m.0 c.0, move_is code how (along code past leg) row m.1 (λ t. absurd (cc)), c.1)
+    (passes code how aim past leg limit m.0 c.0, move_is code how (along code past leg) row limit m.1 (λ t. absurd (cc)), c.1)
 
 -- The leg of a phase that stops where its last row leads.
-pub phase_leg : (code : List ElfSegment) (how : Lead) (aim : Aim) (past : Place) (row : StepRow) (leg : List StepRow) → Moves code how.bits past leg → Clear code how.bits aim past leg → Moved code how.bits (along code past leg) row → (jumps_far (flow_of row.instr) ≡ true → how.target ≡ Some row.next) → stops code how.bits aim (along code past (row ∷ leg)) ≡ true → misfits code how.bits aim (along code past (row ∷ leg)) ≡ false → PhaseLeg code (course_by how aim) past (row ∷ leg)
-phase_leg code how aim past row leg m c last t stop fit = record {
-  reaches = (passes code how aim past leg m c, move_is code how (along code past leg) row last t, stop);
+pub phase_leg : (code : List ElfSegment) (how : Lead) (aim : Aim) (past : Place) (row : StepRow) (leg : List StepRow) → how.room ≡ 65536 → Moves code how.bits past leg → Clear code how.bits aim past leg → Moved code how.bits (along code past leg) row → (jumps_far (flow_of row.instr) ≡ true → how.target ≡ Some row.next) → stops code how.bits aim (along code past (row ∷ leg)) ≡ true → misfits code how.bits aim (along code past (row ∷ leg)) ≡ false → PhaseLeg code (course_by how aim) past (row ∷ leg)
+phase_leg code how aim past row leg limit m c last t stop fit = record {
+  reaches = (passes code how aim past leg limit m c, move_is code how (along code past leg) row limit last t, stop);
   fits = fit;
 }
 

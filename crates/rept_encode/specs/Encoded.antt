@@ -3,7 +3,7 @@ use Rattle.std.specs.Prelude.{◌≡◌, ℕ, List, ◌++◌}
 use Rattle.rept_elf.specs.Segments.{ElfSegment}
 use Rattle.rept_isa.specs.declared.row.StepRow.{StepRow}
 use Rattle.rept_steps.specs.Linked.{EndBefore}
-use Rattle.rept_trace.specs.Stream.{header}
+use Rattle.rept_trace.specs.Stream.{header, plain}
 use Rattle.rept_path.specs.Rows.{CarryCode}
 use Rattle.rept_path.specs.Traced.{IsTraced}
 use Rattle.rept_encode.specs.declared.fault.EncodeFault.{EncodeFault}
@@ -15,7 +15,7 @@ use Rattle.rept_encode.specs.Walkable.{IsFirstJumpEnd}
 pub record Tells (trace : List ℕ) (rows : List StepRow) : Type 0 where
   pub rest : List ℕ
   pub layout : trace ≡ header ++ rest
-  pub path : (code : List ElfSegment) (pc : ℕ) → CarryCode code rows → EndBefore rows pc → IsTraced (record { code = code; bytes = rest; from = 0; pc = pc }) 0 rows
+  pub path : (code : List ElfSegment) (pc : ℕ) → CarryCode code rows → EndBefore rows pc → IsTraced (record { code = code; stream = plain rest; from = 0; pc = pc }) 0 rows
 
 -- why rows aren't written
 abbrev pub IsRefusal : List StepRow → EncodeFault → Type 0

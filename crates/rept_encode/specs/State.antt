@@ -8,12 +8,12 @@ use Rattle.rept_trace.specs.declared.packet.Report.{Report}
 use Rattle.rept_trace.specs.declared.packet.Packet.{Packet}
 use Rattle.rept_trace.specs.declared.packet.Packet.TheVariants.{Start, Support, Address, Map, MapAddress}
 use Rattle.rept_trace.specs.declared.packet.Qual.TheVariants.{EndedRep}
-use Rattle.rept_trace.specs.Stream.{header, Hold}
+use Rattle.rept_trace.specs.Stream.{header, plain, Hold}
 use Rattle.rept_steps.specs.Linked.{AreLinked}
 use Rattle.rept_path.specs.Code.{look, flow_of, sum, jumps_far}
 use Rattle.rept_path.specs.Packets.{low_bits, bits, reported, waiting}
 use Rattle.rept_path.specs.Moves.{Place, along}
-use Rattle.rept_path.specs.Route.{Route, place, marked}
+use Rattle.rept_path.specs.Route.{alone, Route, place, marked}
 use Rattle.rept_path.specs.Rows.{CarryCode}
 use Rattle.rept_path.specs.Trace.{starts, loses}
 use Rattle.rept_encode.specs.declared.bits.Bits.{Bits}
@@ -40,7 +40,7 @@ Moves code all past (row ∷ leg) = Moves code all past leg × Moved code all (a
 
 -- The packets, newest first, have this route, after which the trace runs and no stop is inferred.
 pub record Stands (code : List ElfSegment) (packets : List Packet) (legs : List (List StepRow)) : Type 0 where
-  pub route : Route code 0 packets legs
+  pub route : Route code (alone 0) packets legs
   pub runs : waiting packets ≡ false
   pub plain : marked code packets legs ≡ false
   pub some : 0 < length packets
@@ -58,7 +58,7 @@ pub record Coded (code : List ElfSegment) (packets : List Packet) (wait : List B
 
 -- the start packet at a row
 abbrev pub start_at : StepRow → Packet
-start_at row = Start (start_bit row) 0 row.at
+start_at row = Start (start_bit row) 0 row.at 0 0
 
 -- an address packet, with a map where there are bits to send
 abbrev pub report_packet : ℕ → ℕ → Report → Packet
@@ -86,7 +86,7 @@ waiting_bits b = low_bits b.count b.map
 pub record IsText (text : List ℕ) (packets : List Packet) : Type 0 where
   pub rest : List ℕ
   pub layout : text ≡ header ++ rest
-  pub holds : (later : List ℕ) (more : List Packet) → Hold later more → Hold (rest ++ later) (reverse packets ++ more)
+  pub holds : (later : List ℕ) (more : List Packet) → Hold (plain later) more → Hold (plain (rest ++ later)) (reverse packets ++ more)
 
 -- The packets lead to row i, and from so many rows before it, in each code that has the rows' instructions.
 abbrev pub LeadTo : List StepRow → List Packet → Bits → List StepRow → ℕ → Type 0

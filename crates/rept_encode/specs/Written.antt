@@ -5,7 +5,7 @@ use Rattle.std.specs.Int.{w128, to_le_bytes}
 use Rattle.rept_trace.specs.declared.packet.Report.{Report}
 use Rattle.rept_trace.specs.declared.packet.Packet.{Packet}
 use Rattle.rept_trace.specs.declared.packet.Packet.TheVariants.{Start, Context, Support, Address, Map, MapAddress}
-use Rattle.rept_trace.specs.Grammar.{map_width, qual_number, IsPacket}
+use Rattle.rept_trace.specs.Grammar.{untimed, map_width, qual_number, IsPacket}
 
 abbrev pub bit : Bool → ℕ
 bit b = if b then 1 else 0
@@ -32,10 +32,10 @@ updiscon_bit r = differ r.updiscon (notify_bit r)
 abbrev pub report_number : Report → ℕ
 report_number r = r.difference / 4 + 2 ^ 30 * (bit (notify_bit r) + 2 * copies (updiscon_bit r))
 
--- Contexts aren't written.
+-- Times and contexts aren't written.
 abbrev pub number_of : Packet → ℕ
-number_of (Start branch privilege a) = 3 + 16 * bit branch + 32 * privilege + 128 * (a / 4 + 2 ^ 30 * copies (high (a / 4)))
-number_of (Context privilege) = 11 + 16 * privilege
+number_of (Start branch privilege a time context) = 3 + 16 * bit branch + 32 * privilege + 128 * (a / 4 + 2 ^ 30 * copies (high (a / 4)))
+number_of (Context privilege time context) = 11 + 16 * privilege
 number_of (Support enabled status) = 15 + 16 * bit enabled + 64 * qual_number status
 number_of (Address report) = 2 + 4 * report_number report
 number_of (Map map) = 1 + 128 * (map + 2 ^ 31 * copies (nat_le (2 ^ 30) map))
@@ -59,13 +59,13 @@ pub record Appends (old new : List ℕ) (packet : Packet) : Type 0 where
   pub appended : new ≡ old ++ length payload ∷ payload
   pub some : 0 < length payload
   pub few : length payload ≤ 10
-  pub spells : IsPacket payload packet
+  pub spells : IsPacket untimed payload packet
   pub cut : IsCut payload
 
 -- A report of the packet says nothing by irreport.
 abbrev pub IsSilent : Packet → Type 0
-IsSilent (Start branch privilege a) = Unit {0}
-IsSilent (Context privilege) = Unit {0}
+IsSilent (Start branch privilege a time context) = Unit {0}
+IsSilent (Context privilege time context) = Unit {0}
 IsSilent (Support enabled status) = Unit {0}
 IsSilent (Address report) = report.irreport ≡ false
 IsSilent (Map map) = Unit {0}

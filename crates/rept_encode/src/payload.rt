@@ -3,7 +3,7 @@
 ghost use Rattle.std.specs.Prelude.{◌≡◌, ◌+◌, ◌<◌, ◌≤◌, ◌^◌, ◌*◌, List, ℕ, length, ◌∷◌, [], true, false, IfOk, OnOk, OnErr};
 ghost use Rattle.rept_trace.specs.declared.packet.Packet.{Packet};
 ghost use Rattle.rept_trace.specs.Fits.{FieldsFit};
-ghost use Rattle.rept_trace.specs.Grammar.{map_width, qual_number, IsPacket};
+ghost use Rattle.rept_trace.specs.Grammar.{untimed, map_width, qual_number, IsPacket};
 ghost use Rattle.rept_encode.specs.Written.{bit, copies, high, report_number, number_of, fill_after, IsSilent, IsCut, Appends};
 
 use rept_trace::{Packet, Qual, Report};
@@ -70,7 +70,7 @@ fn joined(count: u8, map: u32, report: u128) -> u128
 
 /// The number that is a packet's payload. No report says `irreport`.
 fn number_of(packet: &Packet) -> u128
-    requires { FieldsFit packet.now }
+    requires { FieldsFit untimed packet.now }
     ensures { result ≡ number_of packet.now }
 {
     match *packet {
@@ -78,12 +78,13 @@ fn number_of(packet: &Packet) -> u128
             branch,
             privilege,
             address,
+            ..
         } => {
             let place = u128::from(address / 4);
             let rest = place + 0x4000_0000 * copies(place >= 0x2000_0000);
             3 + 16 * bit(branch) + 32 * u128::from(privilege) + 128 * rest
         }
-        Packet::Context { privilege } => 11 + 16 * u128::from(privilege),
+        Packet::Context { privilege, .. } => 11 + 16 * u128::from(privilege),
         Packet::Support { enabled, status } => 15 + 16 * bit(enabled) + 64 * status_number(status),
         Packet::Address { report } => 2 + 4 * report_number(&report),
         Packet::Map { map } => {
@@ -108,7 +109,7 @@ fn cut(payload: &[u8]) -> &[u8]
     requires { 0 < length payload.now }
     ensures some { 0 < length result.now }
     ensures few { length result.now ≤ length payload.now }
-    ensures spells { (packet : Packet) → IsPacket payload.now packet → IsPacket result.now packet }
+    ensures spells { (packet : Packet) → IsPacket untimed payload.now packet → IsPacket untimed result.now packet }
     ensures cut { IsCut result.now }
 {
     let mut size = payload.len();
@@ -120,7 +121,7 @@ fn cut(payload: &[u8]) -> &[u8]
 
 /// Adds a packet: its length, and its payload, cut as short as may be.
 pub fn push_packet(out: &mut Text, packet: &Packet) -> Result<(), OutOfMemory>
-    requires fits { FieldsFit packet.now }
+    requires fits { FieldsFit untimed packet.now }
     requires silent { IsSilent packet.now }
     ensures ok { OnOk result (Appends out.old out.new packet.now) }
 {

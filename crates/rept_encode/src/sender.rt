@@ -4,6 +4,7 @@ ghost use Rattle.std.specs.Prelude.{◌≡◌, ℕ, ◌≤◌, ◌*◌, ◌%◌,
 ghost use Rattle.rept_trace.specs.declared.packet.Packet.{Packet};
 ghost use Rattle.rept_trace.specs.declared.packet.Qual.TheVariants.{EndedRep};
 ghost use Rattle.rept_trace.specs.Fits.{FieldsFit};
+ghost use Rattle.rept_trace.specs.Grammar.{untimed};
 ghost use Rattle.rept_trace.specs.Stream.{header};
 ghost use Rattle.rept_encode.specs.State.{AreBits, said, start_at, report_packet, IsBegun, IsReported, IsSent, IsRestarted, IsWaiting, IsMapped, IsStanding};
 ghost use Rattle.rept_encode.specs.Written.{IsSilent, Appends};
@@ -37,7 +38,7 @@ fn report_packet(bits: Bits, difference: u32, notify: bool) -> Packet
     requires bits { AreBits bits 31 }
     requires even { difference % 4 ≡ 0 }
     ensures packet { result ≡ report_packet bits.count bits.map (said difference notify) }
-    ensures fits { FieldsFit result }
+    ensures fits { FieldsFit untimed result }
     ensures silent { IsSilent result }
 {
     let report = Report {
@@ -59,14 +60,16 @@ fn report_packet(bits: Bits, difference: u32, notify: bool) -> Packet
 /// A start packet in user mode.
 fn start_packet(branch: bool, address: u32) -> Packet
     requires { address % 4 ≡ 0 }
-    ensures packet { result ≡ Packet.Start branch 0 address }
-    ensures fits { FieldsFit result }
+    ensures packet { result ≡ Packet.Start branch 0 address 0 0 }
+    ensures fits { FieldsFit untimed result }
     ensures silent { IsSilent result }
 {
     Packet::Start {
         branch,
         privilege: 0,
         address,
+        time: 0,
+        context: 0,
     }
 }
 

@@ -16,6 +16,7 @@ use Rattle.rept_machine.specs.declared.machine.Machine.{Machine}
 use Rattle.rept_machine.specs.Machine.{state_of, pc_of}
 use Rattle.rept_machine.specs.Execution.{Execution}
 use Rattle.rept_path.specs.Rows.{CarriesCode, CarryCode}
+use Rattle.rept_trace.specs.Stream.{plain}
 use Rattle.rept_path.specs.Traced.{IsTraced}
 use Rattle.rept_encode.specs.Encoded.{Tells}
 use Rattle.rept_make.specs.Files.{bytes_of_words, executable, core_file}
@@ -128,7 +129,7 @@ made_is seed words m rows code small ran exe core trace registers bytes exe_is c
       rest = tells.rest;
       layout = tells.layout;
       few = few;
-      path = subst (λ (ss : List ElfSegment). IsTraced (record { code = ss; bytes = tells.rest; from = 0; pc = pc_of m }) 0 rows) (sym exe_segs) (tells.path (code_of words ∷ []) (pc_of m) (carries seed words code rows ran.run ran.made small) ran.ends);
+      path = subst (λ (ss : List ElfSegment). IsTraced (record { code = ss; stream = plain tells.rest; from = 0; pc = pc_of m }) 0 rows) (sym exe_segs) (tells.path (code_of words ∷ []) (pc_of m) (carries seed words code rows ran.run ran.made small) ran.ends);
       execution = λ last count_last same.
           let e = executes seed (greatest_end (segments exe)) words registers bytes last code rows ran.run ran.made (pc_of m) saved count_last (λ r some lt. same r some lt ∙ status_word registers bytes count size fit r lt) in
           subst (λ (ss : List ElfSegment). Execution (greatest_end (segments exe)) rows last (byte_at ss (segments core)) (λ i. laid (bytes_of_words words) (ran.run i))) (sym exe_segs) (subst (λ (cs : List ElfSegment). Execution (greatest_end (segments exe)) rows last (byte_at (code_of words ∷ []) cs) (λ i. laid (bytes_of_words words) (ran.run i))) (sym core_segs) e);

@@ -10,7 +10,7 @@ use Rattle.rept_dump.specs.Memory.{byte_at}
 use Rattle.rept_dump.specs.Registers.{Says}
 use Rattle.rept_machine.specs.State.{State}
 use Rattle.rept_machine.specs.Execution.{Execution}
-use Rattle.rept_trace.specs.Stream.{header}
+use Rattle.rept_trace.specs.Stream.{header, plain}
 use Rattle.rept_path.specs.Traced.{IsTraced}
 use Rattle.rept_make.specs.declared.made.Made.{Made}
 use Rattle.rept_make.specs.Files.{bytes_of_words, executable, core_file}
@@ -50,5 +50,5 @@ pub record IsMade (seed steps : ℕ) (made : Made) : Type 0 where
   pub rest : List ℕ
   pub layout : made.trace ≡ header ++ rest
   pub few : length made.trace < 2 ^ 32
-  pub path : IsTraced (record { code = segments made.exe; bytes = rest; from = 0; pc = pc }) 0 rows
+  pub path : IsTraced (record { code = segments made.exe; stream = plain rest; from = 0; pc = pc }) 0 rows
   pub execution : (last : List ℕ) → length last ≡ 32 → ((r : ℕ) → 0 < r → r < 32 → slice_index last r ≡ word_at status (72 + 4 * r)) → Execution (greatest_end (segments made.exe)) rows last (byte_at (segments made.exe) (segments made.core)) (λ i. laid (bytes_of_words words) (run i))

@@ -22,7 +22,7 @@ use Rattle.rept_path.specs.Packets.{waiting}
 use Rattle.rept_path.specs.Gap.{gap_to_start, gap_to_end}
 use Rattle.rept_path.specs.Moves.{Lead, Place, Stand, along, next_of, IsMove, stops, misfits, unused, position, ◌>>=◌, course_by}
 use Rattle.rept_path.specs.Legs.{Passes, Reaches, PhaseLeg, PhaseFault}
-use Rattle.rept_path.specs.Route.{Phase, PhaseLegs, PhasesFault, lead_of, further, with_bits, phases_of, admits, Met, met_by, stand_of, RunningLeg, RunningFault, WaitingLeg, WaitingFault, FirstLeg, FirstFault, Leg, Fault, Route}
+use Rattle.rept_path.specs.Route.{Phase, PhaseLegs, PhasesFault, lead_of, further, with_bits, phases_of, admits, Met, met_by, stand_of, RunningLeg, RunningFault, WaitingLeg, WaitingFault, FirstLeg, FirstFault, Leg, Fault, Origin, alone, Route}
 use Rattle.rept_path.specs.Trace.{starts, loses, IsWindow, stand_after, IsPath, StopsAt, IsRefused}
 use Rattle.rept_path.specs.Traced.{pc_of, IsTraced, IsRefusedBy, raw_of}
 use Rattle.rept_path.proofs.MoveLemmas.{made, few_before}
@@ -53,7 +53,7 @@ module _ (code : List ElfSegment) (lead : Lead) (aim : Aim) (past : Place) where
   row_of p a h = let m = made code lead p a h in (record { at = p.at; instr = m.0; next = a; call = false }, record { next = h; at = refl; instr = m.1; call = refl })
 
   -- a leg without a stop ends after one row more, or goes on
-  moves : (leg : List StepRow) → Passes code (course_by lead aim) past leg → ((row : StepRow) → length (along code past leg).rows < 65536 → Passes code (course_by lead aim) past (row ∷ leg) → Ends) → Ends
+  moves : (leg : List StepRow) → Passes code (course_by lead aim) past leg → ((row : StepRow) → length (along code past leg).rows < lead.room → Passes code (course_by lead aim) past (row ∷ leg) → Ends) → Ends
   moves leg x more = elim (result_of (next_of code lead (along code past leg))) [
     | inr f ↦ inr (f.0, leg, x, f.1)
     | inl a ↦
@@ -65,12 +65,12 @@ module _ (code : List ElfSegment) (lead : Lead) (aim : Aim) (past : Place) where
   ]
 
   -- so many rows more are the limit
-  go : (room : ℕ) (leg : List StepRow) → Passes code (course_by lead aim) past leg → 65536 ≤ room + length (along code past leg).rows → Ends
+  go : (room : ℕ) (leg : List StepRow) → Passes code (course_by lead aim) past leg → lead.room ≤ room + length (along code past leg).rows → Ends
   go zero leg x full = moves leg x (λ row few y. absurd (omega arith))
   go (suc room) leg x full = moves leg x (λ row few y. go room (row ∷ leg) y (omega arith))
 
   one_phase : ((leg : List StepRow) × PhaseLeg code (course_by lead aim) past leg) ⊎ ((e : PathFault) × PhaseFault code (course_by lead aim) past e)
-  one_phase = elim (go 65536 [] tt (omega arith)) [
+  one_phase = elim (go lead.room [] tt (omega arith)) [
     | inl r ↦ elim (bool_of (misfits code lead.bits aim (along code past r.0))) [
       | inl m ↦ inr (BranchesLeft lead.packet (unused lead.bits (along code past r.0)), inr (record { leg = r.0; reaches = r.1; left = m; fault = refl }))
       | inr m ↦ inl (r.0, record { reaches = r.1; fits = m })
@@ -90,22 +90,22 @@ module _ (code : List ElfSegment) where
   ]
 
   of_first : (packet : Packet) → starts (Some packet) ≡ true → ((leg : List StepRow) × FirstLeg code packet leg) ⊎ ((e : PathFault) × FirstFault code packet e)
-  of_first (Start branch privilege a) s = elim (position_of code a) [ inl p ↦ inl ([], (p, refl)) | inr f ↦ inr f ]
+  of_first (Start branch privilege a time context) s = elim (position_of code a) [ inl p ↦ inl ([], (p, refl)) | inr f ↦ inr f ]
   of_first (Address report) s = cc
   of_first (MapAddress count map report) s = cc
   of_first (Map map) s = cc
-  of_first (Context privilege) s = cc
+  of_first (Context privilege time context) s = cc
   of_first (Support enabled status) s = cc
 
   of_waiting : (packet : Packet) (met : Met) → ((leg : List StepRow) × WaitingLeg code packet met leg) ⊎ ((e : PathFault) × WaitingFault code packet met e)
-  of_waiting (Start branch privilege a) met = elim (result_of (gap_to_start code (stand_of met) a)) [
+  of_waiting (Start branch privilege a time context) met = elim (result_of (gap_to_start code (stand_of met) a)) [
     | inl g ↦ elim (position_of code a) [ inl p ↦ inl (g.0, (g.1, p)) | inr f ↦ inr (f.0, inr (g, f.1)) ]
     | inr f ↦ inr (f.0, inl f.1)
   ]
   of_waiting (Address report) met = inr (NoStart met.number, refl)
   of_waiting (MapAddress count map report) met = inr (NoStart met.number, refl)
   of_waiting (Map map) met = inr (NoStart met.number, refl)
-  of_waiting (Context privilege) met = inl ([], refl)
+  of_waiting (Context privilege time context) met = inl ([], refl)
   of_waiting (Support enabled status) met = inl ([], refl)
 
   of_running : (packet : Packet) (met : Met) → ((leg : List StepRow) × RunningLeg code packet met leg) ⊎ ((e : PathFault) × RunningFault code packet met e)
@@ -121,17 +121,17 @@ module _ (code : List ElfSegment) where
   of_one packet true met = of_waiting packet met
   of_one packet false met = of_running packet met
 
-  module _ (skipped : ℕ) where
-    leg_of : (packet : Packet) (earlier : List Packet) (legs : List (List StepRow)) → (earlier ≡ [] → starts (Some packet) ≡ true) → ((leg : List StepRow) × Leg code packet (record { skipped = skipped; packets = earlier; legs = legs }) leg) ⊎ ((e : PathFault) × Fault code packet (record { skipped = skipped; packets = earlier; legs = legs }) e)
+  module _ (origin : Origin) where
+    leg_of : (packet : Packet) (earlier : List Packet) (legs : List (List StepRow)) → (earlier ≡ [] → starts (Some packet) ≡ true) → ((leg : List StepRow) × Leg code packet (record { origin = origin; packets = earlier; legs = legs }) leg) ⊎ ((e : PathFault) × Fault code packet (record { origin = origin; packets = earlier; legs = legs }) e)
     leg_of packet [] legs s = of_first packet (s refl)
-    leg_of packet (last ∷ earlier) legs s = of_one packet (waiting (last ∷ earlier)) (met_by code skipped (last ∷ earlier) legs)
+    leg_of packet (last ∷ earlier) legs s = of_one packet (waiting (last ∷ earlier)) (met_by code origin (last ∷ earlier) legs)
 
     module _ (window : List Packet) where
-      goes : (later earlier : List Packet) (legs : List (List StepRow)) → window ≡ reverse earlier ++ later → (earlier ≡ [] → starts (slice_get later 0) ≡ true) → Route code skipped earlier legs
-          → ((legs : List (List StepRow)) × Route code skipped (reverse window) legs) ⊎ ((e : PathFault) × StopsAt code skipped window e)
+      goes : (later earlier : List Packet) (legs : List (List StepRow)) → window ≡ reverse earlier ++ later → (earlier ≡ [] → starts (slice_get later 0) ≡ true) → Route code origin earlier legs
+          → ((legs : List (List StepRow)) × Route code origin (reverse window) legs) ⊎ ((e : PathFault) × StopsAt code origin window e)
       goes [] earlier legs cut s route =
           let back : reverse window ≡ earlier = ap reverse cut ∙ ap reverse (append-nil (reverse earlier)) ∙ reverse-reverse earlier in
-          inl (legs, subst (λ (xs : List Packet). Route code skipped xs legs) (sym back) route)
+          inl (legs, subst (λ (xs : List Packet). Route code origin xs legs) (sym back) route)
       goes (packet ∷ later) earlier legs cut s route = elim (leg_of packet earlier legs s) [
         | inl l ↦
             let longer : window ≡ reverse (packet ∷ earlier) ++ later = cut ∙ sym (ap (λ (xs : List Packet). xs ++ later) (reverse-append (packet ∷ []) earlier) ∙ append_assoc (reverse earlier) (packet ∷ []) later) in
@@ -139,7 +139,7 @@ module _ (code : List ElfSegment) where
         | inr f ↦ inr (f.0, record { earlier = earlier; packet = packet; later = later; cut = cut; legs = legs; route = route; fault = f.1 })
       ]
 
-      route_of : starts (slice_get window 0) ≡ true → ((legs : List (List StepRow)) × Route code skipped (reverse window) legs) ⊎ ((e : PathFault) × StopsAt code skipped window e)
+      pub route_of : starts (slice_get window 0) ≡ true → ((legs : List (List StepRow)) × Route code origin (reverse window) legs) ⊎ ((e : PathFault) × StopsAt code origin window e)
       route_of s = goes window [] [] refl (λ none. s) tt
 
 -- The window begins at some packet, or at none.
@@ -173,7 +173,7 @@ module _ (code : List ElfSegment) (packets : List Packet) (from pc : ℕ) where
 
   in_window : (begin : Option ℕ) → IsWindow packets from begin → IsDecided
   in_window None w = inr (NoStart (length packets), inl (w, refl))
-  in_window (Some skipped) w = elim (route_of code skipped (drop skipped packets) (rw (get_drop packets skipped) w.may.start)) [
+  in_window (Some skipped) w = elim (route_of code (alone skipped) (drop skipped packets) (rw (get_drop packets skipped) w.may.start)) [
     | inl r ↦
         let turned = reverse (drop skipped packets) in
         let last = stand_after code (length packets) turned r.0 in

@@ -26,14 +26,14 @@ pub record Coming (code : List ElfSegment) (how : Lead) (aim : Aim) (old new : W
   pub grows : old.used ≤ new.used
 
 pub Keeps-twice : (a b c : Walk) → Keeps a b → Keeps b c → Keeps a c
-Keeps-twice a b c x y = record { bits = y.bits ∙ x.bits; reported = y.reported ∙ x.reported; inferred = y.inferred ∙ x.inferred; waiting = y.waiting ∙ x.waiting }
+Keeps-twice a b c x y = record { bits = y.bits ∙ x.bits; reported = y.reported ∙ x.reported; inferred = y.inferred ∙ x.inferred; waiting = y.waiting ∙ x.waiting; room = y.room ∙ x.room }
 
 pub came_first : (code : List ElfSegment) (how : Lead) (aim : Aim) (old new : Walk) → Moved code how old new → Coming code how aim old new
 came_first code how aim old new m = record { row = m.row; leg = []; passes = tt; move = m.move; seen = m.seen; counts = m.counts; kept = m.kept; grows = m.grows }
 
 module _ (code : List ElfSegment) (packet : ℕ) (target : Option ℕ) (aim : Aim) (old mid : Walk) (came : Coming code (lead old packet target) aim old mid) where
   same_lead : lead mid packet target ≡ lead old packet target
-  same_lead = let f : List Bool → Lead = λ bs. record { packet = packet; target = target; bits = bs } in ap f came.kept.bits
+  same_lead = let a = came.kept.bits in let b = came.kept.room in cc
 
   longer : stops code mid.bits.items aim (here mid) ≡ false → Passes code (course_by (lead old packet target) aim) (here old) (came.row ∷ came.leg)
   longer stays = (came.passes, came.move, rw (← came.seen, ← came.kept.bits) stays)
@@ -135,8 +135,9 @@ rests_at code (Report a notify updiscon) w s m f = fit_few code w.bits.items (he
 rests_at code LastBit w s m f = fit_few code w.bits.items (here w) (second (is_branch code w.at) (bits_fit code w.bits.items (here w)) s)
 
 -- After a move fewer steps are left.
-pub one_step_less : (code : List ElfSegment) (how : Lead) (old new : Walk) → Moved code how old new → 65536 - length new.steps < 65536 - length old.steps
+pub one_step_less : (code : List ElfSegment) (how : Lead) (old new : Walk) → Moved code how old new → new.room - length new.steps < old.room - length old.steps
 one_step_less code how old new m =
     let e : length (reverse new.steps) ≡ suc (length (reverse old.steps)) = ap (λ (p : Place). length p.rows) m.seen in
     let few = m.counts.few in
-    omega (arith, e, few, length-reverse old.steps, length-reverse new.steps)
+    let room = m.kept.room in
+    omega (arith, e, few, room, length-reverse old.steps, length-reverse new.steps)

@@ -31,11 +31,11 @@ bit_there k p Far bit target a h t = cc
 bit_there k p Call bit target a h t = cc
 bit_there k p Stop bit target a h t = cc
 
-short : (n k : ℕ) (r : Result ℕ PathFault) (a : ℕ) → cond (nat_le 65536 n) (Err (TooLong k)) r ≡ Ok a → n < 65536
-short n k r a h = elim (leb_tells 65536 n) [ inl t ↦ absurd (let e = rw t.0 at h in cc) | inr t ↦ t.1 ]
+short : (room n k : ℕ) (r : Result ℕ PathFault) (a : ℕ) → cond (nat_le room n) (Err (TooLong k)) r ≡ Ok a → n < room
+short room n k r a h = elim (leb_tells room n) [ inl t ↦ absurd (let e = rw t.0 at h in cc) | inr t ↦ t.1 ]
 
 abbrev limited : List ElfSegment → Lead → Place → ℕ → Result ℕ PathFault
-limited code how p x = cond (nat_le 65536 (length p.rows)) (Err (TooLong how.packet)) (position code x)
+limited code how p x = cond (nat_le how.room (length p.rows)) (Err (TooLong how.packet)) (position code x)
 
 abbrev from : Lead → Place → Instr → Result ℕ PathFault
 from how p i = successor how.packet p.at (flow_of i) (way_by (slice_get how.bits p.branches) how.target)
@@ -49,8 +49,8 @@ module _ (code : List ElfSegment) (how : Lead) (p : Place) where
       let c = bind_ok (from how p b.0) (limited code how p) a b.2 in
       (b.0, b.1, (c.0, c.1, c.2))
 
-  pub few_before : (a : ℕ) → next_of code how p ≡ Ok a → length p.rows < 65536
-  few_before a h = let m = made a h in short (length p.rows) how.packet (position code m.2.0) a m.2.2
+  pub few_before : (a : ℕ) → next_of code how p ≡ Ok a → length p.rows < how.room
+  few_before a h = let m = made a h in short how.room (length p.rows) how.packet (position code m.2.0) a m.2.2
 
   pub bit_before : (a : ℕ) → next_of code how p ≡ Ok a → is_branch code p.at ≡ true → p.branches < length how.bits
   unfolding is_branch
@@ -75,11 +75,11 @@ used_more true n all le more = let m = more refl in omega arith
 used_more false n all le more = omega arith
 
 -- a walk that was moved
-pub moved : (code : List ElfSegment) (how : Lead) (old new : Walk) (row : StepRow) → Counts old → how.bits ≡ old.bits.items → next_of code how (here old) ≡ Ok row.next → row.at ≡ old.at → look code old.at ≡ Ok row.instr → row.call ≡ false → new.at ≡ row.next → new.steps ≡ old.steps ++ row ∷ []
+pub moved : (code : List ElfSegment) (how : Lead) (old new : Walk) (row : StepRow) → Counts old → how.room ≡ old.room → how.bits ≡ old.bits.items → next_of code how (here old) ≡ Ok row.next → row.at ≡ old.at → look code old.at ≡ Ok row.instr → row.call ≡ false → new.at ≡ row.next → new.steps ≡ old.steps ++ row ∷ []
     → new.used ≡ old.used + branches_at code old.at → Keeps old new → EndBefore new.steps row.next → Moved code how old new
-moved code how old new row counts same next at there plain to pushed used kept ends =
+moved code how old new row counts limit same next at there plain to pushed used kept ends =
     let back : reverse new.steps ≡ row ∷ reverse old.steps = ap reverse pushed ∙ reverse-append old.steps (row ∷ []) in
-    let few : length (reverse old.steps) < 65536 = few_before code how (here old) row.next next in
+    let few : length (reverse old.steps) < how.room = few_before code how (here old) row.next next in
     let more : is_branch code old.at ≡ true → old.used < length old.bits.items = λ t. rw (← same) (bit_before code how (here old) row.next next t) in
     let u : old.used + branches_at code old.at ≤ length old.bits.items = used_more (is_branch code old.at) old.used (length old.bits.items) counts.enough more in
     let longer : length (reverse new.steps) ≡ 1 + length (reverse old.steps) = ap (length {A = StepRow}) back ∙ omega arith in
@@ -88,7 +88,7 @@ moved code how old new row counts same next at there plain to pushed used kept e
       row = row;
       move = record { next = next; at = at; instr = there; call = plain };
       seen = cc;
-      counts = record { enough = rw (used, kept.bits) u; few = omega (arith, length-reverse new.steps, longer); spare = (let sp = counts.spare in rw kept.bits (omega arith)); linked = rw to ends };
+      counts = record { enough = rw (used, kept.bits) u; few = (let k = kept.room in omega (arith, length-reverse new.steps, longer, limit, few, k)); spare = (let sp = counts.spare in rw kept.bits (omega arith)); linked = rw to ends };
       kept = kept;
       grows = omega (arith, used);
     }

@@ -21,7 +21,7 @@ use Rattle.rept_path.specs.Gap.{row, Goal, Edge, by_successor, by_flow, crossing
 use Rattle.rept_path.specs.Legs.{PhaseFault}
 use Rattle.rept_path.specs.Moves.{Lead, Place, Stand, along, successor, position, next_of, ◌>>=◌, course_by, way_by}
 use Rattle.rept_path.specs.Packets.{waiting}
-use Rattle.rept_path.specs.Route.{Phase, PhasesFault, lead_of, further, with_bits, phases_of, Met, met_by, stand_of, admits, FirstFault, WaitingFault, RunningFault, Fault}
+use Rattle.rept_path.specs.Route.{Phase, PhasesFault, lead_of, further, with_bits, phases_of, Met, met_by, stand_of, admits, FirstFault, WaitingFault, RunningFault, Fault, Origin, alone}
 use Rattle.rept_path.specs.Trace.{IsRefused, stand_after}
 use Rattle.rept_path.specs.Traced.{pc_of, IsRefusedBy}
 use Rattle.rept_path.proofs.Waiting.{FaultIn}
@@ -81,11 +81,11 @@ module _ (code : List ElfSegment) where
   others_next : (how : Lead) (p : Place) → Others (next_of code how p)
   unfolding next_of
   others_next how p =
-      let onward : ℕ → Result ℕ PathFault = λ a. cond (nat_le 65536 (length p.rows)) (Err (TooLong how.packet)) (position code a) in
+      let onward : ℕ → Result ℕ PathFault = λ a. cond (nat_le how.room (length p.rows)) (Err (TooLong how.packet)) (position code a) in
       let from : Instr → Result ℕ PathFault = λ i. successor how.packet p.at (flow_of i) (way_by (slice_get how.bits p.branches) how.target) in
       others_bind (look code p.at) (λ i. from i >>= onward) (others_look p.at)
       (λ i. others_bind (from i) onward (others_bit how.packet p.at (slice_get how.bits p.branches) how.target (flow_of i))
-      (λ a. others_cond (nat_le 65536 (length p.rows)) (Err (TooLong how.packet)) (position code a) (others_long how.packet) (others_position a)))
+      (λ a. others_cond (nat_le how.room (length p.rows)) (Err (TooLong how.packet)) (position code a) (others_long how.packet) (others_position a)))
 
   module _ (edge : Edge) (other : edge.otherwise ≢ OutOfMemory) where
     others_successor : (n : ℕ) → Others (by_successor code edge n)
@@ -106,12 +106,12 @@ module _ (code : List ElfSegment) where
   unfolding gap
   others_gap s goal other =
       let p = s.place in
-      let room : List StepRow → Result (List StepRow) PathFault = λ rows. cond (nat_le (length p.rows + length rows) 65536) (Ok rows) (Err (TooLong s.packet)) in
+      let room : List StepRow → Result (List StepRow) PathFault = λ rows. cond (nat_le (length p.rows + length rows) s.room) (Ok rows) (Err (TooLong s.packet)) in
       let bit = slice_get s.bits p.branches in
       let cross : Instr → Result (List StepRow) PathFault = λ i. crossing code s goal i in
       others_bind (look code p.at) (λ i. cross i >>= room) (others_look p.at)
       (λ i. others_bind (cross i) room (others_flow (record { at = p.at; instr = i; to = goal.address; otherwise = goal.otherwise }) other (successor s.packet p.at (flow_of i) (way_by bit None)) (others_bit s.packet p.at bit None (flow_of i)) (flow_of i))
-      (λ rows. others_cond (nat_le (length p.rows + length rows) 65536) (Ok rows) (Err (TooLong s.packet)) (others_ok rows) (others_long s.packet)))
+      (λ rows. others_cond (nat_le (length p.rows + length rows) s.room) (Ok rows) (Err (TooLong s.packet)) (others_ok rows) (others_long s.packet)))
 
   phase_other : (how : Lead) (aim : Aim) (past : Place) (e : PathFault) → PhaseFault code (course_by how aim) past e → e ≢ OutOfMemory
   phase_other how aim past e (inl blocked) = others_next how (along code past blocked.leg) e blocked.blocked
@@ -123,11 +123,11 @@ module _ (code : List ElfSegment) where
   phases_other s (phase ∷ phases) e (inr (first, leg, f)) = phases_other (further code s first) phases e f
 
   admits_other : (packet : Packet) → Others (admits code packet)
-  admits_other (Start branch privilege a) = others_position a
+  admits_other (Start branch privilege a time context) = others_position a
   admits_other (Address report) = others_ok 0
   admits_other (MapAddress count map report) = others_ok 0
   admits_other (Map map) = others_ok 0
-  admits_other (Context privilege) = others_ok 0
+  admits_other (Context privilege time context) = others_ok 0
   admits_other (Support enabled status) = others_ok 0
 
   running_other : (packet : Packet) (met : Met) (e : PathFault) → RunningFault code packet met e → e ≢ OutOfMemory
@@ -138,12 +138,12 @@ module _ (code : List ElfSegment) where
   gap_other k last a = λ m. cc
 
   waiting_other : (packet : Packet) (met : Met) (e : PathFault) → WaitingFault code packet met e → e ≢ OutOfMemory
-  waiting_other (Start branch privilege a) met e (inl f) = others_gap (stand_of met) (record { address = a; otherwise = Gap met.number met.place.at a }) (gap_other met.number met.place.at a) e f
-  waiting_other (Start branch privilege a) met e (inr (closed, f)) = others_position a e f
+  waiting_other (Start branch privilege a time context) met e (inl f) = others_gap (stand_of met) (record { address = a; otherwise = Gap met.number met.place.at a }) (gap_other met.number met.place.at a) e f
+  waiting_other (Start branch privilege a time context) met e (inr (closed, f)) = others_position a e f
   waiting_other (Address report) met e f = λ m. cc
   waiting_other (MapAddress count map report) met e f = λ m. cc
   waiting_other (Map map) met e f = λ m. cc
-  waiting_other (Context privilege) met e f = elim f [ ]
+  waiting_other (Context privilege time context) met e f = elim f [ ]
   waiting_other (Support enabled status) met e f = elim f [ ]
 
   by_other : (packet : Packet) (waits : Bool) (met : Met) (e : PathFault) → FaultIn code packet waits met e → e ≢ OutOfMemory
@@ -151,20 +151,20 @@ module _ (code : List ElfSegment) where
   by_other packet false met e f = running_other packet met e f
 
   first_other : (packet : Packet) (e : PathFault) → FirstFault code packet e → e ≢ OutOfMemory
-  first_other (Start branch privilege a) e f = others_position a e f
+  first_other (Start branch privilege a time context) e f = others_position a e f
   first_other (Address report) e f = elim f [ ]
   first_other (MapAddress count map report) e f = elim f [ ]
   first_other (Map map) e f = elim f [ ]
-  first_other (Context privilege) e f = elim f [ ]
+  first_other (Context privilege time context) e f = elim f [ ]
   first_other (Support enabled status) e f = elim f [ ]
 
-  fault_other : (skipped : ℕ) (packet : Packet) (earlier : List Packet) (legs : List (List StepRow)) (e : PathFault) → Fault code packet (record { skipped = skipped; packets = earlier; legs = legs }) e → e ≢ OutOfMemory
-  fault_other skipped packet [] legs e f = first_other packet e f
-  fault_other skipped packet (last ∷ earlier) legs e f = by_other packet (waiting (last ∷ earlier)) (met_by code skipped (last ∷ earlier) legs) e f
+  fault_other : (origin : Origin) (packet : Packet) (earlier : List Packet) (legs : List (List StepRow)) (e : PathFault) → Fault code packet (record { origin = origin; packets = earlier; legs = legs }) e → e ≢ OutOfMemory
+  fault_other origin packet [] legs e f = first_other packet e f
+  fault_other origin packet (last ∷ earlier) legs e f = by_other packet (waiting (last ∷ earlier)) (met_by code origin (last ∷ earlier) legs) e f
 
   refused_other : (packets : List Packet) (from pc : ℕ) (e : PathFault) → IsRefused (record { code = code; packets = packets; from = from; pc = pc }) e → e ≢ OutOfMemory
   refused_other packets from pc e (inl (none, is)) = λ m. cc
-  refused_other packets from pc e (inr (skipped, window, inl s)) = fault_other skipped s.packet s.earlier s.legs e s.fault
+  refused_other packets from pc e (inr (skipped, window, inl s)) = fault_other (alone skipped) s.packet s.earlier s.legs e s.fault
   refused_other packets from pc e (inr (skipped, window, inr s)) =
       let last = stand_after code (length packets) (reverse (drop skipped packets)) s.legs in
       others_gap last (record { address = pc; otherwise = End last.place.at pc }) (λ m. cc) e s.end

@@ -3,7 +3,7 @@ use Rattle.std.proofs.Common.{◌≡◌, ℕ, ◌+◌, ◌<◌, ◌≤◌, List,
 use Rattle.std.specs.Prelude.{IfSome, IfNone}
 use Rattle.std.proofs.lemmas.List.{reverse-append, reverse-reverse, length-reverse, append-nil}
 use Rattle.rept_trace.specs.declared.fault.TraceFault.{TraceFault}
-use Rattle.rept_trace.specs.Stream.{Hold, Answers}
+use Rattle.rept_trace.specs.Stream.{Stream, Hold, Answers}
 use Rattle.rept_trace.proofs.Frames.{one_answer, one_packet}
 use Rattle.rept_trace.proofs.Going.{not_both}
 use Rattle.rept_path.proofs.Followed.{same_position}
@@ -16,15 +16,15 @@ use Rattle.rept_trace.specs.declared.packet.Packet.TheVariants.{Start}
 use Rattle.rept_path.specs.declared.walk.Walk.{Walk}
 use Rattle.rept_path.specs.Packets.{bits, bits_of, reported, reported_after, waiting, waits_after}
 use Rattle.rept_path.specs.Moves.{position}
-use Rattle.rept_path.specs.Route.{Met, Leg, LegBy, Fault, FaultBy, FirstFault, met_by, marked, place, earlier_by}
+use Rattle.rept_path.specs.Route.{Met, Leg, LegBy, Fault, FaultBy, FirstFault, met_by, marked, place, Origin, earlier_by}
 use Rattle.rept_path.specs.State.{here, met, Followed, Stands, from_to}
 use Rattle.rept_path.specs.Trace.{StopsAt}
 
 -- a walk that stands at the address of a start packet
-pub begun : (code : List ElfSegment) (skipped : ℕ) (branch : Bool) (privilege a at : ℕ) (w : Walk) → position code a ≡ Ok at → w.at ≡ a → w.steps ≡ [] → w.bits.items ≡ bits_of code (Start branch privilege a) → length w.bits.items ≤ 1 → w.used ≡ 0 → w.reported ≡ a → w.inferred ≡ false → w.waiting ≡ false
-    → Stands code (earlier_by skipped (Start branch privilege a ∷ []) ([] ∷ [])) w
+pub begun : (code : List ElfSegment) (origin : Origin) (branch : Bool) (privilege a time context at : ℕ) (w : Walk) → position code a ≡ Ok at → w.at ≡ a → w.steps ≡ [] → w.bits.items ≡ bits_of code (Start branch privilege a time context) → length w.bits.items ≤ 1 → w.used ≡ 0 → w.reported ≡ a → w.inferred ≡ false → w.waiting ≡ false → w.room ≡ origin.room
+    → Stands code (earlier_by origin (Start branch privilege a time context ∷ []) ([] ∷ [])) w
 unfolding bits reported marked waiting place
-begun code skipped branch privilege a at w admitted stands none all size used report plain runs =
+begun code origin branch privilege a time context at w admitted stands none all size used report plain runs room =
     let same = same_position code a at admitted in
     record {
       route = ((rw same at admitted, refl), tt);
@@ -35,30 +35,31 @@ begun code skipped branch privilege a at w admitted stands none all size used re
       waiting = runs;
       marked = plain;
       rests = rw used size;
+      room = room;
     }
 
 -- a packet that is not the first has its leg
-pub leg_after : (code : List ElfSegment) (skipped : ℕ) (packet : Packet) (earlier : List Packet) (legs : List (List StepRow)) (leg : List StepRow) → 0 < length earlier → LegBy code packet (met_by code skipped earlier legs) leg → Leg code packet (record { skipped = skipped; packets = earlier; legs = legs }) leg
-leg_after code skipped packet [] legs leg some h = absurd (omega arith)
-leg_after code skipped packet (last ∷ earlier) legs leg some h = h
+pub leg_after : (code : List ElfSegment) (origin : Origin) (packet : Packet) (earlier : List Packet) (legs : List (List StepRow)) (leg : List StepRow) → 0 < length earlier → LegBy code packet (met_by code origin earlier legs) leg → Leg code packet (record { origin = origin; packets = earlier; legs = legs }) leg
+leg_after code origin packet [] legs leg some h = absurd (omega arith)
+leg_after code origin packet (last ∷ earlier) legs leg some h = h
 
-fault_after : (code : List ElfSegment) (skipped : ℕ) (packet : Packet) (earlier : List Packet) (legs : List (List StepRow)) (e : PathFault) → 0 < length earlier → FaultBy code packet (met_by code skipped earlier legs) e → Fault code packet (record { skipped = skipped; packets = earlier; legs = legs }) e
-fault_after code skipped packet [] legs e some h = absurd (omega arith)
-fault_after code skipped packet (last ∷ earlier) legs e some h = h
+fault_after : (code : List ElfSegment) (origin : Origin) (packet : Packet) (earlier : List Packet) (legs : List (List StepRow)) (e : PathFault) → 0 < length earlier → FaultBy code packet (met_by code origin earlier legs) e → Fault code packet (record { origin = origin; packets = earlier; legs = legs }) e
+fault_after code origin packet [] legs e some h = absurd (omega arith)
+fault_after code origin packet (last ∷ earlier) legs e some h = h
 
-module _ (code : List ElfSegment) (skipped k : ℕ) (packet : Packet) (earlier : List Packet) (legs : List (List StepRow)) (old : Walk) (some : 0 < length earlier) (number : k ≡ skipped + length earlier) (s : Stands code (earlier_by skipped earlier legs) old) where
-  same_met : met k old ≡ met_by code skipped earlier legs
-  same_met = let a = s.seen in let b = s.bits in let c = s.reported in let d = s.marked in let w = s.waiting in cc
+module _ (code : List ElfSegment) (origin : Origin) (k : ℕ) (packet : Packet) (earlier : List Packet) (legs : List (List StepRow)) (old : Walk) (some : 0 < length earlier) (number : k ≡ origin.number + length earlier) (s : Stands code (earlier_by origin earlier legs) old) where
+  same_met : met k old ≡ met_by code origin earlier legs
+  same_met = let a = s.seen in let b = s.bits in let c = s.reported in let d = s.marked in let w = s.waiting in let r = s.room in cc
 
-  pub stands_on : (new : Walk) → (f : Followed code packet (from_to k old new)) → Stands code (earlier_by skipped (packet ∷ earlier) (f.leg ∷ legs)) new
+  pub stands_on : (new : Walk) → (f : Followed code packet (from_to k old new)) → Stands code (earlier_by origin (packet ∷ earlier) (f.leg ∷ legs)) new
   unfolding bits reported marked waiting place
   stands_on new f =
       let all : new.bits.items ≡ bits code (packet ∷ earlier) = rw (← s.bits, ← s.waiting) f.bits in
       let report : new.reported ≡ reported (packet ∷ earlier) = f.reported ∙ ap (λ (r : ℕ). reported_after packet r) s.reported in
       let seen : here new ≡ place code (packet ∷ earlier) (f.leg ∷ legs) = rw (← s.seen, ← s.waiting) f.seen in
-      let leg : LegBy code packet (met_by code skipped earlier legs) f.leg = subst (λ (m : Met). LegBy code packet m f.leg) same_met f.goes in
+      let leg : LegBy code packet (met_by code origin earlier legs) f.leg = subst (λ (m : Met). LegBy code packet m f.leg) same_met f.goes in
       record {
-        route = (leg_after code skipped packet earlier legs f.leg some leg, s.route);
+        route = (leg_after code origin packet earlier legs f.leg some leg, s.route);
         seen = seen;
         counts = f.counts;
         bits = all;
@@ -66,49 +67,50 @@ module _ (code : List ElfSegment) (skipped k : ℕ) (packet : Packet) (earlier :
         waiting = f.waiting ∙ ap (λ (b : Bool). waits_after packet b) s.waiting;
         marked = rw (← s.marked, ← all, ← report, ← seen) f.marked;
         rests = f.rests;
+        room = f.room ∙ s.room;
       }
 
-  pub faults : (e : PathFault) → FaultBy code packet (met k old) e → Fault code packet (record { skipped = skipped; packets = earlier; legs = legs }) e
-  faults e f = fault_after code skipped packet earlier legs e some (subst (λ (m : Met). FaultBy code packet m e) same_met f)
+  pub faults : (e : PathFault) → FaultBy code packet (met k old) e → Fault code packet (record { origin = origin; packets = earlier; legs = legs }) e
+  faults e f = fault_after code origin packet earlier legs e some (subst (λ (m : Met). FaultBy code packet m e) same_met f)
 
 -- A walk over the packets of a window: those that it went over, newest first, and those that the bytes still hold.
-pub record Going (code : List ElfSegment) (skipped : ℕ) (window : List Packet) (number : ℕ) (rest : List ℕ) (w : Walk) : Type 0 where
+pub record Going (code : List ElfSegment) (origin : Origin) (window : List Packet) (number : ℕ) (rest : Stream) (w : Walk) : Type 0 where
   pub done : List Packet
   pub more : List Packet
   pub legs : List (List StepRow)
   pub hold : Hold rest more
   pub whole : window ≡ reverse done ++ more
-  pub stands : Stands code (earlier_by skipped done legs) w
-  pub numbered : number ≡ skipped + length done
+  pub stands : Stands code (earlier_by origin done legs) w
+  pub numbered : number ≡ origin.number + length done
   pub some : 0 < length done
 
-pub goes_first : (code : List ElfSegment) (skipped : ℕ) (first : Packet) (later : List Packet) (rest : List ℕ) (w : Walk) (legs : List (List StepRow)) → Hold rest later → Stands code (earlier_by skipped (first ∷ []) legs) w → Going code skipped (first ∷ later) (skipped + 1) rest w
-goes_first code skipped first later rest w legs h s = record { done = first ∷ []; more = later; legs = legs; hold = h; whole = refl; stands = s; numbered = refl; some = omega arith }
+pub goes_first : (code : List ElfSegment) (origin : Origin) (first : Packet) (later : List Packet) (rest : Stream) (w : Walk) (legs : List (List StepRow)) → Hold rest later → Stands code (earlier_by origin (first ∷ []) legs) w → Going code origin (first ∷ later) (origin.number + 1) rest w
+goes_first code origin first later rest w legs h s = record { done = first ∷ []; more = later; legs = legs; hold = h; whole = refl; stands = s; numbered = refl; some = omega arith }
 
 -- what is left begins with the packet that is read
-taken : (k n : ℕ) (rest after : List ℕ) (packet : Packet) (more : List Packet) → Hold rest more → Answers k rest (Ok (Some packet)) n after → (later : List Packet) × (more ≡ packet ∷ later) × Hold after later
+pub taken : (k n : ℕ) (rest after : Stream) (packet : Packet) (more : List Packet) → Hold rest more → Answers k rest (Ok (Some packet)) n after → (later : List Packet) × (more ≡ packet ∷ later) × Hold after later
 taken k n rest after packet [] h a = let o = one_answer k rest (Ok None) (Ok (Some packet)) k n rest after (h, refl, refl) a in absurd (let e = o.0 in cc)
 taken k n rest after packet (p ∷ more) h a =
     let o = one_packet rest p packet h.0 after h.1 a.0 in
-    (more, ap (λ (q : Packet). q ∷ more) o.0, subst (λ (l : List ℕ). Hold l more) o.1 h.2)
+    (more, ap (λ (q : Packet). q ∷ more) o.0, subst (λ (l : Stream). Hold l more) o.1 h.2)
 
-pub none_left : (k n : ℕ) (rest after : List ℕ) (more : List Packet) → Hold rest more → Answers k rest (Ok None) n after → more ≡ []
+pub none_left : (k n : ℕ) (rest after : Stream) (more : List Packet) → Hold rest more → Answers k rest (Ok None) n after → more ≡ []
 none_left k n rest after [] h a = refl
 none_left k n rest after (p ∷ more) h a = let o = one_answer k rest (Ok (Some p)) (Ok None) (k + 1) n h.0 after (h.1, refl) a in absurd (let e = o.0 in cc)
 
-pub no_fault : (k n : ℕ) (rest after : List ℕ) (more : List Packet) (fault : TraceFault) → Hold rest more → Answers k rest (Err fault) n after → ⊥
+pub no_fault : (k n : ℕ) (rest after : Stream) (more : List Packet) (fault : TraceFault) → Hold rest more → Answers k rest (Err fault) n after → ⊥
 no_fault k n rest after more fault h a = not_both k rest more [] fault h a.0
 
-pub some_of : (k n : ℕ) (rest after : List ℕ) (next : Option Packet) → Answers k rest (Ok next) n after → IfSome next (λ packet. Answers k rest (Ok (Some packet)) n after)
+pub some_of : (k n : ℕ) (rest after : Stream) (next : Option Packet) → Answers k rest (Ok next) n after → IfSome next (λ packet. Answers k rest (Ok (Some packet)) n after)
 some_of k n rest after None a = tt
 some_of k n rest after (Some packet) a = a
 
-pub none_of : (k n : ℕ) (rest after : List ℕ) (next : Option Packet) → Answers k rest (Ok next) n after → IfNone next (Answers k rest (Ok None) n after)
+pub none_of : (k n : ℕ) (rest after : Stream) (next : Option Packet) → Answers k rest (Ok next) n after → IfNone next (Answers k rest (Ok None) n after)
 none_of k n rest after None a = a
 none_of k n rest after (Some packet) a = tt
 
-module _ (code : List ElfSegment) (skipped : ℕ) (window : List Packet) (number : ℕ) (rest : List ℕ) (w : Walk) (g : Going code skipped window number rest w) where
-  pub goes_on : (k n : ℕ) (after : List ℕ) (packet : Packet) (new : Walk) → Answers k rest (Ok (Some packet)) n after → Followed code packet (from_to number w new) → Going code skipped window (number + 1) after new
+module _ (code : List ElfSegment) (origin : Origin) (window : List Packet) (number : ℕ) (rest : Stream) (w : Walk) (g : Going code origin window number rest w) where
+  pub goes_on : (k n : ℕ) (after : Stream) (packet : Packet) (new : Walk) → Answers k rest (Ok (Some packet)) n after → Followed code packet (from_to number w new) → Going code origin window (number + 1) after new
   goes_on k n after packet new a f =
       let t = taken k n rest after packet g.more g.hold a in
       let numbered = g.numbered in
@@ -118,12 +120,12 @@ module _ (code : List ElfSegment) (skipped : ℕ) (window : List Packet) (number
         legs = f.leg ∷ g.legs;
         hold = t.2;
         whole = g.whole ∙ ap (λ (xs : List Packet). reverse g.done ++ xs) t.1 ∙ sym (append_assoc (reverse g.done) (packet ∷ []) t.0) ∙ ap (λ (xs : List Packet). xs ++ t.0) (sym (reverse-append (packet ∷ []) g.done));
-        stands = stands_on code skipped number packet g.done g.legs w g.some g.numbered g.stands new f;
+        stands = stands_on code origin number packet g.done g.legs w g.some g.numbered g.stands new f;
         numbered = omega (arith, numbered);
         some = omega arith;
       }
 
-  pub stops_or : (k n : ℕ) (after : List ℕ) (packet : Packet) (e : PathFault) → Answers k rest (Ok (Some packet)) n after → (e ≡ OutOfMemory) ⊎ FaultBy code packet (met number w) e → (e ≡ OutOfMemory) ⊎ StopsAt code skipped window e
+  pub stops_or : (k n : ℕ) (after : Stream) (packet : Packet) (e : PathFault) → Answers k rest (Ok (Some packet)) n after → (e ≡ OutOfMemory) ⊎ FaultBy code packet (met number w) e → (e ≡ OutOfMemory) ⊎ StopsAt code origin window e
   stops_or k n after packet e a h =
       let t = taken k n rest after packet g.more g.hold a in
       elim h [
@@ -135,11 +137,11 @@ module _ (code : List ElfSegment) (skipped : ℕ) (window : List Packet) (number
           cut = g.whole ∙ ap (λ (xs : List Packet). reverse g.done ++ xs) t.1;
           legs = g.legs;
           route = g.stands.route;
-          fault = faults code skipped number packet g.done g.legs w g.some g.numbered g.stands e f;
+          fault = faults code origin number packet g.done g.legs w g.some g.numbered g.stands e f;
         })
       ]
 
-  pub room : (k n : ℕ) (after : List ℕ) (packet : Packet) → Answers k rest (Ok (Some packet)) n after → number + 1 ≤ skipped + length window
+  pub room : (k n : ℕ) (after : Stream) (packet : Packet) → Answers k rest (Ok (Some packet)) n after → number + 1 ≤ origin.number + length window
   room k n after packet a =
       let t = taken k n rest after packet g.more g.hold a in
       let numbered = g.numbered in
@@ -147,14 +149,14 @@ module _ (code : List ElfSegment) (skipped : ℕ) (window : List Packet) (number
       let more = ap (length {A = Packet}) t.1 in
       omega (arith, numbered, whole, more, length-append (reverse g.done) g.more, length-reverse g.done)
 
-  pub arrives : g.more ≡ [] → (legs : List (List StepRow)) × Stands code (earlier_by skipped (reverse window) legs) w
+  pub arrives : g.more ≡ [] → (legs : List (List StepRow)) × Stands code (earlier_by origin (reverse window) legs) w
   arrives none =
       let e : reverse window ≡ g.done = ap reverse (g.whole ∙ ap (λ (xs : List Packet). reverse g.done ++ xs) none ∙ append-nil (reverse g.done)) ∙ reverse-reverse g.done in
-      (g.legs, subst (λ (xs : List Packet). Stands code (earlier_by skipped xs g.legs) w) (sym e) g.stands)
+      (g.legs, subst (λ (xs : List Packet). Stands code (earlier_by origin xs g.legs) w) (sym e) g.stands)
 
 -- the first packet
-pub first_or : (code : List ElfSegment) (skipped : ℕ) (first : Packet) (later : List Packet) (e : PathFault) → (e ≡ OutOfMemory) ⊎ FirstFault code first e → (e ≡ OutOfMemory) ⊎ StopsAt code skipped (first ∷ later) e
-first_or code skipped first later e h = elim h [
+pub first_or : (code : List ElfSegment) (origin : Origin) (first : Packet) (later : List Packet) (e : PathFault) → (e ≡ OutOfMemory) ⊎ FirstFault code first e → (e ≡ OutOfMemory) ⊎ StopsAt code origin (first ∷ later) e
+first_or code origin first later e h = elim h [
   | inl m ↦ inl m
   | inr f ↦ inr (record { earlier = []; packet = first; later = later; cut = refl; legs = []; route = tt; fault = f })
 ]

@@ -24,7 +24,7 @@ use Rattle.rept_path.specs.Gap.{row, Goal, Edge, by_successor, by_flow, crossing
 use Rattle.rept_path.specs.Legs.{Passes, Reaches}
 use Rattle.rept_path.specs.Moves.{Lead, Place, Stand, along, successor, IsMove, ◌>>=◌, course_by, way_by}
 use Rattle.rept_path.specs.Packets.{reported_after, begins, waiting}
-use Rattle.rept_path.specs.Route.{Phase, PhaseLegs, lead_of, further, with_bits, phases_of, Met, met_by, stand_of, FirstLeg, WaitingLeg, Leg, Route, place, place_after, meets}
+use Rattle.rept_path.specs.Route.{Phase, PhaseLegs, lead_of, further, with_bits, phases_of, Met, met_by, stand_of, FirstLeg, WaitingLeg, Leg, Origin, alone, Route, place, place_after, meets}
 use Rattle.rept_path.specs.Rows.{CarriesCode, CarryCode}
 use Rattle.rept_path.specs.Trace.{IsPath, stand_after}
 use Rattle.rept_path.specs.Traced.{pc_of, IsTraced, raw_of}
@@ -131,14 +131,14 @@ module _ (code : List ElfSegment) where
     unfolding gap
     gap_rows rows is =
         let p = s.place in
-        let f : List StepRow → Result (List StepRow) PathFault = λ xs. cond (nat_le (length p.rows + length xs) 65536) (Ok xs) (Err (TooLong s.packet)) in
+        let f : List StepRow → Result (List StepRow) PathFault = λ xs. cond (nat_le (length p.rows + length xs) s.room) (Ok xs) (Err (TooLong s.packet)) in
         let cross : Instr → Result (List StepRow) PathFault = λ i. crossing code s goal i in
         let g : Instr → Result (List StepRow) PathFault = λ i. cross i >>= f in
         let b = bind_ok (look code p.at) g rows is in
         let c = bind_ok (cross b.0) f rows b.2 in
         let edge : Edge = record { at = p.at; instr = b.0; to = goal.address; otherwise = goal.otherwise } in
         let rows_there = flow_rows edge (successor s.packet p.at (flow_of b.0) (way_by (slice_get s.bits p.branches) None)) (flow_of b.0) c.0 b.1 c.1 in
-        kept (nat_le (length p.rows + length c.0) 65536) s.packet p.at goal.address c.0 rows rows_there c.2
+        kept (nat_le (length p.rows + length c.0) s.room) s.packet p.at goal.address c.0 rows rows_there c.2
 
   moved : (lead : Lead) (p : Place) (r : StepRow) → IsMove code lead p r → CarriesCode code r
   moved lead p r m = rw m.at m.instr
@@ -160,31 +160,31 @@ module _ (code : List ElfSegment) where
       All-same (CarriesCode code) leg (rest ++ first) is (All-append (CarriesCode code) rest first (of_phases (further code s first) phases rest xs) (reached (lead_of s phase) phase.aim s.place first x.reaches))
 
   of_first : (packet : Packet) (leg : List StepRow) → FirstLeg code packet leg → CarryCode code leg
-  of_first (Start branch privilege a) leg x = none leg x.1
+  of_first (Start branch privilege a time context) leg x = none leg x.1
   of_first (Address report) leg x = elim x [ ]
   of_first (MapAddress count map report) leg x = elim x [ ]
   of_first (Map map) leg x = elim x [ ]
-  of_first (Context privilege) leg x = elim x [ ]
+  of_first (Context privilege time context) leg x = elim x [ ]
   of_first (Support enabled status) leg x = elim x [ ]
 
   of_waiting : (packet : Packet) (met : Met) (leg : List StepRow) → WaitingLeg code packet met leg → CarryCode code leg
-  of_waiting (Start branch privilege a) met leg x = let g = gap_rows (stand_of met) (record { address = a; otherwise = Gap met.number met.place.at a }) leg x.0 in g.carry
+  of_waiting (Start branch privilege a time context) met leg x = let g = gap_rows (stand_of met) (record { address = a; otherwise = Gap met.number met.place.at a }) leg x.0 in g.carry
   of_waiting (Address report) met leg x = elim x [ ]
   of_waiting (MapAddress count map report) met leg x = elim x [ ]
   of_waiting (Map map) met leg x = elim x [ ]
-  of_waiting (Context privilege) met leg x = none leg x
+  of_waiting (Context privilege time context) met leg x = none leg x
   of_waiting (Support enabled status) met leg x = none leg x
 
   of_packet : (packet : Packet) (waits : Bool) (met : Met) (leg : List StepRow) → LegIn code packet waits met leg → CarryCode code leg
   of_packet packet true met leg x = of_waiting packet met leg x
   of_packet packet false met leg x = of_phases (with_bits code packet met) (phases_of packet met.marked met.reported) leg x.legs
 
-  module _ (skipped : ℕ) where
-    of_leg : (packet : Packet) (earlier : List Packet) (legs : List (List StepRow)) (leg : List StepRow) → Leg code packet (record { skipped = skipped; packets = earlier; legs = legs }) leg → CarryCode code leg
+  module _ (origin : Origin) where
+    of_leg : (packet : Packet) (earlier : List Packet) (legs : List (List StepRow)) (leg : List StepRow) → Leg code packet (record { origin = origin; packets = earlier; legs = legs }) leg → CarryCode code leg
     of_leg packet [] legs leg x = of_first packet leg x
-    of_leg packet (last ∷ earlier) legs leg x = of_packet packet (waiting (last ∷ earlier)) (met_by code skipped (last ∷ earlier) legs) leg x
+    of_leg packet (last ∷ earlier) legs leg x = of_packet packet (waiting (last ∷ earlier)) (met_by code origin (last ∷ earlier) legs) leg x
 
-    of_route : (packets : List Packet) (legs : List (List StepRow)) → Route code skipped packets legs → CarryCode code (place code packets legs).rows
+    of_route : (packets : List Packet) (legs : List (List StepRow)) → Route code origin packets legs → CarryCode code (place code packets legs).rows
     unfolding place
     of_route [] [] x = All-nil (CarriesCode code)
     of_route [] (leg ∷ legs) x = elim x [ ]
@@ -214,19 +214,19 @@ module _ (code : List ElfSegment) where
       rw there (phases_on_chain (further code s first) phases rest (reach_on_chain (lead_of s phase) phase.aim s.place first h x.reaches) xs)
 
   running_place : (packet : Packet) (p : Place) (leg : List StepRow) → place_after code packet (meets false p) leg ≡ along code p leg
-  running_place (Start branch privilege a) p leg = refl
+  running_place (Start branch privilege a time context) p leg = refl
   running_place (Address report) p leg = refl
   running_place (MapAddress count map report) p leg = refl
   running_place (Map map) p leg = refl
-  running_place (Context privilege) p leg = refl
+  running_place (Context privilege time context) p leg = refl
   running_place (Support enabled status) p leg = refl
 
   waiting_on_chain : (packet : Packet) (met : Met) (leg : List StepRow) → OnChain met.place → WaitingLeg code packet met leg → OnChain (place_after code packet (meets true met.place) leg)
-  waiting_on_chain (Start branch privilege a) met leg h x = let g = gap_rows (stand_of met) (record { address = a; otherwise = Gap met.number met.place.at a }) leg x.0 in g.leads met.place.rows h
+  waiting_on_chain (Start branch privilege a time context) met leg h x = let g = gap_rows (stand_of met) (record { address = a; otherwise = Gap met.number met.place.at a }) leg x.0 in g.leads met.place.rows h
   waiting_on_chain (Address report) met leg h x = elim x [ ]
   waiting_on_chain (MapAddress count map report) met leg h x = elim x [ ]
   waiting_on_chain (Map map) met leg h x = elim x [ ]
-  waiting_on_chain (Context privilege) met leg h x = rw x h
+  waiting_on_chain (Context privilege time context) met leg h x = rw x h
   waiting_on_chain (Support enabled status) met leg h x = rw x h
 
   packet_on_chain : (packet : Packet) (waits : Bool) (met : Met) (leg : List StepRow) → OnChain met.place → LegIn code packet waits met leg → OnChain (place_after code packet (meets waits met.place) leg)
@@ -234,20 +234,20 @@ module _ (code : List ElfSegment) where
   packet_on_chain packet false met leg h x = rw (running_place packet met.place leg) (phases_on_chain (with_bits code packet met) (phases_of packet met.marked met.reported) leg h x.legs)
 
   first_on_chain : (packet : Packet) (leg : List StepRow) (p : Place) → p.rows ≡ [] → FirstLeg code packet leg → OnChain (place_after code packet (meets true p) leg)
-  first_on_chain (Start branch privilege a) leg p none x = rw (x.1, none) tt
+  first_on_chain (Start branch privilege a time context) leg p none x = rw (x.1, none) tt
   first_on_chain (Address report) leg p none x = elim x [ ]
   first_on_chain (MapAddress count map report) leg p none x = elim x [ ]
   first_on_chain (Map map) leg p none x = elim x [ ]
-  first_on_chain (Context privilege) leg p none x = elim x [ ]
+  first_on_chain (Context privilege time context) leg p none x = elim x [ ]
   first_on_chain (Support enabled status) leg p none x = elim x [ ]
 
-  route_on_chain : (skipped : ℕ) (packets : List Packet) (legs : List (List StepRow)) → Route code skipped packets legs → OnChain (place code packets legs)
+  route_on_chain : (origin : Origin) (packets : List Packet) (legs : List (List StepRow)) → Route code origin packets legs → OnChain (place code packets legs)
   unfolding place waiting
-  route_on_chain skipped [] [] x = tt
-  route_on_chain skipped [] (leg ∷ legs) x = elim x [ ]
-  route_on_chain skipped (packet ∷ earlier) [] x = elim x [ ]
-  route_on_chain skipped (packet ∷ []) (leg ∷ legs) x = first_on_chain packet leg (place code [] legs) refl x.0
-  route_on_chain skipped (packet ∷ (last ∷ earlier)) (leg ∷ legs) x = packet_on_chain packet (waiting (last ∷ earlier)) (met_by code skipped (last ∷ earlier) legs) leg (route_on_chain skipped (last ∷ earlier) legs x.1) x.0
+  route_on_chain origin [] [] x = tt
+  route_on_chain origin [] (leg ∷ legs) x = elim x [ ]
+  route_on_chain origin (packet ∷ earlier) [] x = elim x [ ]
+  route_on_chain origin (packet ∷ []) (leg ∷ legs) x = first_on_chain packet leg (place code [] legs) refl x.0
+  route_on_chain origin (packet ∷ (last ∷ earlier)) (leg ∷ legs) x = packet_on_chain packet (waiting (last ∷ earlier)) (met_by code origin (last ∷ earlier) legs) leg (route_on_chain origin (last ∷ earlier) legs x.1) x.0
 
   turned : (rows : List StepRow) → CarryCode code rows → CarryCode code (reverse rows)
   turned [] h = h
@@ -269,13 +269,13 @@ module _ (code : List ElfSegment) where
     pub path_carries : CarryCode code path
     path_carries =
         let before = (place code (reverse (drop skipped packets)) is.legs).rows in
-        All-same (CarriesCode code) path (reverse (is.last ++ before)) is.order (turned (is.last ++ before) (All-append (CarriesCode code) is.last before crossed.carry (of_route skipped (reverse (drop skipped packets)) is.legs is.route)))
+        All-same (CarriesCode code) path (reverse (is.last ++ before)) is.order (turned (is.last ++ before) (All-append (CarriesCode code) is.last before crossed.carry (of_route (alone skipped) (reverse (drop skipped packets)) is.legs is.route)))
 
     -- Its rows lead one to another, and the last one to the end.
     pub path_linked : AreLinked path × EndBefore path pc
     path_linked =
         let before = place code (reverse (drop skipped packets)) is.legs in
-        rw is.order (linked_from (is.last ++ before.rows) pc (crossed.leads before.rows (route_on_chain skipped (reverse (drop skipped packets)) is.legs is.route)))
+        rw is.order (linked_from (is.last ++ before.rows) pc (crossed.leads before.rows (route_on_chain (alone skipped) (reverse (drop skipped packets)) is.legs is.route)))
 
 -- The same of the path of a trace file over a dump.
 module _ (packets : Packets) (dump : Dump) (from skipped : ℕ) (path : List StepRow) (is : IsTraced (raw_of packets dump from) skipped path) where

@@ -25,7 +25,7 @@ one_phase code k before target aim old new unmarked w =
 pub two_phases : (code : List ElfSegment) (k before : ℕ) (target : Option ℕ) (aim : Aim) (old mid new : Walk) → old.inferred ≡ true → Walked code (course_by (lead old k (Some before)) aims.Jumped) old mid → Walked code (course_by (lead mid k target) aim) mid new
     → WalkedAll code (first_phase old.inferred before ++ record { target = target; aim = aim } ∷ []) (from_to k old new)
 two_phases code k before target aim old mid new is_marked w v =
-    let second : PhaseLeg code (course_by (lead old k target) aim) (along code (here old) w.leg) v.leg = rw (← w.kept.bits, ← w.seen) v.goes in
+    let second : PhaseLeg code (course_by (lead old k target) aim) (along code (here old) w.leg) v.leg = rw (← w.kept.bits, ← w.kept.room, ← w.seen) v.goes in
     subst (λ (b : Bool). WalkedAll code (first_phase b before ++ record { target = target; aim = aim } ∷ []) (from_to k old new)) (sym is_marked) (record {
       leg = v.leg ++ w.leg;
       goes = (w.leg, v.leg, refl, w.goes, (v.leg, [], refl, second, refl));

@@ -12,7 +12,7 @@ use Rattle.rept_trace.specs.declared.packet.Packet.TheVariants.{Start, Context, 
 use Rattle.rept_path.specs.Packets.{bits, reported, waiting}
 use Rattle.rept_path.specs.Moves.{Stand, course_by}
 use Rattle.rept_path.specs.Index.{LeastStop}
-use Rattle.rept_path.specs.Route.{Phase, PhaseLegs, by_waiting, admits, WaitingLeg, lead_of, further, with_bits, phases_of, Met, met_by, FirstLeg, Leg, Route, place, marked}
+use Rattle.rept_path.specs.Route.{Phase, PhaseLegs, by_waiting, admits, WaitingLeg, lead_of, further, with_bits, phases_of, Met, met_by, FirstLeg, Leg, alone, Route, place, marked}
 use Rattle.rept_path.specs.Gap.{gap_to_end}
 use Rattle.rept_path.specs.Trace.{starts, stand_after, Run, IsPath}
 use Rattle.rept_path.specs.Stops.{PhaseStops, left_by, nothing, StopsFrom, StopIndices}
@@ -83,21 +83,21 @@ module _ (code : List ElfSegment) where
   leg_by packet false met path i j x = record { admitted = x.0; legs = phases_from path (with_bits code packet met) (phases_of packet met.marked met.reported) i j x.1 }
 
   first_none : (packet : Packet) (leg : List StepRow) → FirstLeg code packet leg → leg ≡ []
-  first_none (Start branch privilege a) leg x = x.1
+  first_none (Start branch privilege a time context) leg x = x.1
   first_none (Address report) leg x = elim x [ ]
   first_none (MapAddress count map report) leg x = elim x [ ]
   first_none (Map map) leg x = elim x [ ]
-  first_none (Context privilege) leg x = elim x [ ]
+  first_none (Context privilege time context) leg x = elim x [ ]
   first_none (Support enabled status) leg x = elim x [ ]
 
   module _ (skipped : ℕ) where
-    same_left : (packet : Packet) (earlier : List Packet) (legs : List (List StepRow)) (leg rows : List StepRow) → reverse rows ≡ leg → left_by code packet (met_by code skipped earlier legs) rows ≡ met_by code skipped (packet ∷ earlier) (leg ∷ legs)
+    same_left : (packet : Packet) (earlier : List Packet) (legs : List (List StepRow)) (leg rows : List StepRow) → reverse rows ≡ leg → left_by code packet (met_by code (alone skipped) earlier legs) rows ≡ met_by code (alone skipped) (packet ∷ earlier) (leg ∷ legs)
     unfolding bits reported marked waiting place
     same_left packet earlier legs leg rows is =
         let n : skipped + length earlier + 1 ≡ skipped + length (packet ∷ earlier) = omega arith in
         rw (is, n) refl
 
-    first_left : (first : Packet) → left_by code first (nothing skipped) [] ≡ met_by code skipped (first ∷ []) ([] ∷ [])
+    first_left : (first : Packet) → left_by code first (nothing (alone skipped)) [] ≡ met_by code (alone skipped) (first ∷ []) ([] ∷ [])
     unfolding bits reported marked waiting place
     first_left first =
         let n : skipped + 1 ≡ skipped + length (first ∷ []) = omega arith in
@@ -112,14 +112,14 @@ module _ (code : List ElfSegment) where
     first_rows first = rows_after code first (waiting []) (place code [] []) []
 
     -- the rows of the earlier packets are within those of all
-    rows_within : (newer earlier : List Packet) (all legs : List (List StepRow)) → Route code skipped (newer ++ earlier) all → Route code skipped earlier legs → (rows : List StepRow) × ((place code (newer ++ earlier) all).rows ≡ rows ++ (place code earlier legs).rows)
-    rows_within [] earlier all legs x y = let s : all ≡ legs = one_route code skipped earlier all legs x y in ([], ap (λ (ls : List (List StepRow)). (place code earlier ls).rows) s)
+    rows_within : (newer earlier : List Packet) (all legs : List (List StepRow)) → Route code (alone skipped) (newer ++ earlier) all → Route code (alone skipped) earlier legs → (rows : List StepRow) × ((place code (newer ++ earlier) all).rows ≡ rows ++ (place code earlier legs).rows)
+    rows_within [] earlier all legs x y = let s : all ≡ legs = one_route code (alone skipped) earlier all legs x y in ([], ap (λ (ls : List (List StepRow)). (place code earlier ls).rows) s)
     rows_within (packet ∷ newer) earlier [] legs x y = elim x [ ]
     rows_within (packet ∷ newer) earlier (leg ∷ all) legs x y =
         let w = rows_within newer earlier all legs x.1 y in
         (leg ++ w.0, more_rows packet (newer ++ earlier) leg all ∙ ap (λ (ys : List StepRow). leg ++ ys) w.1 ∙ sym (append_assoc leg w.0 (place code earlier legs).rows))
 
-    leg_of : (packet : Packet) (earlier : List Packet) (legs : List (List StepRow)) (leg : List StepRow) → 0 < length earlier → Leg code packet (record { skipped = skipped; packets = earlier; legs = legs }) leg → LegIn code packet (waiting earlier) (met_by code skipped earlier legs) leg
+    leg_of : (packet : Packet) (earlier : List Packet) (legs : List (List StepRow)) (leg : List StepRow) → 0 < length earlier → Leg code packet (record { origin = alone skipped; packets = earlier; legs = legs }) leg → LegIn code packet (waiting earlier) (met_by code (alone skipped) earlier legs) leg
     leg_of packet [] legs leg some x = absurd (omega arith)
     leg_of packet (last ∷ earlier) legs leg some x = x
 
@@ -130,25 +130,25 @@ module _ (code : List ElfSegment) where
       -- the path is that of these packets, newest first
       record Arrives (packets : List Packet) : Type 0 where
         legs : List (List StepRow)
-        route : Route code skipped packets legs
+        route : Route code (alone skipped) packets legs
         last : List StepRow
         end : gap_to_end code (stand_after code (skipped + length packets) packets legs) pc ≡ Ok last
         order : path ≡ reverse (last ++ (place code packets legs).rows)
 
       abbrev Goes : List Packet → List Packet → List (List StepRow) → Type 0
-      Goes later done legs = (stops : List ℕ) × StopsFrom given_run later (record { path = path; index = length (place code done legs).rows; met = met_by code skipped done legs }) stops
+      Goes later done legs = (stops : List ℕ) × StopsFrom given_run later (record { path = path; index = length (place code done legs).rows; met = met_by code (alone skipped) done legs }) stops
 
-      one_step : (packet : Packet) (later done : List Packet) (legs : List (List StepRow)) (leg more : List StepRow) → LegIn code packet (waiting done) (met_by code skipped done legs) leg → path ≡ reverse (place code done legs).rows ++ (reverse leg ++ more) → Goes later (packet ∷ done) (leg ∷ legs) → Goes (packet ∷ later) done legs
+      one_step : (packet : Packet) (later done : List Packet) (legs : List (List StepRow)) (leg more : List StepRow) → LegIn code packet (waiting done) (met_by code (alone skipped) done legs) leg → path ≡ reverse (place code done legs).rows ++ (reverse leg ++ more) → Goes later (packet ∷ done) (leg ∷ legs) → Goes (packet ∷ later) done legs
       one_step packet later done legs leg more by is (stops, rest) =
           let rows = (place code done legs).rows in
           let i = length rows in
           let j = length (place code (packet ∷ done) (leg ∷ legs)).rows in
-          let met = met_by code skipped done legs in
+          let met = met_by code (alone skipped) done legs in
           let n : j ≡ length leg + i = ap (length {A = StepRow}) (more_rows packet done leg legs) ∙ length-append leg rows in
           let all = ap (length {A = StepRow}) is in
           let within : j ≤ length path = omega (arith, n, all, length-append (reverse rows) (reverse leg ++ more), length-append (reverse leg) more, length-reverse rows, length-reverse leg) in
           let there : between i j path ≡ reverse leg = part (reverse rows) (reverse leg) more path i j is (sym (length-reverse rows)) (omega (arith, n, length-reverse leg)) in
-          let left : left_by code packet met (between i j path) ≡ met_by code skipped (packet ∷ done) (leg ∷ legs) = same_left packet done legs leg (between i j path) (ap reverse there ∙ reverse-reverse leg) in
+          let left : left_by code packet met (between i j path) ≡ met_by code (alone skipped) (packet ∷ done) (leg ∷ legs) = same_left packet done legs leg (between i j path) (ap reverse there ∙ reverse-reverse leg) in
           let later : StopsFrom given_run later (record { path = path; index = j; met = left_by code packet met (between i j path) }) stops = rw left rest in
           (j ∷ stops, (omega (arith, n), within, stop_by packet (waiting done) met path leg (reverse rows) more i j is (sym (length-reverse rows)) (omega (arith, n)) by, later))
 
@@ -160,9 +160,9 @@ module _ (code : List ElfSegment) where
       turned : (packet : Packet) (later done : List Packet) → reverse (packet ∷ later) ++ done ≡ reverse later ++ packet ∷ done
       turned packet later done = ap (λ (xs : List Packet). xs ++ done) (reverse-append (packet ∷ []) later) ∙ append_assoc (reverse later) (packet ∷ []) done
 
-      stops_from : (later done : List Packet) (legs : List (List StepRow)) → Route code skipped done legs → 0 < length done → Arrives (reverse later ++ done) → Goes later done legs
+      stops_from : (later done : List Packet) (legs : List (List StepRow)) → Route code (alone skipped) done legs → 0 < length done → Arrives (reverse later ++ done) → Goes later done legs
       stops_from [] done legs r some x =
-          let s : x.legs ≡ legs = one_route code skipped done x.legs legs x.route r in
+          let s : x.legs ≡ legs = one_route code (alone skipped) done x.legs legs x.route r in
           let rows = (place code done legs).rows in
           let order : path ≡ reverse (x.last ++ rows) = x.order ∙ ap (λ (ls : List (List StepRow)). reverse (x.last ++ (place code done ls).rows)) s in
           let rest : reverse (drop (length rows) path) ≡ x.last = ap (λ (xs : List StepRow). reverse (drop (length rows) xs)) (order ∙ reverse-append x.last rows) ∙ ap reverse (drop_at (reverse rows) (reverse x.last) (length rows) (length-reverse rows)) ∙ reverse-reverse x.last in
@@ -170,10 +170,10 @@ module _ (code : List ElfSegment) where
           ([], rw rest end)
       stops_from (packet ∷ later) done legs r some x =
           let y : Arrives (reverse later ++ packet ∷ done) = subst (λ (ps : List Packet). Arrives ps) (turned packet later done) x in
-          let w = leg_within code skipped (reverse later) packet done y.legs y.route in
-          let s : w.1 ≡ legs = one_route code skipped done w.1 legs w.3 r in
-          let leg : Leg code packet (record { skipped = skipped; packets = done; legs = legs }) w.0 = subst (λ (ls : List (List StepRow)). Leg code packet (record { skipped = skipped; packets = done; legs = ls }) w.0) s w.2 in
-          let route : Route code skipped (packet ∷ done) (w.0 ∷ legs) = (leg, r) in
+          let w = leg_within code (alone skipped) (reverse later) packet done y.legs y.route in
+          let s : w.1 ≡ legs = one_route code (alone skipped) done w.1 legs w.3 r in
+          let leg : Leg code packet (record { origin = alone skipped; packets = done; legs = legs }) w.0 = subst (λ (ls : List (List StepRow)). Leg code packet (record { origin = alone skipped; packets = done; legs = ls }) w.0) s w.2 in
+          let route : Route code (alone skipped) (packet ∷ done) (w.0 ∷ legs) = (leg, r) in
           let rows = (place code done legs).rows in
           let v = rows_within (reverse later) (packet ∷ done) y.legs (w.0 ∷ legs) y.route route in
           let after = (place code (packet ∷ done) (w.0 ∷ legs)).rows in
@@ -189,7 +189,7 @@ module _ (code : List ElfSegment) where
           let two : reverse after ≡ reverse rows ++ part = ap reverse is ∙ reverse-append (reverse part) rows ∙ ap (λ (xs : List StepRow). reverse rows ++ xs) (reverse-reverse part) in
           one ∙ sym two
 
-      arrives : (later : List Packet) (stops : List ℕ) (done : List Packet) (legs : List (List StepRow)) (i : ℕ) → Route code skipped done legs → 0 < length done → take i path ≡ reverse (place code done legs).rows → StopsFrom given_run later (record { path = path; index = i; met = met_by code skipped done legs }) stops → Arrives (reverse later ++ done)
+      arrives : (later : List Packet) (stops : List ℕ) (done : List Packet) (legs : List (List StepRow)) (i : ℕ) → Route code (alone skipped) done legs → 0 < length done → take i path ≡ reverse (place code done legs).rows → StopsFrom given_run later (record { path = path; index = i; met = met_by code (alone skipped) done legs }) stops → Arrives (reverse later ++ done)
       arrives [] [] done legs i r some front x =
           let rows = (place code done legs).rows in
           record {
@@ -205,9 +205,9 @@ module _ (code : List ElfSegment) where
           let rows = between i j path in
           let leg = reverse rows in
           let before = (place code done legs).rows in
-          let by = leg_by packet (waiting done) (met_by code skipped done legs) path i j here in
-          let l : Leg code packet (record { skipped = skipped; packets = done; legs = legs }) leg = leg_after code skipped packet done legs leg some by in
-          let on : StopsFrom given_run later (record { path = path; index = j; met = met_by code skipped (packet ∷ done) (leg ∷ legs) }) stops = rw (same_left packet done legs leg rows refl) at rest in
+          let by = leg_by packet (waiting done) (met_by code (alone skipped) done legs) path i j here in
+          let l : Leg code packet (record { origin = alone skipped; packets = done; legs = legs }) leg = leg_after code (alone skipped) packet done legs leg some by in
+          let on : StopsFrom given_run later (record { path = path; index = j; met = met_by code (alone skipped) (packet ∷ done) (leg ∷ legs) }) stops = rw (same_left packet done legs leg rows refl) at rest in
           let ends : take j path ≡ reverse (place code (packet ∷ done) (leg ∷ legs)).rows = in_turn i j before (place code (packet ∷ done) (leg ∷ legs)).rows le front (more_rows packet done leg legs) in
           subst (λ (ps : List Packet). Arrives ps) (sym (turned packet later done)) (arrives later stops (packet ∷ done) (leg ∷ legs) j (l, r) (omega arith) ends on)
 
@@ -235,19 +235,19 @@ module _ (code : List ElfSegment) (packets : List Packet) (from pc skipped : ℕ
       let later = b.1 in
       let x : Arrives code skipped packets from pc path (reverse (drop skipped packets)) = record { legs = h.legs; route = h.route; last = h.last; end = rw (counted first later b.2) h.end; order = h.order } in
       let y : Arrives code skipped packets from pc path (reverse later ++ first ∷ []) = subst (λ (ps : List Packet). Arrives code skipped packets from pc path ps) (around first later b.2) x in
-      let w = leg_within code skipped (reverse later) first [] y.legs y.route in
+      let w = leg_within code (alone skipped) (reverse later) first [] y.legs y.route in
       let none = first_none code first w.0 w.2 in
       let start : FirstLeg code first [] = subst (λ (leg : List StepRow). FirstLeg code first leg) none w.2 in
       let g = stops_from code skipped packets from pc path later (first ∷ []) ([] ∷ []) (start, tt) (omega arith) y in
       let zero_rows : length (place code (first ∷ []) ([] ∷ [])).rows ≡ 0 = ap (length {A = StepRow}) (first_rows code skipped first) in
-      let each : StopsFrom run later (record { path = path; index = 0; met = met_by code skipped (first ∷ []) ([] ∷ []) }) g.0 = rw zero_rows at g.1 in
+      let each : StopsFrom run later (record { path = path; index = 0; met = met_by code (alone skipped) (first ∷ []) ([] ∷ []) }) g.0 = rw zero_rows at g.1 in
       (g.0, record { window = h.window; first = first; later = later; cut = b.2; start = start; each = rw (first_left code skipped first) each })
 
   pub path_of : (stops : List ℕ) → StopIndices run skipped path stops → IsPath run skipped path
   path_of stops h =
       let first = h.first in
       let later = h.later in
-      let each : StopsFrom run later (record { path = path; index = 0; met = met_by code skipped (first ∷ []) ([] ∷ []) }) stops = rw (first_left code skipped first) at h.each in
+      let each : StopsFrom run later (record { path = path; index = 0; met = met_by code (alone skipped) (first ∷ []) ([] ∷ []) }) stops = rw (first_left code skipped first) at h.each in
       let front : [] ≡ reverse (place code (first ∷ []) ([] ∷ [])).rows = ap reverse (sym (first_rows code skipped first)) in
       let y = arrives code skipped packets from pc path later stops (first ∷ []) ([] ∷ []) 0 (h.start, tt) (omega arith) front each in
       let x : Arrives code skipped packets from pc path (reverse (drop skipped packets)) = subst (λ (ps : List Packet). Arrives code skipped packets from pc path ps) (sym (around first later h.cut)) y in

@@ -5,7 +5,7 @@ use Rattle.std.proofs.Math.Seq.{drop-append_seam}
 use Rattle.std.specs.Prelude.{IfSome}
 use Rattle.rept_trace.specs.declared.packet.Packet.{Packet}
 use Rattle.rept_trace.specs.Packets.{rest_of, number_of}
-use Rattle.rept_trace.specs.Stream.{IsEnded, Fails, FailsAfter, Answers, Begins, Hold}
+use Rattle.rept_trace.specs.Stream.{Stream, IsEnded, Fails, FailsAfter, Answers, Begins, Hold}
 use Rattle.rept_trace.proofs.Frames.{shorter}
 use Rattle.rept_trace.specs.declared.packets.Packets.{Packets}
 use Rattle.rept_trace.specs.declared.fault.TraceFault.{TraceFault}
@@ -14,33 +14,33 @@ use Rattle.rept_path.specs.Trace.{IsWindow, starts}
 use Rattle.rept_path.specs.Survey.{number_in, IsThere, Surveys}
 
 -- Whatever the rest holds, the packets from the window's first on are that one and those that its bytes hold.
-abbrev pub WillBeThere : List ℕ → List Packet → Option Begin → Type 0
+abbrev pub WillBeThere : Stream → List Packet → Option Begin → Type 0
 WillBeThere rest done begin = (tail : List Packet) → Hold rest tail → IsThere (done ++ tail) begin
 
-pub record Seen (first : ℕ) (bytes : List ℕ) (from count number : ℕ) (rest : List ℕ) (begin : Option Begin) : Type 0 where
+pub record Seen (first : ℕ) (bytes : Stream) (from count number : ℕ) (rest : Stream) (begin : Option Begin) : Type 0 where
   pub done : List Packet
   pub counted : count ≡ length done
   pub hold : (tail : List Packet) → Hold rest tail → Hold bytes (done ++ tail)
   pub fails : (tail : List Packet) (fault : TraceFault) → FailsAfter number rest tail fault → FailsAfter first bytes (done ++ tail) fault
-  pub few : count + length rest ≤ length bytes
+  pub few : count + length rest.bytes ≤ length bytes.bytes
   pub window : IsWindow done from (number_in begin)
   pub there : WillBeThere rest done begin
 
 none_starts : (i : ℕ) → starts (slice_get [] i) ≡ true → ⊥
 none_starts i h = cc
 
-pub nothing_seen : (first : ℕ) (bytes : List ℕ) (from : ℕ) → Seen first bytes from 0 first bytes None
+pub nothing_seen : (first : ℕ) (bytes : Stream) (from : ℕ) → Seen first bytes from 0 first bytes None
 nothing_seen first bytes from = record { done = []; counted = refl; hold = λ tail h. h; fails = λ tail fault h. h; few = omega arith; window = λ i m. none_starts i m.start; there = λ tail h. tt }
 
 -- one packet more is after the window's beginning
-still_there : (rest after : List ℕ) (done : List Packet) (packet : Packet) (begin : Option Begin) → Begins rest packet after → WillBeThere rest done begin → WillBeThere after (done ++ packet ∷ []) begin
+still_there : (rest after : Stream) (done : List Packet) (packet : Packet) (begin : Option Begin) → Begins rest packet after → WillBeThere rest done begin → WillBeThere after (done ++ packet ∷ []) begin
 still_there rest after done packet begin b w = λ tail h. rw (append_assoc done (packet ∷ []) tail) (w (packet ∷ tail) (after, b, h))
 
 here_there : (done : List Packet) (packet : Packet) (b : Begin) → b.number ≡ length done → b.first ≡ packet → WillBeThere (rest_of b.later) (done ++ packet ∷ []) (Some b)
 here_there done packet b number first = λ tail h. (tail, h, rw (append_assoc done (packet ∷ []) tail, number, first) (drop-append_seam done (packet ∷ tail)))
 
 -- the beginning after one packet more
-new_there : (rest : List ℕ) (done : List Packet) (count : ℕ) (packet : Packet) (later : Packets) (begin new : Option Begin) → count ≡ length done → Begins rest packet (rest_of later) → WillBeThere rest done begin
+new_there : (rest : Stream) (done : List Packet) (count : ℕ) (packet : Packet) (later : Packets) (begin new : Option Begin) → count ≡ length done → Begins rest packet (rest_of later) → WillBeThere rest done begin
     → IfSome new (λ b. (begin ≡ Some b) ⊎ (b ≡ record { number = count; first = packet; later = later })) → WillBeThere (rest_of later) (done ++ packet ∷ []) new
 new_there rest done count packet later begin None counted b w h = λ tail held. tt
 new_there rest done count packet later begin (Some n) counted b w h = elim h [
@@ -48,7 +48,7 @@ new_there rest done count packet later begin (Some n) counted b w h = elim h [
   | inr e ↦ subst (λ (x : Begin). WillBeThere (rest_of later) (done ++ packet ∷ []) (Some x)) (sym e) (here_there done packet (record { number = count; first = packet; later = later }) counted refl)
 ]
 
-pub sees : (first : ℕ) (bytes : List ℕ) (from count number : ℕ) (rest : List ℕ) (begin : Option Begin) (packet : Packet) (later : Packets) (new : Option Begin) → Seen first bytes from count number rest begin → Answers number rest (Ok (Some packet)) (number_of later) (rest_of later)
+pub sees : (first : ℕ) (bytes : Stream) (from count number : ℕ) (rest : Stream) (begin : Option Begin) (packet : Packet) (later : Packets) (new : Option Begin) → Seen first bytes from count number rest begin → Answers number rest (Ok (Some packet)) (number_of later) (rest_of later)
     → ((packets : List Packet) → length packets ≡ count → IsWindow packets from (number_in begin) → IsWindow (packets ++ packet ∷ []) from (number_in new))
     → IfSome new (λ b. (begin ≡ Some b) ⊎ (b ≡ record { number = count; first = packet; later = later })) → Seen first bytes from (count + 1) (number_of later) (rest_of later) new
 sees first bytes from count number rest begin packet later new s a windows one =
@@ -65,10 +65,10 @@ sees first bytes from count number rest begin packet later new s a windows one =
       there = new_there rest s.done count packet later begin new counted a.0 s.there one;
     }
 
-pub refused : (first : ℕ) (bytes : List ℕ) (from count number : ℕ) (rest : List ℕ) (begin : Option Begin) (fault : TraceFault) (s : Seen first bytes from count number rest begin) → Fails number rest fault → FailsAfter first bytes s.done fault
+pub refused : (first : ℕ) (bytes : Stream) (from count number : ℕ) (rest : Stream) (begin : Option Begin) (fault : TraceFault) (s : Seen first bytes from count number rest begin) → Fails number rest fault → FailsAfter first bytes s.done fault
 refused first bytes from count number rest begin fault s f = rw append-nil at (s.fails [] fault f)
 
-pub all_seen : (first : ℕ) (bytes : List ℕ) (from count number : ℕ) (rest : List ℕ) (begin : Option Begin) → length bytes < 2 ^ 32 → (s : Seen first bytes from count number rest begin) → IsEnded rest → Surveys bytes s.done from (record { count = count; begin = begin })
+pub all_seen : (first : ℕ) (bytes : Stream) (from count number : ℕ) (rest : Stream) (begin : Option Begin) → length bytes.bytes < 2 ^ 32 → (s : Seen first bytes from count number rest begin) → IsEnded rest.bytes → Surveys bytes s.done from (record { count = count; begin = begin })
 all_seen first bytes from count number rest begin short s e =
     let few = s.few in
     let counted = s.counted in

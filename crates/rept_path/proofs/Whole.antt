@@ -14,7 +14,7 @@ use Rattle.rept_path.specs.declared.walk.Walk.{Walk}
 use Rattle.rept_path.specs.declared.window.Begin.{Begin}
 use Rattle.rept_path.specs.declared.window.Survey.{Survey}
 use Rattle.rept_path.specs.Gap.{gap_to_end}
-use Rattle.rept_path.specs.Route.{place, earlier_by}
+use Rattle.rept_path.specs.Route.{place, alone, earlier_by}
 use Rattle.rept_path.specs.State.{here, standing, Stands, Crossed, from_to}
 use Rattle.rept_path.specs.Trace.{starts, Window, IsWindow, StopsAt}
 use Rattle.rept_path.specs.Survey.{number_in, IsThere, Surveys}
@@ -48,22 +48,22 @@ module _ (packets : Packets) (from : ℕ) (list : List Packet) (s : Survey) (b :
   room = let n = size list b.number b.first there.0 there.2 in let few = found.few in (there.0, there.1, omega (arith, n, few))
 
   module _ (dump : Dump) where
-    pub walk_refusal : (e : PathFault) → ((later : List Packet) → Hold (rest_of b.later) later → (e ≡ OutOfMemory) ⊎ StopsAt (exe_of dump) b.number (b.first ∷ later) e) → (e ≡ OutOfMemory) ⊎ IsRefusedBy packets dump from e
+    pub walk_refusal : (e : PathFault) → ((later : List Packet) → Hold (rest_of b.later) later → (e ≡ OutOfMemory) ⊎ StopsAt (exe_of dump) (alone b.number) (b.first ∷ later) e) → (e ≡ OutOfMemory) ⊎ IsRefusedBy packets dump from e
     walk_refusal e h = elim (h there.0 there.1) [
       | inl m ↦ inl m
-      | inr f ↦ inr (inr (list, found.hold, inr (b.number, window, inl (subst (λ (xs : List Packet). StopsAt (exe_of dump) b.number xs e) (sym there.2) f))))
+      | inr f ↦ inr (inr (list, found.hold, inr (b.number, window, inl (subst (λ (xs : List Packet). StopsAt (exe_of dump) (alone b.number) xs e) (sym there.2) f))))
     ]
 
-    module _ (w : Walk) (stood : (later : List Packet) → Hold (rest_of b.later) later → (legs : List (List StepRow)) × Stands (exe_of dump) (earlier_by b.number (reverse (b.first ∷ later)) legs) w) where
-      stands : (legs : List (List StepRow)) × Stands (exe_of dump) (earlier_by b.number (reverse (drop b.number list)) legs) w
-      stands = subst (λ (xs : List Packet). (legs : List (List StepRow)) × Stands (exe_of dump) (earlier_by b.number (reverse xs) legs) w) (sym there.2) (stood there.0 there.1)
+    module _ (w : Walk) (stood : (later : List Packet) → Hold (rest_of b.later) later → (legs : List (List StepRow)) × Stands (exe_of dump) (earlier_by (alone b.number) (reverse (b.first ∷ later)) legs) w) where
+      stands : (legs : List (List StepRow)) × Stands (exe_of dump) (earlier_by (alone b.number) (reverse (drop b.number list)) legs) w
+      stands = subst (λ (xs : List Packet). (legs : List (List StepRow)) × Stands (exe_of dump) (earlier_by (alone b.number) (reverse xs) legs) w) (sym there.2) (stood there.0 there.1)
 
       pub join_refusal : (e : PathFault) → (e ≡ OutOfMemory) ⊎ (gap_to_end (exe_of dump) (standing s.count w) (pc_of dump) ≡ Err e) → (e ≡ OutOfMemory) ⊎ IsRefusedBy packets dump from e
       join_refusal e h = elim h [
         | inl m ↦ inl m
         | inr f ↦
             let st = stands in
-            inr (inr (list, found.hold, inr (b.number, window, inr (record { legs = st.0; route = st.1.route; end = rw (← st.1.seen, ← st.1.bits, ← found.count) f }))))
+            inr (inr (list, found.hold, inr (b.number, window, inr (record { legs = st.0; route = st.1.route; end = (let g = rw st.1.room at f in rw (← st.1.seen, ← st.1.bits, ← found.count) g) }))))
       ]
 
       pub joined : (new : Walk) → Crossed (exe_of dump) (record { address = pc_of dump; otherwise = End w.at (pc_of dump) }) (from_to s.count w new) → IsTraced (raw_of packets dump from) b.number new.steps
@@ -77,7 +77,7 @@ module _ (packets : Packets) (from : ℕ) (list : List Packet) (s : Survey) (b :
               legs = st.0;
               route = st.1.route;
               last = x.rows;
-              end = rw (← st.1.seen, ← st.1.bits, ← found.count) x.crosses;
+              end = (let g = rw st.1.room at x.crosses in rw (← st.1.seen, ← st.1.bits, ← found.count) g);
               order = sym (reverse-reverse new.steps) ∙ ap reverse (x.seen ∙ ap (λ (ys : List StepRow). x.rows ++ ys) rows);
             },
           )

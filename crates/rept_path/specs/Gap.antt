@@ -57,7 +57,7 @@ unfoldable pub gap : List ElfSegment → Stand → Goal → Result (List StepRow
 gap code s goal = do
   i ← look code s.place.at
   rows ← crossing code s goal i
-  if nat_le (length s.place.rows + length rows) 65536 then Ok rows else Err (TooLong s.packet)
+  if nat_le (length s.place.rows + length rows) s.room then Ok rows else Err (TooLong s.packet)
 
 -- to the address of a start packet, and to the end
 abbrev pub gap_to_start : List ElfSegment → Stand → ℕ → Result (List StepRow) PathFault

@@ -31,17 +31,21 @@ abbrev pub along : List ElfSegment → Place → List StepRow → Place
 along code p [] = p
 along code p (row ∷ leg) = after code (along code p leg) row
 
--- what leads the moves: the packet's number, where an uninferable jump goes, and all branch bits of the stretch
+-- what leads the moves: the packet's number, where an uninferable jump goes, all branch bits of the stretch, and how many rows the
+-- route may have
 pub record Lead : Type 0 where
   pub packet : ℕ
   pub target : Option ℕ
   pub bits : List Bool
+  pub room : ℕ
 
--- where a walk stands: the number of the packet that comes, all branch bits of the stretch, and the place
+-- where a walk stands: the number of the packet that comes, all branch bits of the stretch, the place, and how many rows the route
+-- may have
 pub record Stand : Type 0 where
   pub packet : ℕ
   pub bits : List Bool
   pub place : Place
+  pub room : ℕ
 
 -- what leads moves, and where they stop
 pub record Course : Type 0 where
@@ -87,7 +91,7 @@ unfoldable pub next_of : List ElfSegment → Lead → Place → Result ℕ PathF
 next_of code lead p = do
   i ← look code p.at
   a ← successor lead.packet p.at (flow_of i) (way_by (slice_get lead.bits p.branches) lead.target)
-  if nat_le 65536 (length p.rows) then Err (TooLong lead.packet) else position code a
+  if nat_le lead.room (length p.rows) then Err (TooLong lead.packet) else position code a
 
 -- the row of a move is from a place to the position after it
 pub record IsMove (code : List ElfSegment) (lead : Lead) (p : Place) (row : StepRow) : Type 0 where

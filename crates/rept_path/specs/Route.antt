@@ -23,7 +23,7 @@ pub record Phase : Type 0 where
 
 -- what leads its moves, where the walk stands so
 abbrev pub lead_of : Stand → Phase → Lead
-lead_of s phase = record { packet = s.packet; target = phase.target; bits = s.bits }
+lead_of s phase = record { packet = s.packet; target = phase.target; bits = s.bits; room = s.room }
 
 -- the course of its moves
 abbrev pub course_of : Stand → Phase → Course
@@ -31,7 +31,7 @@ course_of s phase = course_by (lead_of s phase) phase.aim
 
 -- the same packet and bits, after a leg
 abbrev pub further : List ElfSegment → Stand → List StepRow → Stand
-further code s leg = record { packet = s.packet; bits = s.bits; place = along code s.place leg }
+further code s leg = record { packet = s.packet; bits = s.bits; place = along code s.place leg; room = s.room }
 
 -- The leg is made of those of the phases, each from where the one before it stopped.
 abbrev pub PhaseLegs : List ElfSegment → Stand → List Phase → List StepRow → Type 0
@@ -50,11 +50,11 @@ first_phase marked before = if marked then record { target = Some before; aim = 
 
 -- what a packet makes a running walk do, from the mark and the reported address before it
 abbrev pub phases_of : Packet → Bool → ℕ → List Phase
-phases_of (Start branch privilege a) marked before = record { target = Some a; aim = aims.Start a } ∷ []
+phases_of (Start branch privilege a time context) marked before = record { target = Some a; aim = aims.Start a } ∷ []
 phases_of (Address report) marked before = first_phase marked before ++ record { target = Some (sum before report.difference); aim = aims.Report (sum before report.difference) report.notify report.updiscon } ∷ []
 phases_of (MapAddress count map report) marked before = first_phase marked before ++ record { target = Some (sum before report.difference); aim = aims.Report (sum before report.difference) report.notify report.updiscon } ∷ []
 phases_of (Map map) marked before = first_phase marked before ++ record { target = None; aim = aims.LastBit } ∷ []
-phases_of (Context privilege) marked before = []
+phases_of (Context privilege time context) marked before = []
 phases_of (Support enabled NoChange) marked before = []
 phases_of (Support enabled EndedRep) marked before = []
 phases_of (Support enabled TraceLost) marked before = []
@@ -68,11 +68,11 @@ pub record Arrival : Type 0 where
 
 -- the mark after a packet, from the one before it
 abbrev pub mark_after : List ElfSegment → Packet → Bool → Arrival → Bool
-mark_after code (Start branch privilege a) marked x = false
+mark_after code (Start branch privilege a time context) marked x = false
 mark_after code (Address report) marked x = is_inferred code x.bits (aims.Report x.reported report.notify report.updiscon) x.place
 mark_after code (MapAddress count map report) marked x = is_inferred code x.bits (aims.Report x.reported report.notify report.updiscon) x.place
 mark_after code (Map map) marked x = false
-mark_after code (Context privilege) marked x = marked
+mark_after code (Context privilege time context) marked x = marked
 mark_after code (Support enabled status) marked x = marked
 
 -- where a packet meets the walk, and whether the trace waits there for a start packet
@@ -98,7 +98,8 @@ marked code [] legs = false
 marked code (packet ∷ earlier) [] = false
 marked code (packet ∷ earlier) (leg ∷ legs) = mark_after code packet (marked code earlier legs) (record { bits = bits code (packet ∷ earlier); reported = reported (packet ∷ earlier); place = place code (packet ∷ earlier) (leg ∷ legs) })
 
--- what a packet is met by: all that the packets before it and their legs leave, and whether the trace waits for a start packet
+-- what a packet is met by: all that the packets before it and their legs leave, whether the trace waits for a start packet, and how
+-- many rows the route may have
 pub record Met : Type 0 where
   pub number : ℕ
   pub bits : List Bool
@@ -106,21 +107,22 @@ pub record Met : Type 0 where
   pub marked : Bool
   pub waits : Bool
   pub place : Place
+  pub room : ℕ
 
 -- where the packet meets the walk, and with the packet's own bits
 abbrev pub stand_of : Met → Stand
-stand_of met = record { packet = met.number; bits = met.bits; place = met.place }
+stand_of met = record { packet = met.number; bits = met.bits; place = met.place; room = met.room }
 
 abbrev pub with_bits : List ElfSegment → Packet → Met → Stand
-with_bits code packet met = record { packet = met.number; bits = met.bits ++ bits_of code packet; place = met.place }
+with_bits code packet met = record { packet = met.number; bits = met.bits ++ bits_of code packet; place = met.place; room = met.room }
 
 -- the address of a start packet must be a position
 abbrev pub admits : List ElfSegment → Packet → Result ℕ PathFault
-admits code (Start branch privilege a) = position code a
+admits code (Start branch privilege a time context) = position code a
 admits code (Address report) = Ok 0
 admits code (MapAddress count map report) = Ok 0
 admits code (Map map) = Ok 0
-admits code (Context privilege) = Ok 0
+admits code (Context privilege time context) = Ok 0
 admits code (Support enabled status) = Ok 0
 
 -- A packet while the trace runs has this leg.
@@ -133,36 +135,36 @@ RunningFault code packet met e = (admits code packet ≡ Err e) ⊎ (((a : ℕ) 
 
 -- A packet while the trace waits has this leg: a start packet that of the gap, the others none.
 abbrev pub WaitingLeg : List ElfSegment → Packet → Met → List StepRow → Type 0
-WaitingLeg code (Start branch privilege a) met leg = (gap_to_start code (stand_of met) a ≡ Ok leg) × (position code a ≡ Ok a)
+WaitingLeg code (Start branch privilege a time context) met leg = (gap_to_start code (stand_of met) a ≡ Ok leg) × (position code a ≡ Ok a)
 WaitingLeg code (Address report) met leg = ⊥
 WaitingLeg code (MapAddress count map report) met leg = ⊥
 WaitingLeg code (Map map) met leg = ⊥
-WaitingLeg code (Context privilege) met leg = leg ≡ []
+WaitingLeg code (Context privilege time context) met leg = leg ≡ []
 WaitingLeg code (Support enabled status) met leg = leg ≡ []
 
 abbrev pub WaitingFault : List ElfSegment → Packet → Met → PathFault → Type 0
-WaitingFault code (Start branch privilege a) met e = (gap_to_start code (stand_of met) a ≡ Err e) ⊎ (((rows : List StepRow) × (gap_to_start code (stand_of met) a ≡ Ok rows)) × (position code a ≡ Err e))
+WaitingFault code (Start branch privilege a time context) met e = (gap_to_start code (stand_of met) a ≡ Err e) ⊎ (((rows : List StepRow) × (gap_to_start code (stand_of met) a ≡ Ok rows)) × (position code a ≡ Err e))
 WaitingFault code (Address report) met e = e ≡ NoStart met.number
 WaitingFault code (MapAddress count map report) met e = e ≡ NoStart met.number
 WaitingFault code (Map map) met e = e ≡ NoStart met.number
-WaitingFault code (Context privilege) met e = ⊥
+WaitingFault code (Context privilege time context) met e = ⊥
 WaitingFault code (Support enabled status) met e = ⊥
 
 -- The first packet is a start packet, and adds no row.
 abbrev pub FirstLeg : List ElfSegment → Packet → List StepRow → Type 0
-FirstLeg code (Start branch privilege a) leg = (position code a ≡ Ok a) × (leg ≡ [])
+FirstLeg code (Start branch privilege a time context) leg = (position code a ≡ Ok a) × (leg ≡ [])
 FirstLeg code (Address report) leg = ⊥
 FirstLeg code (MapAddress count map report) leg = ⊥
 FirstLeg code (Map map) leg = ⊥
-FirstLeg code (Context privilege) leg = ⊥
+FirstLeg code (Context privilege time context) leg = ⊥
 FirstLeg code (Support enabled status) leg = ⊥
 
 abbrev pub FirstFault : List ElfSegment → Packet → PathFault → Type 0
-FirstFault code (Start branch privilege a) e = position code a ≡ Err e
+FirstFault code (Start branch privilege a time context) e = position code a ≡ Err e
 FirstFault code (Address report) e = ⊥
 FirstFault code (MapAddress count map report) e = ⊥
 FirstFault code (Map map) e = ⊥
-FirstFault code (Context privilege) e = ⊥
+FirstFault code (Context privilege time context) e = ⊥
 FirstFault code (Support enabled status) e = ⊥
 
 -- the first where the trace waits, and the second where it runs
@@ -176,21 +178,30 @@ LegBy code packet met leg = by_waiting met.waits (WaitingLeg code packet met leg
 abbrev pub FaultBy : List ElfSegment → Packet → Met → PathFault → Type 0
 FaultBy code packet met e = by_waiting met.waits (WaitingFault code packet met e) (RunningFault code packet met e)
 
--- what packets and their legs leave, where so many packets were skipped
-abbrev pub met_by : List ElfSegment → ℕ → List Packet → List (List StepRow) → Met
-met_by code skipped packets legs = record { number = skipped + length packets; bits = bits code packets; reported = reported packets; marked = marked code packets legs; waits = waiting packets; place = place code packets legs }
+-- where a route begins: the number of its first packet, and how many rows it may have
+pub record Origin : Type 0 where
+  pub number : ℕ
+  pub room : ℕ
 
--- the packets of the window before a packet, and their legs, where so many packets were skipped
+-- a path of its own, before which so many packets are skipped
+abbrev pub alone : ℕ → Origin
+alone skipped = record { number = skipped; room = 65536 }
+
+-- what packets of a route and their legs leave
+abbrev pub met_by : List ElfSegment → Origin → List Packet → List (List StepRow) → Met
+met_by code origin packets legs = record { number = origin.number + length packets; bits = bits code packets; reported = reported packets; marked = marked code packets legs; waits = waiting packets; place = place code packets legs; room = origin.room }
+
+-- the packets of a route before a packet, and their legs
 pub record Earlier : Type 0 where
-  pub skipped : ℕ
+  pub origin : Origin
   pub packets : List Packet
   pub legs : List (List StepRow)
 
-abbrev pub earlier_by : ℕ → List Packet → List (List StepRow) → Earlier
-earlier_by skipped packets legs = record { skipped = skipped; packets = packets; legs = legs }
+abbrev pub earlier_by : Origin → List Packet → List (List StepRow) → Earlier
+earlier_by origin packets legs = record { origin = origin; packets = packets; legs = legs }
 
 abbrev pub met_after : List ElfSegment → Earlier → Met
-met_after code before = met_by code before.skipped before.packets before.legs
+met_after code before = met_by code before.origin before.packets before.legs
 
 -- the first where no packet is earlier, and else the second
 abbrev pub by_first : List Packet → Type 0 → Type 0 → Type 0
@@ -206,8 +217,8 @@ abbrev pub Fault : List ElfSegment → Packet → Earlier → PathFault → Type
 Fault code packet before e = by_first before.packets (FirstFault code packet e) (FaultBy code packet (met_after code before) e)
 
 -- Each packet has its leg.
-abbrev pub Route : List ElfSegment → ℕ → List Packet → List (List StepRow) → Type 0
-Route code skipped [] [] = Unit {0}
-Route code skipped [] (leg ∷ legs) = ⊥
-Route code skipped (packet ∷ earlier) [] = ⊥
-Route code skipped (packet ∷ earlier) (leg ∷ legs) = Leg code packet (earlier_by skipped earlier legs) leg × Route code skipped earlier legs
+abbrev pub Route : List ElfSegment → Origin → List Packet → List (List StepRow) → Type 0
+Route code origin [] [] = Unit {0}
+Route code origin [] (leg ∷ legs) = ⊥
+Route code origin (packet ∷ earlier) [] = ⊥
+Route code origin (packet ∷ earlier) (leg ∷ legs) = Leg code packet (earlier_by origin earlier legs) leg × Route code origin earlier legs

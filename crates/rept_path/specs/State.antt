@@ -19,12 +19,12 @@ here w = record { at = w.at; rows = reverse w.steps; branches = w.used }
 
 -- where it stands before a packet
 abbrev pub standing : ℕ → Walk → Stand
-standing k w = record { packet = k; bits = w.bits.items; place = here w }
+standing k w = record { packet = k; bits = w.bits.items; place = here w; room = w.room }
 
 -- bits were there for its branches, and it is not too long
 pub record Counts (w : Walk) : Type 0 where
   pub enough : w.used ≤ length w.bits.items
-  pub few : length w.steps ≤ 65536
+  pub few : length w.steps ≤ w.room
   pub spare : length w.bits.items ≤ w.used + 256
   pub linked : EndBefore w.steps w.at
 
@@ -34,10 +34,11 @@ pub record Keeps (old new : Walk) : Type 0 where
   pub reported : new.reported ≡ old.reported
   pub inferred : new.inferred ≡ old.inferred
   pub waiting : new.waiting ≡ old.waiting
+  pub room : new.room ≡ old.room
 
 -- what leads a walk's moves
 abbrev pub lead : Walk → ℕ → Option ℕ → Lead
-lead w packet target = record { packet = packet; target = target; bits = w.bits.items }
+lead w packet target = record { packet = packet; target = target; bits = w.bits.items; room = w.room }
 
 -- one move was made
 pub record Moved (code : List ElfSegment) (how : Lead) (old new : Walk) : Type 0 where
@@ -77,7 +78,7 @@ pub record WalkedAll (code : List ElfSegment) (phases : List Phase) (change : Ch
 
 -- what a packet is met by
 abbrev pub met : ℕ → Walk → Met
-met k w = record { number = k; bits = w.bits.items; reported = w.reported; marked = w.inferred; waits = w.waiting; place = here w }
+met k w = record { number = k; bits = w.bits.items; reported = w.reported; marked = w.inferred; waits = w.waiting; place = here w; room = w.room }
 
 -- where it has arrived
 abbrev pub arrival : Walk → Arrival
@@ -94,10 +95,11 @@ pub record Followed (code : List ElfSegment) (packet : Packet) (change : Change)
   pub waiting : change.new.waiting ≡ waits_after packet change.old.waiting
   pub marked : change.new.inferred ≡ mark_after code packet change.old.inferred (arrival change.new)
   pub rests : length change.new.bits.items ≤ change.new.used + 1
+  pub room : change.new.room ≡ change.old.room
 
 -- the walk stands at the end of a route
 pub record Stands (code : List ElfSegment) (passed : Earlier) (w : Walk) : Type 0 where
-  pub route : Route code passed.skipped passed.packets passed.legs
+  pub route : Route code passed.origin passed.packets passed.legs
   pub seen : here w ≡ place code passed.packets passed.legs
   pub counts : Counts w
   pub bits : w.bits.items ≡ bits code passed.packets
@@ -105,13 +107,14 @@ pub record Stands (code : List ElfSegment) (passed : Earlier) (w : Walk) : Type 
   pub waiting : w.waiting ≡ waiting passed.packets
   pub marked : w.inferred ≡ marked code passed.packets passed.legs
   pub rests : length w.bits.items ≤ w.used + 1
+  pub room : w.room ≡ passed.origin.room
 
 -- the rows of a gap were added
 pub record Crossed (code : List ElfSegment) (goal : Goal) (change : Change) : Type 0 where
   pub rows : List StepRow
   pub crosses : gap code (standing change.packet change.old) goal ≡ Ok rows
   pub seen : reverse change.new.steps ≡ rows ++ reverse change.old.steps
-  pub few : length change.new.steps ≤ 65536
+  pub few : length change.new.steps ≤ change.old.room
   pub linked : EndBefore change.new.steps goal.address
 
 -- whether the bits fit where moves with this aim end

@@ -9,7 +9,7 @@ use Rattle.rept_trace.specs.Stream.{Hold}
 use Rattle.rept_path.specs.Packets.{bits_of, bits_before, reported_after, waits_after}
 use Rattle.rept_path.specs.Moves.{Stand, misfits}
 use Rattle.rept_path.specs.Index.{LeastStop}
-use Rattle.rept_path.specs.Route.{Phase, course_of, meets, further, with_bits, phases_of, Met, stand_of, admits, mark_after, place_after, by_waiting, WaitingLeg, FirstLeg}
+use Rattle.rept_path.specs.Route.{Phase, course_of, meets, further, with_bits, phases_of, Met, stand_of, admits, mark_after, place_after, by_waiting, WaitingLeg, FirstLeg, Origin, alone}
 use Rattle.rept_path.specs.Gap.{gap_to_end}
 use Rattle.rept_path.specs.Trace.{Window, Run}
 use Rattle.rept_path.specs.Traced.{RawRun, with_packets}
@@ -53,11 +53,11 @@ left_by code packet met rows =
     let all = bits_before packet met.waits met.bits ++ bits_of code packet in
     let r = reported_after packet met.reported in
     let p = place_after code packet (meets met.waits met.place) (reverse rows) in
-    record { number = met.number + 1; bits = all; reported = r; marked = mark_after code packet met.marked (record { bits = all; reported = r; place = p }); waits = waits_after packet met.waits; place = p }
+    record { number = met.number + 1; bits = all; reported = r; marked = mark_after code packet met.marked (record { bits = all; reported = r; place = p }); waits = waits_after packet met.waits; place = p; room = met.room }
 
 -- what the first packet is met by
-abbrev pub nothing : ℕ → Met
-nothing skipped = record { number = skipped; bits = []; reported = 0; marked = false; waits = true; place = record { at = 0; rows = []; branches = 0 } }
+abbrev pub nothing : Origin → Met
+nothing origin = record { number = origin.number; bits = []; reported = 0; marked = false; waits = true; place = record { at = 0; rows = []; branches = 0 }; room = origin.room }
 
 -- an index in a path, and what the next packet is met by there
 pub record Spot : Type 0 where
@@ -86,8 +86,8 @@ pub record StopIndices (run : Run) (skipped : ℕ) (path : List StepRow) (stops 
   pub later : List Packet
   pub cut : drop skipped run.packets ≡ first ∷ later
   pub start : FirstLeg run.code first []
-  pub each : StopsFrom run later (record { path = path; index = 0; met = left_by run.code first (nothing skipped) [] }) stops
+  pub each : StopsFrom run later (record { path = path; index = 0; met = left_by run.code first (nothing (alone skipped)) [] }) stops
 
 -- The bytes hold whole packets, which have such stops on this path.
 abbrev pub HaveStops : RawRun → ℕ → List StepRow → Type 0
-HaveStops raw skipped path = (list : List Packet) × (stops : List ℕ) × Hold raw.bytes list × StopIndices (with_packets raw list) skipped path stops
+HaveStops raw skipped path = (list : List Packet) × (stops : List ℕ) × Hold raw.stream list × StopIndices (with_packets raw list) skipped path stops

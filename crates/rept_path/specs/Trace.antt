@@ -10,11 +10,11 @@ use Rattle.rept_trace.specs.declared.packet.Packet.{Packet}
 use Rattle.rept_trace.specs.declared.packet.Packet.TheVariants.{Start, Support}
 use Rattle.rept_path.specs.Packets.{bits}
 use Rattle.rept_path.specs.Moves.{Stand}
-use Rattle.rept_path.specs.Route.{Route, Fault, earlier_by, place}
+use Rattle.rept_path.specs.Route.{Route, Origin, alone, Fault, earlier_by, place}
 use Rattle.rept_path.specs.Gap.{gap_to_end}
 
 abbrev pub starts : Option Packet → Bool
-starts (Some (Start branch privilege a)) = true
+starts (Some (Start branch privilege a time context)) = true
 starts _ = false
 
 abbrev pub loses : Packet → Bool
@@ -37,9 +37,9 @@ abbrev pub IsWindow : List Packet → ℕ → Option ℕ → Type 0
 IsWindow packets from None = (i : ℕ) → MayBegin packets from i → ⊥
 IsWindow packets from (Some skipped) = Window packets from skipped
 
--- where packets and their legs leave the walk, before what has this number
+-- where packets and their legs leave the walk of a path of its own, before what has this number
 abbrev pub stand_after : List ElfSegment → ℕ → List Packet → List (List StepRow) → Stand
-stand_after code count packets legs = record { packet = count; bits = bits code packets; place = place code packets legs }
+stand_after code count packets legs = record { packet = count; bits = bits code packets; place = place code packets legs; room = 65536 }
 
 -- a traced run: the program, the packets, the number from which on the window may begin, and the program counter at the end
 pub record Run : Type 0 where
@@ -60,28 +60,28 @@ last_stand run skipped legs = stand_after run.code (length run.packets) (newest_
 pub record IsPath (run : Run) (skipped : ℕ) (path : List StepRow) : Type 0 where
   pub window : Window run.packets run.from skipped
   pub legs : List (List StepRow)
-  pub route : Route run.code skipped (newest_first run skipped) legs
+  pub route : Route run.code (alone skipped) (newest_first run skipped) legs
   pub last : List StepRow
   pub end : gap_to_end run.code (last_stand run skipped legs) run.pc ≡ Ok last
   pub order : path ≡ reverse (last ++ (place run.code (newest_first run skipped) legs).rows)
 
 -- Up to a packet of the window there is a route. The packet has no leg, by this fault.
-pub record StopsAt (code : List ElfSegment) (skipped : ℕ) (window : List Packet) (e : PathFault) : Type 0 where
+pub record StopsAt (code : List ElfSegment) (origin : Origin) (window : List Packet) (e : PathFault) : Type 0 where
   pub earlier : List Packet
   pub packet : Packet
   pub later : List Packet
   pub cut : window ≡ reverse earlier ++ packet ∷ later
   pub legs : List (List StepRow)
-  pub route : Route code skipped earlier legs
-  pub fault : Fault code packet (earlier_by skipped earlier legs) e
+  pub route : Route code origin earlier legs
+  pub fault : Fault code packet (earlier_by origin earlier legs) e
 
 -- There is a route of the window, and no way from it to the end.
 pub record StopsAtEnd (run : Run) (skipped : ℕ) (e : PathFault) : Type 0 where
   pub legs : List (List StepRow)
-  pub route : Route run.code skipped (newest_first run skipped) legs
+  pub route : Route run.code (alone skipped) (newest_first run skipped) legs
   pub end : gap_to_end run.code (last_stand run skipped legs) run.pc ≡ Err e
 
 abbrev pub IsRefused : Run → PathFault → Type 0
 IsRefused run e =
     (IsWindow run.packets run.from None × (e ≡ NoStart (length run.packets)))
-    ⊎ ((skipped : ℕ) × Window run.packets run.from skipped × (StopsAt run.code skipped (drop skipped run.packets) e ⊎ StopsAtEnd run skipped e))
+    ⊎ ((skipped : ℕ) × Window run.packets run.from skipped × (StopsAt run.code (alone skipped) (drop skipped run.packets) e ⊎ StopsAtEnd run skipped e))

@@ -9,7 +9,7 @@ use Rattle.rept_trace.specs.declared.packet.Packet.{Packet}
 use Rattle.rept_trace.specs.declared.packets.Packets.{Packets}
 use Rattle.rept_trace.specs.declared.fault.TraceFault.{TraceFault}
 use Rattle.rept_trace.specs.Packets.{rest_of, number_of}
-use Rattle.rept_trace.specs.Stream.{Hold, FailsAfter}
+use Rattle.rept_trace.specs.Stream.{Stream, Hold, FailsAfter}
 use Rattle.rept_path.specs.declared.fault.PathFault.{PathFault}
 use Rattle.rept_path.specs.declared.fault.PathFault.TheVariants as fault
 use Rattle.rept_path.specs.Trace.{Run, IsPath, IsRefused}
@@ -18,11 +18,11 @@ use Rattle.rept_path.specs.Trace.{Run, IsPath, IsRefused}
 abbrev pub pc_of : Dump → ℕ
 pc_of dump = word_at (registers_of dump) 72
 
--- a traced run whose packets are bytes: the program, these bytes, the number from which on the window may begin, and the program
+-- a traced run whose packets are a stream of bytes: the program, the stream, the number from which on the window may begin, and the program
 -- counter at the end
 pub record RawRun : Type 0 where
   pub code : List ElfSegment
-  pub bytes : List ℕ
+  pub stream : Stream
   pub from : ℕ
   pub pc : ℕ
 
@@ -30,19 +30,19 @@ pub record RawRun : Type 0 where
 abbrev pub with_packets : RawRun → List Packet → Run
 with_packets raw list = record { code = raw.code; packets = list; from = raw.from; pc = raw.pc }
 
--- The bytes hold whole packets, and this is their path over the program to the end.
+-- The stream holds whole packets, and this is their path over the program to the end.
 abbrev pub IsTraced : RawRun → ℕ → List StepRow → Type 0
-IsTraced raw skipped path = (list : List Packet) × Hold raw.bytes list × IsPath (with_packets raw list) skipped path
+IsTraced raw skipped path = (list : List Packet) × Hold raw.stream list × IsPath (with_packets raw list) skipped path
 
 -- A packet is refused, of which the first has this number. Or all are whole, and they have no path to the end.
 abbrev pub IsUntraced : RawRun → ℕ → PathFault → Type 0
 IsUntraced raw number e =
-    ((list : List Packet) × (refused : TraceFault) × FailsAfter number raw.bytes list refused × (e ≡ fault.Packet refused))
-    ⊎ ((list : List Packet) × Hold raw.bytes list × IsRefused (with_packets raw list) e)
+    ((list : List Packet) × (refused : TraceFault) × FailsAfter number raw.stream list refused × (e ≡ fault.Packet refused))
+    ⊎ ((list : List Packet) × Hold raw.stream list × IsRefused (with_packets raw list) e)
 
 -- the run of the packets that are left, over the program of a dump to its program counter
 abbrev pub raw_of : Packets → Dump → ℕ → RawRun
-raw_of packets dump from = record { code = exe_of dump; bytes = rest_of packets; from = from; pc = pc_of dump }
+raw_of packets dump from = record { code = exe_of dump; stream = rest_of packets; from = from; pc = pc_of dump }
 
 -- The packets that are left are no path of it, and this is why.
 abbrev pub IsRefusedBy : Packets → Dump → ℕ → PathFault → Type 0

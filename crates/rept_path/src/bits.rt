@@ -29,7 +29,7 @@ pub fn push_branch(
     address: u32,
     branch: bool,
 ) -> Result<(), AllocFailed<bool>>
-    ensures bits { OnOk result ((privilege : ℕ) → bits.new.items ≡ bits.old.items ++ bits_of (exe_of dump.now) (Packet.Start branch privilege address)) }
+    ensures bits { OnOk result ((privilege time context : ℕ) → bits.new.items ≡ bits.old.items ++ bits_of (exe_of dump.now) (Packet.Start branch privilege address time context)) }
     ensures size { OnOk result (length bits.new.items ≤ length bits.old.items + 1) }
     ensures grows { OnOk result (length bits.old.items ≤ length bits.new.items) }
 {

@@ -47,6 +47,18 @@ pub enum PathFault {
     /// No memory was left.
     #[error("out of memory")]
     OutOfMemory,
+    /// The time of this packet is less than one before it in its stream. Of several streams alone, as are those that follow.
+    #[error("packet {0} is of an earlier time than one before it")]
+    TimeBack(u32),
+    /// Two harts tell of one thread, that of this process, at the same time, the second number.
+    #[error("process {0} runs in two streams at time {1}")]
+    SliceOverlap(u32, u64),
+    /// This start packet is of a thread without a note, that of the process of the second number.
+    #[error("packet {0} is of process {1}, which has no note")]
+    UnknownThread(u32, u32),
+    /// This start packet comes while another thread runs than its own, that of the process of the second number.
+    #[error("packet {0} of process {1} comes while another thread runs")]
+    OtherThread(u32, u32),
 }
 
 impl From<AllocError> for PathFault {

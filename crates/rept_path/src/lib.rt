@@ -8,8 +8,8 @@ pub mod flow;
 pub mod laws;
 mod look;
 mod rebuilding;
-mod walk;
-mod window;
+pub mod walk;
+pub mod window;
 
 pub use fault::PathFault;
 pub use look::instruction_at;

@@ -1,31 +1,29 @@
 //! From a trace and a dump to the path.
 
-ghost use Rattle.std.specs.Prelude.{◌≡◌, ◌≢◌, ◌⊎◌, ◌<◌, ◌+◌, ◌^◌, ◌∷◌, [], List, ℕ, length, reverse, IfOk, IfErr, IfSome, IfNone, MatchResult, Ok, Some, None, true};
+ghost use Rattle.std.specs.Prelude.{◌≡◌, ◌≢◌, ◌⊎◌, ◌<◌, ◌+◌, ◌^◌, ◌∷◌, [], List, ℕ, length, reverse, IfOk, IfErr, MatchResult, Some, true};
 ghost use Rattle.rept_isa.specs.declared.row.StepRow.{StepRow};
 ghost use Rattle.rept_dump.specs.Dump.{exe_of, registers_of};
 ghost use Rattle.rept_elf.specs.Header.{word_at};
 ghost use Rattle.rept_trace.specs.declared.packet.Packet.{Packet};
 ghost use Rattle.rept_trace.specs.declared.fault.TraceFault.{TraceFault};
 ghost use Rattle.rept_trace.specs.Packets.{rest_of, number_of};
-ghost use Rattle.rept_trace.specs.Stream.{Hold, FailsAfter, Answers};
+ghost use Rattle.rept_trace.specs.Stream.{Hold, FailsAfter};
 ghost use Rattle.rept_steps.specs.Linked.{AreLinked, EndBefore};
 ghost use Rattle.rept_path.specs.declared.fault.PathFault.{PathFault};
 ghost use Rattle.rept_path.specs.declared.fault.PathFault.TheVariants.{OutOfMemory};
-ghost use Rattle.rept_path.specs.Route.{FirstFault, earlier_by};
+ghost use Rattle.rept_path.specs.Route.{alone, earlier_by};
 ghost use Rattle.rept_path.specs.Rows.{CarryCode};
 ghost use Rattle.rept_path.specs.State.{Stands};
 ghost use Rattle.rept_path.specs.Stops.{HaveStops};
 ghost use Rattle.rept_path.specs.Trace.{starts, StopsAt, IsPath, IsRefused};
 ghost use Rattle.rept_path.specs.Traced.{pc_of, IsTraced, IsRefusedBy, raw_of};
 
-use crate::bits::push_branch;
 use crate::fault::PathFault;
-use crate::look::position_of;
 use crate::walk::Walk;
-use crate::window::{Begin, go_through};
+use crate::window::{Begin, go_through, next_packet};
 use rept_dump::Dump;
-use rept_steps::Steps;
-use rept_trace::{Packet, Packets};
+use rept_steps::{LIMIT, Steps};
+use rept_trace::Packets;
 use std::alloc::Global;
 
 /// The path of a program up to its crash.
@@ -37,60 +35,14 @@ pub struct Path {
     pub skipped: u32,
 }
 
-/// A walk that stands at the address of the first packet.
-fn begin_walk(
-    alloc: Global,
-    dump: &Dump<'_>,
-    skipped: u32,
-    packet: Packet,
-) -> Result<Walk, PathFault>
-    requires { starts (Some packet) ≡ true }
-    ensures ok { IfOk result (λ w. (legs : List (List StepRow)) × Stands (exe_of dump.now) (earlier_by skipped (packet ∷ []) legs) w) }
-    ensures err { IfErr result (λ e. (e ≡ OutOfMemory) ⊎ FirstFault (exe_of dump.now) packet e) }
-{
-    match packet {
-        Packet::Start {
-            branch,
-            address,
-            ..
-        } => {
-            position_of(dump, address)?;
-            let mut bits = Vec::new(alloc);
-            push_branch(&mut bits, dump, address, branch)?;
-            Ok(Walk {
-                at: address,
-                steps: Steps::new(alloc),
-                bits,
-                used: 0,
-                reported: address,
-                inferred: false,
-                waiting: false,
-            })
-        }
-        _ => unreachable!(),
-    }
-}
-
-/// The next packet of bytes that hold whole packets alone.
-fn next_packet(rest: &mut Packets<'_>) -> Option<Packet>
-    requires { (more : List Packet) × Hold (rest_of rest.old) more }
-    ensures some { IfSome result (λ packet. Answers (number_of rest.old) (rest_of rest.old) (Ok (Some packet)) (number_of rest.new) (rest_of rest.new)) }
-    ensures none { IfNone result (Answers (number_of rest.old) (rest_of rest.old) (Ok None) (number_of rest.new) (rest_of rest.new)) }
-{
-    if let Ok(next) = rest.next() {
-        return next;
-    }
-    None
-}
-
 /// A walk over the packets of a window.
 fn walk_over(alloc: Global, dump: &Dump<'_>, begin: Begin<'_>) -> Result<Walk, PathFault>
     requires starts { starts (Some begin.first) ≡ true }
     requires few { (later : List Packet) × Hold (rest_of begin.later) later × (begin.number + 1 + length later < 2 ^ 32) }
-    ensures ok { (later : List Packet) → Hold (rest_of begin.entry.later) later → IfOk result (λ w. (legs : List (List StepRow)) × Stands (exe_of dump.now) (earlier_by begin.entry.number (reverse (begin.entry.first ∷ later)) legs) w) }
-    ensures err { (later : List Packet) → Hold (rest_of begin.entry.later) later → IfErr result (λ e. (e ≡ OutOfMemory) ⊎ StopsAt (exe_of dump.now) begin.entry.number (begin.entry.first ∷ later) e) }
+    ensures ok { (later : List Packet) → Hold (rest_of begin.entry.later) later → IfOk result (λ w. (legs : List (List StepRow)) × Stands (exe_of dump.now) (earlier_by (alone begin.entry.number) (reverse (begin.entry.first ∷ later)) legs) w) }
+    ensures err { (later : List Packet) → Hold (rest_of begin.entry.later) later → IfErr result (λ e. (e ≡ OutOfMemory) ⊎ StopsAt (exe_of dump.now) (alone begin.entry.number) (begin.entry.first ∷ later) e) }
 {
-    let mut walk = begin_walk(alloc, dump, begin.number, begin.first)?;
+    let mut walk = Walk::begin(alloc, dump, begin.number, LIMIT, begin.first)?;
     let mut rest = begin.later;
     let mut number = begin.number + 1;
     let mut near = *dump;
@@ -109,7 +61,7 @@ fn rebuild_once(
     dump: &Dump<'_>,
     from: u32,
 ) -> Result<Path, PathFault>
-    requires { length (rest_of packets) < 2 ^ 32 }
+    requires { length (rest_of packets).bytes < 2 ^ 32 }
     ensures path { IfOk result (λ path. IsTraced (raw_of packets.entry dump.now from) path.skipped path.steps) }
     ensures some { IfOk result (λ path. 0 < length path.steps) }
     ensures linked { IfOk result (λ path. AreLinked path.steps) }
@@ -148,7 +100,7 @@ pub fn rebuild(
     dump: &Dump<'_>,
     from: u32,
 ) -> Result<Path, PathFault>
-    requires { length (rest_of packets) < 2 ^ 32 }
+    requires { length (rest_of packets).bytes < 2 ^ 32 }
     ensures path { IfOk result (λ path. IsTraced (raw_of packets.entry dump.now from) path.skipped path.steps) }
     ensures some { IfOk result (λ path. 0 < length path.steps) }
     ensures linked { IfOk result (λ path. AreLinked path.steps) }

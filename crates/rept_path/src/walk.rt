@@ -1,14 +1,16 @@
 //! The moves of a path, packet by packet.
 
-ghost use Rattle.std.specs.Prelude.{◌≡◌, ◌⊎◌, ◌+◌, ◌≤◌, ◌<◌, ◌++◌, ◌∷◌, [], List, ℕ, Bool, length, slice_get, OnOk, IfOk, IfErr, MatchResult, None, Ok, Err, true, false};
+ghost use Rattle.std.specs.Prelude.{◌≡◌, ◌⊎◌, ◌+◌, ◌≤◌, ◌<◌, ◌++◌, ◌∷◌, [], List, ℕ, Bool, length, slice_get, OnOk, IfOk, IfErr, MatchResult, Some, None, Ok, Err, true, false};
 ghost use Rattle.rept_dump.specs.Dump.{exe_of};
 ghost use Rattle.rept_path.specs.declared.fault.PathFault.TheVariants.{OutOfMemory};
 ghost use Rattle.rept_path.specs.Code.{look, flow_of};
 ghost use Rattle.rept_path.specs.Moves.{successor, next_of, by_jump, unused, bits_fit, stops, misfits, is_inferred, course_by, way_by};
 ghost use Rattle.rept_path.specs.Legs.{PhaseFault};
 ghost use Rattle.rept_path.specs.Gap.{by_successor, by_flow, gap};
-ghost use Rattle.rept_path.specs.Route.{first_phase, PhasesFault, RunningFault, WaitingFault, FaultBy};
-ghost use Rattle.rept_path.specs.State.{here, standing, Counts, lead, met, Moved, Walked, WalkedAll, Followed, Crossed, ends_fit, from_to};
+ghost use Rattle.rept_isa.specs.declared.row.StepRow.{StepRow};
+ghost use Rattle.rept_path.specs.Route.{first_phase, PhasesFault, RunningFault, WaitingFault, FaultBy, FirstFault, earlier_by};
+ghost use Rattle.rept_path.specs.Trace.{starts};
+ghost use Rattle.rept_path.specs.State.{here, standing, Counts, lead, met, Moved, Walked, WalkedAll, Followed, Stands, Crossed, ends_fit, from_to};
 ghost use Rattle.rept_path.specs.Crossed.{rows_of, LeadAcross};
 
 use crate::aim::Aim;
@@ -19,8 +21,9 @@ use crate::look::{holds_branch, holds_call, look, position_of};
 use rept_dump::Dump;
 use rept_isa::number::{following, plus};
 use rept_isa::{Instr, StepRow};
-use rept_steps::{LIMIT, Steps};
+use rept_steps::Steps;
 use rept_trace::{Packet, Qual, Report};
+use std::alloc::Global;
 
 /// Where a path has come.
 #[derive(Drop)]
@@ -38,6 +41,8 @@ pub struct Walk {
     pub inferred: bool,
     /// Whether only a start packet may go on.
     pub waiting: bool,
+    /// How many steps there may be.
+    pub room: usize,
 }
 
 /// The address after one, by what stands and comes there.
@@ -139,6 +144,42 @@ fn rows_across(
 }
 
 impl Walk {
+    /// A walk that stands at the address of a start packet, the one of this number, and may have so many steps.
+    pub fn begin(
+        alloc: Global,
+        dump: &Dump<'_>,
+        number: u32,
+        room: usize,
+        packet: Packet,
+    ) -> Result<Walk, PathFault>
+        requires { starts (Some packet) ≡ true }
+        ensures ok { IfOk result (λ w. (legs : List (List StepRow)) × Stands (exe_of dump.now) (earlier_by (record { number = number; room = room }) (packet ∷ []) legs) w) }
+        ensures err { IfErr result (λ e. (e ≡ OutOfMemory) ⊎ FirstFault (exe_of dump.now) packet e) }
+    {
+        match packet {
+            Packet::Start {
+                branch,
+                address,
+                ..
+            } => {
+                position_of(dump, address)?;
+                let mut bits = Vec::new(alloc);
+                push_branch(&mut bits, dump, address, branch)?;
+                Ok(Walk {
+                    at: address,
+                    steps: Steps::new(alloc),
+                    bits,
+                    used: 0,
+                    reported: address,
+                    inferred: false,
+                    waiting: false,
+                    room,
+                })
+            }
+            _ => unreachable!(),
+        }
+    }
+
     /// The bit of the next branch.
     fn bit(&self) -> Option<bool>
         ensures { result ≡ slice_get self.now.bits.items self.now.used }
@@ -160,7 +201,7 @@ impl Walk {
     {
         let bit = self.bit();
         let next = successor_of(packet, self.at, flow_of(instr), bit, target)?;
-        if self.steps.len() as usize >= LIMIT {
+        if self.steps.len() as usize >= self.room {
             return Err(PathFault::TooLong(packet));
         }
         position_of(dump, next)
@@ -362,7 +403,7 @@ impl Walk {
         };
         match second {
             None => {
-                if self.steps.len() as usize >= LIMIT {
+                if self.steps.len() as usize >= self.room {
                     return Err(PathFault::TooLong(packet));
                 }
                 if let Err(_) = self.steps.push(first) {
@@ -370,7 +411,7 @@ impl Walk {
                 }
             }
             Some(row) => {
-                if self.steps.len() as usize + 1 >= LIMIT {
+                if self.steps.len() as usize + 1 >= self.room {
                     return Err(PathFault::TooLong(packet));
                 }
                 if let Err(_) = self.steps.push(first) {
@@ -436,8 +477,8 @@ impl Walk {
     ) -> Result<(), PathFault>
         requires counts { Counts self.old }
         requires waits { self.old.waiting ≡ true }
-        ensures ok { OnOk result ((privilege : ℕ) → Followed (exe_of dump.now) (Packet.Start branch privilege address) (from_to number self.old self.new)) }
-        ensures err { IfErr result (λ e. (privilege : ℕ) → (e ≡ OutOfMemory) ⊎ WaitingFault (exe_of dump.now) (Packet.Start branch privilege address) (met number self.old) e) }
+        ensures ok { OnOk result ((privilege time context : ℕ) → Followed (exe_of dump.now) (Packet.Start branch privilege address time context) (from_to number self.old self.new)) }
+        ensures err { IfErr result (λ e. (privilege time context : ℕ) → (e ≡ OutOfMemory) ⊎ WaitingFault (exe_of dump.now) (Packet.Start branch privilege address time context) (met number self.old) e) }
     {
         let otherwise = PathFault::Gap(number, self.at, address);
         self.join(dump, number, address, otherwise)?;
@@ -463,8 +504,8 @@ impl Walk {
         requires counts { Counts self.old }
         requires rests { length self.old.bits.items ≤ self.old.used + 1 }
         requires runs { self.old.waiting ≡ false }
-        ensures ok { OnOk result ((privilege : ℕ) → Followed (exe_of dump.now) (Packet.Start branch privilege address) (from_to number self.old self.new)) }
-        ensures err { IfErr result (λ e. (privilege : ℕ) → (e ≡ OutOfMemory) ⊎ RunningFault (exe_of dump.now) (Packet.Start branch privilege address) (met number self.old) e) }
+        ensures ok { OnOk result ((privilege time context : ℕ) → Followed (exe_of dump.now) (Packet.Start branch privilege address time context) (from_to number self.old self.new)) }
+        ensures err { IfErr result (λ e. (privilege time context : ℕ) → (e ≡ OutOfMemory) ⊎ RunningFault (exe_of dump.now) (Packet.Start branch privilege address time context) (met number self.old) e) }
     {
         position_of(dump, address)?;
         push_branch(&mut self.bits, dump, address, branch)?;

@@ -1,9 +1,9 @@
 //! The packet with which a path begins.
 
-ghost use Rattle.std.specs.Prelude.{◌≡◌, ◌⊎◌, ◌<◌, ◌^◌, ◌∷◌, ◌++◌, [], List, ℕ, length, Some, IfOk, IfErr, IfSome};
+ghost use Rattle.std.specs.Prelude.{◌≡◌, ◌⊎◌, ◌<◌, ◌^◌, ◌∷◌, ◌++◌, [], List, ℕ, length, Ok, Some, None, IfOk, IfErr, IfSome, IfNone};
 ghost use Rattle.rept_trace.specs.declared.packet.Packet.{Packet};
 ghost use Rattle.rept_trace.specs.Packets.{rest_of, number_of};
-ghost use Rattle.rept_trace.specs.Stream.{Hold, FailsAfter};
+ghost use Rattle.rept_trace.specs.Stream.{Hold, FailsAfter, Answers};
 ghost use Rattle.rept_path.specs.Trace.{IsWindow, starts, loses};
 ghost use Rattle.rept_path.specs.Survey.{number_in, Surveys};
 
@@ -76,9 +76,21 @@ fn begin_after<'a>(
     }
 }
 
+/// The next packet of bytes that hold whole packets alone.
+pub fn next_packet(rest: &mut Packets<'_>) -> Option<Packet>
+    requires { (more : List Packet) × Hold (rest_of rest.old) more }
+    ensures some { IfSome result (λ packet. Answers (number_of rest.old) (rest_of rest.old) (Ok (Some packet)) (number_of rest.new) (rest_of rest.new)) }
+    ensures none { IfNone result (Answers (number_of rest.old) (rest_of rest.old) (Ok None) (number_of rest.new) (rest_of rest.new)) }
+{
+    if let Ok(next) = rest.next() {
+        return next;
+    }
+    None
+}
+
 /// Goes through all packets.
 pub fn go_through<'a>(packets: Packets<'a>, from: u32) -> Result<Survey<'a>, TraceFault>
-    requires { length (rest_of packets) < 2 ^ 32 }
+    requires { length (rest_of packets).bytes < 2 ^ 32 }
     ensures ok { IfOk result (λ s. (list : List Packet) × Surveys (rest_of packets.entry) list from s) }
     ensures err { IfErr result (λ fault. (list : List Packet) × FailsAfter (number_of packets.entry) (rest_of packets.entry) list fault) }
 {

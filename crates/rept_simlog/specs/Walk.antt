@@ -4,7 +4,7 @@ use Rattle.rept_isa.specs.declared.instr.Instr.{Instr}
 use Rattle.rept_isa.specs.declared.row.StepRow.{StepRow}
 use Rattle.rept_steps.specs.Linked.{EndBefore}
 use Rattle.rept_elf.specs.Segments.{ElfSegment}
-use Rattle.rept_trace.specs.Stream.{header}
+use Rattle.rept_trace.specs.Stream.{header, plain}
 use Rattle.rept_path.specs.declared.fault.PathFault.{PathFault}
 use Rattle.rept_path.specs.Code.{look, flow_of}
 use Rattle.rept_path.specs.Traced.{IsTraced}
@@ -84,4 +84,4 @@ pub record Records (code : List ElfSegment) (entries : List Entry) (trace : List
   pub along : GoAlong code entries rows
   pub rest : List ℕ
   pub layout : trace ≡ header ++ rest
-  pub path : (last : Entry) → slice_get entries (length rows) ≡ Some last → IsTraced (record { code = code; bytes = rest; from = 0; pc = last.address }) 0 rows
+  pub path : (last : Entry) → slice_get entries (length rows) ≡ Some last → IsTraced (record { code = code; stream = plain rest; from = 0; pc = last.address }) 0 rows

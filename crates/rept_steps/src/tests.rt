@@ -56,6 +56,30 @@ fn steps_are_limited(rt: HostRuntime) -> Result<(), Fail> {
 }
 
 #[test]
+fn one_thread_is_a_run(rt: HostRuntime) -> Result<(), Fail> {
+    let mut steps = Steps::new(rt.alloc());
+    steps.push(step(0x10000, 0x10004))?;
+    steps.push(step(0x10004, 0x10008))?;
+    let run = Run::one(rt.alloc(), steps, 3)?;
+    assert_eq!(rt; run.threads.all().len(), 1);
+    let thread = &run.threads.all()[0];
+    assert_eq!(rt; thread.steps.end_pc(), 0x10008);
+    assert_eq!(rt;
+        thread.slices.all(),
+        [Slice {
+            stream: 0,
+            begin: 0,
+            end: u64::MAX,
+            first: 0,
+            count: 2,
+        }]
+        .as_slice()
+    );
+    assert_eq!(rt; (run.dark, run.skipped), (None, 3));
+    Ok(())
+}
+
+#[test]
 fn prints_faults(rt: HostRuntime) -> Result<(), Fail> {
     for (fault, text) in [
         (PushFault::Full, "the path has 65536 steps"),

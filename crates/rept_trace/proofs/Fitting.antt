@@ -4,8 +4,9 @@ use Rattle.rept_word.specs.Bits.{field}
 use Rattle.rept_word.proofs.BitLemmas.{field_small}
 use Rattle.rept_trace.specs.declared.packet.Packet.{Packet}
 use Rattle.rept_trace.specs.declared.packet.Packet.TheVariants.{Start, Context, Support, Address, Map, MapAddress}
-use Rattle.rept_trace.specs.Fits.{IsWordAddress, FieldsFit}
-use Rattle.rept_trace.specs.Grammar.{map_width, IsPacket}
+use Rattle.rept_trace.specs.declared.parameters.Parameters.{Parameters}
+use Rattle.rept_trace.specs.Fits.{IsWordAddress, StampFits, FieldsFit}
+use Rattle.rept_trace.specs.Grammar.{map_width, after_stamp, stamp_of, IsStamp, IsPacket}
 
 word_address : (p : List ℕ) (i a : ℕ) → a ≡ 4 * field p i 30 → IsWordAddress a
 word_address p i a e = let small = field_small p i 30 in (omega (arith, small), omega arith)
@@ -13,13 +14,16 @@ word_address p i a e = let small = field_small p i 30 in (omega (arith, small), 
 holds : (p : List ℕ) (i n v : ℕ) → v ≡ field p i n → v < 2 ^ n
 holds p i n v e = let P : ℕ → Type 0 = λ m. m < 2 ^ n in subst P (sym e) (field_small p i n)
 
-pub fits : (p : List ℕ) (x : Packet) → IsPacket p x → FieldsFit x
-fits p (Start branch privilege address) s = (holds p 5 2 privilege s.level, word_address p 7 address s.place)
-fits p (Context privilege) s = holds p 4 2 privilege s.level
-fits p (Support enabled status) s = tt
-fits p (Address report) s = let f = s.fields in word_address p 2 report.difference f.address
-fits p (Map map) s = holds p 7 31 map s.bits
-fits p (MapAddress count map report) s =
+stamps : (widths : Parameters) (p : List ℕ) (i time context : ℕ) → IsStamp widths p i (stamp_of time context) → StampFits widths time context
+stamps widths p i time context s = (holds p i widths.time_width time s.clock, holds p (i + widths.time_width) widths.context_width context s.process)
+
+pub fits : (widths : Parameters) (p : List ℕ) (x : Packet) → IsPacket widths p x → FieldsFit widths x
+fits widths p (Start branch privilege address time context) s = (holds p 5 2 privilege s.level, word_address p (after_stamp widths 7) address s.place, stamps widths p 7 time context s.stamp)
+fits widths p (Context privilege time context) s = (holds p 4 2 privilege s.level, stamps widths p 6 time context s.stamp)
+fits widths p (Support enabled status) s = tt
+fits widths p (Address report) s = let f = s.fields in word_address p 2 report.difference f.address
+fits widths p (Map map) s = holds p 7 31 map s.bits
+fits widths p (MapAddress count map report) s =
     let f = s.fields in
     let c = holds p 2 5 count s.number in
     (s.some, omega (arith, c), holds p 7 (map_width count) map s.bits, word_address p (7 + map_width count) report.difference f.address)

@@ -3,9 +3,10 @@ use Rattle.std.proofs.Common.{◌≡◌, ℕ, zero, suc, ◌<◌, ◌≤◌, Lis
 use Rattle.std.proofs.lemmas.List.{take-append-drop}
 use Rattle.rept_trace.specs.declared.packet.Packet.{Packet}
 use Rattle.rept_trace.specs.declared.fault.TraceFault.{TraceFault}
-use Rattle.rept_trace.specs.declared.fault.TraceFault.TheVariants.{BadMagic, BadHeader, Truncated, Optional, Trap, BadSupport}
+use Rattle.rept_trace.specs.declared.fault.TraceFault.TheVariants.{BadMagic, BadHeader, Truncated, Optional, Trap, BadSupport, StreamPastEnd, Rest}
 use Rattle.rept_trace.specs.Grammar.{Spells}
-use Rattle.rept_trace.specs.Stream.{AreAfterZeros, IsFrame, IsEnded, IsCutShort, Fails, Begins, Answers}
+use Rattle.rept_trace.specs.declared.parameters.Parameters.{Parameters}
+use Rattle.rept_trace.specs.Stream.{Stream, AreAfterZeros, IsFrame, IsEnded, IsCutShort, Fails, Begins, Answers}
 use Rattle.rept_trace.proofs.Reading.{one_spelling}
 
 -- the list is empty or its first number is above 0
@@ -39,7 +40,7 @@ one_cut (suc z) (suc w) xs ys a b h =
 one_rest : (bytes xs ys : List ℕ) → AreAfterZeros bytes xs → AreAfterZeros bytes ys → StartsAboveZero xs → StartsAboveZero ys → xs ≡ ys
 one_rest bytes xs ys x y a b = one_cut x.zeros y.zeros xs ys a b (sym x.layout ∙ y.layout)
 
-same_cut : (p q r s : List ℕ) → length p ≡ length q → p ++ r ≡ q ++ s → (p ≡ q) × (r ≡ s)
+pub same_cut : (p q r s : List ℕ) → length p ≡ length q → p ++ r ≡ q ++ s → (p ≡ q) × (r ≡ s)
 same_cut [] [] r s n h = (refl, h)
 same_cut [] (y ∷ q) r s n h = absurd (omega arith)
 same_cut (x ∷ p) [] r s n h = absurd (omega arith)
@@ -80,81 +81,91 @@ end_or_cut bytes x y =
     cc
 
 -- the two kinds of fault
-abbrev Refused : ℕ → List ℕ → TraceFault → Type 0
-Refused k bytes fault = (payload : List ℕ) × (rest : List ℕ) × IsFrame bytes payload rest × Spells k payload (Err fault)
+abbrev Refused : ℕ → Stream → TraceFault → Type 0
+Refused k x fault = (payload : List ℕ) × (rest : List ℕ) × IsFrame x.bytes payload rest × Spells x.widths k payload (Err fault)
 
-kinds : (k : ℕ) (bytes : List ℕ) (fault : TraceFault) → Fails k bytes fault → ((fault ≡ Truncated k) × IsCutShort bytes) ⊎ Refused k bytes fault
-kinds k bytes BadMagic h = elim h [ ]
-kinds k bytes (BadHeader i) h = elim h [ ]
-kinds k bytes (Truncated j) h = inl (ap Truncated h.0, h.1)
-kinds k bytes (Optional j) h = inr (h.0, h.1, h.2, h.3)
-kinds k bytes (Trap j) h = inr (h.0, h.1, h.2, h.3)
-kinds k bytes (BadSupport j) h = inr (h.0, h.1, h.2, h.3)
+kinds : (k : ℕ) (x : Stream) (fault : TraceFault) → Fails k x fault → ((fault ≡ Truncated k) × IsCutShort x.bytes) ⊎ Refused k x fault
+kinds k x BadMagic h = elim h [ ]
+kinds k x (BadHeader i) h = elim h [ ]
+kinds k x (Truncated j) h = inl (ap Truncated h.0, h.1)
+kinds k x (Optional j) h = inr (h.0, h.1, h.2, h.3)
+kinds k x (Trap j) h = inr (h.0, h.1, h.2, h.3)
+kinds k x (BadSupport j) h = inr (h.0, h.1, h.2, h.3)
+kinds k x (StreamPastEnd j) h = elim h [ ]
+kinds k x (Rest j) h = elim h [ ]
 
-pub fails_by : (k : ℕ) (bytes payload rest : List ℕ) (fault : TraceFault) → IsFrame bytes payload rest → Spells k payload (Err fault) → Fails k bytes fault
-fails_by k bytes payload rest BadMagic f h = h
-fails_by k bytes payload rest (BadHeader i) f h = h
-fails_by k bytes payload rest (Truncated j) f h = elim h [ ]
-fails_by k bytes payload rest (Optional j) f h = (payload, rest, f, h)
-fails_by k bytes payload rest (Trap j) f h = (payload, rest, f, h)
-fails_by k bytes payload rest (BadSupport j) f h = (payload, rest, f, h)
+pub fails_by : (k : ℕ) (x : Stream) (payload rest : List ℕ) (fault : TraceFault) → IsFrame x.bytes payload rest → Spells x.widths k payload (Err fault) → Fails k x fault
+fails_by k x payload rest BadMagic f h = h
+fails_by k x payload rest (BadHeader i) f h = h
+fails_by k x payload rest (Truncated j) f h = elim h [ ]
+fails_by k x payload rest (Optional j) f h = (payload, rest, f, h)
+fails_by k x payload rest (Trap j) f h = (payload, rest, f, h)
+fails_by k x payload rest (BadSupport j) f h = (payload, rest, f, h)
+fails_by k x payload rest (StreamPastEnd j) f h = elim h [ ]
+fails_by k x payload rest (Rest j) f h = elim h [ ]
 
 -- two frames at one place spell the same
-same_spelling : (k : ℕ) (bytes p r q s : List ℕ) (x y : Result Packet TraceFault) → IsFrame bytes p r → IsFrame bytes q s → Spells k p x → Spells k q y → x ≡ y
-same_spelling k bytes p r q s x y f g a b =
+same_spelling : (w : Parameters) (k : ℕ) (bytes p r q s : List ℕ) (x y : Result Packet TraceFault) → IsFrame bytes p r → IsFrame bytes q s → Spells w k p x → Spells w k q y → x ≡ y
+same_spelling w k bytes p r q s x y f g a b =
     let e = one_frame bytes p r q s f g in
-    one_spelling k q x y (subst (λ (l : List ℕ). Spells k l x) e.0 a) b
+    one_spelling w k q x y (subst (λ (l : List ℕ). Spells w k l x) e.0 a) b
 
-pub one_fault : (k : ℕ) (bytes : List ℕ) (f g : TraceFault) → Fails k bytes f → Fails k bytes g → f ≡ g
-one_fault k bytes f g x y = elim (kinds k bytes f x) [
-  | inl a ↦ elim (kinds k bytes g y) [
+pub one_fault : (k : ℕ) (x : Stream) (f g : TraceFault) → Fails k x f → Fails k x g → f ≡ g
+one_fault k x f g m n = elim (kinds k x f m) [
+  | inl a ↦ elim (kinds k x g n) [
     | inl b ↦ a.0 ∙ sym b.0
-    | inr b ↦ absurd (frame_or_cut bytes b.0 b.1 b.2 a.1)
+    | inr b ↦ absurd (frame_or_cut x.bytes b.0 b.1 b.2 a.1)
   ]
-  | inr a ↦ elim (kinds k bytes g y) [
-    | inl b ↦ absurd (frame_or_cut bytes a.0 a.1 a.2 b.1)
-    | inr b ↦ let h : ◌≡◌ {A = Result Packet TraceFault} (Err f) (Err g) = same_spelling k bytes a.0 a.1 b.0 b.1 (Err f) (Err g) a.2 b.2 a.3 b.3 in cc
+  | inr a ↦ elim (kinds k x g n) [
+    | inl b ↦ absurd (frame_or_cut x.bytes a.0 a.1 a.2 b.1)
+    | inr b ↦ let h : ◌≡◌ {A = Result Packet TraceFault} (Err f) (Err g) = same_spelling x.widths k x.bytes a.0 a.1 b.0 b.1 (Err f) (Err g) a.2 b.2 a.3 b.3 in cc
   ]
 ]
 
-end_or_fault : (k : ℕ) (bytes : List ℕ) (f : TraceFault) → IsEnded bytes → Fails k bytes f → ⊥
-end_or_fault k bytes f x y = elim (kinds k bytes f y) [
-  | inl b ↦ end_or_cut bytes x b.1
-  | inr b ↦ frame_or_end bytes b.0 b.1 b.2 x
+end_or_fault : (k : ℕ) (x : Stream) (f : TraceFault) → IsEnded x.bytes → Fails k x f → ⊥
+end_or_fault k x f m n = elim (kinds k x f n) [
+  | inl b ↦ end_or_cut x.bytes m b.1
+  | inr b ↦ frame_or_end x.bytes b.0 b.1 b.2 m
 ]
 
-packet_or_fault : (k : ℕ) (bytes : List ℕ) (p : Packet) (r : List ℕ) (f : TraceFault) → Begins bytes p r → Fails k bytes f → ⊥
-packet_or_fault k bytes p r f x y = elim (kinds k bytes f y) [
-  | inl b ↦ frame_or_cut bytes x.0 r x.1 b.1
-  | inr b ↦ let h : ◌≡◌ {A = Result Packet TraceFault} (Ok p) (Err f) = same_spelling k bytes x.0 r b.0 b.1 (Ok p) (Err f) x.1 b.2 x.2 b.3 in cc
+packet_or_fault : (k : ℕ) (x : Stream) (p : Packet) (r : Stream) (f : TraceFault) → Begins x p r → Fails k x f → ⊥
+packet_or_fault k x p r f m n = elim (kinds k x f n) [
+  | inl b ↦ frame_or_cut x.bytes m.0 r.bytes m.1 b.1
+  | inr b ↦ let h : ◌≡◌ {A = Result Packet TraceFault} (Ok p) (Err f) = same_spelling x.widths k x.bytes m.0 r.bytes b.0 b.1 (Ok p) (Err f) m.1 b.2 m.2 b.3 in cc
 ]
 
-pub one_packet : (bytes : List ℕ) (p q : Packet) (r s : List ℕ) → Begins bytes p r → Begins bytes q s → (p ≡ q) × (r ≡ s)
-one_packet bytes p q r s x y =
-    let e = one_frame bytes x.0 r y.0 s x.1 y.1 in
-    let h : ◌≡◌ {A = Result Packet TraceFault} (Ok p) (Ok q) = same_spelling 0 bytes x.0 r y.0 s (Ok p) (Ok q) x.1 y.1 x.2 y.2 in
-    ((cc), e.1)
+same_stream : (r s : Stream) → r.widths ≡ s.widths → r.bytes ≡ s.bytes → r ≡ s
+same_stream r s a b =
+    let f : Parameters → List ℕ → Stream = λ w l. record { widths = w; bytes = l } in
+    let e : f r.widths r.bytes ≡ f s.widths s.bytes = cc in
+    e
+
+pub one_packet : (x : Stream) (p q : Packet) (r s : Stream) → Begins x p r → Begins x q s → (p ≡ q) × (r ≡ s)
+one_packet x p q r s m n =
+    let e = one_frame x.bytes m.0 r.bytes n.0 s.bytes m.1 n.1 in
+    let h : ◌≡◌ {A = Result Packet TraceFault} (Ok p) (Ok q) = same_spelling x.widths 0 x.bytes m.0 r.bytes n.0 s.bytes (Ok p) (Ok q) m.1 n.1 m.2 n.2 in
+    ((cc), same_stream r s (m.3 ∙ sym n.3) e.1)
 
 -- there is one answer
-pub one_answer : (k : ℕ) (bytes : List ℕ) (a b : Result (Option Packet) TraceFault) (n m : ℕ) (r s : List ℕ) → Answers k bytes a n r → Answers k bytes b m s → (a ≡ b) × (n ≡ m) × (r ≡ s)
-one_answer k bytes (Ok None) (Ok None) n m r s x y = (refl, x.1 ∙ sym y.1, x.2 ∙ sym y.2)
-one_answer k bytes (Ok None) (Ok (Some q)) n m r s x y = absurd (let b = y.0 in frame_or_end bytes b.0 s b.1 x.0)
-one_answer k bytes (Ok None) (Err g) n m r s x y = absurd (end_or_fault k bytes g x.0 y.0)
-one_answer k bytes (Ok (Some p)) (Ok None) n m r s x y = absurd (let b = x.0 in frame_or_end bytes b.0 r b.1 y.0)
-one_answer k bytes (Ok (Some p)) (Ok (Some q)) n m r s x y =
-    let e = one_packet bytes p q r s x.0 y.0 in
-    (ap (λ (z : Packet). Ok (Some z)) e.0, x.1 ∙ sym y.1, e.1)
-one_answer k bytes (Ok (Some p)) (Err g) n m r s x y = absurd (packet_or_fault k bytes p r g x.0 y.0)
-one_answer k bytes (Err f) (Ok None) n m r s x y = absurd (end_or_fault k bytes f y.0 x.0)
-one_answer k bytes (Err f) (Ok (Some q)) n m r s x y = absurd (packet_or_fault k bytes q s f y.0 x.0)
-one_answer k bytes (Err f) (Err g) n m r s x y = (ap (λ (z : TraceFault). Err z) (one_fault k bytes f g x.0 y.0), x.1 ∙ sym y.1, x.2 ∙ sym y.2)
+pub one_answer : (k : ℕ) (x : Stream) (a b : Result (Option Packet) TraceFault) (i j : ℕ) (r s : Stream) → Answers k x a i r → Answers k x b j s → (a ≡ b) × (i ≡ j) × (r ≡ s)
+one_answer k x (Ok None) (Ok None) i j r s m n = (refl, m.1 ∙ sym n.1, m.2 ∙ sym n.2)
+one_answer k x (Ok None) (Ok (Some q)) i j r s m n = absurd (let b = n.0 in frame_or_end x.bytes b.0 s.bytes b.1 m.0)
+one_answer k x (Ok None) (Err g) i j r s m n = absurd (end_or_fault k x g m.0 n.0)
+one_answer k x (Ok (Some p)) (Ok None) i j r s m n = absurd (let b = m.0 in frame_or_end x.bytes b.0 r.bytes b.1 n.0)
+one_answer k x (Ok (Some p)) (Ok (Some q)) i j r s m n =
+    let e = one_packet x p q r s m.0 n.0 in
+    (ap (λ (z : Packet). Ok (Some z)) e.0, m.1 ∙ sym n.1, e.1)
+one_answer k x (Ok (Some p)) (Err g) i j r s m n = absurd (packet_or_fault k x p r g m.0 n.0)
+one_answer k x (Err f) (Ok None) i j r s m n = absurd (end_or_fault k x f n.0 m.0)
+one_answer k x (Err f) (Ok (Some q)) i j r s m n = absurd (packet_or_fault k x q s f n.0 m.0)
+one_answer k x (Err f) (Err g) i j r s m n = (ap (λ (z : TraceFault). Err z) (one_fault k x f g m.0 n.0), m.1 ∙ sym n.1, m.2 ∙ sym n.2)
 
 -- a packet makes the bytes fewer
-pub shorter : (bytes : List ℕ) (p : Packet) (r : List ℕ) → Begins bytes p r → length r < length bytes
-shorter bytes p r x =
-    let a = (x.1).1 in
+pub shorter : (x : Stream) (p : Packet) (r : Stream) → Begins x p r → length r.bytes < length x.bytes
+shorter x p r m =
+    let a = (m.1).1 in
     let e = ap (length {A = ℕ}) a.layout in
-    omega (arith, e, length-append (replicate a.zeros 0) (length x.0 ∷ (x.0 ++ r)), length-append x.0 r)
+    omega (arith, e, length-append (replicate a.zeros 0) (length m.0 ∷ (m.0 ++ r.bytes)), length-append m.0 r.bytes)
 
 -- a length and what it cuts off
 pub frame_of : (bytes : List ℕ) (size : ℕ) (others : List ℕ) → AreAfterZeros bytes (size ∷ others) → 0 < size → size ≤ length others → IsFrame bytes (take size others) (drop size others)

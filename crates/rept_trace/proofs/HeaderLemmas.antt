@@ -4,7 +4,7 @@ use Rattle.std.proofs.Math.ListN.{get_or-append}
 use Rattle.std.proofs.lemmas.Bool.{cases_order}
 use Rattle.std.proofs.lemmas.Bool.Decides.{nat_tests}
 use Rattle.rept_trace.specs.declared.fault.TraceFault.{TraceFault}
-use Rattle.rept_trace.specs.declared.fault.TraceFault.TheVariants.{BadMagic, BadHeader, Truncated, Optional, Trap, BadSupport}
+use Rattle.rept_trace.specs.declared.fault.TraceFault.TheVariants.{BadMagic, BadHeader, Truncated, Optional, Trap, BadSupport, StreamPastEnd, Rest}
 use Rattle.rept_trace.specs.Stream.{header, IsBadMagic, IsBadByte, IsHeaderFault}
 
 pub whole : (bytes : List ℕ) → 8 ≤ length bytes → ((j : ℕ) → j < 8 → slice_index bytes j ≡ slice_index header j) → bytes ≡ header ++ drop 8 bytes
@@ -60,14 +60,20 @@ one_header_fault bytes BadMagic (Truncated j) x y = elim y [ ]
 one_header_fault bytes BadMagic (Optional j) x y = elim y [ ]
 one_header_fault bytes BadMagic (Trap j) x y = elim y [ ]
 one_header_fault bytes BadMagic (BadSupport j) x y = elim y [ ]
+one_header_fault bytes BadMagic (StreamPastEnd j) x y = elim y [ ]
+one_header_fault bytes BadMagic (Rest j) x y = elim y [ ]
 one_header_fault bytes (BadHeader i) (Truncated j) x y = elim y [ ]
 one_header_fault bytes (BadHeader i) (Optional j) x y = elim y [ ]
 one_header_fault bytes (BadHeader i) (Trap j) x y = elim y [ ]
 one_header_fault bytes (BadHeader i) (BadSupport j) x y = elim y [ ]
+one_header_fault bytes (BadHeader i) (StreamPastEnd j) x y = elim y [ ]
+one_header_fault bytes (BadHeader i) (Rest j) x y = elim y [ ]
 one_header_fault bytes (Truncated k) g x y = elim x [ ]
 one_header_fault bytes (Optional k) g x y = elim x [ ]
 one_header_fault bytes (Trap k) g x y = elim x [ ]
 one_header_fault bytes (BadSupport k) g x y = elim x [ ]
+one_header_fault bytes (StreamPastEnd k) g x y = elim x [ ]
+one_header_fault bytes (Rest k) g x y = elim x [ ]
 
 long : (bytes rest : List ℕ) → bytes ≡ header ++ rest → 8 ≤ length bytes
 long bytes rest e = let n = ap (length {A = ℕ}) e in omega (arith, n)
@@ -82,3 +88,5 @@ no_fault bytes rest (Truncated k) e x = x
 no_fault bytes rest (Optional k) e x = x
 no_fault bytes rest (Trap k) e x = x
 no_fault bytes rest (BadSupport k) e x = x
+no_fault bytes rest (StreamPastEnd k) e x = x
+no_fault bytes rest (Rest k) e x = x

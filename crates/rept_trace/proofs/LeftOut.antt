@@ -10,8 +10,9 @@ use Rattle.rept_trace.specs.declared.packet.Report.{Report}
 use Rattle.rept_trace.specs.declared.packet.Packet.{Packet}
 use Rattle.rept_trace.specs.declared.packet.Packet.TheVariants.{Start, Context, Support, Address, Map, MapAddress}
 use Rattle.rept_trace.specs.declared.fault.TraceFault.{TraceFault}
-use Rattle.rept_trace.specs.declared.fault.TraceFault.TheVariants.{BadMagic, BadHeader, Truncated, Optional, Trap, BadSupport}
-use Rattle.rept_trace.specs.Grammar.{changes, map_width, IsReport, IsPacket, Spells}
+use Rattle.rept_trace.specs.declared.fault.TraceFault.TheVariants.{BadMagic, BadHeader, Truncated, Optional, Trap, BadSupport, StreamPastEnd, Rest}
+use Rattle.rept_trace.specs.declared.parameters.Parameters.{Parameters}
+use Rattle.rept_trace.specs.Grammar.{Stamp, changes, map_width, after_stamp, stamp_of, IsReport, IsStamp, IsPacket, Spells}
 use Rattle.rept_trace.specs.Shortened.{filler, IsShortened}
 
 -- the bit at a place that stands in the payload
@@ -95,27 +96,40 @@ module _ (a b : List ℕ) (same : (i : ℕ) → bit_of a i ≡ bit_of b i) where
   moved : (i n v : ℕ) → field a i n ≡ v → field b i n ≡ v
   moved i n v h = sym (same_field i n) ∙ h
 
-  same_packet : (x : Packet) → IsPacket a x → IsPacket b x
-  same_packet (Start branch privilege address) s = record { format = moved 0 2 3 s.format; subformat = moved 2 2 0 s.subformat; branch_bit = s.branch_bit ∙ same 4; level = s.level ∙ same_field 5 2; place = s.place ∙ ap (λ n. 4 * n) (same_field 7 30) }
-  same_packet (Context privilege) s = record { format = moved 0 2 3 s.format; subformat = moved 2 2 2 s.subformat; level = s.level ∙ same_field 4 2 }
-  same_packet (Support enabled status) s = record { format = moved 0 2 3 s.format; subformat = moved 2 2 3 s.subformat; enable = s.enable ∙ same 4; mode = moved 5 1 0 s.mode; number = moved 6 2 _ s.number; options = moved 8 5 0 s.options }
-  same_packet (Address report) s = record { format = moved 0 2 2 s.format; fields = same_report 2 report s.fields }
-  same_packet (Map map) s = record { format = moved 0 2 1 s.format; count = moved 2 5 0 s.count; bits = s.bits ∙ same_field 7 31 }
-  same_packet (MapAddress count map report) s = record { format = moved 0 2 1 s.format; some = s.some; number = s.number ∙ same_field 2 5; bits = s.bits ∙ same_field 7 (map_width count); fields = same_report (7 + map_width count) report s.fields }
+  same_stamp : (w : Parameters) (i : ℕ) (t : Stamp) → IsStamp w a i t → IsStamp w b i t
+  same_stamp w i t s = record { clock = s.clock ∙ same_field i w.time_width; process = s.process ∙ same_field (i + w.time_width) w.context_width }
 
-  same_spelling : (k : ℕ) (x : Result Packet TraceFault) → Spells k a x → Spells k b x
-  same_spelling k (Ok packet) s = same_packet packet s
-  same_spelling k (Err (Optional j)) s = (s.0, moved 0 2 0 s.1)
-  same_spelling k (Err (Trap j)) s = (s.0, moved 0 2 3 s.1, moved 2 2 1 s.2)
-  same_spelling k (Err (BadSupport j)) s =
+  same_packet : (w : Parameters) (x : Packet) → IsPacket w a x → IsPacket w b x
+  same_packet w (Start branch privilege address time context) s =
+      record {
+        format = moved 0 2 3 s.format;
+        subformat = moved 2 2 0 s.subformat;
+        branch_bit = s.branch_bit ∙ same 4;
+        level = s.level ∙ same_field 5 2;
+        stamp = same_stamp w 7 (stamp_of time context) s.stamp;
+        place = s.place ∙ ap (λ n. 4 * n) (same_field (after_stamp w 7) 30);
+      }
+  same_packet w (Context privilege time context) s = record { format = moved 0 2 3 s.format; subformat = moved 2 2 2 s.subformat; level = s.level ∙ same_field 4 2; stamp = same_stamp w 6 (stamp_of time context) s.stamp }
+  same_packet w (Support enabled status) s = record { format = moved 0 2 3 s.format; subformat = moved 2 2 3 s.subformat; enable = s.enable ∙ same 4; mode = moved 5 1 0 s.mode; number = moved 6 2 _ s.number; options = moved 8 5 0 s.options }
+  same_packet w (Address report) s = record { format = moved 0 2 2 s.format; fields = same_report 2 report s.fields }
+  same_packet w (Map map) s = record { format = moved 0 2 1 s.format; count = moved 2 5 0 s.count; bits = s.bits ∙ same_field 7 31 }
+  same_packet w (MapAddress count map report) s = record { format = moved 0 2 1 s.format; some = s.some; number = s.number ∙ same_field 2 5; bits = s.bits ∙ same_field 7 (map_width count); fields = same_report (7 + map_width count) report s.fields }
+
+  same_spelling : (w : Parameters) (k : ℕ) (x : Result Packet TraceFault) → Spells w k a x → Spells w k b x
+  same_spelling w k (Ok packet) s = same_packet w packet s
+  same_spelling w k (Err (Optional j)) s = (s.0, moved 0 2 0 s.1)
+  same_spelling w k (Err (Trap j)) s = (s.0, moved 0 2 3 s.1, moved 2 2 1 s.2)
+  same_spelling w k (Err (BadSupport j)) s =
       let w = s.1 in
       (s.0, record { format = moved 0 2 3 w.format; subformat = moved 2 2 3 w.subformat; wrong = elim w.wrong [ inl f ↦ inl (λ h. f (same_field 5 1 ∙ h)) | inr f ↦ inr (λ h. f (same_field 8 5 ∙ h)) ] })
-  same_spelling k (Err BadMagic) s = s
-  same_spelling k (Err (BadHeader i)) s = s
-  same_spelling k (Err (Truncated j)) s = s
+  same_spelling w k (Err BadMagic) s = s
+  same_spelling w k (Err (BadHeader i)) s = s
+  same_spelling w k (Err (Truncated j)) s = s
+  same_spelling w k (Err (StreamPastEnd j)) s = s
+  same_spelling w k (Err (Rest j)) s = s
 
-pub shortened : (short full : List ℕ) (k : ℕ) (x : Result Packet TraceFault) → IsShortened short full → Spells k short x ↔ Spells k full x
-shortened short full k x s =
+pub shortened : (w : Parameters) (short full : List ℕ) (k : ℕ) (x : Result Packet TraceFault) → IsShortened short full → Spells w k short x ↔ Spells w k full x
+shortened w short full k x s =
     let bits = same_bit short s.left_out s.some s.copies in
-    let P : List ℕ → Type 0 = λ l. Spells k short x ↔ Spells k l x in
-    subst P (sym s.whole) (same_spelling short (short ++ s.left_out) (λ i. sym (bits i)) k x, same_spelling (short ++ s.left_out) short bits k x)
+    let P : List ℕ → Type 0 = λ l. Spells w k short x ↔ Spells w k l x in
+    subst P (sym s.whole) (same_spelling short (short ++ s.left_out) (λ i. sym (bits i)) w k x, same_spelling (short ++ s.left_out) short bits w k x)

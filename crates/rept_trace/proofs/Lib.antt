@@ -5,3 +5,4 @@ pub mod HeaderLemmas
 pub mod LeftOut
 pub mod ReadLemmas
 pub mod Reading
+pub mod StreamLemmas

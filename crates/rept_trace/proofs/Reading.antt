@@ -8,8 +8,9 @@ use Rattle.rept_trace.specs.declared.packet.Qual.TheVariants.{NoChange, EndedRep
 use Rattle.rept_trace.specs.declared.packet.Packet.{Packet}
 use Rattle.rept_trace.specs.declared.packet.Packet.TheVariants.{Start, Context, Support, Address, Map, MapAddress}
 use Rattle.rept_trace.specs.declared.fault.TraceFault.{TraceFault}
-use Rattle.rept_trace.specs.declared.fault.TraceFault.TheVariants.{BadMagic, BadHeader, Truncated, Optional, Trap, BadSupport}
-use Rattle.rept_trace.specs.Grammar.{changes, map_width, qual_number, IsReport, IsBadSupport, Spells}
+use Rattle.rept_trace.specs.declared.fault.TraceFault.TheVariants.{BadMagic, BadHeader, Truncated, Optional, Trap, BadSupport, StreamPastEnd, Rest}
+use Rattle.rept_trace.specs.declared.parameters.Parameters.{Parameters}
+use Rattle.rept_trace.specs.Grammar.{changes, map_width, qual_number, after_stamp, IsReport, IsBadSupport, Spells}
 
 unfoldable report_at : List ℕ → ℕ → Report
 report_at payload i = record { difference = 4 * field payload i 30; notify = changes payload (i + 30); updiscon = changes payload (i + 31); irreport = changes payload (i + 32) }
@@ -23,19 +24,19 @@ support_at number payload = if field payload 5 1 == 0 then if field payload 8 5 
 unfoldable map_at : List ℕ → Packet
 map_at payload = if field payload 2 5 == 0 then Map (field payload 7 31) else MapAddress (field payload 2 5) (field payload 7 (map_width (field payload 2 5))) (report_at payload (7 + map_width (field payload 2 5)))
 
-unfoldable start_at : ℕ → List ℕ → Result Packet TraceFault
-start_at number payload =
-    if field payload 2 2 == 0 then Ok (Start (bit_of payload 4) (field payload 5 2) (4 * field payload 7 30))
+unfoldable start_at : Parameters → ℕ → List ℕ → Result Packet TraceFault
+start_at widths number payload =
+    if field payload 2 2 == 0 then Ok (Start (bit_of payload 4) (field payload 5 2) (4 * field payload (after_stamp widths 7) 30) (field payload 7 widths.time_width) (field payload (7 + widths.time_width) widths.context_width))
     else if field payload 2 2 == 1 then Err (Trap number)
-    else if field payload 2 2 == 2 then Ok (Context (field payload 4 2))
+    else if field payload 2 2 == 2 then Ok (Context (field payload 4 2) (field payload 6 widths.time_width) (field payload (6 + widths.time_width) widths.context_width))
     else support_at number payload
 
-unfoldable spelled_at : ℕ → List ℕ → Result Packet TraceFault
-spelled_at number payload =
+unfoldable spelled_at : Parameters → ℕ → List ℕ → Result Packet TraceFault
+spelled_at widths number payload =
     if field payload 0 2 == 0 then Err (Optional number)
     else if field payload 0 2 == 1 then Ok (map_at payload)
     else if field payload 0 2 == 2 then Ok (Address (report_at payload 2))
-    else start_at number payload
+    else start_at widths number payload
 
 qual_back : (status : Qual) → qual_of (qual_number status) ≡ status
 qual_back NoChange = refl
@@ -58,7 +59,7 @@ counted : (n : ℕ) (a b : Packet) → 0 < n → cond (n == 0) a b ≡ b
 counted zero a b lt = absurd (omega arith)
 counted (suc n) a b lt = rw (not_zero n) refl
 
-module _ (k : ℕ) (p : List ℕ) where
+module _ (w : Parameters) (k : ℕ) (p : List ℕ) where
   refused_support : IsBadSupport p → support_at k p ≡ Err (BadSupport k)
   unfolding support_at
   refused_support s = go (field p 5 1) (field p 8 5) s.wrong where
@@ -67,10 +68,10 @@ module _ (k : ℕ) (p : List ℕ) where
     go zero (suc n) h = rw (not_zero n) refl
     go (suc m) n h = rw (not_zero m) refl
 
-  reads : (x : Result Packet TraceFault) → Spells k p x → spelled_at k p ≡ x
+  reads : (x : Result Packet TraceFault) → Spells w k p x → spelled_at w k p ≡ x
   unfolding spelled_at start_at support_at map_at
-  reads (Ok (Start branch privilege address)) s = rw (s.format, s.subformat, s.branch_bit, s.level, s.place) refl
-  reads (Ok (Context privilege)) s = rw (s.format, s.subformat, s.level) refl
+  reads (Ok (Start branch privilege address time context)) s = let t = s.stamp in rw (s.format, s.subformat, s.branch_bit, s.level, s.place, t.clock, t.process) refl
+  reads (Ok (Context privilege time context)) s = let t = s.stamp in rw (s.format, s.subformat, s.level, t.clock, t.process) refl
   reads (Ok (Support enabled status)) s = rw (s.format, s.subformat, s.enable, s.mode, s.options, s.number, qual_back) refl
   reads (Ok (Address report)) s = rw (s.format, same_report p 2 report s.fields) refl
   reads (Ok (Map map)) s = rw (s.format, s.count, s.bits) refl
@@ -83,7 +84,9 @@ module _ (k : ℕ) (p : List ℕ) where
   reads (Err BadMagic) s = elim s [ ]
   reads (Err (BadHeader i)) s = elim s [ ]
   reads (Err (Truncated j)) s = elim s [ ]
+  reads (Err (StreamPastEnd j)) s = elim s [ ]
+  reads (Err (Rest j)) s = elim s [ ]
 
   -- a payload spells one thing
-  pub one_spelling : (x y : Result Packet TraceFault) → Spells k p x → Spells k p y → x ≡ y
+  pub one_spelling : (x y : Result Packet TraceFault) → Spells w k p x → Spells w k p y → x ≡ y
   one_spelling x y a b = sym (reads x a) ∙ reads y b

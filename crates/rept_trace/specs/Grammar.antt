@@ -1,16 +1,17 @@
 -- Which packet the bits of a payload spell: Efficient Trace for RISC-V 2.0, the chapter on the encoder's output
--- packets, its tables of formats 3 (start, context, support), 2 (address) and 1 (branch map). The parameters are
--- fixed: addresses of 32 bits whose lowest two are left out, privilege of 2 bits, an encoder mode of 1 bit and 5
--- bits of options, and no time, context, return stack, call counter, jump cache, branch prediction or sequentially
+-- packets, its tables of formats 3 (start, context, support), 2 (address) and 1 (branch map). The widths of time and context
+-- are parameters, and the other parameters are fixed: addresses of 32 bits whose lowest two are left out, privilege of 2 bits, an
+-- encoder mode of 1 bit and 5 bits of options, and no return stack, call counter, jump cache, branch prediction or sequentially
 -- inferred jump. Fields are numbered by their first bit.
 use Rattle.std.specs.Prelude.{◌≡◌, ◌≢◌, ℕ, ◌+◌, ◌-◌, ◌*◌, ◌<◌, nat_lt, List, Bool, not, Result, Ok, Err, if◌then◌else◌, ◌⊎◌}
+use Rattle.rept_trace.specs.declared.parameters.Parameters.{Parameters}
 use Rattle.rept_trace.specs.declared.packet.Report.{Report}
 use Rattle.rept_trace.specs.declared.packet.Qual.{Qual}
 use Rattle.rept_trace.specs.declared.packet.Qual.TheVariants.{NoChange, EndedRep, TraceLost, EndedNtr}
 use Rattle.rept_trace.specs.declared.packet.Packet.{Packet}
 use Rattle.rept_trace.specs.declared.packet.Packet.TheVariants.{Start, Context, Support, Address, Map, MapAddress}
 use Rattle.rept_trace.specs.declared.fault.TraceFault.{TraceFault}
-use Rattle.rept_trace.specs.declared.fault.TraceFault.TheVariants.{BadMagic, BadHeader, Truncated, Optional, Trap, BadSupport}
+use Rattle.rept_trace.specs.declared.fault.TraceFault.TheVariants.{BadMagic, BadHeader, Truncated, Optional, Trap, BadSupport, StreamPastEnd, Rest}
 use Rattle.rept_word.specs.Bits.{bit_of, field}
 
 -- whether a bit differs from the bit before it
@@ -28,6 +29,18 @@ qual_number EndedRep = 1
 qual_number TraceLost = 2
 qual_number EndedNtr = 3
 
+-- a time and a context
+pub record Stamp : Type 0 where
+  pub time : ℕ
+  pub context : ℕ
+
+-- the fields of a start packet after its format
+pub record StartFields : Type 0 where
+  pub branch : Bool
+  pub privilege : ℕ
+  pub stamp : Stamp
+  pub address : ℕ
+
 -- From bit i on: 30 bits of address difference, notify, updiscon, irreport.
 pub record IsReport (payload : List ℕ) (i : ℕ) (report : Report) : Type 0 where
   pub address : report.difference ≡ 4 * field payload i 30
@@ -35,19 +48,38 @@ pub record IsReport (payload : List ℕ) (i : ℕ) (report : Report) : Type 0 wh
   pub discontinuity : report.updiscon ≡ changes payload (i + 31)
   pub returned : report.irreport ≡ changes payload (i + 32)
 
+-- no field of time or context is sent
+abbrev pub untimed : Parameters
+untimed = record { time_width = 0; context_width = 0 }
+
+-- times of 64 bits, contexts of 32 bits
+abbrev pub timed : Parameters
+timed = record { time_width = 64; context_width = 32 }
+
+-- From bit i on: the time and then the context, each of its width. A field of no bits is 0.
+pub record IsStamp (widths : Parameters) (payload : List ℕ) (i : ℕ) (stamp : Stamp) : Type 0 where
+  pub clock : stamp.time ≡ field payload i widths.time_width
+  pub process : stamp.context ≡ field payload (i + widths.time_width) widths.context_width
+
+-- the first bit after them
+abbrev pub after_stamp : Parameters → ℕ → ℕ
+after_stamp widths i = i + widths.time_width + widths.context_width
+
 -- format 3, subformat 0
-pub record IsStart (payload : List ℕ) (branch : Bool) (privilege address : ℕ) : Type 0 where
+pub record IsStart (widths : Parameters) (payload : List ℕ) (start : StartFields) : Type 0 where
   pub format : field payload 0 2 ≡ 3
   pub subformat : field payload 2 2 ≡ 0
-  pub branch_bit : branch ≡ bit_of payload 4
-  pub level : privilege ≡ field payload 5 2
-  pub place : address ≡ 4 * field payload 7 30
+  pub branch_bit : start.branch ≡ bit_of payload 4
+  pub level : start.privilege ≡ field payload 5 2
+  pub stamp : IsStamp widths payload 7 start.stamp
+  pub place : start.address ≡ 4 * field payload (after_stamp widths 7) 30
 
 -- format 3, subformat 2
-pub record IsContext (payload : List ℕ) (privilege : ℕ) : Type 0 where
+pub record IsContext (widths : Parameters) (payload : List ℕ) (privilege : ℕ) (sent : Stamp) : Type 0 where
   pub format : field payload 0 2 ≡ 3
   pub subformat : field payload 2 2 ≡ 2
   pub level : privilege ≡ field payload 4 2
+  pub stamp : IsStamp widths payload 6 sent
 
 -- format 3, subformat 3, with no encoder mode and no options
 pub record IsSupport (payload : List ℕ) (enabled : Bool) (status : Qual) : Type 0 where
@@ -77,13 +109,18 @@ pub record IsMapAddress (payload : List ℕ) (count map : ℕ) (report : Report)
   pub bits : map ≡ field payload 7 (map_width count)
   pub fields : IsReport payload (7 + map_width count) report
 
-abbrev pub IsPacket : List ℕ → Packet → Type 0
-IsPacket payload (Start branch privilege address) = IsStart payload branch privilege address
-IsPacket payload (Context privilege) = IsContext payload privilege
-IsPacket payload (Support enabled status) = IsSupport payload enabled status
-IsPacket payload (Address report) = IsAddress payload report
-IsPacket payload (Map map) = IsMap payload map
-IsPacket payload (MapAddress count map report) = IsMapAddress payload count map report
+abbrev pub stamp_of : ℕ → ℕ → Stamp
+stamp_of time context = record { time = time; context = context }
+
+-- The payload spells the packet, by an encoder with these widths.
+abbrev pub IsPacket : Parameters → List ℕ → Packet → Type 0
+IsPacket widths payload (Start branch privilege address time context) =
+    IsStart widths payload (record { branch = branch; privilege = privilege; stamp = stamp_of time context; address = address })
+IsPacket widths payload (Context privilege time context) = IsContext widths payload privilege (stamp_of time context)
+IsPacket widths payload (Support enabled status) = IsSupport payload enabled status
+IsPacket widths payload (Address report) = IsAddress payload report
+IsPacket widths payload (Map map) = IsMap payload map
+IsPacket widths payload (MapAddress count map report) = IsMapAddress payload count map report
 
 -- format 3, subformat 3, with an encoder mode or an option
 pub record IsBadSupport (payload : List ℕ) : Type 0 where
@@ -99,8 +136,10 @@ IsRefused number payload (BadSupport k) = (k ≡ number) × IsBadSupport payload
 IsRefused number payload BadMagic = ⊥
 IsRefused number payload (BadHeader i) = ⊥
 IsRefused number payload (Truncated k) = ⊥
+IsRefused number payload (StreamPastEnd s) = ⊥
+IsRefused number payload (Rest offset) = ⊥
 
--- What the payload of the packet of this number spells.
-abbrev pub Spells : ℕ → List ℕ → Result Packet TraceFault → Type 0
-Spells number payload (Ok packet) = IsPacket payload packet
-Spells number payload (Err fault) = IsRefused number payload fault
+-- What the payload of the packet of this number spells, by an encoder with these widths.
+abbrev pub Spells : Parameters → ℕ → List ℕ → Result Packet TraceFault → Type 0
+Spells widths number payload (Ok packet) = IsPacket widths payload packet
+Spells widths number payload (Err fault) = IsRefused number payload fault

@@ -1,5 +1,7 @@
 pub mod Fits
 pub mod Grammar
+pub mod Opened
 pub mod Packets
 pub mod Shortened
 pub mod Stream
+pub mod Streams

@@ -1,10 +1,11 @@
 -- What is left of a trace.
-use Rattle.std.specs.Prelude.{ℕ, List}
+use Rattle.std.specs.Prelude.{ℕ}
 use Rattle.rept_trace.specs.declared.packets.Packets.{Packets}
+use Rattle.rept_trace.specs.Stream.{Stream}
 
--- the bytes that are left to read
-abbrev pub rest_of : Packets → List ℕ
-rest_of packets = packets.rest.now
+-- what is left to read
+abbrev pub rest_of : Packets → Stream
+rest_of packets = record { widths = packets.widths; bytes = packets.rest.now }
 
 -- the number of the next packet
 abbrev pub number_of : Packets → ℕ

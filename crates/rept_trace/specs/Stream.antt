@@ -1,11 +1,21 @@
--- A trace file: a header of eight bytes, and then for each packet a length byte and so many bytes of payload. A
+-- A trace file of one stream: a header of eight bytes, and then for each packet a length byte and so many bytes of payload. A
 -- length of 0 is skipped and is no packet. The header and the lengths are this project's own; what a payload spells
 -- is Efficient Trace's, in Grammar.
 use Rattle.std.specs.Prelude.{◌≡◌, ◌≢◌, ℕ, ◌+◌, ◌<◌, ◌≤◌, List, [], ◌∷◌, ◌++◌, length, replicate, slice_index, Option, Some, None, Result, Ok, Err, ◌⊎◌}
 use Rattle.rept_trace.specs.declared.packet.Packet.{Packet}
 use Rattle.rept_trace.specs.declared.fault.TraceFault.{TraceFault}
-use Rattle.rept_trace.specs.declared.fault.TraceFault.TheVariants.{BadMagic, BadHeader, Truncated, Optional, Trap, BadSupport}
-use Rattle.rept_trace.specs.Grammar.{IsPacket, IsRefused}
+use Rattle.rept_trace.specs.declared.fault.TraceFault.TheVariants.{BadMagic, BadHeader, Truncated, Optional, Trap, BadSupport, StreamPastEnd, Rest}
+use Rattle.rept_trace.specs.declared.parameters.Parameters.{Parameters}
+use Rattle.rept_trace.specs.Grammar.{untimed, IsPacket, IsRefused}
+
+-- bytes of packets, by an encoder that sends fields of these widths
+pub record Stream : Type 0 where
+  pub widths : Parameters
+  pub bytes : List ℕ
+
+-- without times and contexts
+abbrev pub plain : List ℕ → Stream
+plain bytes = record { widths = untimed; bytes = bytes }
 
 -- the text RTR1, one stream, and three zero bytes
 abbrev pub header : List ℕ
@@ -31,6 +41,8 @@ IsHeaderFault bytes (Truncated k) = ⊥
 IsHeaderFault bytes (Optional k) = ⊥
 IsHeaderFault bytes (Trap k) = ⊥
 IsHeaderFault bytes (BadSupport k) = ⊥
+IsHeaderFault bytes (StreamPastEnd s) = ⊥
+IsHeaderFault bytes (Rest offset) = ⊥
 
 -- The bytes are some lengths of 0 and then these.
 pub record AreAfterZeros (bytes rest : List ℕ) : Type 0 where
@@ -50,31 +62,33 @@ abbrev pub IsCutShort : List ℕ → Type 0
 IsCutShort bytes = (size : ℕ) × (others : List ℕ) × AreAfterZeros bytes (size ∷ others) × (length others < size)
 
 -- The packet of this number, which comes next, is refused.
-abbrev pub Fails : ℕ → List ℕ → TraceFault → Type 0
-Fails number bytes BadMagic = ⊥
-Fails number bytes (BadHeader i) = ⊥
-Fails number bytes (Truncated k) = (k ≡ number) × IsCutShort bytes
-Fails number bytes (Optional k) = (payload : List ℕ) × (rest : List ℕ) × IsFrame bytes payload rest × IsRefused number payload (Optional k)
-Fails number bytes (Trap k) = (payload : List ℕ) × (rest : List ℕ) × IsFrame bytes payload rest × IsRefused number payload (Trap k)
-Fails number bytes (BadSupport k) = (payload : List ℕ) × (rest : List ℕ) × IsFrame bytes payload rest × IsRefused number payload (BadSupport k)
+abbrev pub Fails : ℕ → Stream → TraceFault → Type 0
+Fails number stream BadMagic = ⊥
+Fails number stream (BadHeader i) = ⊥
+Fails number stream (Truncated k) = (k ≡ number) × IsCutShort stream.bytes
+Fails number stream (Optional k) = (payload : List ℕ) × (rest : List ℕ) × IsFrame stream.bytes payload rest × IsRefused number payload (Optional k)
+Fails number stream (Trap k) = (payload : List ℕ) × (rest : List ℕ) × IsFrame stream.bytes payload rest × IsRefused number payload (Trap k)
+Fails number stream (BadSupport k) = (payload : List ℕ) × (rest : List ℕ) × IsFrame stream.bytes payload rest × IsRefused number payload (BadSupport k)
+Fails number stream (StreamPastEnd s) = ⊥
+Fails number stream (Rest offset) = ⊥
 
--- The next packet is this one, and these bytes follow it.
-abbrev pub Begins : List ℕ → Packet → List ℕ → Type 0
-Begins bytes packet rest = (payload : List ℕ) × IsFrame bytes payload rest × IsPacket payload packet
+-- The next packet is this one, and this is left after it.
+abbrev pub Begins : Stream → Packet → Stream → Type 0
+Begins stream packet rest = (payload : List ℕ) × IsFrame stream.bytes payload rest.bytes × IsPacket stream.widths payload packet × (rest.widths ≡ stream.widths)
 
--- What is answered where packet `number` comes next in these bytes, which number comes after, and in which bytes.
+-- What is answered where packet `number` comes next in this stream, which number comes after, and what is left.
 -- The end and a fault change nothing.
-abbrev pub Answers : ℕ → List ℕ → Result (Option Packet) TraceFault → ℕ → List ℕ → Type 0
-Answers number bytes (Ok None) next rest = IsEnded bytes × (next ≡ number) × (rest ≡ bytes)
-Answers number bytes (Ok (Some packet)) next rest = Begins bytes packet rest × (next ≡ number + 1)
-Answers number bytes (Err fault) next rest = Fails number bytes fault × (next ≡ number) × (rest ≡ bytes)
+abbrev pub Answers : ℕ → Stream → Result (Option Packet) TraceFault → ℕ → Stream → Type 0
+Answers number stream (Ok None) next rest = IsEnded stream.bytes × (next ≡ number) × (rest ≡ stream)
+Answers number stream (Ok (Some packet)) next rest = Begins stream packet rest × (next ≡ number + 1)
+Answers number stream (Err fault) next rest = Fails number stream fault × (next ≡ number) × (rest ≡ stream)
 
--- The bytes hold these packets, in order, and no more.
-abbrev pub Hold : List ℕ → List Packet → Type 0
-Hold bytes [] = IsEnded bytes
-Hold bytes (packet ∷ packets) = (rest : List ℕ) × Begins bytes packet rest × Hold rest packets
+-- The stream holds these packets, in order, and no more.
+abbrev pub Hold : Stream → List Packet → Type 0
+Hold stream [] = IsEnded stream.bytes
+Hold stream (packet ∷ packets) = (rest : Stream) × Begins stream packet rest × Hold rest packets
 
--- The bytes begin with these packets, and then comes this fault. The first packet has this number.
-abbrev pub FailsAfter : ℕ → List ℕ → List Packet → TraceFault → Type 0
-FailsAfter number bytes [] fault = Fails number bytes fault
-FailsAfter number bytes (packet ∷ packets) fault = (rest : List ℕ) × Begins bytes packet rest × FailsAfter (number + 1) rest packets fault
+-- The stream begins with these packets, and then comes this fault. The first packet has this number.
+abbrev pub FailsAfter : ℕ → Stream → List Packet → TraceFault → Type 0
+FailsAfter number stream [] fault = Fails number stream fault
+FailsAfter number stream (packet ∷ packets) fault = (rest : Stream) × Begins stream packet rest × FailsAfter (number + 1) rest packets fault

@@ -5,8 +5,8 @@ use thiserror::Error;
 /// Why the bytes are no trace. Packets are numbered from 0, and a length of 0 is no packet and isn't counted.
 #[derive(Clone, Copy, Debug, PartialEq, Eq, Error)]
 pub enum TraceFault {
-    /// There are fewer than 8 bytes, or the first four aren't `RTR1`.
-    #[error("the trace doesn't begin with RTR1")]
+    /// There are fewer than 8 bytes, or the first four aren't `RTR1`, or `RTR2` where several streams are wanted.
+    #[error("the trace doesn't begin with RTR1 or RTR2")]
     BadMagic,
     /// The byte of this number, 4 to 7, is the first that isn't the header's.
     #[error("byte {0} of the trace's header is wrong")]
@@ -23,4 +23,10 @@ pub enum TraceFault {
     /// The support packet of this number has an encoder mode or options other than 0.
     #[error("packet {0} changes the encoder's mode or options")]
     BadSupport(u64),
+    /// The length of the stream of this number, or its bytes, pass the end of the file.
+    #[error("stream {0} is cut short")]
+    StreamPastEnd(u32),
+    /// Bytes follow the last stream, from this offset of the file on.
+    #[error("bytes from {0} on follow the last stream")]
+    Rest(u64),
 }

@@ -4,8 +4,12 @@
 pub mod fault;
 pub mod packet;
 pub mod packets;
+pub mod parameters;
 mod read;
+pub mod streams;
 
 pub use fault::TraceFault;
 pub use packet::{Packet, Qual, Report};
 pub use packets::Packets;
+pub use parameters::Parameters;
+pub use streams::Streams;

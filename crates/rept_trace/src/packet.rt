@@ -1,7 +1,7 @@
 //! The packets, and their fields.
 
 /// The address that formats 1 and 2 report, with its flags (Efficient Trace for RISC-V 2.0, formats 1 and 2).
-#[derive(Clone, Copy, Debug, PartialEq, Eq)]
+#[derive(Clone, Copy)]
 pub struct Report {
     /// The reported address less the one before, modulo 2^32, in bytes. It is a multiple of 4.
     pub difference: u32,
@@ -16,7 +16,7 @@ pub struct Report {
 }
 
 /// What a support packet says of the trace before it (field `qual_status`).
-#[derive(Clone, Copy, Debug, PartialEq, Eq)]
+#[derive(Clone, Copy)]
 pub enum Qual {
     /// Number 0: nothing changed.
     NoChange,
@@ -29,18 +29,24 @@ pub enum Qual {
 }
 
 /// A packet. Addresses are byte addresses.
-#[derive(Clone, Copy, Debug, PartialEq, Eq)]
+#[derive(Clone, Copy)]
 pub enum Packet {
     /// Format 3, subformat 0: the path begins, or is synchronised, at this address. `branch` is false only where a branch
-    /// stands there that is taken.
+    /// stands there that is taken. The steps before the address happened not after the time, those from it on not before; the context is the
+    /// process of the thread. Both are 0 where the trace has none.
     Start {
         branch: bool,
         privilege: u8,
         address: u32,
+        time: u64,
+        context: u32,
     },
-    /// Format 3, subformat 2: the context, here the privilege level alone, changed.
+    /// Format 3, subformat 2: the privilege level or the context changed. The steps before the packet happened not after the time. Time and context are 0
+    /// where the trace has none.
     Context {
         privilege: u8,
+        time: u64,
+        context: u32,
     },
     /// Format 3, subformat 3: whether the encoder is on, and what became of the trace.
     Support {

@@ -1,10 +1,11 @@
 //! The packets of a trace file, one after the other.
 
-ghost use Rattle.std.specs.Prelude.{◌≡◌, ◌⊎◌, ◌<◌, ◌+◌, ◌^◌, List, ◌∷◌, ℕ, length, nat_lt, if◌then◌else◌};
+ghost use Rattle.std.specs.Prelude.{◌≡◌, ◌⊎◌, ◌<◌, ◌≤◌, ◌+◌, ◌^◌, List, ◌∷◌, ℕ, length, nat_lt, if◌then◌else◌};
 ghost use Rattle.rept_trace.specs.Stream.{AreAfterZeros};
 
 use crate::fault::TraceFault;
 use crate::packet::Packet;
+use crate::parameters::{Parameters, TIMED, UNTIMED};
 use crate::read::packet_of;
 
 /// The first bytes of a trace file: the text `RTR1`, one stream, and three zero bytes.
@@ -14,8 +15,10 @@ const HEADER: [u8; 8] = [0x52, 0x54, 0x52, 0x31, 1, 0, 0, 0];
 #[derive(Clone, Copy)]
 pub struct Packets<'a> {
     rest: &'a [u8],
+    widths: Parameters,
     number: u64,
     ghost few: { number + length rest.now < 2 ^ 64 },
+    ghost bits: { (widths.time_width ≤ 64) × (widths.context_width ≤ 32) },
 }
 
 impl<'a> Packets<'a> {
@@ -23,17 +26,17 @@ impl<'a> Packets<'a> {
     ghost use Rattle.rept_trace.specs.declared.packet.Packet.{Packet};
     ghost use Rattle.rept_trace.specs.declared.fault.TraceFault.{TraceFault};
     ghost use Rattle.rept_trace.specs.Fits.{FieldsFit};
-    ghost use Rattle.rept_trace.specs.Grammar.{IsPacket, Spells};
+    ghost use Rattle.rept_trace.specs.Grammar.{timed, IsPacket, Spells};
     ghost use Rattle.rept_trace.specs.Packets.{rest_of, number_of};
     ghost use Rattle.rept_trace.specs.Shortened.{IsShortened};
-    ghost use Rattle.rept_trace.specs.Stream.{header, IsHeaderFault, Answers, Hold, FailsAfter};
+    ghost use Rattle.rept_trace.specs.Stream.{header, plain, IsHeaderFault, Answers, Hold, FailsAfter, Stream};
 
     /// The packets of a trace file, from its first on. The file begins with `RTR1`, the count 1 of its streams and three zero
     /// bytes, and then has, for each packet, a length byte and so many bytes of payload. `BadMagic` and `BadHeader` are the
     /// only refusals.
     pub fn open(bytes: &'a [u8]) -> Result<Packets<'a>, TraceFault>
         ensures ok { IfOk result (λ packets.
-            (bytes.now ≡ header ++ rest_of packets) × (number_of packets ≡ 0)) }
+            (bytes.now ≡ header ++ (rest_of packets).bytes) × (rest_of packets ≡ plain (rest_of packets).bytes) × (number_of packets ≡ 0)) }
         ensures err { IfErr result (λ fault. IsHeaderFault bytes.now fault) }
         ensures every_fault { (fault : TraceFault) →
             IsHeaderFault bytes.now fault → result ≡ Err fault }
@@ -48,8 +51,21 @@ impl<'a> Packets<'a> {
         }
         Ok(Packets {
             rest: &bytes[HEADER.len()..],
+            widths: UNTIMED,
             number: 0,
         })
+    }
+
+    /// The packets of one stream of several, from its first on.
+    pub(crate) fn timed(bytes: &'a [u8]) -> Packets<'a>
+        ensures rest { rest_of result ≡ record { widths = timed; bytes = bytes.now } }
+        ensures first { number_of result ≡ 0 }
+    {
+        Packets {
+            rest: bytes,
+            widths: TIMED,
+            number: 0,
+        }
     }
 
     /// The next packet. `None` comes exactly at the end of the bytes, and a fault exactly where the next packet has it.
@@ -59,16 +75,16 @@ impl<'a> Packets<'a> {
             (number_of self.new) (rest_of self.new) }
 
         // There is no other answer.
-        ensures only { (answer : Result (Option Packet) TraceFault) (number : ℕ) (rest : List ℕ) →
+        ensures only { (answer : Result (Option Packet) TraceFault) (number : ℕ) (rest : Stream) →
             Answers (number_of self.old) (rest_of self.old) answer number rest →
             (result ≡ answer) × (number_of self.new ≡ number) × (rest_of self.new ≡ rest) }
         ensures unchanged { OnErr result (self.new ≡ self.old) }
 
         // A payload without some equal bits at its end spells what the full one spells.
         ensures shortened { (short full : List ℕ) (number : ℕ) (answer : Result Packet TraceFault) →
-            IsShortened short full → Spells number short answer ↔ Spells number full answer }
+            IsShortened short full → Spells (rest_of self.old).widths number short answer ↔ Spells (rest_of self.old).widths number full answer }
         ensures fields { (payload : List ℕ) (packet : Packet) →
-            IsPacket payload packet → FieldsFit packet }
+            IsPacket (rest_of self.old).widths payload packet → FieldsFit (rest_of self.old).widths packet }
     {
         self.advance()
     }
@@ -126,7 +142,7 @@ impl<'a> Packets<'a> {
             return Err(TraceFault::Truncated(self.number));
         }
         let (payload, rest) = others.split_at(size);
-        let packet = packet_of(payload, self.number)?;
+        let packet = packet_of(payload, self.widths, self.number)?;
         self.rest = rest;
         self.number += 1;
         Ok(Some(packet))
@@ -134,7 +150,7 @@ impl<'a> Packets<'a> {
 }
 
 /// The fault of a header whose first wrong byte is this one.
-fn header_fault(i: usize) -> TraceFault
+pub(crate) fn header_fault(i: usize) -> TraceFault
     requires { i < 8 }
     ensures { result ≡ (if nat_lt i 4 then TraceFault.BadMagic else TraceFault.BadHeader i) }
 {
@@ -156,6 +172,3 @@ fn after_zeros(bytes: &[u8]) -> &[u8]
     }
     rest
 }
-
-#[cfg(test)]
-mod tests;

@@ -1,18 +1,21 @@
 //! From a payload to its packet.
 
-ghost use Rattle.std.specs.Prelude.{◌≡◌, ◌<◌, ℕ, List, length};
+ghost use Rattle.std.specs.Prelude.{◌≡◌, ◌+◌, ◌<◌, ◌≤◌, ℕ, List, length};
 ghost use Rattle.rept_word.specs.Bits.{field};
 ghost use Rattle.rept_word.specs.Cursor.{IsAt};
-ghost use Rattle.rept_trace.specs.Grammar.{map_width, qual_number, IsReport, IsPacket, Spells};
+ghost use Rattle.rept_trace.specs.declared.parameters.Parameters.{Parameters as Widths};
+ghost use Rattle.rept_trace.specs.Grammar.{map_width, qual_number, after_stamp, stamp_of, IsReport, IsStamp, IsPacket, Spells};
 
 use crate::fault::TraceFault;
 use crate::packet::{Packet, Qual, Report};
+use crate::parameters::Parameters;
 use rept_word::BitCursor;
 
 /// The packet that a payload spells, or why packet number `number` is refused.
-pub fn packet_of(payload: &[u8], number: u64) -> Result<Packet, TraceFault>
-    requires { 0 < length payload.now }
-    ensures { Spells number payload.now result }
+pub fn packet_of(payload: &[u8], widths: Parameters, number: u64) -> Result<Packet, TraceFault>
+    requires some { 0 < length payload.now }
+    requires widths { (widths.time_width ≤ 64) × (widths.context_width ≤ 32) }
+    ensures { Spells widths number payload.now result }
 {
     let mut cursor = BitCursor::new(payload);
     match cursor.take(2) {
@@ -21,14 +24,14 @@ pub fn packet_of(payload: &[u8], number: u64) -> Result<Packet, TraceFault>
         2 => Ok(Packet::Address {
             report: report(&mut cursor),
         }),
-        _ => synchronisation(&mut cursor, number),
+        _ => synchronisation(&mut cursor, widths, number),
     }
 }
 
 /// The rest of a packet of format 1.
 fn branches(cursor: &mut BitCursor<'_>) -> Packet
     ensures { (payload : List ℕ) →
-        IsAt cursor.old payload 2 → field payload 0 2 ≡ 1 → IsPacket payload result }
+        IsAt cursor.old payload 2 → field payload 0 2 ≡ 1 → (widths : Widths) → IsPacket widths payload result }
 {
     let count = cursor.take(5) as u8;
     if count == 0 {
@@ -41,35 +44,69 @@ fn branches(cursor: &mut BitCursor<'_>) -> Packet
 }
 
 /// The rest of a packet of format 3.
-fn synchronisation(cursor: &mut BitCursor<'_>, number: u64) -> Result<Packet, TraceFault>
+fn synchronisation(
+    cursor: &mut BitCursor<'_>,
+    widths: Parameters,
+    number: u64,
+) -> Result<Packet, TraceFault>
+    requires { (widths.time_width ≤ 64) × (widths.context_width ≤ 32) }
     ensures { (payload : List ℕ) →
-        IsAt cursor.old payload 2 → field payload 0 2 ≡ 3 → Spells number payload result }
+        IsAt cursor.old payload 2 → field payload 0 2 ≡ 3 → Spells widths number payload result }
 {
     match cursor.take(2) {
-        0 => {
-            let branch = cursor.take(1) == 1;
-            let privilege = cursor.take(2) as u8;
-            let address = cursor.take(30) as u32 * 4;
-            Ok(Packet::Start {
-                branch,
-                privilege,
-                address,
-            })
-        }
+        0 => Ok(start(cursor, widths)),
         1 => Err(TraceFault::Trap(number)),
         2 => {
             let privilege = cursor.take(2) as u8;
-            Ok(Packet::Context { privilege })
+            let (time, context) = stamp(cursor, widths);
+            Ok(Packet::Context {
+                privilege,
+                time,
+                context,
+            })
         }
         _ => support(cursor, number),
     }
+}
+
+/// The rest of a packet of format 3 and subformat 0.
+fn start(cursor: &mut BitCursor<'_>, widths: Parameters) -> Packet
+    requires { (widths.time_width ≤ 64) × (widths.context_width ≤ 32) }
+    ensures { (payload : List ℕ) →
+        IsAt cursor.old payload 4 → field payload 0 2 ≡ 3 → field payload 2 2 ≡ 0 →
+        IsPacket widths payload result }
+{
+    let branch = cursor.take(1) == 1;
+    let privilege = cursor.take(2) as u8;
+    let (time, context) = stamp(cursor, widths);
+    let address = cursor.take(30) as u32 * 4;
+    Packet::Start {
+        branch,
+        privilege,
+        address,
+        time,
+        context,
+    }
+}
+
+/// A time and a context.
+fn stamp(cursor: &mut BitCursor<'_>, widths: Parameters) -> (u64, u32)
+    requires { (widths.time_width ≤ 64) × (widths.context_width ≤ 32) }
+    ensures fields { (payload : List ℕ) (i : ℕ) →
+        IsAt cursor.old payload i → IsStamp widths payload i (stamp_of result.0 result.1) }
+    ensures at { (payload : List ℕ) (i : ℕ) →
+        IsAt cursor.old payload i → IsAt cursor.new payload (after_stamp widths i) }
+{
+    let time = cursor.take(widths.time_width);
+    let context = cursor.take(widths.context_width) as u32;
+    (time, context)
 }
 
 /// The rest of a packet of format 3 and subformat 3.
 fn support(cursor: &mut BitCursor<'_>, number: u64) -> Result<Packet, TraceFault>
     ensures { (payload : List ℕ) →
         IsAt cursor.old payload 4 → field payload 0 2 ≡ 3 → field payload 2 2 ≡ 3 →
-        Spells number payload result }
+        (widths : Widths) → Spells widths number payload result }
 {
     let enabled = cursor.take(1) == 1;
     let mode = cursor.take(1);

@@ -7,4 +7,4 @@ abbrev pub invariant-loop-packet : goal.invariant-loop-packet
 invariant-loop-packet l = Seen (number_of l.packets) (rest_of l.packets) l.from l.count (number_of l.rest) (rest_of l.rest) l.begin
 
 abbrev pub decreases-loop-packet : goal.decreases-loop-packet
-decreases-loop-packet l = length (rest_of l.rest)
+decreases-loop-packet l = length (rest_of l.rest).bytes

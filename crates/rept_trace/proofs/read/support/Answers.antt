@@ -3,7 +3,7 @@ use Rattle.rept_word.proofs.BitLemmas.{is_bit}
 use Rattle.rept_trace.proofs.read.support.Goals as goal
 
 pub returns-then-options-eq0 : goal.returns-then-options-eq0
-returns-then-options-eq0 c = λ payload at format subformat.
+returns-then-options-eq0 c = λ payload at format subformat widths.
     let second = c.take-enabled.ensures.at payload 4 at in
     let third = c.take-mode.ensures.at payload 5 second in
     let fourth = c.take.ensures.at payload 6 third in

@@ -8,4 +8,4 @@ abbrev pub invariant-loop-target : goal.invariant-loop-target
 invariant-loop-target l = (exe_of l.near ≡ exe_of l.dump) × Coming (exe_of l.dump) (lead l.fn.self l.packet l.target) l.aim l.fn.self l.self
 
 abbrev pub decreases-loop-target : goal.decreases-loop-target
-decreases-loop-target l = 65536 - length l.self.steps
+decreases-loop-target l = l.self.room - length l.self.steps

@@ -8,4 +8,4 @@ pub returns-clause-ok : goal.returns-clause-ok
 returns-clause-ok c =
     let w = c.in_ok-through.ensures.ok in
     let all = c.in_ok-push_bits.ensures.bits in
-    walked (exe_of c.args.dump.now) c.args.number (MapAddress c.args.count c.args.map c.args.report) c.args.self.now _ c.through.new.self _ c.requires.runs (0, refl) refl all refl refl w refl refl refl refl (record { enough = w.counts.enough; few = w.counts.few; spare = w.counts.spare; linked = w.counts.linked }) c.infers-self.ensures (c.in_ok-through.ensures.rests refl) refl (λ _. refl) (λ _. refl)
+    walked (exe_of c.args.dump.now) c.args.number (MapAddress c.args.count c.args.map c.args.report) c.args.self.now _ c.through.new.self _ c.requires.runs (0, refl) refl all refl refl refl w refl refl refl refl refl (record { enough = w.counts.enough; few = w.counts.few; spare = w.counts.spare; linked = w.counts.linked }) c.infers-self.ensures (c.in_ok-through.ensures.rests refl) refl (λ _. refl) (λ _. refl)

@@ -7,4 +7,4 @@ abbrev pub invariant-loop-count : goal.invariant-loop-count
 invariant-loop-count l = Reached (number_of l.self) (rest_of l.self) l.count (number_of l.packets) (rest_of l.packets)
 
 abbrev pub decreases-loop-count : goal.decreases-loop-count
-decreases-loop-count l = length (rest_of l.packets)
+decreases-loop-count l = length (rest_of l.packets).bytes

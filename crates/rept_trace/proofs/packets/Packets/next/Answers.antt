@@ -7,7 +7,7 @@ pub returns-clause-only : goal.returns-clause-only
 returns-clause-only c = λ answer number rest a. one_answer _ _ _ answer _ number _ rest c.advance.ensures.answer a
 
 pub returns-clause-shortened : goal.returns-clause-shortened
-returns-clause-shortened c = shortened
+returns-clause-shortened c = shortened _
 
 pub returns-clause-fields : goal.returns-clause-fields
-returns-clause-fields c = fits
+returns-clause-fields c = fits _

@@ -12,7 +12,7 @@ pub returns-then-bytes-i-clause-every_fault : goal.returns-then-bytes-i-clause-e
 returns-then-bytes-i-clause-every_fault c = λ fault h. ap (λ (f : TraceFault). Err f) (one_header_fault c.args.bytes.now c.header_fault.result fault (returns-then-bytes-i-clause-err c) h)
 
 pub returns-clause-ok : goal.returns-clause-ok
-returns-clause-ok c = (whole c.args.bytes.now c.if-bytes-lt8.false (λ j lt. c.loop-i.invariant j (omega arith)) ∙ ap (λ (l : List ℕ). header ++ l) (grind (arith, common_steps)), refl)
+returns-clause-ok c = (whole c.args.bytes.now c.if-bytes-lt8.false (λ j lt. c.loop-i.invariant j (omega arith)) ∙ ap (λ (l : List ℕ). header ++ l) (grind (arith, common_steps)), refl, refl)
 
 pub returns-clause-every_fault : goal.returns-clause-every_fault
 returns-clause-every_fault c = λ fault h. absurd (no_fault c.args.bytes.now _ fault (returns-clause-ok c).0 h)

@@ -1,57 +1,117 @@
-//! Every packet, whole and at its shortest, and each fault.
+//! Packets of one stream, and streams of a file.
 
-use super::*;
-use crate::packet::{Qual, Report};
+use rept_trace::{Packet, Packets, Qual, Report, TraceFault};
 use std::alloc::Global;
 use std::test::Fail;
 
+/// The first bytes of a file of one stream.
+const HEADER: [u8; 8] = *b"RTR1\x01\0\0\0";
+
+/// The number of a packet's kind and then its fields, in their order, as far as there are any.
+type Numbers = [u64; 7];
+
 macro_rules! start {
-    ($branch:expr, $privilege:expr, $address:expr) => {
-        Packet::Start {
-            branch: $branch,
-            privilege: $privilege,
-            address: $address,
-        }
+    ($branch:expr, $privilege:expr, $address:expr, $time:expr, $context:expr) => {
+        [0, $branch as u64, $privilege, $address, $time, $context, 0]
     };
 }
 
+macro_rules! context {
+    ($privilege:expr, $time:expr, $context:expr) => {
+        [1, $privilege, $time, $context, 0, 0, 0]
+    };
+}
+
+/// A support packet: whether the encoder is on, and the number of the status.
 macro_rules! support {
     ($enabled:expr, $status:expr) => {
-        Packet::Support {
-            enabled: $enabled,
-            status: $status,
-        }
+        [2, $enabled as u64, $status, 0, 0, 0, 0]
     };
 }
 
-/// A report: the difference, and whether notify, updiscon and irreport differ from the bit before.
-macro_rules! report {
-    ($difference:expr, $notify:expr, $updiscon:expr, $irreport:expr) => {
-        Report {
-            difference: $difference,
-            notify: $notify,
-            updiscon: $updiscon,
-            irreport: $irreport,
-        }
-    };
-}
-
+/// The difference, and whether notify, updiscon and irreport differ from the bit before.
 macro_rules! address {
-    ($($report:expr),+) => {
-        Packet::Address {
-            report: report!($($report),+),
-        }
+    ($difference:expr, $notify:expr, $updiscon:expr, $irreport:expr) => {
+        [3, $difference, $notify as u64, $updiscon as u64, $irreport as u64, 0, 0]
+    };
+}
+
+macro_rules! map {
+    ($map:expr) => {
+        [4, $map, 0, 0, 0, 0, 0]
     };
 }
 
 macro_rules! branches {
-    ($count:expr, $map:expr, $($report:expr),+) => {
-        Packet::MapAddress {
-            count: $count,
-            map: $map,
-            report: report!($($report),+),
-        }
+    ($count:expr, $map:expr, $difference:expr, $notify:expr, $updiscon:expr, $irreport:expr) => {
+        [5, $count, $map, $difference, $notify as u64, $updiscon as u64, $irreport as u64]
     };
+}
+
+mod streams;
+
+/// The number of a status.
+fn status_number(status: Qual) -> u64 {
+    match status {
+        Qual::NoChange => 0,
+        Qual::EndedRep => 1,
+        Qual::TraceLost => 2,
+        Qual::EndedNtr => 3,
+    }
+}
+
+/// The numbers of a packet that reports an address.
+fn reporting(kind: u64, count: u64, map: u64, report: Report) -> Numbers {
+    let difference = u64::from(report.difference);
+    let notify = u64::from(report.notify);
+    let updiscon = u64::from(report.updiscon);
+    let irreport = u64::from(report.irreport);
+    if kind == 3 {
+        [kind, difference, notify, updiscon, irreport, 0, 0]
+    } else {
+        [kind, count, map, difference, notify, updiscon, irreport]
+    }
+}
+
+fn numbers(packet: Packet) -> Numbers {
+    match packet {
+        Packet::Start {
+            branch,
+            privilege,
+            address,
+            time,
+            context,
+        } => [
+            0,
+            u64::from(branch),
+            u64::from(privilege),
+            u64::from(address),
+            time,
+            u64::from(context),
+            0,
+        ],
+        Packet::Context {
+            privilege,
+            time,
+            context,
+        } => [1, u64::from(privilege), time, u64::from(context), 0, 0, 0],
+        Packet::Support { enabled, status } => {
+            [2, u64::from(enabled), status_number(status), 0, 0, 0, 0]
+        }
+        Packet::Address { report } => reporting(3, 0, 0, report),
+        Packet::Map { map } => [4, u64::from(map), 0, 0, 0, 0, 0],
+        Packet::MapAddress { count, map, report } => {
+            reporting(5, u64::from(count), u64::from(map), report)
+        }
+    }
+}
+
+/// The numbers of the next packet.
+fn next(packets: &mut Packets<'_>) -> Result<Option<Numbers>, TraceFault> {
+    match packets.next()? {
+        Some(packet) => Ok(Some(numbers(packet))),
+        None => Ok(None),
+    }
 }
 
 /// A whole header and these bytes after it.
@@ -121,24 +181,24 @@ const SHORT: &[u8] = b"RTR1\x01\x00\x00\x00\x00\x00\
     \x09\xc1\xaa\xaa\xaa\xaa\x67\x45\x23\x01\x00\
     \x09\x7d\x55\x55\x55\xd5\xde\xbc\x9a\x18\x00";
 
-const WANTED: [Packet; 27] = [
-    start!(true, 0, 0x10000),
-    start!(false, 3, 0xffff_fffc),
-    Packet::Context { privilege: 0 },
-    Packet::Context { privilege: 2 },
-    support!(false, Qual::EndedRep),
-    support!(true, Qual::NoChange),
-    support!(false, Qual::TraceLost),
-    support!(false, Qual::EndedNtr),
+const WANTED: [Numbers; 27] = [
+    start!(true, 0, 0x10000, 0, 0),
+    start!(false, 3, 0xffff_fffc, 0, 0),
+    context!(0, 0, 0),
+    context!(2, 0, 0),
+    support!(false, 1),
+    support!(true, 0),
+    support!(false, 2),
+    support!(false, 3),
     address!(8, false, false, false),
     address!(0xffff_fff8, false, false, false),
     address!(8, true, false, false),
     address!(8, false, true, false),
     address!(8, false, false, true),
     address!(0xffff_fff8, true, true, true),
-    Packet::Map { map: 0 },
-    Packet::Map { map: 0x7fff_ffff },
-    Packet::Map { map: 0x1234_5678 },
+    map!(0),
+    map!(0x7fff_ffff),
+    map!(0x1234_5678),
     branches!(1, 1, 4, false, false, false),
     branches!(2, 5, 16, false, false, false),
     branches!(3, 2, 0xffff_fffc, false, false, false),
@@ -157,10 +217,10 @@ fn reads_each_packet(rt: HostRuntime) -> Result<(), Fail> {
         let mut packets = Packets::open(bytes)?;
         let first = packets;
         for packet in WANTED {
-            assert_eq!(rt; packets.next(), Ok(Some(packet)));
+            assert_eq!(rt; next(&mut packets), Ok(Some(packet)));
         }
-        assert_eq!(rt; packets.next(), Ok(None));
-        assert_eq!(rt; packets.next(), Ok(None));
+        assert_eq!(rt; next(&mut packets), Ok(None));
+        assert_eq!(rt; next(&mut packets), Ok(None));
         assert_eq!(rt; packets.count(), Ok(0));
         assert_eq!(rt; first.count(), Ok(27));
     }
@@ -207,8 +267,8 @@ fn refuses_packets(rt: HostRuntime) -> Result<(), Fail> {
         for _ in 0..read {
             assert!(rt; packets.next().is_ok_and(|packet| packet.is_some()));
         }
-        assert_eq!(rt; packets.next(), Err(fault));
-        assert_eq!(rt; packets.next(), Err(fault));
+        assert_eq!(rt; next(&mut packets), Err(fault));
+        assert_eq!(rt; next(&mut packets), Err(fault));
     }
     Ok(())
 }
@@ -222,21 +282,24 @@ fn reads_no_bit_after_the_options(rt: HostRuntime) -> Result<(), Fail> {
     )?;
     let mut packets = Packets::open(&whole)?;
     for packet in [
-        support!(false, Qual::NoChange),
-        support!(false, Qual::EndedRep),
-        support!(true, Qual::NoChange),
-        support!(false, Qual::EndedNtr),
+        support!(false, 0),
+        support!(false, 1),
+        support!(true, 0),
+        support!(false, 3),
     ] {
-        assert_eq!(rt; packets.next(), Ok(Some(packet)));
+        assert_eq!(rt; next(&mut packets), Ok(Some(packet)));
     }
-    assert_eq!(rt; packets.next(), Ok(None));
+    assert_eq!(rt; next(&mut packets), Ok(None));
     Ok(())
 }
 
 #[test]
 fn prints_faults(rt: HostRuntime) -> Result<(), Fail> {
     for (fault, text) in [
-        (TraceFault::BadMagic, "the trace doesn't begin with RTR1"),
+        (
+            TraceFault::BadMagic,
+            "the trace doesn't begin with RTR1 or RTR2",
+        ),
         (
             TraceFault::BadHeader(4),
             "byte 4 of the trace's header is wrong",
@@ -247,6 +310,11 @@ fn prints_faults(rt: HostRuntime) -> Result<(), Fail> {
         (
             TraceFault::BadSupport(2),
             "packet 2 changes the encoder's mode or options",
+        ),
+        (TraceFault::StreamPastEnd(3), "stream 3 is cut short"),
+        (
+            TraceFault::Rest(102),
+            "bytes from 102 on follow the last stream",
         ),
     ] {
         assert_eq!(rt; format!(in rt.alloc(); "{fault}")?.as_str(), text);

@@ -1,0 +1,6 @@
+use Rattle.std.proofs.Common.{◌∙◌, sym, ap, length, List, ℕ}
+use Rattle.rept_trace.proofs.StreamLemmas.{length-streams_in}
+use Rattle.rept_trace.proofs.streams.Streams.count.Goals as goal
+
+pub returns : goal.returns
+returns c = sym (length-streams_in c.self.inside.count c.self.inside.rest.now) ∙ ap (length {A = List ℕ}) c.self.view_is
