@@ -6,6 +6,3 @@ pub mod based;
 
 pub use addresses::{Access, CallAccess};
 pub use based::access;
-
-#[cfg(test)]
-mod tests;

@@ -5,6 +5,3 @@ pub mod call;
 
 pub use call::havoc;
 pub use rept_alias::CallAccess;
-
-#[cfg(test)]
-mod tests;

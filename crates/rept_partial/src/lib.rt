@@ -8,6 +8,3 @@ pub mod range;
 pub use flat::Flat;
 pub use partial::Partial;
 pub use range::Range;
-
-#[cfg(test)]
-mod tests;

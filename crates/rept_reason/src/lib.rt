@@ -6,6 +6,3 @@ pub mod reason;
 
 pub use fact::{Cell, Fact};
 pub use reason::{Looked, Reason};
-
-#[cfg(test)]
-mod tests;

@@ -6,6 +6,3 @@ mod narrow;
 mod wide;
 
 pub use list::{Writing, Writings};
-
-#[cfg(test)]
-mod tests;
