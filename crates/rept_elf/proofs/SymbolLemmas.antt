@@ -1,11 +1,10 @@
 -- Tables by index: the sections of a file and the symbols of a table.
-use Rattle.std.proofs.Common.{◌≡◌, ℕ, ◌+◌, ◌*◌, ◌/◌, ◌<◌, ◌≤◌, suc, zero, List, [], ◌∷◌, length, drop, arith, refl, sym, ◌∙◌, ap, Bool, true, false, cond, rules}
-use Rattle.std.specs.Prelude.{Option, None, Some, slice_get}
+use Rattle.std.proofs.Common.{◌≡◌, ℕ, ◌+◌, ◌*◌, ◌/◌, ◌<◌, ◌≤◌, suc, zero, List, [], length, drop, arith, refl, sym, ◌∙◌, ap, Bool, true, false, cond, rules}
+use Rattle.std.specs.Prelude.{None, Some, slice_get}
 use Rattle.std.specs.List.{find}
-use Rattle.std.specs.Option.{option_map, option_and_then}
 use Rattle.std.proofs.lemmas.List.{at_drop_all}
-use Rattle.rept_elf.specs.Sections.{ElfSection, e_shoff, e_shnum, section_offset, section_from, entries_from, holds_sections, sections, contents}
-use Rattle.rept_elf.specs.Symbols.{ElfSymbol, symbol_from, symbols}
+use Rattle.rept_elf.specs.Sections.{ElfSection, e_shnum, section_offset, section_from, entries_from, holds_sections, sections}
+use Rattle.rept_elf.specs.Symbols.{symbol_from, symbols}
 use Rattle.rept_elf.proofs.SegmentLemmas.{drop-slice_get}
 
 length-entries_from : {X : Type 0} → (entry : ℕ → X) (index count : ℕ) → length (entries_from entry index count) ≡ count

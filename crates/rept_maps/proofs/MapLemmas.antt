@@ -1,10 +1,10 @@
 -- What a core file says of its mapped files is determined, and follows from what its notes say.
-use Rattle.std.proofs.Common.{◌≡◌, ℕ, inl, inr, List, length, arith, refl, sym, ◌∙◌, ap, subst}
+use Rattle.std.proofs.Common.{◌≡◌, ℕ, inl, inr, List, arith, sym, ◌∙◌, ap, subst}
 use Rattle.std.specs.Prelude.{Option, Some, None, Result, Ok, Err}
 use Rattle.std.specs.List.{filter}
 use Rattle.rept_elf.specs.Segments.{ElfSegment}
 use Rattle.rept_notes.specs.Notes.{Note, note_segments}
-use Rattle.rept_notes.specs.Sought.{Says, Counted, counted, is_sought, head}
+use Rattle.rept_notes.specs.Sought.{Says, Counted, is_sought, head}
 use Rattle.rept_notes.proofs.NoteLemmas.{same_all, same_cuts, whole_or_cuts}
 use Rattle.rept_maps.specs.FileMap.{file_kind}
 use Rattle.rept_maps.specs.Told.{NoteSays, FirstSays, MapsSay}

@@ -3,11 +3,11 @@ use Rattle.std.proofs.Common.{◌≡◌, ℕ, ◌+◌, ◌<◌, ◌≤◌, List,
 use Rattle.std.proofs.lemmas.List.{drop-drop, get_or-drop}
 use Rattle.std.proofs.lemmas.List.Splits.{slice_split_first, slice_split_none, length-slice_split}
 use Rattle.std.proofs.lemmas.List.Sums.{fails_before_first}
-use Rattle.std.specs.Prelude.{Option, Some, None, ◌==◌, nat_lt}
+use Rattle.std.specs.Prelude.{Some, None, ◌==◌, nat_lt}
 use Rattle.std.specs.List.{position, position_or_len}
 use Rattle.std.specs.Str.{IsUtf8, is_utf8}
 use Rattle.std.proofs.lemmas.Str.{IsUtf8-from_is_utf8}
-use Rattle.rept_maps.specs.FileMap.{IsMap, parts, names, map_count}
+use Rattle.rept_maps.specs.FileMap.{parts, names, map_count}
 
 abbrev is_zero : ℕ → Bool
 is_zero b = b == 0

@@ -1,5 +1,5 @@
 -- Notes of bytes as notes of a front of these bytes, one list of notes after another, and what a table keeps.
-use Rattle.std.proofs.Common.{◌≡◌, ◌≢◌, ℕ, zero, suc, ◌+◌, ◌-◌, ◌<◌, ◌≤◌, min, inl, inr, List, [], ◌∷◌, ◌++◌, length, drop, take, set, arith, refl, sym, ◌∙◌, ap, subst, length-drop, get_or, replicate}
+use Rattle.std.proofs.Common.{◌≡◌, ℕ, zero, suc, ◌+◌, ◌-◌, ◌<◌, ◌≤◌, min, inl, inr, List, [], ◌∷◌, ◌++◌, length, drop, take, set, arith, refl, sym, ◌∙◌, ap, subst, length-drop, get_or, replicate}
 use Rattle.std.proofs.lemmas.List.{length-take, drop-drop, drop-take, drop_all, take-take, take_min, get_or-drop, get_or-take}
 use Rattle.std.proofs.lemmas.Option.{slice_get-get_or}
 use Rattle.std.proofs.lemmas.Bool.{cases_lt}
@@ -12,7 +12,6 @@ use Rattle.rept_notes.specs.Found.{AreFound, Adds}
 use Rattle.rept_notes.specs.Sought.{is_sought}
 use Rattle.rept_notes.specs.Ahead.{IsAhead, AreLeaps, AreAhead}
 use Rattle.rept_notes.specs.declared.ahead.Ahead.{Ahead}
-use Rattle.rept_notes.specs.declared.ahead.Leap.{Leap}
 use Rattle.rept_notes.specs.declared.note.Found.{Found}
 use Rattle.rept_notes.proofs.NoteLemmas.{SoFar, one_more, at_most_one, shrinks, place_after, AreFound-then}
 

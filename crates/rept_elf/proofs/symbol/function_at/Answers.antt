@@ -1,4 +1,4 @@
-use Rattle.std.proofs.Common.{◌≡◌, ◌≤◌, ◌∙◌, sym, ap, length, true, false, arith}
+use Rattle.std.proofs.Common.{◌≡◌, ◌≤◌, ◌∙◌, sym, ap, length, arith}
 use Rattle.std.specs.Prelude.{Some, slice_get}
 use Rattle.rept_elf.specs.Symbols.{symbols, is_function_at}
 use Rattle.rept_elf.specs.SectionParts.{entry_of}

@@ -1,5 +1,5 @@
-use Rattle.std.proofs.Common.{◌≡◌, ℕ, List, [], ◌<◌, get_or, arith, sym, subst, below_more}
-use Rattle.rept_maps.specs.FileMap.{IsEntry, entry_at, entry_named, names, map_count}
+use Rattle.std.proofs.Common.{ℕ, List, ◌<◌, arith, sym, subst, below_more}
+use Rattle.rept_maps.specs.FileMap.{IsEntry, entry_at, entry_named, map_count}
 use Rattle.rept_maps.proofs.Parts.{next_left, name_here, all_end}
 use Rattle.rept_maps.proofs.entry.are_entries.Goals as goal
 

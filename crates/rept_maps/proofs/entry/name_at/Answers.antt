@@ -1,7 +1,7 @@
-use Rattle.std.proofs.Common.{◌≡◌, ℕ, List, ◌<◌, arith, subst}
+use Rattle.std.proofs.Common.{ℕ, List, ◌<◌, arith, subst}
 use Rattle.std.specs.Prelude.{IsTrue}
 use Rattle.std.specs.Str.{is_utf8}
-use Rattle.rept_maps.specs.FileMap.{names, map_count}
+use Rattle.rept_maps.specs.FileMap.{map_count}
 use Rattle.rept_maps.proofs.Parts.{next_left, name_here}
 use Rattle.rept_maps.proofs.entry.name_at.Goals as goal
 
