@@ -1,5 +1,5 @@
 -- The greatest word up to a bound is the complement of the least complement from the bound's on.
-use Rattle.std.proofs.Common.{◌≡◌, ◌≢◌, ℕ, ◌-◌, ◌^◌, ◌<◌, ◌≤◌, true, sym, subst, arith}
+use Rattle.std.proofs.Common.{◌≡◌, ℕ, ◌-◌, ◌^◌, ◌<◌, ◌≤◌, true, arith}
 use Rattle.rept_known.specs.declared.bits.Bits.{Bits}
 use Rattle.rept_known.specs.Bits.{bits_has}
 use Rattle.rept_known.specs.BitsLaws.{has_parts, has_agrees, agrees_has}

@@ -1,16 +1,16 @@
 -- The word of a set that is next to a bound, by its parts above and below the highest known bit in which the bound differs.
-use Rattle.std.proofs.Common.{◌≡◌, ◌≢◌, ℕ, zero, suc, ◌+◌, ◌-◌, ◌*◌, ◌/◌, ◌%◌, ◌^◌, ◌<◌, ◌≤◌, ◌⊎◌, min, max, true, inl, inr, refl, sym, ap, ◌∙◌, subst, arith}
+use Rattle.std.proofs.Common.{◌≡◌, ◌≢◌, ℕ, zero, suc, ◌+◌, ◌-◌, ◌*◌, ◌/◌, ◌%◌, ◌^◌, ◌<◌, ◌≤◌, min, max, true, inl, inr, sym, ap, ◌∙◌, subst, arith}
 use Rattle.std.specs.Prelude.{bit_and, bit_or, bit_xor}
 use Rattle.std.specs.Int.{bit_at}
-use Rattle.std.specs.Int.Bits.{and_self, xor_add_and}
+use Rattle.std.specs.Int.Bits.{and_self}
 use Rattle.std.proofs.Math.Nat.{pow-suc, mul-le-mul_right, div-eq_of_lt-le, div-eq_of_lt}
-use Rattle.std.proofs.lemmas.Nat.{pow_pos, and_comm, and_assoc, and_le_l, and_le_r, and_block, and_shr, or_shr, xor_shr, or_lt, xor_lt, or_disjoint, mod_below, mod-pow-add, div-add-mod'}
+use Rattle.std.proofs.lemmas.Nat.{pow_pos, and_comm, and_assoc, and_le_r, and_block, and_shr, or_shr, xor_shr, or_lt, xor_lt, or_disjoint, mod_below, div-add-mod'}
 use Rattle.std.proofs.lemmas.Nat.Bits.{bit_at_and, bit_at_or, bit_at_xor, bit_at-lt, and_high_mask}
-use Rattle.std.proofs.lemmas.Bool.{cases_eq, cases_lt}
+use Rattle.std.proofs.lemmas.Bool.{cases_lt}
 use Rattle.rept_span.specs.Tables.{digits, cover}
-use Rattle.rept_span.specs.RangeBounds.{digits_hold, cover_small}
+use Rattle.rept_span.specs.RangeBounds.{digits_hold}
 use Rattle.rept_known.specs.declared.bits.Bits.{Bits}
-use Rattle.rept_known.specs.Masks.{but, but_apart, but_le, but_split, but_kept, but_cut, but_bit, bit_cases}
+use Rattle.rept_known.specs.Masks.{but, but_apart, but_le, but_split, but_kept, but_cut, bit_cases}
 use Rattle.rept_known.specs.Bits.{bits_has}
 use Rattle.rept_known.specs.BitsLaws.{Agrees, value_small, loose_small, has_parts, has_agrees, agrees_has, open_bit}
 use Rattle.rept_known.specs.Sums.{least_below}

@@ -1,14 +1,14 @@
 -- Known bits keep the laws of sets of values.
-use Rattle.std.proofs.Common.{◌≡◌, ◌≢◌, ℕ, ◌+◌, ◌-◌, ◌%◌, ◌^◌, ◌<◌, ◌≤◌, ◌⊎◌, min, max, Bool, true, false, inl, inr, refl, sym, ap, ◌∙◌, subst, arith, Option, Some, None}
-use Rattle.std.specs.Prelude.{◌&&◌, nat_lt, ◌==◌, bit_and, bit_or, bit_xor}
+use Rattle.std.proofs.Common.{◌≡◌, ◌≢◌, ℕ, ◌+◌, ◌%◌, ◌^◌, ◌<◌, ◌≤◌, min, max, true, inl, inr, refl, sym, ap, ◌∙◌, subst, arith, Some, None}
+use Rattle.std.specs.Prelude.{bit_and, bit_or, bit_xor}
 use Rattle.std.specs.Int.{bit_at}
-use Rattle.std.proofs.lemmas.Nat.{and_le_l, and_le_r, or_lt, xor_lt, or_disjoint}
+use Rattle.std.proofs.lemmas.Nat.{and_le_r, or_lt, xor_lt, or_disjoint}
 use Rattle.std.proofs.lemmas.Nat.Bits.{bit_at_and, bit_at_or, bit_at_xor, bit_at-lt, bit_at-zero, bit_at_ones, same_from_bits_below}
-use Rattle.std.proofs.lemmas.Bool.{cases_eq, cases_Bool, eq-eqb, ne_eqb, and_parts}
+use Rattle.std.proofs.lemmas.Bool.{cases_eq, eq-eqb, ne_eqb}
 use Rattle.rept_known.specs.declared.bits.Bits.{Bits}
-use Rattle.rept_known.specs.Masks.{but, but_apart, but_le, but_split, but_kept, but_cut, bit_cases, bit_of_word}
+use Rattle.rept_known.specs.Masks.{but, but_le, but_split, but_kept, but_cut, bit_cases, bit_of_word}
 use Rattle.rept_known.specs.Bits.{word, outside, bits_has, bits_meet, bits_exact, bits_sets}
-use Rattle.rept_partial.specs.Sets.{Sets, AreLawful, IsWithin}
+use Rattle.rept_partial.specs.Sets.{AreLawful, IsWithin}
 
 -- a word agrees with a set's value wherever no bit is open
 pub record Agrees (a : Bits) (x : ℕ) : Type 0 where

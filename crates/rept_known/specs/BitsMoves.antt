@@ -1,6 +1,6 @@
 -- Known bits keep the laws of sets that instructions change.
-use Rattle.std.proofs.Common.{◌≡◌, ◌≢◌, ℕ, ◌+◌, ◌-◌, ◌*◌, ◌/◌, ◌%◌, ◌^◌, ◌<◌, ◌≤◌, ◌⊎◌, Bool, true, false, Option, Some, None, inl, inr, refl, sym, ap, subst, ◌∙◌, arith, lit<}
-use Rattle.std.specs.Prelude.{◌==◌, ℤ, nat_lt, bit_and, bit_or, bit_xor, if◌then◌else◌}
+use Rattle.std.proofs.Common.{◌≡◌, ◌≢◌, ℕ, ◌-◌, ◌*◌, ◌/◌, ◌%◌, ◌^◌, ◌<◌, ◌≤◌, ◌⊎◌, Bool, true, false, Option, Some, None, inl, inr, refl, sym, ap, subst, ◌∙◌, arith, lit<}
+use Rattle.std.specs.Prelude.{◌==◌, nat_lt, if◌then◌else◌}
 use Rattle.std.specs.Int.{bit_at, int_shr}
 use Rattle.std.proofs.lemmas.Nat.Bits.{bit_at-zero, bit_at_ones, bit_at_above, same_from_bits_below}
 use Rattle.std.proofs.lemmas.Bool.{cases_eq, cases_lt, cases_Bool, eq-eqb, ne_eqb, eqb-true}
@@ -27,11 +27,11 @@ use Rattle.rept_span.specs.RangeMoves.{named_target}
 use Rattle.rept_span.specs.RangeNarrowing.{way_taken, way_not_taken}
 use Rattle.rept_span.specs.Moves.{Moves, Covers, StepsFrom, AreWithin, AreMoves}
 use Rattle.rept_known.specs.declared.bits.Bits.{Bits}
-use Rattle.rept_known.specs.Masks.{bit_cases, bit_of_word}
-use Rattle.rept_known.specs.Bits.{word, outside, bits_has, bits_meet, bits_sets}
-use Rattle.rept_known.specs.BitsLaws.{Agrees, KnowsAll, value_small, loose_small, has_agrees, agrees_has, within_knows, knows_within, in_outside, outside_knows, value_kept, all_agree, one_agrees, bits_lawful}
-use Rattle.rept_known.specs.Operations.{all_open, all_known, low_open, amount, shifted_left, shifted_right, shifted_with_sign, operation_bits, loaded_bits, applied_bits, tells_equal, with_both, left_bits, narrowed_bits}
-use Rattle.rept_known.specs.Sums.{sum_covers, sum_knows, difference_covers, difference_knows, agrees_more}
+use Rattle.rept_known.specs.Masks.{bit_of_word}
+use Rattle.rept_known.specs.Bits.{word, bits_has, bits_meet, bits_sets}
+use Rattle.rept_known.specs.BitsLaws.{Agrees, KnowsAll, value_small, loose_small, has_agrees, agrees_has, within_knows, knows_within, in_outside, all_agree, one_agrees, bits_lawful}
+use Rattle.rept_known.specs.Operations.{all_open, all_known, low_open, amount, operation_bits, loaded_bits, applied_bits, tells_equal, with_both, left_bits, narrowed_bits}
+use Rattle.rept_known.specs.Sums.{sum_covers, sum_knows, difference_covers, difference_knows}
 use Rattle.rept_known.specs.Selected.{moved_covers, moved_knows, left_moves, right_moves, sign_moves}
 use Rattle.rept_known.specs.Joined.{and_covers, and_knows, or_covers, or_knows, xor_covers, xor_knows}
 

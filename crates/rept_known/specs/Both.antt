@@ -1,16 +1,16 @@
 -- Known bits and a range together, as sets of values, kept reduced: the range goes from the least common word to the greatest
 -- one, and a bit is open where two of the common words differ. This project's own.
-use Rattle.std.specs.Prelude.{◌≡◌, ◌≢◌, ℕ, ◌+◌, ◌-◌, ◌/◌, ◌%◌, ◌^◌, ◌<◌, ◌≤◌, min, max, Bool, true, ◌&&◌, ◌==◌, if◌then◌else◌, Option, Some, None, bit_and, bit_or, bit_xor, ◌↔◌}
-use Rattle.std.proofs.Common.{◌⊎◌, inl, inr, refl, sym, ap, subst, ◌∙◌, arith}
+use Rattle.std.specs.Prelude.{◌≡◌, ◌≢◌, ℕ, ◌+◌, ◌^◌, ◌<◌, ◌≤◌, min, Bool, true, ◌&&◌, Option, Some, None, bit_and, bit_xor, ◌↔◌}
+use Rattle.std.proofs.Common.{◌⊎◌, inl, inr, refl, sym, ◌∙◌, arith}
 use Rattle.std.specs.Int.{bit_at}
-use Rattle.std.proofs.lemmas.Nat.{and_le_r, xor_lt, xor_shr}
-use Rattle.std.proofs.lemmas.Nat.Bits.{bit_at_and, bit_at-lt, bit_at_ones, bit_at_above}
-use Rattle.std.proofs.lemmas.Bool.{cases_eq, cases_lt}
+use Rattle.std.proofs.lemmas.Nat.{and_le_r, xor_lt}
+use Rattle.std.proofs.lemmas.Nat.Bits.{bit_at_and, bit_at_ones, bit_at_above}
+use Rattle.std.proofs.lemmas.Bool.{cases_lt}
 use Rattle.rept_partial.specs.declared.range.Range.{Range}
 use Rattle.rept_partial.specs.Sets.{Sets}
 use Rattle.rept_partial.specs.Ranges.{bounded, range_has, range_meet, range_exact}
 use Rattle.rept_span.specs.Tables.{digits, cover}
-use Rattle.rept_span.specs.RangeBounds.{digits_hold, cover_small}
+use Rattle.rept_span.specs.RangeBounds.{digits_hold}
 use Rattle.rept_known.specs.declared.bits.Bits.{Bits}
 use Rattle.rept_known.specs.declared.both.Both.{Both}
 use Rattle.rept_known.specs.Masks.{bit_cases}

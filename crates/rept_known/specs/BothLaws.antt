@@ -1,27 +1,25 @@
 -- Reduced sets keep the laws of sets of values.
 use Rattle.std.proofs.Common.{◌≡◌, ◌≢◌, ℕ, zero, suc, ◌+◌, ◌-◌, ◌*◌, ◌/◌, ◌%◌, ◌^◌, ◌<◌, ◌≤◌, ◌⊎◌, min, max, Bool, true, false, inl, inr, refl, sym, ap, ◌∙◌, subst, arith, Option, Some, None}
-use Rattle.std.specs.Prelude.{◌&&◌, ◌==◌, bit_and, bit_or, bit_xor, ◌↔◌}
+use Rattle.std.specs.Prelude.{◌&&◌, bit_and, bit_or, bit_xor}
 use Rattle.std.specs.Int.{bit_at}
 use Rattle.std.proofs.Math.Nat.{pow-suc, div-eq_of_lt, div-eq_of_lt-le}
 use Rattle.std.specs.Int.Bits.{or_zero_r, xor_self}
 use Rattle.std.proofs.lemmas.Nat.{pow_pos, pow_below, and_le_l, or_shr, xor_shr, or_lt, xor_lt, or_disjoint, le_or_l}
 use Rattle.std.proofs.lemmas.Nat.Bits.{bit_at_and, bit_at_or, bit_at_xor, bit_at-lt, bit_at-zero, bit_at_above, and_pow, bit_at-pow_same, bit_at-pow_other}
-use Rattle.std.proofs.lemmas.Bool.{cases_eq, cases_lt, cases_Bool, eq-eqb, ne_eqb, and_parts}
+use Rattle.std.proofs.lemmas.Bool.{cases_lt, eq-eqb, and_parts}
 use Rattle.rept_partial.specs.declared.range.Range.{Range}
-use Rattle.rept_partial.specs.Sets.{Sets, AreLawful, IsWithin}
-use Rattle.rept_partial.specs.Ranges.{bounded, range_has, range_meet, range_exact, range_sets, range_lawful}
+use Rattle.rept_partial.specs.Sets.{AreLawful, IsWithin}
+use Rattle.rept_partial.specs.Ranges.{range_has, range_meet, range_exact, range_sets, range_lawful}
 use Rattle.rept_span.specs.Tables.{digits, cover}
-use Rattle.rept_span.specs.RangeBounds.{IsIn, has_in, in_has, lies_within, div_more, digits_hold, cover_small}
+use Rattle.rept_span.specs.RangeBounds.{has_in, in_has, lies_within, div_more, digits_hold}
 use Rattle.rept_known.specs.declared.bits.Bits.{Bits}
 use Rattle.rept_known.specs.declared.both.Both.{Both}
 use Rattle.rept_known.specs.Masks.{but, but_le, but_split, but_bit, bit_cases}
 use Rattle.rept_known.specs.Tops.{same_by_xor, top_clear, top_set, left_ordered, upper_less, cover_none}
-use Rattle.rept_known.specs.Bits.{word, outside, bits_has, bits_meet, bits_sets}
-use Rattle.rept_known.specs.BitsLaws.{Agrees, KnowsAll, has_parts, has_agrees, agrees_has, knows_within, loose_small, open_bit, in_outside, outside_same, all_agree, one_agrees, bits_lawful, value_small}
-use Rattle.rept_known.specs.Sums.{xor_alike}
+use Rattle.rept_known.specs.Bits.{outside, bits_has, bits_meet, bits_sets}
+use Rattle.rept_known.specs.BitsLaws.{Agrees, has_agrees, agrees_has, knows_within, in_outside, outside_same, all_agree, one_agrees, bits_lawful}
 use Rattle.rept_known.specs.Selected.{right_bit}
 use Rattle.rept_known.specs.Operations.{all_open, all_known}
-use Rattle.rept_known.specs.Least.{IsLeastFrom, IsGreatestTo}
 use Rattle.rept_known.specs.Both.{both_has, open_between, closed_between, alike_above, between, whole, least_has, greatest_has, in_order, Least, Greatest, least_of, greatest_of, if_ordered, from_ends, reduced, reduced_if, both_meet, both_sets, Differ, IsReduced}
 
 pub both_parts : (a : Both) (v : ℕ) → both_has a v ≡ true → (range_has a.range v ≡ true) × (bits_has a.bits v ≡ true)

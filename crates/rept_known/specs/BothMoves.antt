@@ -1,8 +1,7 @@
 -- What instructions make of a range and known bits together: each part's, and what the two have in common. These sets keep the laws
 -- of sets that instructions change.
-use Rattle.std.proofs.Common.{◌≡◌, ◌≢◌, ℕ, ◌+◌, ◌-◌, ◌*◌, ◌/◌, ◌%◌, ◌^◌, ◌<◌, ◌≤◌, ◌⊎◌, Bool, true, false, Option, Some, None, inl, inr, refl, sym, ap, subst, ◌∙◌, arith, lit<}
-use Rattle.std.specs.Prelude.{ℤ, ◌==◌, nat_lt, bit_and, bit_or, bit_xor, if◌then◌else◌}
-use Rattle.std.specs.Int.{bit_at}
+use Rattle.std.proofs.Common.{◌≡◌, ◌≢◌, ℕ, ◌%◌, ◌^◌, ◌<◌, ◌⊎◌, Bool, true, false, Option, Some, None, inl, inr, refl, sym, ap, subst, ◌∙◌, arith, lit<}
+use Rattle.std.specs.Prelude.{ℤ, ◌==◌, nat_lt, if◌then◌else◌}
 use Rattle.std.proofs.lemmas.Nat.{and_le_l, or_lt, xor_lt, shr_le}
 use Rattle.std.proofs.Math.Nat.{div-le_self, mod-le}
 use Rattle.rept_isa.specs.declared.instr.Instr.{Instr}
@@ -26,18 +25,18 @@ use Rattle.rept_span.specs.Tables.{full, applied_range, operation_range, immedia
 use Rattle.rept_span.specs.RangeBounds.{IsIn, in_has, in_from_to, in_full, in_one, word_small, shifted_small}
 use Rattle.rept_span.specs.RangeCovering.{upper_small}
 use Rattle.rept_span.specs.RangeCovering as ranges
-use Rattle.rept_span.specs.RangeMoves.{range_moves, range_covers}
+use Rattle.rept_span.specs.RangeMoves.{range_covers}
 use Rattle.rept_span.specs.Moves.{Moves, Covers, StepsFrom, AreWithin, AreMoves}
 use Rattle.rept_known.specs.declared.bits.Bits.{Bits}
 use Rattle.rept_known.specs.declared.both.Both.{Both}
 use Rattle.rept_known.specs.Masks.{bit_of_word}
-use Rattle.rept_known.specs.Bits.{word, outside, bits_has, bits_sets}
+use Rattle.rept_known.specs.Bits.{word, bits_has, bits_sets}
 use Rattle.rept_known.specs.BitsLaws.{Agrees, has_agrees, agrees_has, in_outside, all_agree, one_agrees}
 use Rattle.rept_known.specs.Operations.{all_open, all_known, operation_bits, loaded_bits, applied_bits, narrowed_bits}
 use Rattle.rept_known.specs.BitsMoves.{bits_moves, bits_covers, low_agrees}
 use Rattle.rept_known.specs.BitsMoves as bits
 use Rattle.rept_known.specs.Both.{both_has, whole, reduced, both_sets}
-use Rattle.rept_known.specs.BothLaws.{both_parts, parts_both, lowest_has, reduced_common, reduced_none, range_within, bits_within, both_lawful}
+use Rattle.rept_known.specs.BothLaws.{both_parts, lowest_has, reduced_common, reduced_none, range_within, bits_within}
 
 -- a set that isn't empty; the other case doesn't come
 abbrev pub or_all : Option Both → Both

@@ -1,5 +1,5 @@
 -- Operations that join two words bit by bit.
-use Rattle.std.proofs.Common.{◌≡◌, ◌≢◌, ℕ, ◌+◌, ◌-◌, ◌%◌, ◌^◌, ◌<◌, ◌≤◌, ◌⊎◌, min, max, inl, inr, refl, sym, ap, ◌∙◌, subst, arith}
+use Rattle.std.proofs.Common.{◌≡◌, ◌≢◌, ℕ, ◌+◌, ◌-◌, ◌%◌, ◌^◌, ◌<◌, ◌≤◌, min, max, inl, inr, sym, ap, ◌∙◌, arith}
 use Rattle.std.specs.Prelude.{bit_and, bit_or, bit_xor}
 use Rattle.std.specs.Int.{bit_at}
 use Rattle.std.proofs.lemmas.Nat.{and_le_l, or_lt, xor_lt}
@@ -7,8 +7,8 @@ use Rattle.std.proofs.lemmas.Nat.Bits.{bit_at_and, bit_at_or, bit_at_xor, bit_at
 use Rattle.std.proofs.lemmas.Bool.{cases_eq}
 use Rattle.rept_known.specs.declared.bits.Bits.{Bits}
 use Rattle.rept_known.specs.Masks.{but, but_bit, bit_of_word}
-use Rattle.rept_known.specs.Bits.{word, outside}
-use Rattle.rept_known.specs.BitsLaws.{Agrees, KnowsAll, value_small, loose_small, open_bit, in_outside, outside_knows, value_kept}
+use Rattle.rept_known.specs.Bits.{outside}
+use Rattle.rept_known.specs.BitsLaws.{Agrees, KnowsAll, value_small, open_bit, in_outside, outside_knows, value_kept}
 use Rattle.rept_known.specs.Operations.{and_bits, or_bits, xor_bits}
 
 -- a bit (its value and whether it is open) is known where another one is, and alike

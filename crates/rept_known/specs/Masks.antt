@@ -1,11 +1,11 @@
 -- Words of 32 bits and some of their bits, as numbers.
-use Rattle.std.proofs.Common.{◌≡◌, ℕ, ◌+◌, ◌-◌, ◌*◌, ◌/◌, ◌%◌, ◌^◌, ◌<◌, ◌≤◌, ◌⊎◌, min, max, inl, inr, refl, sym, ap, ◌∙◌, subst, arith}
-use Rattle.std.specs.Prelude.{bit_and, bit_or, bit_xor}
+use Rattle.std.proofs.Common.{◌≡◌, ℕ, ◌+◌, ◌-◌, ◌*◌, ◌/◌, ◌%◌, ◌^◌, ◌<◌, ◌≤◌, ◌⊎◌, min, inl, inr, sym, ap, ◌∙◌, arith}
+use Rattle.std.specs.Prelude.{bit_and}
 use Rattle.std.specs.Int.{bit_at}
 use mir.Syntax.{w32}
 use Rattle.std.proofs.lemmas.Nat.{and_comm, and_assoc, and_le_l, and_le_r, and-not, or_lt, or_disjoint}
 use Rattle.std.proofs.lemmas.Bool.{cases_eq}
-use Rattle.std.proofs.lemmas.Nat.Bits.{bit_at_and, bit_at_or, bit_at_not, bit_at-lt, bit_at-zero, bit_at_cat_low, same_from_bits_below}
+use Rattle.std.proofs.lemmas.Nat.Bits.{bit_at_and, bit_at_not, bit_at-lt, bit_at_cat_low, same_from_bits_below}
 
 -- the bits of a word that aren't in a mask
 abbrev pub but : ℕ → ℕ → ℕ

@@ -1,19 +1,18 @@
 -- What each instruction makes of the known bits of its operands, as a table. A sum is the known-bits addition of compilers
 -- (LLVM's KnownBits, tnum_add and tnum_sub of the Linux kernel); the other rows are this project's own. What the instructions do is
 -- in the RISC-V unprivileged manual 20191213, chapters 2.4 to 2.6 and 7.
-use Rattle.std.specs.Prelude.{ℕ, ◌+◌, ◌-◌, ◌*◌, ◌/◌, ◌%◌, ◌^◌, Bool, true, false, ◌==◌, bit_and, bit_or, bit_xor, if◌then◌else◌, ℤ, Option, Some, None}
+use Rattle.std.specs.Prelude.{ℕ, ◌+◌, ◌-◌, ◌*◌, ◌/◌, ◌%◌, ◌^◌, Bool, true, false, ◌==◌, bit_and, bit_or, bit_xor, if◌then◌else◌, Option, Some, None}
 use Rattle.rept_isa.specs.declared.instr.Instr.{Instr}
 use Rattle.rept_isa.specs.declared.instr.Instr.TheVariants.{Lui, Auipc, Jal, Jalr, Branch, Load, Store, Imm, Op, Fence, Ecall, Ebreak, Counter}
 use Rattle.rept_isa.specs.declared.instr.RegOp.{RegOp}
 use Rattle.rept_isa.specs.declared.instr.RegOp.TheVariants.{Add, Sub, Sll, Slt, Sltu, Xor, Srl, Sra, Or, And, Mul, Mulh, Mulhsu, Mulhu, Div, Divu, Rem, Remu}
-use Rattle.rept_isa.specs.declared.instr.ImmOp.{ImmOp}
 use Rattle.rept_isa.specs.declared.instr.LoadOp.{LoadOp}
 use Rattle.rept_isa.specs.declared.instr.LoadOp.TheVariants.{Lb, Lh, Lw, Lbu, Lhu}
 use Rattle.rept_isa.specs.declared.instr.BranchOp.{BranchOp}
-use Rattle.rept_isa.specs.declared.instr.BranchOp.TheVariants.{Beq, Bne, Blt, Bge, Bltu, Bgeu}
+use Rattle.rept_isa.specs.declared.instr.BranchOp.TheVariants.{Beq, Bne}
 use Rattle.rept_isa.specs.declared.row.StepRow.{StepRow}
 use Rattle.rept_isa.specs.declared.class.Turn.{Turn}
-use Rattle.rept_isa.specs.declared.class.Turn.TheVariants.{Taken, NotTaken, Either, NoBranch}
+use Rattle.rept_isa.specs.declared.class.Turn.TheVariants.{Taken, NotTaken}
 use Rattle.rept_isa.specs.Operands.{turn_of}
 use Rattle.rept_isa.specs.Numbers.{following}
 use Rattle.rept_isa.specs.Numbers as numbers

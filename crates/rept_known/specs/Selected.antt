@@ -1,5 +1,5 @@
 -- Functions that move bits, as shifts do: they take known bits to known bits, and open ones to open ones.
-use Rattle.std.proofs.Common.{◌≡◌, ℕ, ◌+◌, ◌-◌, ◌*◌, ◌/◌, ◌%◌, ◌^◌, ◌<◌, ◌≤◌, ◌⊎◌, min, max, inl, inr, refl, sym, ap, ◌∙◌, subst, arith}
+use Rattle.std.proofs.Common.{◌≡◌, ℕ, ◌+◌, ◌-◌, ◌*◌, ◌/◌, ◌%◌, ◌^◌, ◌<◌, ◌≤◌, ◌⊎◌, min, inl, inr, sym, ap, ◌∙◌, arith}
 use Rattle.std.specs.Int.{bit_at}
 use mir.Syntax.{w32}
 use Rattle.std.proofs.lemmas.Nat.{pow_pos, shr_le, shr-shr}

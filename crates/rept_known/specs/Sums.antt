@@ -1,15 +1,14 @@
 -- The sum of two words of which some bits are known: bit by bit, over the carry into each.
-use Rattle.std.proofs.Common.{◌≡◌, ℕ, ◌+◌, ◌-◌, ◌*◌, ◌/◌, ◌%◌, ◌^◌, ◌<◌, ◌≤◌, ◌⊎◌, min, max, inl, inr, refl, sym, ap, ◌∙◌, subst, arith}
+use Rattle.std.proofs.Common.{◌≡◌, ℕ, ◌+◌, ◌-◌, ◌*◌, ◌/◌, ◌%◌, ◌^◌, ◌<◌, ◌≤◌, max, inl, inr, sym, ap, ◌∙◌, arith}
 use Rattle.std.specs.Prelude.{bit_and, bit_or, bit_xor}
 use Rattle.std.specs.Int.{bit_at}
 use mir.Syntax.{w32}
 use Rattle.std.proofs.Math.Nat.{mul-add-div_right}
-use Rattle.std.proofs.lemmas.Nat.{pow_pos, and_le_l, and_le_r, and_mod, or_disjoint, div_below, div-add-mod', mod_below}
-use Rattle.std.proofs.lemmas.Nat.Bits.{bit_at_and, bit_at_or, bit_at_xor, bit_at_not, bit_at-lt, bit_at-zero, same_from_bits_below}
-use Rattle.std.proofs.lemmas.Bool.{cases_eq}
+use Rattle.std.proofs.lemmas.Nat.{pow_pos, and_le_l, and_le_r, and_mod, div_below, div-add-mod', mod_below}
+use Rattle.std.proofs.lemmas.Nat.Bits.{bit_at_and, bit_at_or, bit_at_xor, bit_at_not, bit_at-lt, same_from_bits_below}
 use Rattle.rept_span.specs.RangeBounds.{div_more}
 use Rattle.rept_known.specs.declared.bits.Bits.{Bits}
-use Rattle.rept_known.specs.Masks.{but, bit_cases, bit_of_word}
+use Rattle.rept_known.specs.Masks.{bit_cases, bit_of_word}
 use Rattle.rept_known.specs.Bits.{word, outside}
 use Rattle.rept_known.specs.BitsLaws.{Agrees, KnowsAll, value_small, loose_small, open_bit, least_agrees, greatest_agrees, greatest_open, in_outside, outside_same, outside_knows, value_kept}
 use Rattle.rept_known.specs.Operations.{sum_bits, difference_bits}

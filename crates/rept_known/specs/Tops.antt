@@ -1,6 +1,6 @@
 -- Words that differ in a bit, and in none above it.
-use Rattle.std.proofs.Common.{◌≡◌, ◌≢◌, ℕ, suc, ◌+◌, ◌*◌, ◌/◌, ◌%◌, ◌^◌, ◌<◌, ◌≤◌, sym, ap, ◌∙◌, arith, lit<}
-use Rattle.std.specs.Prelude.{bit_and, bit_xor}
+use Rattle.std.proofs.Common.{◌≡◌, ℕ, suc, ◌+◌, ◌*◌, ◌/◌, ◌%◌, ◌^◌, ◌<◌, ◌≤◌, ap, ◌∙◌, arith, lit<}
+use Rattle.std.specs.Prelude.{bit_xor}
 use Rattle.std.specs.Int.{bit_at}
 use Rattle.std.specs.Int.Bits.{xor_add_and}
 use Rattle.rept_span.specs.Tables.{cover}

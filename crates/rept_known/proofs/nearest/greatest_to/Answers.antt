@@ -1,6 +1,5 @@
 -- By complements.
-use Rattle.std.proofs.Common.{refl, arith, ◌≡◌, true}
-use Rattle.rept_known.specs.Bits.{bits_has}
+use Rattle.std.proofs.Common.{refl, arith}
 use Rattle.rept_known.specs.Least.{greatest_is, no_greatest}
 use Rattle.rept_known.proofs.Greatest.{greatest_by_least, no_greatest_by}
 use Rattle.rept_known.proofs.nearest.greatest_to.Goals as goal

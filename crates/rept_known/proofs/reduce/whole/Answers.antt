@@ -1,5 +1,5 @@
 -- The least and the greatest word are words of the set.
-use Rattle.rept_known.specs.Both.{least_has, greatest_has, in_order}
+use Rattle.rept_known.specs.Both.{least_has, greatest_has}
 use Rattle.rept_known.proofs.reduce.whole.Goals as goal
 
 pub between-requires-clause-least : goal.between-requires-clause-least
