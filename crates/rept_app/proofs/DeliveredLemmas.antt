@@ -76,24 +76,6 @@ told_ports r source out result no_input no_output d = record {
     count (inl h) = inl h.3
     count (inr h) = inr (h.1, h.0)
 
--- the same after a call that counted no fault of the output, and after one that failed to read
-pub input_ports : (source : Move Port) (out : Move Port) (result : Status) → OneFault source.before.faults source.after.faults → Delivers (Tells refusal.InputFault) out result → PortsEnd source out result
-input_ports source out result fault d = record {
-  input = λ _. fault;
-  input_ends = inr (fault, ends_told refusal.InputFault out result d);
-  output = failed d;
-  output_ends = count d;
-}
-  where
-    failed : Delivers (Tells refusal.InputFault) out result → result ≡ ends.OutputFault → OneFault out.before.faults out.after.faults
-    failed (inl (text, inl says, appended, calm)) e = let bad : ends.InputFault ≡ ends.OutputFault = sym says.ending ∙ e in let no : ⊥ = cc in absurd no
-    failed (inl (text, inr says, appended, calm)) e = let bad : ends.OutOfMemory ≡ ends.OutputFault = sym says.ending ∙ e in let no : ⊥ = cc in absurd no
-    failed (inr (so, fault, whole)) e = fault
-
-    count : Delivers (Tells refusal.InputFault) out result → FaultEnds out.before.faults out.after.faults (result ≡ ends.OutputFault)
-    count (inl h) = inl h.3
-    count (inr h) = inr (h.1, h.0)
-
 -- ports that counted no fault before a call
 pub ports_after : (source source' : Port) (old mid new : Port) (last : Port) (result : Status) → source'.faults ≡ source.faults → mid.faults ≡ old.faults → PortsEnd (move source' last) (move mid new) result → PortsEnd (move source last) (move old new) result
 ports_after source source' old mid new last result calm_source calm_sink p = record {

@@ -1,5 +1,5 @@
 -- From how a session was served to what the call writes and how it ends.
-use Rattle.std.proofs.Common.{◌≡◌, ℕ, List, ◌++◌, inl, inr, refl, sym, ap, subst, ◌∙◌}
+use Rattle.std.proofs.Common.{◌≡◌, ◌⊎◌, ℕ, List, ◌++◌, inl, inr, refl, sym, ap, subst, ◌∙◌}
 use Rattle.rept_ports.specs.Causes.{OneFault}
 use Rattle.rept_ports.specs.Port.{Port, Move, move}
 use Rattle.rept_ports.proofs.CallerLemmas.{fault_after}
@@ -8,7 +8,7 @@ use Rattle.rept_serve.specs.Serving.{Reading, Serves, CountsAt, IsCaused as IsSe
 use Rattle.rept_serve.specs.declared.serving.Served.{Served}
 use Rattle.rept_serve.specs.declared.serving.Served.TheVariants as served
 use Rattle.rept_app.specs.Delivered.{Delivers}
-use Rattle.rept_app.specs.Ends.{FaultEnds, EndsSession, IsCaused, Yields}
+use Rattle.rept_app.specs.Ends.{FaultEnds, EndsSession, IsCaused, TellsInputFault, Yields}
 use Rattle.rept_app.specs.Held.{Holds}
 use Rattle.rept_app.specs.Lines.{line_of}
 use Rattle.rept_app.specs.declared.refusal.Refusal.{Refusal}
@@ -70,13 +70,20 @@ module _ (t : Told) (reading : Reading) (old mid : Port) where
     ran_out (inr (e, rest)) d = let no : ⊥ = cc in absurd no
 
 -- how a line ends a call, after which its status is told
+line_told : (r : Refusal) (status result : Status) (out : Move Port) → Delivers (Line r status) out result → (result ≡ status) ⊎ (result ≡ ends.OutputFault)
+line_told r status result out (inl (text, goes, appended, calm)) = inl goes.1
+line_told r status result out (inr (e, fault, rest)) = inr e
+
 line_yields : (r : Refusal) (status result : Status) (out : Move Port) → Delivers (Line r status) out result → Yields status result
-line_yields r status result out (inl (text, goes, appended, calm)) = inl goes.1
-line_yields r status result out (inr (e, fault, rest)) = inr (inl e)
+line_yields r status result out d = stops (line_told r status result out d)
+  where
+    stops : (result ≡ status) ⊎ (result ≡ ends.OutputFault) → Yields status result
+    stops (inl e) = inl e
+    stops (inr e) = inr (inl e)
 
 -- the causes of a call that ends with such a line
 pub line_causes : (r : Refusal) (status : Status) (source : Move Port) (old mid new : Port) (result : Status) → (status ≡ ends.OutputFault → ⊥) → (Yields status result → EndsSession result) → (result ≡ ends.InputFault → OneFault source.before.faults source.after.faults)
-    → FaultEnds source.before.faults source.after.faults (Yields ends.InputFault result) → mid.faults ≡ old.faults → Delivers (Line r status) (move mid new) result → IsCaused source (move old new) result
+    → FaultEnds source.before.faults source.after.faults (TellsInputFault result) → mid.faults ≡ old.faults → Delivers (Line r status) (move mid new) result → IsCaused source (move old new) result
 line_causes r status source old mid new result not_output so input input_ends calm d = record {
   ports = record { input = input; input_ends = input_ends; output = fails d; output_ends = count d };
   answered = so (line_yields r status result (move mid new) d);
@@ -122,7 +129,7 @@ failed_causes source sink c = record {
 pub read_causes : (source : Move Port) (old mid new : Port) (result : Status) → IsServed source (move old mid) served.ReadFault → Delivers (Line refusal.InputFault ends.InputFault) (move mid new) result → IsCaused source (move old new) result
 read_causes source old mid new result c d =
     let fault = fault_in source (move old mid) c in
-    line_causes refusal.InputFault ends.InputFault source old mid new result (λ (e : ends.InputFault ≡ ends.OutputFault). cc) so (λ _. fault) (inr (fault, line_yields refusal.InputFault ends.InputFault result (move mid new) d))
+    line_causes refusal.InputFault ends.InputFault source old mid new result (λ (e : ends.InputFault ≡ ends.OutputFault). cc) so (λ _. fault) (inr (fault, line_told refusal.InputFault ends.InputFault result (move mid new) d))
     (calm_out source (move old mid) served.ReadFault (λ (e : served.ReadFault ≡ served.OutputFault). cc) c) d
   where
     so : Yields ends.InputFault result → EndsSession result

@@ -8,3 +8,4 @@ pub mod ToldLemmas
 pub mod TopLemmas
 pub mod MadeLemmas
 pub mod WordsLemmas
+pub mod PromiseLemmas

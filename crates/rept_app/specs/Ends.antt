@@ -17,6 +17,10 @@ EndsSession status = (status ≡ ends.Ok) ⊎ (status ≡ ends.InputFault) ⊎ (
 abbrev pub Yields : Status → Status → Type 0
 Yields expected status = (status ≡ expected) ⊎ Stopped status
 
+-- the line of a failed input is written, or the output failed
+abbrev pub TellsInputFault : Status → Type 0
+TellsInputFault status = (status ≡ ends.InputFault) ⊎ (status ≡ ends.OutputFault)
+
 -- The count of a port's faults stands as it was; or one fault was counted, and the call ended so.
 abbrev pub FaultEnds : ℕ → ℕ → Type 0 → Type 0
 FaultEnds before now EndsSo = (now ≡ before) ⊎ (OneFault before now × EndsSo)
@@ -25,7 +29,7 @@ FaultEnds before now EndsSo = (now ≡ before) ⊎ (OneFault before now × EndsS
 -- no other is counted, and the status tells it, unless the line of an input fault can't be written.
 pub record PortsEnd (source sink : Move Port) (status : Status) : Type 0 where
   pub input : status ≡ ends.InputFault → OneFault source.before.faults source.after.faults
-  pub input_ends : FaultEnds source.before.faults source.after.faults (Yields ends.InputFault status)
+  pub input_ends : FaultEnds source.before.faults source.after.faults (TellsInputFault status)
   pub output : status ≡ ends.OutputFault → OneFault sink.before.faults sink.after.faults
   pub output_ends : FaultEnds sink.before.faults sink.after.faults (status ≡ ends.OutputFault)
 

@@ -7,6 +7,7 @@ pub mod Lines
 pub mod Loading
 pub mod MadeRun
 pub mod Path
+pub mod Promise
 pub mod Status
 pub mod Study
 pub mod Told

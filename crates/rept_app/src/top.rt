@@ -5,6 +5,7 @@ ghost use Rattle.rept_ports.specs.Port.{move};
 ghost use Rattle.rept_app.specs.Delivered.{Delivers};
 ghost use Rattle.rept_app.specs.Ends.{EndsSession};
 ghost use Rattle.rept_app.specs.Loading.{NamesNone};
+ghost use Rattle.rept_app.specs.Promise.{Promise};
 ghost use Rattle.rept_app.specs.Told.{AskedHolds, Writes, Holds, ReportHolds, NoExecution, given};
 ghost use Rattle.rept_app.specs.Top.{AskedEnds, TopCauses, LoadsOf, EndsByFiles, NoneFails, Completes};
 ghost use Rattle.rept_words.specs.Words.{meaning_of};
@@ -33,6 +34,11 @@ pub fn rept<H: Shelf, S: Source, K: Sink>(
     input: &mut S,
     out: &mut K,
 ) -> Status
+    // Where the files and the input are told: at status 0 what was written is the answers of a session over the report of the files, and each
+    // register, byte, range and writer of that report holds in every execution of the path that ends in the crash; at status 1 there is none.
+    ensures promise { IfSome (H.port shelf.old).files (λ files. IfSome (S.port input.old).bytes (λ left.
+        Promise (given (map string_bytes words.now) files (move (H.port shelf.old) (H.port shelf.new)) (record { input = left; left = (S.port input.new).bytes })) (move (K.port out.old) (K.port out.new)) result)) }
+
     // Each fault has its cause and ends the call, for ports that tell their bytes and for ports that don't. The files stay.
     ensures causes { TopCauses (move (H.port shelf.old) (H.port shelf.new)) (move (S.port input.old) (S.port input.new)) (move (K.port out.old) (K.port out.new)) result }
 

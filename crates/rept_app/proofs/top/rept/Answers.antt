@@ -14,6 +14,7 @@ use Rattle.rept_app.specs.Top.{EndsByFiles}
 use Rattle.rept_words.specs.Words.{meaning_of}
 use Rattle.rept_app.specs.declared.status.Status.TheVariants as ends
 use Rattle.rept_app.proofs.DeliveredLemmas.{delivers_as, ends_told, told_ports, not_yielded}
+use Rattle.rept_app.proofs.PromiseLemmas.{promised}
 use Rattle.rept_app.proofs.ToldLemmas.{where_told, at_some, reading_of}
 use Rattle.rept_app.proofs.TopLemmas.{both, of_both, loaded_at, stops, refused_ends, refused_writes, refused_causes, refused_loads, no_status, input_only, output_only, conflict_only, examined_writes, examined_ends, examined_causes, examined_excludes, all_loads, files_hold, holds_where, reports_hold, completed, ok_at, done_at, all_at, made_at, asked_holds, loaded_asks, loads_named, refused_asks, made_asks, made_loads, made_means, made_causes, made_ends, made_writes, no_other}
 use Rattle.rept_app.proofs.top.rept.Goals as goal
@@ -223,3 +224,39 @@ returns-in-Ok-Made-clause-complete g c =
     completed (given words files shelf (reading_of left source.after.bytes)) shelf source sink c.tell_made_run.result (returns-in-Ok-Made-clause-causes g c)
     (of_both (g.H.Shelf.port c.args.shelf.now).files (g.S.Source.port c.args.input.now).bytes (λ fs input. Delivers (Writes (given words fs shelf (reading_of input source.after.bytes))) sink c.tell_made_run.result) files left told told_left
     (returns-in-Ok-Made-clause-text g c)))
+
+pub returns-in-Ok-Files-clause-promise : goal.returns-in-Ok-Files-clause-promise
+returns-in-Ok-Files-clause-promise g c =
+    let words = map string_bytes c.args.words.now in
+    let shelf = move (g.H.Shelf.port c.args.shelf.now) (g.H.Shelf.port c.load_files.new.shelf) in
+    let source = move (g.S.Source.port c.args.input.now) (g.S.Source.port c.examine.new.input) in
+    let sink = move (g.K.Sink.port c.args.out.now) (g.K.Sink.port c.examine.new.out) in
+    both shelf.before.files source.before.bytes _ (λ files told left told_left.
+    promised c.reports_are_true.ensures (given words files shelf (reading_of left source.after.bytes)) sink c.examine.result
+    (of_both shelf.before.files source.before.bytes (λ fs input. Delivers (Writes (given words fs shelf (reading_of input source.after.bytes))) sink c.examine.result) files left told told_left (returns-in-Ok-Files-clause-text g c))
+    (at_some shelf.before.files files (λ fs. EndsByFiles words fs c.examine.result) told (returns-in-Ok-Files-clause-files g c))
+    (at_some shelf.before.files files (λ fs. c.examine.result ≡ ends.Inconsistent → NoExecution words fs) told (returns-in-Ok-Files-clause-impossible g c)))
+
+pub returns-in-Ok-Made-clause-promise : goal.returns-in-Ok-Made-clause-promise
+returns-in-Ok-Made-clause-promise g c =
+    let words = map string_bytes c.args.words.now in
+    let shelf = move (g.H.Shelf.port c.args.shelf.now) (g.H.Shelf.port c.load_files.new.shelf) in
+    let source = move (g.S.Source.port c.args.input.now) (g.S.Source.port c.args.input.now) in
+    let sink = move (g.K.Sink.port c.args.out.now) (g.K.Sink.port c.tell_made_run.new.out) in
+    both shelf.before.files source.before.bytes _ (λ files told left told_left.
+    promised c.reports_are_true.ensures (given words files shelf (reading_of left source.after.bytes)) sink c.tell_made_run.result
+    (of_both shelf.before.files source.before.bytes (λ fs input. Delivers (Writes (given words fs shelf (reading_of input source.after.bytes))) sink c.tell_made_run.result) files left told told_left (returns-in-Ok-Made-clause-text g c))
+    (at_some shelf.before.files files (λ fs. EndsByFiles words fs c.tell_made_run.result) told (returns-in-Ok-Made-clause-files g c))
+    (at_some shelf.before.files files (λ fs. c.tell_made_run.result ≡ ends.Inconsistent → NoExecution words fs) told (returns-in-Ok-Made-clause-impossible g c)))
+
+pub returns-in-Err-clause-promise : goal.returns-in-Err-clause-promise
+returns-in-Err-clause-promise g c =
+    let words = map string_bytes c.args.words.now in
+    let shelf = move (g.H.Shelf.port c.args.shelf.now) (g.H.Shelf.port c.load_files.new.shelf) in
+    let source = move (g.S.Source.port c.args.input.now) (g.S.Source.port c.args.input.now) in
+    let sink = move (g.K.Sink.port c.args.out.now) (g.K.Sink.port c.tell.new.out) in
+    both shelf.before.files source.before.bytes _ (λ files told left told_left.
+    promised c.reports_are_true.ensures (given words files shelf (reading_of left source.after.bytes)) sink c.tell.result
+    (of_both shelf.before.files source.before.bytes (λ fs input. Delivers (Writes (given words fs shelf (reading_of input source.after.bytes))) sink c.tell.result) files left told told_left (returns-in-Err-clause-text g c))
+    (at_some shelf.before.files files (λ fs. EndsByFiles words fs c.tell.result) told (returns-in-Err-clause-files g c))
+    (at_some shelf.before.files files (λ fs. c.tell.result ≡ ends.Inconsistent → NoExecution words fs) told (returns-in-Err-clause-impossible g c)))

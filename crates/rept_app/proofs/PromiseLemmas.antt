@@ -1,0 +1,225 @@
+-- The promise of the whole program, from what is written, what the files say, and what is true of every report.
+use Rattle.std.proofs.Common.{◌≡◌, ◌⊎◌, ℕ, List, length, Bool, true, false, Option, None, Some, MatchOption, Result, Ok, Err, inl, inr, refl, sym, ap, subst, ◌∙◌, cond, nat_lt}
+use Rattle.std.specs.Io.KnownBytes.{Appends}
+use Rattle.rept_ports.specs.Port.{Port, Move}
+use Rattle.rept_ports.specs.Shelves.{Files}
+use Rattle.rept_elf.specs.Segments.{segments}
+use Rattle.rept_elf.specs.declared.fault.ElfFault.{ElfFault}
+use Rattle.rept_dump.specs.Registers.{Says as NotesSay}
+use Rattle.rept_isa.specs.declared.row.StepRow.{StepRow}
+use Rattle.rept_path.specs.declared.fault.PathFault.{PathFault}
+use Rattle.rept_path.specs.declared.fault.PathFault.TheVariants as fault
+use Rattle.rept_reason.specs.Facts.{Knowledge}
+use Rattle.rept_report.specs.Closure.{IsReport}
+use Rattle.rept_found.specs.Crash.{Crash, setting}
+use Rattle.rept_found.specs.Truth.{IsTrueReport}
+use Rattle.rept_app.specs.Delivered.{Delivers, Says}
+use Rattle.rept_app.specs.Ends.{Yields}
+use Rattle.rept_app.specs.Forms.{executable_fault, core_image_fault}
+use Rattle.rept_app.specs.Lines.{status_of, status_of_path}
+use Rattle.rept_app.specs.Loading.{CrashBytes, crash_bytes, Loading, loading, loading_by, fetched, fetched_all, first_packet, limit_of, MatchLoading}
+use Rattle.rept_app.specs.Loading.Loading.{Refused, Loaded, MadeRun}
+use Rattle.rept_app.specs.Promise.{IsOpened, IsAnswered, IsImpossible, Promise}
+use Rattle.rept_app.specs.Told.{Given, Opening, Opens, OpensMade, Reads, Analysed, Walked, NotesTold, Examined, Summed, Told, Interrupted, Writes, NoExecution, crash_at, path_at, setting_at, trace_in, made_bytes, summary_line}
+use Rattle.rept_app.specs.Path.{IsTracePath}
+use Rattle.rept_app.specs.Examine.{FilesEnd}
+use Rattle.rept_app.specs.Top.{EndsBy, EndsByFiles}
+use Rattle.rept_app.specs.declared.refusal.FileKind.{FileKind}
+use Rattle.rept_app.specs.declared.refusal.FileKind.TheVariants as file
+use Rattle.rept_app.specs.declared.refusal.Refusal.{Refusal}
+use Rattle.rept_app.specs.declared.refusal.Refusal.TheVariants as refusal
+use Rattle.rept_app.specs.declared.status.Status.{Status}
+use Rattle.rept_app.specs.declared.status.Status.TheVariants as ends
+use Rattle.rept_words.specs.Words.{Names, Meaning, meaning_of}
+use Rattle.rept_words.specs.Words.Meaning.{Open, Made as MadeWords}
+
+-- a trace that is refused, or no memory
+path_status : (f : PathFault) → (status_of_path f ≡ ends.Trace) ⊎ (status_of_path f ≡ ends.OutOfMemory)
+path_status (fault.NoStart k) = inl refl
+path_status (fault.NotCode a) = inl refl
+path_status (fault.NotRv32im a w) = inl refl
+path_status (fault.Unaligned a) = inl refl
+path_status (fault.NoBranchBit k a) = inl refl
+path_status (fault.BranchesLeft k n) = inl refl
+path_status (fault.JumpInMap k a) = inl refl
+path_status (fault.Gap k a b) = inl refl
+path_status (fault.End a b) = inl refl
+path_status (fault.TooLong k) = inl refl
+path_status (fault.Packet p) = inl refl
+path_status (fault.Trapped k a) = inl refl
+path_status fault.OutOfMemory = inr refl
+
+-- no refusal has the status of a session that ended well
+refused_badly : (r : Refusal) → status_of r ≡ ends.Ok → ⊥
+refused_badly refusal.Usage e = cc
+refused_badly (refusal.LoadFault k) e = cc
+refused_badly (refusal.NoFile k) e = cc
+refused_badly (refusal.TooLarge k) e = cc
+refused_badly (refusal.Executable f) e = cc
+refused_badly (refusal.CoreImage f) e = cc
+refused_badly (refusal.Core f) e = cc
+refused_badly (refusal.Path f) e = by_path (path_status f)
+  where
+    by_path : (status_of_path f ≡ ends.Trace) ⊎ (status_of_path f ≡ ends.OutOfMemory) → ⊥
+    by_path (inl h) = let bad : ends.Trace ≡ ends.Ok = sym h ∙ e in cc
+    by_path (inr h) = let bad : ends.OutOfMemory ≡ ends.Ok = sym h ∙ e in cc
+refused_badly (refusal.Inconsistent kind) e = cc
+refused_badly refusal.InputFault e = cc
+refused_badly refusal.OutOfMemory e = cc
+refused_badly refusal.TooMuchInput e = cc
+
+-- words and files are refused by no conflict
+abbrev pub IsNoConflict : Loading → Type 0
+IsNoConflict l = MatchLoading l (λ r. status_of r ≡ ends.Inconsistent → ⊥) (λ bytes. Unit {0}) (λ seed steps. Unit {0})
+
+either : (b : Bool) (x y : Loading) → IsNoConflict x → IsNoConflict y → IsNoConflict (cond b x y)
+either true x y hx hy = hx
+either false x y hx hy = hy
+
+one_file : (kind : FileKind) (o : Option (List ℕ)) (next : List ℕ → Loading) → ((bytes : List ℕ) → IsNoConflict (next bytes)) → IsNoConflict (fetched kind o next)
+one_file kind None next h = λ (e : ends.NoFile ≡ ends.Inconsistent). cc
+one_file kind (Some bytes) next h = either (nat_lt (limit_of kind) (length bytes)) (Refused (refusal.TooLarge kind)) (next bytes) (λ (e : ends.TooLarge ≡ ends.Inconsistent). cc) (h bytes)
+
+all_files : (files : Files) (names : Names) (from : ℕ) → IsNoConflict (fetched_all files names from)
+all_files files names from =
+    one_file file.Exe (files names.exe) (λ exe. fetched file.Core (files names.core) (λ core. fetched file.Trace (files names.trace) (λ trace. Loaded (crash_bytes exe core trace from))))
+    (λ exe. one_file file.Core (files names.core) (λ core. fetched file.Trace (files names.trace) (λ trace. Loaded (crash_bytes exe core trace from)))
+    (λ core. one_file file.Trace (files names.trace) (λ trace. Loaded (crash_bytes exe core trace from)) (λ trace. tt)))
+
+no_conflict : (files : Files) (m : Option Meaning) → IsNoConflict (loading_by files m)
+no_conflict files None = λ (e : ends.Usage ≡ ends.Inconsistent). cc
+no_conflict files (Some (MadeWords seed steps)) = tt
+no_conflict files (Some (Open names from)) = all_files files names (first_packet from)
+
+-- the trace of these files has a path, and it is analysed
+pub record Analyses (bytes : CrashBytes) (lines text : List ℕ) (status : Status) : Type 0 where
+  pub opening : Opening
+  pub same : opening.bytes ≡ bytes
+  pub read : Reads opening.bytes opening.note
+  pub path : IsTracePath (crash_at opening) opening.bytes.trace opening.bytes.from opening.path
+  pub analysed : Analysed (path_at opening) lines text status
+
+module _ (lines text : List ℕ) (status : Status) (promised : (status ≡ ends.Ok) ⊎ (status ≡ ends.Inconsistent)) where
+  never : {P : Type 0} (other : Status) → (other ≡ ends.Ok → ⊥) → (other ≡ ends.Inconsistent → ⊥) → status ≡ other → P
+  never {P = P} other not_ok consistent e = by_status promised
+    where
+      by_status : (status ≡ ends.Ok) ⊎ (status ≡ ends.Inconsistent) → P
+      by_status (inl h) = absurd (not_ok (sym e ∙ h))
+      by_status (inr h) = absurd (consistent (sym e ∙ h))
+
+  no_path : {P : Type 0} (f : PathFault) → status ≡ status_of_path f → P
+  no_path {P = P} f e = by_fault (path_status f)
+    where
+      by_fault : (status_of_path f ≡ ends.Trace) ⊎ (status_of_path f ≡ ends.OutOfMemory) → P
+      by_fault (inl h) = never ends.Trace (λ (k : ends.Trace ≡ ends.Ok). cc) (λ (k : ends.Trace ≡ ends.Inconsistent). cc) (e ∙ h)
+      by_fault (inr h) = never ends.OutOfMemory (λ (k : ends.OutOfMemory ≡ ends.Ok). cc) (λ (k : ends.OutOfMemory ≡ ends.Inconsistent). cc) (e ∙ h)
+
+  no_core : {P : Type 0} → status ≡ ends.Core → P
+  no_core e = never ends.Core (λ (k : ends.Core ≡ ends.Ok). cc) (λ (k : ends.Core ≡ ends.Inconsistent). cc) e
+
+  module _ (bytes : CrashBytes) where
+    walked : (note : List ℕ) → Reads bytes note → Walked (trace_in bytes note) lines text status → Analyses bytes lines text status
+    walked note read (inl (f, has, says)) = no_path f says.ending
+    walked note read (inr (path, is, analysed)) = record { opening = record { bytes = bytes; note = note; path = path }; same = refl; read = read; path = is; analysed = analysed }
+
+    noted : executable_fault bytes.exe ≡ None → core_image_fault bytes.core ≡ None → NotesTold bytes lines text status → Analyses bytes lines text status
+    noted exe core (Ok note, said, h) = walked note (record { exe_accepted = exe; core_accepted = core; noted = said }) h
+    noted exe core (Err f, said, says) = no_core says.ending
+
+    core_read : (o : Option ElfFault) → core_image_fault bytes.core ≡ o → executable_fault bytes.exe ≡ None → MatchOption o (NotesTold bytes lines text status) (λ f. Says (refusal.CoreImage f) text status) → Analyses bytes lines text status
+    core_read None core exe h = noted exe core h
+    core_read (Some f) core exe says = no_core says.ending
+
+    exe_read : (o : Option ElfFault) → executable_fault bytes.exe ≡ o
+        → MatchOption o (MatchOption (core_image_fault bytes.core) (NotesTold bytes lines text status) (λ f. Says (refusal.CoreImage f) text status)) (λ f. Says (refusal.Executable f) text status)
+        → Analyses bytes lines text status
+    exe_read None exe h = core_read (core_image_fault bytes.core) refl exe h
+    exe_read (Some f) exe says = never ends.Executable (λ (k : ends.Executable ≡ ends.Ok). cc) (λ (k : ends.Executable ≡ ends.Inconsistent). cc) says.ending
+
+    pub examined : Examined bytes lines text status → Analyses bytes lines text status
+    examined h = exe_read (executable_fault bytes.exe) refl h
+
+-- What was written is that of a path which is analysed: that of the files of the words, or of a made crash.
+abbrev pub IsOf : Given → List ℕ → Status → Type 0
+IsOf g text status = (o : Opening) × (lines : List ℕ) × IsOpened g o lines × Analysed (path_at o) lines text status
+
+module _ (g : Given) (text : List ℕ) (status : Status) (promised : (status ≡ ends.Ok) ⊎ (status ≡ ends.Inconsistent)) where
+  refused : (r : Refusal) → loading g.words g.files ≡ Refused r → status ≡ status_of r → IsOf g text status
+  refused r e ending = by_status promised
+    where
+      consistent : status_of r ≡ ends.Inconsistent → ⊥
+      consistent = subst IsNoConflict e (no_conflict g.files (meaning_of g.words))
+
+      by_status : (status ≡ ends.Ok) ⊎ (status ≡ ends.Inconsistent) → IsOf g text status
+      by_status (inl h) = absurd (refused_badly r (sym ending ∙ h))
+      by_status (inr h) = absurd (consistent (sym ending ∙ h))
+
+  by_loading : (l : Loading) → loading g.words g.files ≡ l → MatchLoading l (λ r. Says r text status) (λ bytes. Examined bytes g.reading.input text status) (λ seed steps. Summed seed steps text status) → IsOf g text status
+  by_loading (Refused r) e says = refused r e says.ending
+  by_loading (Loaded bytes) e h =
+      let a = examined g.reading.input text status promised bytes h in
+      (a.opening, g.reading.input, inl (record { loaded = e ∙ ap Loaded (sym a.same); read = a.read; path = a.path }, refl), a.analysed)
+  by_loading (MadeRun seed steps) e (made, is, h) =
+      let a = examined summary_line text status promised (made_bytes made) h in
+      (a.opening, summary_line, inr (seed, steps, made, e, is, record { bytes = a.same; read = a.read; path = a.path }, refl), a.analysed)
+
+  pub told_of_path : Told g text status → IsOf g text status
+  told_of_path h = by_loading (loading g.words g.files) refl h
+
+-- a call that was cut short ends with neither status
+no_memory_ok : {P : Type 0} (text : List ℕ) → Says refusal.OutOfMemory text ends.Ok → P
+no_memory_ok text says = let bad : ends.Ok ≡ ends.OutOfMemory = says.ending in let no : ⊥ = cc in absurd no
+
+no_memory_conflict : {P : Type 0} (text : List ℕ) → Says refusal.OutOfMemory text ends.Inconsistent → P
+no_memory_conflict text says = let bad : ends.Inconsistent ≡ ends.OutOfMemory = says.ending in let no : ⊥ = cc in absurd no
+
+whole_ok : (g : Given) (text : List ℕ) → Writes g text ends.Ok → IsOf g text ends.Ok
+whole_ok g text (inl told) = told_of_path g text ends.Ok (inl refl) told
+whole_ok g text (inr (inl (kind, comes, loads, says))) = let bad : ends.Ok ≡ ends.LoadFault = says.ending in let no : ⊥ = cc in absurd no
+whole_ok g text (inr (inr (inl says))) = no_memory_ok text says
+whole_ok g text (inr (inr (inr (inl (o, a, opens, is, cut))))) = absurd cut
+whole_ok g text (inr (inr (inr (inr (seed, steps, asked, (made, m, o, opens, a, is, left, cut)))))) = absurd cut
+
+whole_conflict : (g : Given) (text : List ℕ) → Writes g text ends.Inconsistent → IsOf g text ends.Inconsistent
+whole_conflict g text (inl told) = told_of_path g text ends.Inconsistent (inr refl) told
+whole_conflict g text (inr (inl (kind, comes, loads, says))) = let bad : ends.Inconsistent ≡ ends.LoadFault = says.ending in let no : ⊥ = cc in absurd no
+whole_conflict g text (inr (inr (inl says))) = no_memory_conflict text says
+whole_conflict g text (inr (inr (inr (inl (o, a, opens, is, cut))))) = absurd cut
+whole_conflict g text (inr (inr (inr (inr (seed, steps, asked, (made, m, o, opens, a, is, left, cut)))))) = absurd cut
+
+-- the law that what is told of a report is true
+abbrev pub ReportsAreTrue : Type 0
+ReportsAreTrue = (crash : Crash) (rows : List StepRow) (known : Knowledge) → IsReport (setting crash rows) known → IsTrueReport (setting crash rows) known
+
+module _ (true_of : ReportsAreTrue) (g : Given) (out : Move Port) where
+  answered_by : (text : List ℕ) → Appends out.before.bytes out.after.bytes text → IsOf g text ends.Ok → IsAnswered g out
+  answered_by text written (o, lines, opened, inl (kind, has, says)) = let bad : ends.Ok ≡ ends.Inconsistent = says.ending in let no : ⊥ = cc in absurd no
+  answered_by text written (o, lines, opened, inr (a, is, answers)) =
+      record { opening = o; lines = lines; opened = opened; account = a; report = is; text = text; answers = answers; written = written; holds = true_of (crash_at o) o.path.steps a.known is.report }
+
+  -- a made run isn't inconsistent
+  made_ends_well : (l : Loading) (seed steps : ℕ) → l ≡ MadeRun seed steps → (P : Refusal → Type 0) (Q : CrashBytes → Type 0) → MatchLoading l P Q (λ seed steps. Yields ends.Ok ends.Inconsistent) → ⊥
+  made_ends_well l seed steps e P Q h = bad (subst (λ (x : Loading). MatchLoading x P Q (λ seed steps. Yields ends.Ok ends.Inconsistent)) e h)
+    where
+      bad : Yields ends.Ok ends.Inconsistent → ⊥
+      bad (inl k) = cc
+      bad (inr (inl k)) = cc
+      bad (inr (inr k)) = cc
+
+  impossible_by : EndsByFiles g.words g.files ends.Inconsistent → NoExecution g.words g.files → (text : List ℕ) → IsOf g text ends.Inconsistent → IsImpossible g
+  impossible_by files none text (o, lines, inl (opens, same), analysed) = record { opening = o; opened = opens; none = none o opens }
+  impossible_by files none text (o, lines, inr (seed, steps, made, asked, is, opens, same), analysed) = absurd (made_ends_well (loading g.words g.files) seed steps asked (λ r. EndsBy (status_of r) ends.Inconsistent) (λ bytes. FilesEnd bytes ends.Inconsistent ⊎ (ends.Inconsistent ≡ ends.LoadFault)) files)
+
+  ok_delivered : Delivers (Writes g) out ends.Ok → IsAnswered g out
+  ok_delivered (inl (text, goes, written, calm)) = answered_by text written (whole_ok g text goes)
+  ok_delivered (inr (e, fault, rest)) = let bad : ends.Ok ≡ ends.OutputFault = e in let no : ⊥ = cc in absurd no
+
+  conflict_delivered : EndsByFiles g.words g.files ends.Inconsistent → NoExecution g.words g.files → Delivers (Writes g) out ends.Inconsistent → IsImpossible g
+  conflict_delivered files none (inl (text, goes, written, calm)) = impossible_by files none text (whole_conflict g text goes)
+  conflict_delivered files none (inr (e, fault, rest)) = let bad : ends.Inconsistent ≡ ends.OutputFault = e in let no : ⊥ = cc in absurd no
+
+  pub promised : (status : Status) → Delivers (Writes g) out status → EndsByFiles g.words g.files status → (status ≡ ends.Inconsistent → NoExecution g.words g.files) → Promise g out status
+  promised status delivers files none = record {
+    answered = λ e. ok_delivered (subst (Delivers (Writes g) out) e delivers);
+    impossible = λ e. conflict_delivered (subst (EndsByFiles g.words g.files) e files) (none e) (subst (Delivers (Writes g) out) e delivers);
+  }

@@ -1,0 +1,47 @@
+-- The promise of the whole program, in one place: where a session ends well, its answers tell a report that is true of every execution
+-- that ends in the crash; where the files are said to be inconsistent, there is none. This project's own.
+use Rattle.std.specs.Prelude.{◌≡◌, ◌⊎◌, ℕ, List}
+use Rattle.std.specs.Io.KnownBytes.{Appends}
+use Rattle.rept_ports.specs.Port.{Port, Move}
+use Rattle.rept_report.specs.Soundness.{HasNoExecution}
+use Rattle.rept_found.specs.Telling.{Account, told_of}
+use Rattle.rept_found.specs.Truth.{IsTrueReport}
+use Rattle.rept_serve.specs.Serving.{Ended}
+use Rattle.rept_make.specs.Made.{IsMade}
+use Rattle.rept_make.specs.declared.made.Made.{Made}
+use Rattle.rept_app.specs.Loading.{loading}
+use Rattle.rept_app.specs.Loading.Loading.{MadeRun}
+use Rattle.rept_app.specs.Told.{Given, Opening, Opens, OpensMade, IsAccountOf, path_at, setting_at, summary_line}
+use Rattle.rept_app.specs.declared.status.Status.{Status}
+use Rattle.rept_app.specs.declared.status.Status.TheVariants as ends
+
+-- the crash that is opened, and the lines that are answered of it: the files that the words name, and the input; or the files of the
+-- made crash that they ask for, and the line `summary`
+abbrev pub IsOpened : Given → Opening → List ℕ → Type 0
+IsOpened g o lines =
+    (Opens g.words g.files o × (lines ≡ g.reading.input))
+    ⊎ ((seed : ℕ) × (steps : ℕ) × (made : Made) × (loading g.words g.files ≡ MadeRun seed steps) × IsMade seed steps made × OpensMade made o × (lines ≡ summary_line))
+
+-- What was written is the answers to the lines, to their end or to `quit`, over the report of the path; and each register, byte, range
+-- and writer of that report holds in every execution of the path that ends in the crash.
+pub record IsAnswered (g : Given) (out : Move Port) : Type 0 where
+  pub opening : Opening
+  pub lines : List ℕ
+  pub opened : IsOpened g opening lines
+  pub account : Account
+  pub report : IsAccountOf (path_at opening) account
+  pub text : List ℕ
+  pub answers : Ended (told_of (setting_at opening) account) lines text
+  pub written : Appends out.before.bytes out.after.bytes text
+  pub holds : IsTrueReport (setting_at opening) account.known
+
+-- the files tell a path, and no execution of it ends in the crash
+pub record IsImpossible (g : Given) : Type 0 where
+  pub opening : Opening
+  pub opened : Opens g.words g.files opening
+  pub none : HasNoExecution (setting_at opening)
+
+-- status 0, and status 1
+pub record Promise (g : Given) (out : Move Port) (status : Status) : Type 0 where
+  pub answered : status ≡ ends.Ok → IsAnswered g out
+  pub impossible : status ≡ ends.Inconsistent → IsImpossible g
