@@ -58,6 +58,10 @@ trace_told (fault.End a b) status never h = h
 trace_told (fault.TooLong k) status never h = h
 trace_told (fault.Packet p) status never h = h
 trace_told (fault.Trapped k a) status never h = h
+trace_told (fault.TimeBack k) status never h = h
+trace_told (fault.SliceOverlap pid time) status never h = h
+trace_told (fault.UnknownThread k context) status never h = h
+trace_told (fault.OtherThread k context) status never h = h
 trace_told fault.OutOfMemory status never h = absurd (never refl)
 
 pub not_output : (f : PathFault) → status_of (refusal.Path f) ≡ ends.OutputFault → ⊥
@@ -73,6 +77,10 @@ not_output (fault.End a b) e = cc
 not_output (fault.TooLong k) e = cc
 not_output (fault.Packet p) e = cc
 not_output (fault.Trapped k a) e = cc
+not_output (fault.TimeBack k) e = cc
+not_output (fault.SliceOverlap pid time) e = cc
+not_output (fault.UnknownThread k context) e = cc
+not_output (fault.OtherThread k context) e = cc
 not_output fault.OutOfMemory e = cc
 
 pub not_input : (f : PathFault) → status_of (refusal.Path f) ≡ ends.InputFault → ⊥
@@ -88,6 +96,10 @@ not_input (fault.End a b) e = cc
 not_input (fault.TooLong k) e = cc
 not_input (fault.Packet p) e = cc
 not_input (fault.Trapped k a) e = cc
+not_input (fault.TimeBack k) e = cc
+not_input (fault.SliceOverlap pid time) e = cc
+not_input (fault.UnknownThread k context) e = cc
+not_input (fault.OtherThread k context) e = cc
 not_input fault.OutOfMemory e = cc
 
 module _ (t : CrashTrace) (status : Status) where

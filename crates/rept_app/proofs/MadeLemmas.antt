@@ -132,6 +132,10 @@ no_path_status (fault.End a b) e = cc
 no_path_status (fault.TooLong k) e = cc
 no_path_status (fault.Packet p) e = cc
 no_path_status (fault.Trapped k a) e = cc
+no_path_status (fault.TimeBack k) e = cc
+no_path_status (fault.SliceOverlap pid time) e = cc
+no_path_status (fault.UnknownThread k context) e = cc
+no_path_status (fault.OtherThread k context) e = cc
 no_path_status fault.OutOfMemory e = cc
 
 module _ (bytes : CrashBytes) (text : List ℕ) where

@@ -11,7 +11,7 @@ use Rattle.rept_path.specs.declared.fault.PathFault.{PathFault}
 use Rattle.rept_path.specs.declared.fault.PathFault.TheVariants as fault
 use Rattle.rept_reason.specs.Facts.{Knowledge}
 use Rattle.rept_report.specs.Closure.{IsReport}
-use Rattle.rept_found.specs.Crash.{Crash, setting}
+use Rattle.rept_found.specs.Crash.{Crash, route, setting}
 use Rattle.rept_found.specs.Truth.{IsTrueReport}
 use Rattle.rept_app.specs.Delivered.{Delivers, Says}
 use Rattle.rept_app.specs.Ends.{Yields}
@@ -20,7 +20,7 @@ use Rattle.rept_app.specs.Lines.{status_of, status_of_path}
 use Rattle.rept_app.specs.Loading.{CrashBytes, crash_bytes, Loading, loading, loading_by, fetched, fetched_all, first_packet, limit_of, MatchLoading}
 use Rattle.rept_app.specs.Loading.Loading.{Refused, Loaded, MadeRun}
 use Rattle.rept_app.specs.Promise.{IsOpened, IsAnswered, IsImpossible, Promise}
-use Rattle.rept_app.specs.Told.{Given, Opening, Opens, OpensMade, Reads, Analysed, Walked, NotesTold, Examined, Summed, Told, Interrupted, Writes, NoExecution, crash_at, path_at, setting_at, trace_in, made_bytes, summary_line}
+use Rattle.rept_app.specs.Told.{Given, Opening, Opens, OpensMade, Reads, Analysed, Walked, NotesTold, Examined, Summed, Told, Interrupted, Writes, NoExecution, crash_at, path_at, route_at, trace_in, made_bytes, summary_line}
 use Rattle.rept_app.specs.Path.{IsTracePath}
 use Rattle.rept_app.specs.Examine.{FilesEnd}
 use Rattle.rept_app.specs.Top.{EndsBy, EndsByFiles}
@@ -47,6 +47,10 @@ path_status (fault.End a b) = inl refl
 path_status (fault.TooLong k) = inl refl
 path_status (fault.Packet p) = inl refl
 path_status (fault.Trapped k a) = inl refl
+path_status (fault.TimeBack k) = inl refl
+path_status (fault.SliceOverlap pid time) = inl refl
+path_status (fault.UnknownThread k context) = inl refl
+path_status (fault.OtherThread k context) = inl refl
 path_status fault.OutOfMemory = inr refl
 
 -- no refusal has the status of a session that ended well
@@ -189,7 +193,7 @@ whole_conflict g text (inr (inr (inr (inr (seed, steps, asked, (made, m, o, open
 
 -- the law that what is told of a report is true
 abbrev pub ReportsAreTrue : Type 0
-ReportsAreTrue = (crash : Crash) (rows : List StepRow) (known : Knowledge) → IsReport (setting crash rows) known → IsTrueReport (setting crash rows) known
+ReportsAreTrue = (crash : Crash) (rows : List StepRow) (known : Knowledge) → IsReport (setting crash rows) known → IsTrueReport (route crash rows) known
 
 module _ (true_of : ReportsAreTrue) (g : Given) (out : Move Port) where
   answered_by : (text : List ℕ) → Appends out.before.bytes out.after.bytes text → IsOf g text ends.Ok → IsAnswered g out

@@ -1,9 +1,9 @@
 //! The debugger over the system's files and streams.
 #![tactic(auto)]
 
-use rept_run::{exit_code, run};
+use rept_run::run;
 use std::process::ExitCode;
 
 fn main(rt: HostRuntime) -> ExitCode {
-    exit_code(run(&rt))
+    run(&rt)
 }

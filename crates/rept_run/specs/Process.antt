@@ -1,15 +1,48 @@
--- The words of a process, as they were read.
-use Rattle.std.specs.Prelude.{ℕ, List, [], Option, None, Some}
-use Rattle.rept_run.specs.declared.Unreadable.{Unreadable}
-use Rattle.rept_run.specs.declared.Unreadable.TheVariants.{NotText, OutOfMemory}
+-- A process that runs the top call: its words, its ports, and its status. This project's own.
+use Rattle.std.specs.Prelude.{◌≡◌, ℕ, List, [], None, Result, Ok, Err, IfSome}
+use Rattle.rept_ports.specs.Port.{Port, Move}
+use Rattle.rept_ports.specs.Shelves.{Files, Shelved}
+use Rattle.rept_ports.specs.declared.arguments.Unreadable.{Unreadable}
+use Rattle.rept_ports.specs.declared.arguments.Unreadable.TheVariants.{NotText, OutOfMemory}
+use Rattle.rept_words.specs.Words.{meaning_of}
+use Rattle.rept_app.specs.Delivered.{Delivers, Says}
+use Rattle.rept_app.specs.Promise.{Promise}
+use Rattle.rept_app.specs.Told.{Given, Writes, given}
+use Rattle.rept_app.specs.Top.{TopCauses, EndsByFiles}
+use Rattle.rept_app.specs.declared.refusal.Refusal.TheVariants as refusal
+use Rattle.rept_app.specs.declared.status.Status.{Status}
+use Rattle.rept_app.specs.declared.status.Status.TheVariants as ends
 
 -- the words; none, where one of them isn't text
-abbrev pub read_words : List (List ℕ) → Option Unreadable → List (List ℕ)
-read_words words None = words
-read_words words (Some why) = []
+abbrev pub words_read : Result (List (List ℕ)) Unreadable → List (List ℕ)
+words_read (Ok words) = words
+words_read (Err why) = []
 
 -- there was memory for the words
-abbrev pub AreRead : Option Unreadable → Type 0
-AreRead None = Unit {0}
-AreRead (Some NotText) = Unit {0}
-AreRead (Some OutOfMemory) = ⊥
+abbrev pub AreRead : Result (List (List ℕ)) Unreadable → Type 0
+AreRead (Ok words) = Unit {0}
+AreRead (Err NotText) = Unit {0}
+AreRead (Err OutOfMemory) = ⊥
+
+-- the words, or why they can't be read; and the shelf, the input and the output before the call and after it
+pub record Process : Type 0 where
+  pub words : Result (List (List ℕ)) Unreadable
+  pub shelf : Move Shelved
+  pub input : Move Port
+  pub output : Move Port
+
+abbrev pub process : Result (List (List ℕ)) Unreadable → Move Shelved → Move Port → Move Port → Process
+process words shelf input output = record { words = words; shelf = shelf; input = input; output = output }
+
+-- what the call was given, where its files and this input are told
+abbrev pub given_to : Process → Files → List ℕ → Given
+given_to p files input = given (words_read p.words) files p.shelf (record { input = input; left = p.input.after.bytes })
+
+-- The status and the text are those of the top call on the words; without memory for them the line of that.
+pub record Answers (p : Process) (status : Status) : Type 0 where
+  pub promise : AreRead p.words → IfSome p.shelf.before.files (λ files. IfSome p.input.before.bytes (λ input. Promise (given_to p files input) p.output status))
+  pub causes : TopCauses p.shelf p.input p.output status
+  pub usage : status ≡ ends.Usage → meaning_of (words_read p.words) ≡ None
+  pub files : AreRead p.words → IfSome p.shelf.before.files (λ files. EndsByFiles (words_read p.words) files status)
+  pub text : AreRead p.words → IfSome p.shelf.before.files (λ files. IfSome p.input.before.bytes (λ input. Delivers (Writes (given_to p files input)) p.output status))
+  pub memory : p.words ≡ Err OutOfMemory → Delivers (Says refusal.OutOfMemory) p.output status

@@ -1,19 +1,21 @@
-//! A process that runs the top call: its words, and the status that it ends with.
+//! A process that runs the top call: its words, its ports, and the number that it ends with.
 #![tactic(auto)]
 
-ghost use Rattle.std.specs.Prelude.{◌≡◌, map, string_bytes, IfSome, None, Some};
+ghost use Rattle.std.specs.Prelude.{◌≡◌, map, string_bytes, IfSome, None, Err};
 ghost use Rattle.std.specs.Process.{exit_status};
+ghost use Rattle.std.specs.Result.{result_map_both};
 ghost use Rattle.rept_ports.specs.Port.{move};
 ghost use Rattle.rept_app.specs.Delivered.{Delivers, Says};
+ghost use Rattle.rept_app.specs.Promise.{Promise};
 ghost use Rattle.rept_app.specs.Status.{number_of_status};
 ghost use Rattle.rept_app.specs.Told.{Writes, given};
 ghost use Rattle.rept_app.specs.Top.{TopCauses, EndsByFiles};
 ghost use Rattle.rept_words.specs.Words.{meaning_of};
 ghost use Rattle.rept_app.specs.declared.refusal.Refusal.TheVariants as refusal;
-ghost use Rattle.rept_run.specs.Read.{read_words, AreRead};
+ghost use Rattle.rept_run.specs.Process.{Answers, AreRead, process, words_read};
 
 use rept_app::{Status, rept, tell_no_memory};
-use rept_ports::{DiskShelf, Shelf, Sink, Source, StdSink, StdSource};
+use rept_ports::{DiskShelf, Shelf, Sink, Source, StdSink, StdSource, Unreadable, words_of};
 use std::alloc::Global;
 use std::process::ExitCode;
 use std::{env, io};
@@ -21,88 +23,57 @@ use std::{env, io};
 #[cfg(test)]
 mod tests;
 
-/// Why the words after the program's name can't be read.
-#[derive(Clone, Copy, Debug, PartialEq, Eq)]
-pub enum Unreadable {
-    /// One of them isn't text.
-    NotText,
-    /// There is no memory for them.
-    OutOfMemory,
-}
-
-/// The words after the program's name.
-fn words<R: AllocGlobal + env::Env>(rt: &R) -> Result<Vec<String>, Unreadable> {
-    let arguments = match env::args(rt) {
-        Ok(arguments) => arguments,
-        Err(error) => {
-            return Err(match error.kind() {
-                io::ErrorKind::OutOfMemory => Unreadable::OutOfMemory,
-                _ => Unreadable::NotText,
-            });
-        }
-    };
-    match arguments.skip(1).collect::<Vec<String>>(rt.alloc()) {
-        Ok(words) => Ok(words),
-        Err(_) => Err(Unreadable::OutOfMemory),
-    }
-}
-
-/// Runs the top call on the words, or says why they can't be read. Words that aren't text have no meaning, as no words have none; where there
-/// is no memory for the words, a line says so.
-pub fn answer<H: Shelf, S: Source, K: Sink>(
+/// The status of the top call on the words.
+fn status_on<H: Shelf, S: Source, K: Sink>(
     alloc: Global,
-    words: &[String],
-    unreadable: Option<Unreadable>,
+    words: Result<Vec<String>, Unreadable>,
     shelf: &mut H,
     input: &mut S,
     out: &mut K,
 ) -> Status
-    // The status and the text are those of the top call on these words.
+    ensures promise { let read = result_map_both (λ v. map string_bytes v.items) (λ e. e) words in AreRead read → IfSome (H.port shelf.old).files (λ files. IfSome (S.port input.old).bytes (λ left.
+        Promise (given (words_read read) files (move (H.port shelf.old) (H.port shelf.new)) (record { input = left; left = (S.port input.new).bytes })) (move (K.port out.old) (K.port out.new)) result)) }
     ensures causes { TopCauses (move (H.port shelf.old) (H.port shelf.new)) (move (S.port input.old) (S.port input.new)) (move (K.port out.old) (K.port out.new)) result }
-    ensures usage { result ≡ Status.Usage → meaning_of (read_words (map string_bytes words.now) unreadable) ≡ None }
-    ensures files { AreRead unreadable → IfSome (H.port shelf.old).files (λ files. EndsByFiles (read_words (map string_bytes words.now) unreadable) files result) }
-    ensures text { AreRead unreadable → IfSome (H.port shelf.old).files (λ files. IfSome (S.port input.old).bytes (λ left.
-        Delivers (Writes (given (read_words (map string_bytes words.now) unreadable) files (move (H.port shelf.old) (H.port shelf.new)) (record { input = left; left = (S.port input.new).bytes }))) (move (K.port out.old) (K.port out.new)) result)) }
-
-    // Without memory for the words.
-    ensures memory { unreadable ≡ Some Unreadable.OutOfMemory → Delivers (Says refusal.OutOfMemory) (move (K.port out.old) (K.port out.new)) result }
+    ensures usage { result ≡ Status.Usage → meaning_of (words_read (result_map_both (λ v. map string_bytes v.items) (λ e. e) words)) ≡ None }
+    ensures files { let read = result_map_both (λ v. map string_bytes v.items) (λ e. e) words in AreRead read → IfSome (H.port shelf.old).files (λ files. EndsByFiles (words_read read) files result) }
+    ensures text { let read = result_map_both (λ v. map string_bytes v.items) (λ e. e) words in AreRead read → IfSome (H.port shelf.old).files (λ files. IfSome (S.port input.old).bytes (λ left.
+        Delivers (Writes (given (words_read read) files (move (H.port shelf.old) (H.port shelf.new)) (record { input = left; left = (S.port input.new).bytes }))) (move (K.port out.old) (K.port out.new)) result)) }
+    ensures memory { words ≡ Err Unreadable.OutOfMemory → Delivers (Says refusal.OutOfMemory) (move (K.port out.old) (K.port out.new)) result }
 {
-    match unreadable {
-        None => rept(alloc, words, shelf, input, out),
-        Some(Unreadable::NotText) => rept(alloc, &[], shelf, input, out),
-        Some(Unreadable::OutOfMemory) => tell_no_memory(out),
+    match words {
+        Ok(words) => rept(alloc, words.as_slice(), shelf, input, out),
+        Err(Unreadable::NotText) => rept(alloc, &[], shelf, input, out),
+        Err(Unreadable::OutOfMemory) => tell_no_memory(out),
     }
 }
 
-/// The process ends with the number of the status.
-pub fn exit_code(status: Status) -> ExitCode
+/// The number of a status.
+fn exit_code(status: Status) -> ExitCode
     ensures { exit_status result ≡ number_of_status status }
 {
     ExitCode::from(status.number())
 }
 
+/// Runs the top call on the words, or says why they can't be read, and answers the number of the status. Words that aren't text have no
+/// meaning, as no words have none; where there is no memory for the words, a line says so.
+pub fn answer<H: Shelf, S: Source, K: Sink>(
+    alloc: Global,
+    words: Result<Vec<String>, Unreadable>,
+    shelf: &mut H,
+    input: &mut S,
+    out: &mut K,
+) -> ExitCode
+    ensures { (status : Status) × (exit_status result ≡ number_of_status status)
+        × Answers (process (result_map_both (λ v. map string_bytes v.items) (λ e. e) words) (move (H.port shelf.old) (H.port shelf.new)) (move (S.port input.old) (S.port input.new)) (move (K.port out.old) (K.port out.new))) status }
+{
+    exit_code(status_on(alloc, words, shelf, input, out))
+}
+
 /// Runs the top call over the system's files and streams, on the words after the program's name.
-pub fn run<R: AllocGlobal + env::Env + std::fs::Files + Input + Print>(rt: &R) -> Status {
+pub fn run<R: AllocGlobal + env::Env + std::fs::Files + Input + Print>(rt: &R) -> ExitCode {
+    let words = words_of(rt.alloc(), env::args(rt));
     let mut shelf = DiskShelf::new(rt);
     let mut source = StdSource::new(rt.reader());
     let mut sink = StdSink::new(io::writer(rt));
-    let alloc = rt.alloc();
-    match words(rt) {
-        Ok(words) => answer(
-            alloc,
-            words.as_slice(),
-            None,
-            &mut shelf,
-            &mut source,
-            &mut sink,
-        ),
-        Err(unreadable) => answer(
-            alloc,
-            &[],
-            Some(unreadable),
-            &mut shelf,
-            &mut source,
-            &mut sink,
-        ),
-    }
+    answer(rt.alloc(), words, &mut shelf, &mut source, &mut sink)
 }

@@ -1,8 +1,7 @@
 //! Words that can't be read.
 
-use crate::{Unreadable, answer, exit_code};
-use rept_app::Status;
-use rept_ports::{CalmShelf, CalmSource, MemSink};
+use crate::answer;
+use rept_ports::{CalmShelf, CalmSource, MemSink, Unreadable};
 use std::process::ExitCode;
 use std::test::Fail;
 
@@ -12,24 +11,17 @@ const USAGE: &str = "usage: rept open EXE CORE TRACE [FROM] | rept self SEED STE
 #[test]
 fn unreadable_words_are_told(rt: HostRuntime) -> Result<(), Fail> {
     let alloc = rt.alloc();
-    for (unreadable, status, output) in [
-        (None, Status::Usage, USAGE),
-        (Some(Unreadable::NotText), Status::Usage, USAGE),
-        (
-            Some(Unreadable::OutOfMemory),
-            Status::OutOfMemory,
-            "out-of-memory\n",
-        ),
+    for (words, number, output) in [
+        (Ok(Vec::new(alloc)), 2, USAGE),
+        (Err(Unreadable::NotText), 2, USAGE),
+        (Err(Unreadable::OutOfMemory), 11, "out-of-memory\n"),
     ] {
         let mut shelf = CalmShelf::new(alloc);
         let mut source = CalmSource::new(b"regs\n");
         let mut sink = MemSink::new(alloc, 100, &[])?;
-        let got = answer(alloc, &[], unreadable, &mut shelf, &mut source, &mut sink);
-        assert_eq!(rt; got, status);
+        let code = answer(alloc, words, &mut shelf, &mut source, &mut sink);
+        assert_eq!(rt; code, ExitCode::from(number));
         assert_eq!(rt; sink.bytes(), output.as_bytes());
     }
-    assert_eq!(rt; exit_code(Status::Ok), ExitCode::from(0));
-    assert_eq!(rt; exit_code(Status::Inconsistent), ExitCode::from(1));
-    assert_eq!(rt; exit_code(Status::TooMuchInput), ExitCode::from(12));
     Ok(())
 }
