@@ -1,0 +1,83 @@
+-- The order of two harts, worked out by hand. Thread 0 runs row 0 from time 1 to 3, rows 1 and 2 from 5 to 9, and row 3 from 9 on; thread 1
+-- runs row 0, a call, from 1 to 4, and row 1 from 4 to 8. What happened until 1 isn't told.
+use Rattle.std.proofs.Common.{◌≡◌, ℕ, ◌+◌, ◌-◌, ◌^◌, List, [], ◌∷◌, Some, true, false, refl}
+use Rattle.rept_isa.specs.declared.row.StepRow.{StepRow}
+use Rattle.rept_isa.specs.declared.instr.Instr.{Instr}
+use Rattle.rept_isa.specs.declared.instr.Instr.TheVariants.{Fence, Ecall}
+use Rattle.rept_steps.specs.declared.slice.Slice.{Slice}
+use Rattle.rept_steps.specs.declared.threads.ThreadRows.{ThreadRows}
+use Rattle.rept_steps.specs.Course.{Course, row_of}
+use Rattle.rept_order.specs.Moments.Moment.{before, after, at_end}
+use Rattle.rept_order.specs.Moments.Act.{row, dark}
+use Rattle.rept_order.specs.Times.{is_earlier, falls_between}
+
+abbrev a_row : ℕ → Instr → StepRow
+a_row at instr = record { at = at; instr = instr; next = at + 4; call = false }
+
+abbrev slice_from : ℕ → ℕ → ℕ → ℕ → Slice
+slice_from begin end first count = record { stream = 0; begin = begin; end = end; first = first; count = count }
+
+abbrev first_thread : ThreadRows
+first_thread = record {
+  steps = a_row 0 Fence ∷ a_row 4 Fence ∷ a_row 8 Fence ∷ a_row 12 Fence ∷ [];
+  slices = slice_from 1 3 0 1 ∷ slice_from 5 9 1 2 ∷ slice_from 9 (2 ^ 64 - 1) 3 1 ∷ [];
+}
+
+abbrev second_thread : ThreadRows
+second_thread = record { steps = a_row 0 Ecall ∷ a_row 4 Fence ∷ []; slices = slice_from 1 4 0 1 ∷ slice_from 4 8 1 1 ∷ [] }
+
+abbrev two_harts : Course
+two_harts = record { threads = first_thread ∷ second_thread ∷ []; dark = Some 1 }
+
+-- a slice that ends before another one begins is before it
+ends_before : is_earlier two_harts (after (row_of 0 0)) (before (row_of 1 1)) ≡ true
+ends_before = refl
+
+the_other_way : is_earlier two_harts (after (row_of 1 1)) (before (row_of 0 3)) ≡ true
+the_other_way = refl
+
+-- slices of one time aren't ordered, whichever begins first
+at_once : is_earlier two_harts (after (row_of 0 1)) (before (row_of 1 1)) ≡ false
+at_once = refl
+
+at_once_back : is_earlier two_harts (after (row_of 1 1)) (before (row_of 0 1)) ≡ false
+at_once_back = refl
+
+-- a thread's own rows are in order, no moment is earlier than itself, and the end is last
+own_rows : is_earlier two_harts (after (row_of 0 1)) (before (row_of 0 2)) ≡ true
+own_rows = refl
+
+not_itself : is_earlier two_harts (before (row_of 0 1)) (before (row_of 0 1)) ≡ false
+not_itself = refl
+
+last : is_earlier two_harts (after (row_of 0 3)) at_end ≡ true
+last = refl
+
+-- a call returns as the thread's next slice begins, so it isn't over by the end of its own
+returns_late : is_earlier two_harts (after (row_of 1 0)) (after (row_of 0 2)) ≡ false
+returns_late = refl
+
+-- a row of a slice that may be at the same time falls in; one whose slice has ended doesn't
+may_fall : falls_between two_harts (row (row_of 1 1)) (before (row_of 0 2)) at_end ≡ true
+may_fall = refl
+
+has_ended : falls_between two_harts (row (row_of 1 1)) (before (row_of 0 3)) at_end ≡ false
+has_ended = refl
+
+-- between entry and return a call falls in, though its slice ended
+call_falls : falls_between two_harts (row (row_of 1 0)) (after (row_of 0 1)) (before (row_of 0 2)) ≡ true
+call_falls = refl
+
+-- between the moments of one row only that row falls
+row_alone : falls_between two_harts (row (row_of 1 1)) (before (row_of 0 1)) (after (row_of 0 1)) ≡ false
+row_alone = refl
+
+own_row : falls_between two_harts (row (row_of 0 1)) (before (row_of 0 1)) (after (row_of 0 1)) ≡ true
+own_row = refl
+
+-- the dark falls until a slice begins after it
+dark_falls : falls_between two_harts dark (before (row_of 0 0)) at_end ≡ true
+dark_falls = refl
+
+dark_ended : falls_between two_harts dark (before (row_of 0 1)) at_end ≡ false
+dark_ended = refl

@@ -1,0 +1,15 @@
+pub mod Events
+pub mod Moments
+pub mod History
+pub mod Writing
+pub mod Points
+pub mod Writers
+pub mod Times
+pub mod Alone
+pub mod Legs
+pub mod Runs
+pub mod Reaching
+pub mod Ordered
+pub mod Interleaved
+pub mod Links
+pub mod Arrangements

@@ -1,0 +1,45 @@
+-- Which bytes a row writes in an execution, whatever they were before (RISC-V unprivileged manual 20191213, chapter 2.6; for calls
+-- the table of calls).
+use Rattle.std.specs.Prelude.{◌≡◌, ℕ, ◌<◌, Bool, true, MatchOption}
+use Rattle.rept_isa.specs.declared.instr.Instr.{Instr}
+use Rattle.rept_isa.specs.declared.instr.Instr.TheVariants.{Store, Ecall}
+use Rattle.rept_isa.specs.Numbers.{plus}
+use Rattle.rept_machine.specs.Arithmetic.{beside, store_width}
+use Rattle.rept_machine.specs.Calls.{MayChange}
+use Rattle.rept_machine.specs.State.{State}
+use Rattle.rept_steps.specs.Course.{Course, Row, IsRow, row_at}
+use Rattle.rept_order.specs.Moments.{Act, IsAct, Stretch, Falls}
+use Rattle.rept_order.specs.Moments.Act.{row, dark}
+use Rattle.rept_order.specs.Moments.Moment.{before, after}
+use Rattle.rept_order.specs.History.{Happening, Ending, History, state_at}
+use Rattle.rept_order.specs.History.Happening.{event, change, nothing}
+
+-- a store writes each of its bytes; a call writes the bytes that its number lets it change
+abbrev pub WritesBy : Instr → ℕ → State → State → ℕ → Type 0
+WritesBy (Store op rs1 rs2 imm) image_end s t a = (k : ℕ) × (k < store_width op) × (a ≡ beside (plus (s.register rs1) imm) k)
+WritesBy Ecall image_end s t a = MayChange image_end s.register (t.register 10) a
+WritesBy _ image_end s t a = ⊥
+
+-- the row writes the byte in the execution
+abbrev pub RowWrites : Course → Ending → History → Row → ℕ → Type 0
+RowWrites C D h r a = MatchOption (row_at C r) ⊥ (λ its_row. WritesBy its_row.instr D.image_end (state_at C h r.thread (before r)) (state_at C h r.thread (after r)) a)
+
+-- the act writes the byte in the execution; of the dark this is said of each byte
+abbrev pub ActWrites : Course → Ending → History → Act → ℕ → Type 0
+ActWrites C D h (row r) a = RowWrites C D h r a
+ActWrites C D h dark a = Unit {0}
+
+-- who acts at a tick: whose event it is, or whose change
+abbrev pub By : Happening → Act → Type 0
+By (event e) (row r) = e.row ≡ r
+By (event e) dark = ⊥
+By (change act) other = act ≡ other
+By nothing act = ⊥
+
+-- nothing that falls into the stretch writes the byte in the execution
+abbrev pub IsStill : Course → Ending → History → Stretch → ℕ → Type 0
+IsStill C D h x a = (act : Act) → IsAct C act → Falls C act x → ActWrites C D h act a → ⊥
+
+-- each byte that a row writes in the execution it may write
+abbrev pub Covers : Course → Ending → History → (Row → ℕ → Bool) → Type 0
+Covers C D h may = (r : Row) (a : ℕ) → IsRow C r → RowWrites C D h r a → may r a ≡ true

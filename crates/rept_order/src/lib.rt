@@ -1,0 +1,11 @@
+//! How the rows of several threads may have followed one another: their slices and times, the order that these give, and the
+//! executions that keep it.
+#![tactic(auto)]
+
+mod edge;
+pub mod laws;
+pub mod moment;
+pub mod order;
+
+pub use moment::{Act, Moment};
+pub use order::Order;
