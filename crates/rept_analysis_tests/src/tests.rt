@@ -6,6 +6,7 @@ ghost use Rattle.rept_dump.specs.Status.{IsStatus};
 ghost use Rattle.rept_dump.specs.declared.status.Status.{Status};
 ghost use Rattle.rept_steps.specs.Linked.{EndBefore};
 
+mod calls;
 mod reasons;
 
 use rept_analysis::Analysis;
@@ -112,6 +113,7 @@ fn steps_of(rt: &impl Abort, alloc: Global, given: &[(u32, u32, u32)]) -> Result
                 instr,
                 next: *next,
                 call,
+                short: false,
             };
             assert!(rt; leads_to(&steps, *at));
             steps.push(row)?;

@@ -3,6 +3,7 @@
 mod damages;
 mod made_runs;
 mod order;
+mod sizes;
 mod traces;
 
 use rept_app::{Status, rept, tell_no_memory};
@@ -171,16 +172,6 @@ const CASES: &[Case] = &[
         status: Status::NoFile,
     },
     Case {
-        words: &["open", "e", "c", "large"],
-        code: THREE,
-        pc: 0x1000c,
-        registers: [7, 10, 17],
-        difference: 0x0a,
-        input: "",
-        output: "too-large trace\n",
-        status: Status::TooLarge,
-    },
-    Case {
         words: OPEN,
         code: &[],
         pc: 0x1000c,
@@ -210,6 +201,48 @@ const CASES: &[Case] = &[
         output: "path 9 0x00010008 0x00010010\n",
         status: Status::Trace,
     },
+    // `lui x5, 0x10`, `sb x6, 0(x5)`: the byte that was stored isn't the code's.
+    Case {
+        words: OPEN,
+        code: &[0x000102b7, 0x00628023],
+        pc: 0x10008,
+        registers: [0x10000, 9, 0],
+        difference: 0x06,
+        input: "regs\n",
+        output: "inconsistent two-values 2 0x00010000 09 b7\n",
+        status: Status::Inconsistent,
+    },
+    // `lui x5, 0x10`, `jalr x5, 12(x5)`, which came to 0x10010 all the same
+    Case {
+        words: OPEN,
+        code: &[0x000102b7, 0x00c282e7],
+        pc: 0x10010,
+        registers: [0x10008, 0, 0],
+        difference: 0x06,
+        input: "regs\n",
+        output: "inconsistent wrong-turn 1\n",
+        status: Status::Inconsistent,
+    },
+    Case {
+        words: &["open", "x", "c", "t"],
+        code: THREE,
+        pc: 0x1000c,
+        registers: [7, 10, 17],
+        difference: 0x0a,
+        input: "",
+        output: "no-file exe\n",
+        status: Status::NoFile,
+    },
+    Case {
+        words: &["open", "e", "x", "t"],
+        code: THREE,
+        pc: 0x1000c,
+        registers: [7, 10, 17],
+        difference: 0x0a,
+        input: "",
+        output: "no-file core\n",
+        status: Status::NoFile,
+    },
 ];
 
 // What is written, and the status, for ports in memory.
@@ -221,9 +254,6 @@ fn crashes_are_told(rt: HostRuntime) -> Result<(), Fail> {
         shelf.put("e", executable(alloc, 0x10000, case.code)?.as_slice())?;
         shelf.put("c", core_file(alloc, case.pc, case.registers)?.as_slice())?;
         shelf.put("t", trace_file(alloc, case.difference)?.as_slice())?;
-        if case.status == Status::TooLarge {
-            shelf.put("large", vec![in alloc; 0u8; 16777217]?.as_slice())?;
-        }
         let words = word_list(alloc, case.words)?;
         let mut source = CalmSource::new(case.input.as_bytes());
         let mut sink = MemSink::new(alloc, 2000, &[])?;
@@ -413,6 +443,11 @@ const SESSIONS: &[SessionCase] = &[
         status: Status::Ok,
     },
     SessionCase {
+        input: "reg gp\nreg tp\nreg s0\nreg s1\nreg t1\n",
+        output: "x3 0x00000000\nx4 0x00000000\nx8 0x00000000\nx9 0x00000000\nx6 0x0000000a\n",
+        status: Status::Ok,
+    },
+    SessionCase {
         input: "mem 0x10000 6\nmem 0x20000 1\nwriter 0x10000\n",
         output: "0x00010000: 93 02 70 00 13 83\n0x00020000: ??\nnone\n",
         status: Status::Ok,
@@ -459,7 +494,6 @@ fn long_inputs_are_told(rt: HostRuntime) -> Result<(), Fail> {
         assert_eq!(rt; sink.bytes(), output.as_bytes());
         assert_eq!(rt; got, status);
     }
-    assert_eq!(rt; Status::TooMuchInput.number(), 12);
     Ok(())
 }
 
@@ -468,6 +502,27 @@ fn want_of_memory_is_told(rt: HostRuntime) -> Result<(), Fail> {
     let mut sink = MemSink::new(rt.alloc(), 100, &[])?;
     assert_eq!(rt; tell_no_memory(&mut sink), Status::OutOfMemory);
     assert_eq!(rt; sink.bytes(), b"out-of-memory\n".as_slice());
-    assert_eq!(rt; Status::OutOfMemory.number(), 11);
     Ok(())
+}
+
+// The number of each status, as it stands in the table of what is printed.
+#[test]
+fn statuses_have_numbers(rt: HostRuntime) {
+    for (status, number) in [
+        (Status::Ok, 0),
+        (Status::Inconsistent, 1),
+        (Status::Usage, 2),
+        (Status::LoadFault, 3),
+        (Status::NoFile, 4),
+        (Status::TooLarge, 5),
+        (Status::Executable, 6),
+        (Status::Core, 7),
+        (Status::Trace, 8),
+        (Status::InputFault, 9),
+        (Status::OutputFault, 10),
+        (Status::OutOfMemory, 11),
+        (Status::TooMuchInput, 12),
+    ] {
+        assert_eq!(rt; status.number(), number);
+    }
 }

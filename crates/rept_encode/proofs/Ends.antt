@@ -77,7 +77,7 @@ gap_row code s otherwise r at here h b lt =
     let bit : branches (flow_of r.instr) ≡ true → slice_get s.bits p.branches ≡ Some (passed_by (flow_of r.instr) p.at r.next) = rw at b in
     let goal : Goal = record { address = r.next; otherwise = otherwise } in
     let x : crossing code s goal r.instr ≡ Ok (row p.at r.instr r.next (calls (flow_of r.instr)) ∷ []) = crosses code s.packet (record { at = p.at; instr = r.instr; to = r.next; otherwise = otherwise }) (slice_get s.bits p.branches) (flow_of r.instr) lead bit in
-    let same : row p.at r.instr r.next (calls (flow_of r.instr)) ≡ r = rw (at, ← called) refl in
+    let same : row p.at r.instr r.next (calls (flow_of r.instr)) ≡ r = rw (at, ← called, ← h.long) refl in
     let y : crossing code s goal r.instr ≡ Ok (r ∷ []) = x ∙ ap (λ (w : StepRow). Ok (w ∷ [])) same in
     gap_ok code s goal r.instr (rw at here) (r ∷ []) y (omega arith)
 

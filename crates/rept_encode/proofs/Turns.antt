@@ -85,6 +85,7 @@ move_is code how p row limit m t =
       at = sym m.at;
       instr = here;
       call = m.step.call ∙ m.plain;
+      long = m.step.long;
     }
 
 pub moves_more : (code : List ElfSegment) (all more : List Bool) (past : Place) (leg : List StepRow) → Moves code all past leg → Moves code (all ++ more) past leg

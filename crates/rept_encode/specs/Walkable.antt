@@ -23,11 +23,12 @@ abbrev pub calls : Flow → Bool
 calls Call = true
 calls _ = false
 
--- The row stands where an instruction may stand, goes where its instruction may lead, and is marked as a call where it is one.
+-- The row stands where an instruction may stand, goes where its instruction may lead, and is marked as a call where it is one. It is no short one.
 pub record IsStepped (row : StepRow) : Type 0 where
   pub aligned : row.at % 4 ≡ 0
   pub lead : MayLead (flow_of row.instr) row.at row.next
   pub call : row.call ≡ calls (flow_of row.instr)
+  pub long : row.short ≡ false
 
 -- There is a row, and each one is a step.
 pub record IsWalkable (rows : List StepRow) : Type 0 where

@@ -47,6 +47,7 @@ pub fn step_between(instr: &Instr, at: u32, next: u32) -> Option<StepRow>
         instr,
         next,
         call,
+        short: false,
     })
 }
 

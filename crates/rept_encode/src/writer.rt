@@ -114,7 +114,7 @@ fn send_all(alloc: Global, rows: &[StepRow]) -> Result<Text, OutOfMemory>
 
 /// A trace of the steps, as the bytes of a file: `rept_path::rebuild` reads it back as these steps, over each dump whose code has
 /// their instructions and whose program counter is where they end. There must be a step, and each must be one that a hart can
-/// make; `JumpEnds` comes exactly at the first call that directly follows an uninferable jump. Branches are sent 31 at a time, where
+/// make, by an instruction of four bytes; `JumpEnds` comes exactly at the first call that directly follows an uninferable jump. Branches are sent 31 at a time, where
 /// nothing else need be told; payloads are cut short (Efficient Trace for RISC-V 2.0).
 pub fn encode(alloc: Global, steps: &Steps) -> Result<Text, EncodeFault>
     requires { IsWalkable steps.now }

@@ -1,4 +1,5 @@
 pub mod NumberLemmas
+pub mod RowLemmas
 pub mod WordLemmas
 pub mod RangeLemmas
 pub mod EncodeLemmas

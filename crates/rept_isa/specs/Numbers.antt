@@ -11,6 +11,6 @@ word (negsuc n) = 2 ^ 32 - suc (n % 2 ^ 32)
 abbrev pub plus : ℕ → ℤ → ℕ
 plus base imm = (base + word imm) % 2 ^ 32
 
--- the address of the instruction after this one
+-- the address of the instruction that follows one of four bytes at this address
 abbrev pub following : ℕ → ℕ
-following address = (address + 4) % 2 ^ 32
+following from = (from + 4) % 2 ^ 32

@@ -9,6 +9,7 @@ use Rattle.rept_isa.specs.declared.class.Kind as kinds
 use Rattle.rept_isa.specs.declared.class.Turn.{Turn}
 use Rattle.rept_isa.specs.declared.class.Turn.TheVariants.{Taken, NotTaken, Either, NoBranch}
 use Rattle.rept_isa.specs.Numbers.{plus, following}
+use Rattle.rept_isa.specs.Rows.{Addresses, addresses_of}
 
 -- a destination: x0 takes no value
 abbrev pub unless_zero : ℕ → Option ℕ
@@ -63,14 +64,14 @@ kind_of Ecall = kinds.TheVariants.Call
 kind_of Ebreak = kinds.TheVariants.Stop
 kind_of (Counter rd csr) = kinds.TheVariants.Counter
 
--- Which way a branch at this address with this target went. Where both ways lead to one place, either.
+-- Which way a branch with this target went, which the instruction four bytes from an address follows. Where both ways lead to one place, either.
 abbrev pub way : ℕ → ℕ → ℕ → Turn
-way address target next = if target == following address then Either else if next == target then Taken else if next == following address then NotTaken else NoBranch
+way from target next = if target == following from then Either else if next == target then Taken else if next == following from then NotTaken else NoBranch
 
-abbrev pub turn_by : Instr → ℕ → ℕ → Turn
-turn_by (Branch op rs1 rs2 imm) address next = way address (plus address imm) next
-turn_by _ address next = NoBranch
+abbrev pub turn_by : Instr → Addresses → Turn
+turn_by (Branch op rs1 rs2 imm) a = way a.from (plus a.at imm) a.next
+turn_by _ a = NoBranch
 
 -- which way the row went, if it is one of a branch
 abbrev pub turn_of : StepRow → Turn
-turn_of row = turn_by row.instr row.at row.next
+turn_of row = turn_by row.instr (addresses_of row)

@@ -19,5 +19,5 @@ pub use encoder::encode;
 pub use instr::{BranchOp, ImmOp, Instr, LoadOp, RegOp, StoreOp};
 pub use operands::{kind, reads, turn, writes};
 pub use reg::Reg;
-pub use row::StepRow;
+pub use row::{StepRow, from_address};
 pub use shown::Shown;

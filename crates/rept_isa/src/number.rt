@@ -17,9 +17,9 @@ pub fn plus(base: u32, imm: i32) -> u32
     base.wrapping_add(word(imm))
 }
 
-/// The address of the instruction after the one at `address`, modulo 2^32.
-pub fn following(address: u32) -> u32
-    ensures { result ≡ following address }
+/// The address of the instruction that follows one of four bytes at `from`, modulo 2^32.
+pub fn following(from: u32) -> u32
+    ensures { result ≡ following from }
 {
-    address.wrapping_add(4)
+    from.wrapping_add(4)
 }

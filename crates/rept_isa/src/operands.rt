@@ -85,24 +85,24 @@ pub fn kind(instr: &Instr) -> Kind
 }
 
 /// Which way the row went: a branch whose target is the next instruction is `Either`; another one is `Taken` where
-/// `next` is the target and `NotTaken` where it is `at + 4`; all else is `NoBranch`.
+/// `next` is the target and `NotTaken` where it is the instruction that follows; all else is `NoBranch`.
 pub fn turn(row: &StepRow) -> Turn
     ensures { result ≡ turn_of row.now }
 {
     match row.instr {
-        Instr::Branch { imm, .. } => way(row.at, plus(row.at, imm), row.next),
+        Instr::Branch { imm, .. } => way(row.from(), plus(row.at, imm), row.next),
         _ => Turn::NoBranch,
     }
 }
 
-fn way(address: u32, target: u32, next: u32) -> Turn
-    ensures { result ≡ way address target next }
+fn way(from: u32, target: u32, next: u32) -> Turn
+    ensures { result ≡ way from target next }
 {
-    if target == following(address) {
+    if target == following(from) {
         Turn::Either
     } else if next == target {
         Turn::Taken
-    } else if next == following(address) {
+    } else if next == following(from) {
         Turn::NotTaken
     } else {
         Turn::NoBranch

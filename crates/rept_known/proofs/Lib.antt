@@ -3,3 +3,4 @@ pub mod PartsOrder
 pub mod NextWord
 pub mod Greatest
 pub mod BothMade
+pub mod BothFiner

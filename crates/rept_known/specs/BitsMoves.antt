@@ -1,9 +1,10 @@
 -- Known bits keep the laws of sets that instructions change.
-use Rattle.std.proofs.Common.{◌≡◌, ◌≢◌, ℕ, ◌-◌, ◌*◌, ◌/◌, ◌%◌, ◌^◌, ◌<◌, ◌≤◌, ◌⊎◌, Bool, true, false, Option, Some, None, inl, inr, refl, sym, ap, subst, ◌∙◌, arith, lit<}
+use Rattle.std.proofs.Common.{◌≡◌, ◌≢◌, ℕ, ◌-◌, ◌*◌, ◌/◌, ◌%◌, ◌^◌, ◌<◌, ◌≤◌, ◌⊎◌, Bool, true, false, not, Option, Some, None, inl, inr, refl, sym, ap, subst, ◌∙◌, arith, lit<}
 use Rattle.std.specs.Prelude.{◌==◌, nat_lt, if◌then◌else◌}
 use Rattle.std.specs.Int.{bit_at, int_shr}
 use Rattle.std.proofs.lemmas.Nat.Bits.{bit_at-zero, bit_at_ones, bit_at_above, same_from_bits_below}
 use Rattle.std.proofs.lemmas.Bool.{cases_eq, cases_lt, cases_Bool, eq-eqb, ne_eqb, eqb-true}
+use Rattle.std.specs.Prelude.{bit_and}
 use Rattle.rept_isa.specs.declared.instr.Instr.{Instr}
 use Rattle.rept_isa.specs.declared.instr.Instr.TheVariants.{Lui, Auipc, Jal, Jalr, Branch, Load, Imm, Op}
 use Rattle.rept_isa.specs.declared.instr.RegOp.{RegOp}
@@ -18,25 +19,26 @@ use Rattle.rept_isa.specs.declared.class.Turn.TheVariants.{Taken, NotTaken, Eith
 use Rattle.rept_isa.specs.Numbers.{plus, following}
 use Rattle.rept_isa.specs.Numbers as numbers
 use Rattle.rept_isa.specs.Operands.{written_by, unless_zero, first_read, second_read, way, turn_of, turn_by}
+use Rattle.rept_isa.specs.Rows.{Addresses, from_of, addresses_of}
 use Rattle.rept_machine.specs.Arithmetic.{computed, computed_imm, register_form, branch_holds, beside, loaded, signed_word, below_signed}
 use Rattle.rept_machine.specs.State.{State, IsState}
 use Rattle.rept_machine.specs.Step.{HasEffect}
+use Rattle.rept_machine.specs.Ways.{Tells, way_tells}
 use Rattle.rept_partial.specs.Sets.{IsWithin}
 use Rattle.rept_span.specs.RangeBounds.{word_small}
 use Rattle.rept_span.specs.RangeMoves.{named_target}
-use Rattle.rept_span.specs.RangeNarrowing.{way_taken, way_not_taken}
 use Rattle.rept_span.specs.Moves.{Moves, Covers, StepsFrom, AreWithin, AreMoves}
 use Rattle.rept_known.specs.declared.bits.Bits.{Bits}
 use Rattle.rept_known.specs.Masks.{bit_of_word}
 use Rattle.rept_known.specs.Bits.{word, bits_has, bits_meet, bits_sets}
-use Rattle.rept_known.specs.BitsLaws.{Agrees, KnowsAll, value_small, loose_small, has_agrees, agrees_has, within_knows, knows_within, in_outside, all_agree, one_agrees, bits_lawful}
+use Rattle.rept_known.specs.BitsLaws.{Agrees, KnowsAll, value_small, loose_small, has_parts, has_agrees, agrees_has, within_knows, knows_within, in_outside, all_agree, one_agrees, bits_lawful}
 use Rattle.rept_known.specs.Operations.{all_open, all_known, low_open, amount, operation_bits, loaded_bits, applied_bits, tells_equal, with_both, left_bits, narrowed_bits}
 use Rattle.rept_known.specs.Sums.{sum_covers, sum_knows, difference_covers, difference_knows}
 use Rattle.rept_known.specs.Selected.{moved_covers, moved_knows, left_moves, right_moves, sign_moves}
 use Rattle.rept_known.specs.Joined.{and_covers, and_knows, or_covers, or_knows, xor_covers, xor_knows}
 
 abbrev pub bits_moves : Moves Bits
-bits_moves = record { apply = λ instr address a b. applied_bits instr address a b; narrow = λ row a b. narrowed_bits row a b }
+bits_moves = record { apply = λ instr address a b. applied_bits instr address a b; narrow = λ row a b. narrowed_bits row a b; note = λ a. Some (2 ^ 32 - 1 - a.loose, a.value) }
 
 zero_one : (n : ℕ) → n ≡ 0 → n ≡ 1 → ⊥
 zero_one n e f = omega arith
@@ -135,26 +137,26 @@ loaded_agrees Lw s base state small = all_agree (loaded Lw s.memory base) small
 covers_agrees : (a : Bits) (place : Option ℕ) (s : State) (r : ℕ) → Covers bits_sets a place s → place ≡ Some r → Agrees a (s.register r)
 covers_agrees a place s r c e = has_agrees a (s.register r) (c r e)
 
-applied_covers : (instr : Instr) (image_end address next : ℕ) (s t : State) (a b : Bits) (r : ℕ) → IsState s → IsState t → HasEffect instr image_end address next s t → Covers bits_sets a (first_read instr) s → Covers bits_sets b (second_read instr) s → written_by instr ≡ Some r → Agrees (applied_bits instr address a b) (t.register r)
-applied_covers (Lui rd imm) image_end address next s t a b r before after h x y w =
+applied_covers : (instr : Instr) (image_end : ℕ) (place : Addresses) (s t : State) (a b : Bits) (r : ℕ) → IsState s → IsState t → HasEffect instr image_end place s t → Covers bits_sets a (first_read instr) s → Covers bits_sets b (second_read instr) s → written_by instr ≡ Some r → Agrees (applied_bits instr place.from a b) (t.register r)
+applied_covers (Lui rd imm) image_end place s t a b r before after h x y w =
     let is = h.result.written in
     written_agrees _ s t rd r imm w is (one_agrees imm (written_small s t rd r imm after w is))
-applied_covers (Auipc rd imm) image_end address next s t a b r before after h x y w = written_agrees _ s t rd r (beside address imm) w h.result.written (one_agrees (beside address imm) (omega arith))
-applied_covers (Jal rd imm) image_end address next s t a b r before after h x y w = written_agrees _ s t rd r (following address) w h.link.written (one_agrees (following address) (omega arith))
-applied_covers (Jalr rd rs1 imm) image_end address next s t a b r before after h x y w = written_agrees _ s t rd r (following address) w h.link.written (one_agrees (following address) (omega arith))
-applied_covers (Load op rd rs1 imm) image_end address next s t a b r before after h x y w =
+applied_covers (Auipc rd imm) image_end place s t a b r before after h x y w = written_agrees _ s t rd r (beside place.from imm) w h.result.written (one_agrees (beside place.from imm) (omega arith))
+applied_covers (Jal rd imm) image_end place s t a b r before after h x y w = written_agrees _ s t rd r (following place.from) w h.link.written (one_agrees (following place.from) (omega arith))
+applied_covers (Jalr rd rs1 imm) image_end place s t a b r before after h x y w = written_agrees _ s t rd r (following place.from) w h.link.written (one_agrees (following place.from) (omega arith))
+applied_covers (Load op rd rs1 imm) image_end place s t a b r before after h x y w =
     let is = h.result.written in
     let value = loaded op s.memory (plus (s.register rs1) imm) in
     written_agrees _ s t rd r value w is (loaded_agrees op s (plus (s.register rs1) imm) before (written_small s t rd r value after w is))
-applied_covers (Imm op rd rs1 imm) image_end address next s t a b r before after h x y w =
+applied_covers (Imm op rd rs1 imm) image_end place s t a b r before after h x y w =
     let is = h.result.written in
     let value = computed_imm op (s.register rs1) imm in
     written_agrees _ s t rd r value w is (operation_covers (register_form op) a (all_known (numbers.word imm)) (s.register rs1) (numbers.word imm) (written_small s t rd r value after w is) (covers_agrees a (Some rs1) s rs1 x refl) (one_agrees (numbers.word imm) (word_small imm)))
-applied_covers (Op op rd rs1 rs2) image_end address next s t a b r before after h x y w =
+applied_covers (Op op rd rs1 rs2) image_end place s t a b r before after h x y w =
     let is = h.result.written in
     let value = computed op (s.register rs1) (s.register rs2) in
     written_agrees _ s t rd r value w is (operation_covers op a b (s.register rs1) (s.register rs2) (written_small s t rd r value after w is) (covers_agrees a (Some rs1) s rs1 x refl) (covers_agrees b (Some rs2) s rs2 y refl))
-applied_covers _ image_end address next s t a b r before after h x y w = all_agree (t.register r) (after.words r)
+applied_covers _ image_end place s t a b r before after h x y w = all_agree (t.register r) (after.words r)
 
 -- ---- smaller sets
 knows_itself : (a : Bits) → KnowsAll a a
@@ -225,26 +227,24 @@ applied_knows _ address a a' b b' h k = knows_itself all_open
 lies : false ≡ true → ⊥
 lies e = cc
 
+not_false : (b : Bool) → not b ≡ false → b ≡ true
+not_false true e = refl
+not_false false e = absurd (lies (sym e))
+
 -- the operands of a branch whose way tells that they are equal
-told_equal : (op : BranchOp) (x y address target next : ℕ) (turn : Turn) → way address target next ≡ turn → next ≡ (if branch_holds op x y then target else following address) → tells_equal op turn ≡ true → x ≡ y
-told_equal Beq x y address target next Taken is went e = elim (cases_Bool (x == y)) [
-  | inl same ↦ eqb-true x y same
-  | inr differs ↦ absurd ((way_taken address target next is).1 (rw differs at went))
-]
-told_equal Bne x y address target next NotTaken is went e = elim (cases_Bool (x == y)) [
-  | inl same ↦ eqb-true x y same
-  | inr differs ↦ absurd ((way_not_taken address target next is).1 (rw differs at went))
-]
-told_equal Beq x y address target next NotTaken is went e = absurd (lies e)
-told_equal Beq x y address target next Either is went e = absurd (lies e)
-told_equal Beq x y address target next NoBranch is went e = absurd (lies e)
-told_equal Bne x y address target next Taken is went e = absurd (lies e)
-told_equal Bne x y address target next Either is went e = absurd (lies e)
-told_equal Bne x y address target next NoBranch is went e = absurd (lies e)
-told_equal Blt x y address target next turn is went e = absurd (lies e)
-told_equal Bge x y address target next turn is went e = absurd (lies e)
-told_equal Bltu x y address target next turn is went e = absurd (lies e)
-told_equal Bgeu x y address target next turn is went e = absurd (lies e)
+told_equal : (op : BranchOp) (x y : ℕ) (turn : Turn) → Tells turn (branch_holds op x y) → tells_equal op turn ≡ true → x ≡ y
+told_equal Beq x y Taken told e = eqb-true x y told
+told_equal Bne x y NotTaken told e = eqb-true x y (not_false (x == y) told)
+told_equal Beq x y NotTaken told e = absurd (lies e)
+told_equal Beq x y Either told e = absurd (lies e)
+told_equal Beq x y NoBranch told e = absurd told
+told_equal Bne x y Taken told e = absurd (lies e)
+told_equal Bne x y Either told e = absurd (lies e)
+told_equal Bne x y NoBranch told e = absurd told
+told_equal Blt x y turn told e = absurd (lies e)
+told_equal Bge x y turn told e = absurd (lies e)
+told_equal Bltu x y turn told e = absurd (lies e)
+told_equal Bgeu x y turn told e = absurd (lies e)
 
 some_pair : {x y : Bits × Bits} → Some x ≡ Some y → x ≡ y
 some_pair e = cc
@@ -292,12 +292,12 @@ record CoversLeft (left : Option (Bits × Bits)) (first second : Option ℕ) (s 
 has_covers : (a : Bits) (s : State) (r : ℕ) → bits_has a (s.register r) ≡ true → Covers bits_sets a (Some r) s
 has_covers a s r h q e = subst (λ (n : ℕ). bits_has a (s.register n) ≡ true) (some_number e) h
 
-left_covers : (instr : Instr) (image_end address next : ℕ) (s t : State) (a b : Bits) → HasEffect instr image_end address next s t → Covers bits_sets a (first_read instr) s → Covers bits_sets b (second_read instr) s → CoversLeft (left_bits instr (turn_by instr address next) a b) (first_read instr) (second_read instr) s
-left_covers (Branch op rs1 rs2 imm) image_end address next s t a b h x y =
-    let turn = turn_by (Branch op rs1 rs2 imm) address next in
-    let kept = branch_left (tells_equal op turn) a b (s.register rs1) (s.register rs2) (x rs1 refl) (y rs2 refl) (told_equal op (s.register rs1) (s.register rs2) address (plus address imm) next turn refl h.onward) in
+left_covers : (instr : Instr) (image_end : ℕ) (place : Addresses) (s t : State) (a b : Bits) → HasEffect instr image_end place s t → Covers bits_sets a (first_read instr) s → Covers bits_sets b (second_read instr) s → CoversLeft (left_bits instr (turn_by instr place) a b) (first_read instr) (second_read instr) s
+left_covers (Branch op rs1 rs2 imm) image_end place s t a b h x y =
+    let turn = turn_by (Branch op rs1 rs2 imm) place in
+    let kept = branch_left (tells_equal op turn) a b (s.register rs1) (s.register rs2) (x rs1 refl) (y rs2 refl) (told_equal op (s.register rs1) (s.register rs2) turn (way_tells (branch_holds op (s.register rs1) (s.register rs2)) place.from (plus place.at imm) place.next h.onward)) in
     record { pair = kept.pair; is = kept.is; one = has_covers kept.pair.0 s rs1 kept.first; two = has_covers kept.pair.1 s rs2 kept.second }
-left_covers _ image_end address next s t a b h x y = record { pair = (a, b); is = refl; one = x; two = y }
+left_covers _ image_end place s t a b h x y = record { pair = (a, b); is = refl; one = x; two = y }
 
 -- of smaller sets no more is left
 abbrev LeavesNoMore : Option (Bits × Bits) → Option (Bits × Bits) → Type 0
@@ -334,19 +334,26 @@ left_no_more : (instr : Instr) (turn : Turn) (a a' b b' : Bits) → IsWithin bit
 left_no_more (Branch op rs1 rs2 imm) turn a a' b b' h k = branch_no_more (tells_equal op turn) a a' b b' h k
 left_no_more _ turn a a' b b' h k = all_no_more a a' b b' h k
 
-covering : (row : StepRow) (a b : Bits) (image_end : ℕ) (s t : State) → StepsFrom bits_sets row a b image_end s t → (r : ℕ) → written_by row.instr ≡ Some r → bits_sets.has (bits_moves.apply row.instr row.at a b) (t.register r) ≡ true
-covering row a b image_end s t h r w = agrees_has (applied_bits row.instr row.at a b) (t.register r) (applied_covers row.instr image_end row.at row.next s t a b r h.before h.after h.step h.first h.second w)
+covering : (row : StepRow) (a b : Bits) (image_end : ℕ) (s t : State) → StepsFrom bits_sets row a b image_end s t → (r : ℕ) → written_by row.instr ≡ Some r → bits_sets.has (bits_moves.apply row.instr (from_of row) a b) (t.register r) ≡ true
+covering row a b image_end s t h r w = agrees_has (applied_bits row.instr (from_of row) a b) (t.register r) (applied_covers row.instr image_end (addresses_of row) s t a b r h.before h.after h.step h.first h.second w)
 
 monotony : (instr : Instr) (address : ℕ) (a a' b b' : Bits) → IsWithin bits_sets a a' → IsWithin bits_sets b b' → IsWithin bits_sets (bits_moves.apply instr address a b) (bits_moves.apply instr address a' b')
 monotony instr address a a' b b' h k = knows_within (applied_bits instr address a b) (applied_bits instr address a' b') (applied_knows instr address a a' b b' (within_knows a a' h) (within_knows b b' k))
 
 narrowed : (row : StepRow) (a b : Bits) (image_end : ℕ) (s t : State) → StepsFrom bits_sets row a b image_end s t → (n : Bits × Bits) × (bits_moves.narrow row a b ≡ Some n) × StepsFrom bits_sets row n.0 n.1 image_end s t
 narrowed row a b image_end s t h =
-    let kept = left_covers row.instr image_end row.at row.next s t a b h.step h.first h.second in
+    let kept = left_covers row.instr image_end (addresses_of row) s t a b h.step h.first h.second in
     (kept.pair, kept.is, record { before = h.before; after = h.after; step = h.step; first = kept.one; second = kept.two })
 
 narrower : (row : StepRow) (a a' b b' : Bits) (n : Bits × Bits) → IsWithin bits_sets a a' → IsWithin bits_sets b b' → bits_moves.narrow row a b ≡ Some n → (n' : Bits × Bits) × (bits_moves.narrow row a' b' ≡ Some n') × AreWithin bits_sets n n'
 narrower row a a' b b' n h k e = left_no_more row.instr (turn_of row) a a' b b' h k n e
 
+-- the known bits are those of each word
+noted : (a : Bits) (n : ℕ × ℕ) → bits_moves.note a ≡ Some n → (v : ℕ) → bits_has a v ≡ true → bit_and v n.0 ≡ n.1
+noted a n e v h = subst (λ (x : ℕ × ℕ). bit_and v x.0 ≡ x.1) (same_note e) ((has_parts a v h).1)
+  where
+    same_note : {x y : ℕ × ℕ} → Some x ≡ Some y → x ≡ y
+    same_note e = cc
+
 pub bits_covers : AreMoves bits_sets bits_moves
-bits_covers = record { covering = covering; monotony = monotony; narrowed = narrowed; narrower = narrower }
+bits_covers = record { covering = covering; monotony = monotony; narrowed = narrowed; narrower = narrower; noted = noted }

@@ -4,6 +4,7 @@ use Rattle.std.proofs.Common.{◌≡◌, ◌≢◌, ℕ, ◌%◌, ◌^◌, ◌<�
 use Rattle.std.specs.Prelude.{ℤ, ◌==◌, nat_lt, if◌then◌else◌}
 use Rattle.std.proofs.lemmas.Nat.{and_le_l, or_lt, xor_lt, shr_le}
 use Rattle.std.proofs.Math.Nat.{div-le_self, mod-le}
+use Rattle.std.specs.Prelude.{bit_and}
 use Rattle.rept_isa.specs.declared.instr.Instr.{Instr}
 use Rattle.rept_isa.specs.declared.instr.Instr.TheVariants.{Lui, Auipc, Jal, Jalr, Branch, Load, Imm, Op}
 use Rattle.rept_isa.specs.declared.instr.RegOp.{RegOp}
@@ -16,6 +17,7 @@ use Rattle.rept_isa.specs.declared.row.StepRow.{StepRow}
 use Rattle.rept_isa.specs.Numbers.{following}
 use Rattle.rept_isa.specs.Numbers as numbers
 use Rattle.rept_isa.specs.Operands.{written_by, first_read, second_read}
+use Rattle.rept_isa.specs.Rows.{from_of}
 use Rattle.rept_machine.specs.Arithmetic.{computed, computed_imm, register_form, beside, below_signed}
 use Rattle.rept_machine.specs.State.{State}
 use Rattle.rept_partial.specs.declared.range.Range.{Range}
@@ -79,9 +81,9 @@ abbrev pub narrowed_both : StepRow → Both → Both → Option (Both × Both)
 narrowed_both row a b = left_both row.instr (narrowed_range row a.range b.range) (narrowed_bits row a.bits b.bits) a b
 
 abbrev pub both_moves : Moves Both
-both_moves = record { apply = λ instr address a b. applied_both instr address a b; narrow = λ row a b. narrowed_both row a b }
+both_moves = record { apply = λ instr address a b. applied_both instr address a b; narrow = λ row a b. narrowed_both row a b; note = λ a. bits_moves.note a.bits }
 
-reduced_cases : (r : Range) (b : Bits) → (reduced r b ≡ None) ⊎ ((c : Both) × (reduced r b ≡ Some c))
+pub reduced_cases : (r : Range) (b : Bits) → (reduced r b ≡ None) ⊎ ((c : Both) × (reduced r b ≡ Some c))
 reduced_cases r b = elim (reduced r b) as (λ x. (x ≡ None) ⊎ ((c : Both) × (x ≡ Some c))) [ None ↦ inl refl | Some c ↦ inr (c, refl) ]
 
 -- a common word of both parts is in what is made of them
@@ -100,10 +102,10 @@ made_within r r' b b' v p q h k u t = elim (reduced_cases r b) [
 ]
 
 -- ---- there is a common word
-record Common (r : Range) (b : Bits) : Type 0 where
-  value : ℕ
-  in_range : range_has r value ≡ true
-  in_bits : bits_has b value ≡ true
+pub record Common (r : Range) (b : Bits) : Type 0 where
+  pub value : ℕ
+  pub in_range : range_has r value ≡ true
+  pub in_bits : bits_has b value ≡ true
 
 common : (r : Range) (b : Bits) (v : ℕ) → IsIn r v → Agrees b v → Common r b
 common r b v p q = record { value = v; in_range = in_has r v p; in_bits = agrees_has b v q }
@@ -203,7 +205,7 @@ immediate_common op a imm =
     (ranges.immediate_covers op a.range a.range.lo imm (lowest_in a) small)
     (bits.operation_covers (register_form op) a.bits (all_known (numbers.word imm)) a.range.lo (numbers.word imm) small (has_agrees a.bits a.range.lo a.least) (one_agrees (numbers.word imm) (word_small imm)))
 
-applied_common : (instr : Instr) (address : ℕ) (a b : Both) → Common (applied_range instr address a.range b.range) (applied_bits instr address a.bits b.bits)
+pub applied_common : (instr : Instr) (address : ℕ) (a b : Both) → Common (applied_range instr address a.range b.range) (applied_bits instr address a.bits b.bits)
 applied_common (Lui rd imm) address a b = any_word_common imm
 applied_common (Auipc rd imm) address a b = any_word_common (beside address imm)
 applied_common (Jal rd imm) address a b = any_word_common (following address)
@@ -226,9 +228,9 @@ range_steps row a b image_end s t h = record { before = h.before; after = h.afte
 bits_steps : (row : StepRow) (a b : Both) (image_end : ℕ) (s t : State) → StepsFrom both_sets row a b image_end s t → StepsFrom bits_sets row a.bits b.bits image_end s t
 bits_steps row a b image_end s t h = record { before = h.before; after = h.after; step = h.step; first = bits_covered a (first_read row.instr) s h.first; second = bits_covered b (second_read row.instr) s h.second }
 
-covering : (row : StepRow) (a b : Both) (image_end : ℕ) (s t : State) → StepsFrom both_sets row a b image_end s t → (r : ℕ) → written_by row.instr ≡ Some r → both_has (applied_both row.instr row.at a b) (t.register r) ≡ true
+covering : (row : StepRow) (a b : Both) (image_end : ℕ) (s t : State) → StepsFrom both_sets row a b image_end s t → (r : ℕ) → written_by row.instr ≡ Some r → both_has (applied_both row.instr (from_of row) a b) (t.register r) ≡ true
 covering row a b image_end s t h r w =
-    made_has (applied_range row.instr row.at a.range b.range) (applied_bits row.instr row.at a.bits b.bits) (t.register r)
+    made_has (applied_range row.instr (from_of row) a.range b.range) (applied_bits row.instr (from_of row) a.bits b.bits) (t.register r)
     (range_covers.covering row a.range b.range image_end s t (range_steps row a b image_end s t h) r w)
     (bits_covers.covering row a.bits b.bits image_end s t (bits_steps row a b image_end s t h) r w)
 
@@ -242,10 +244,10 @@ monotony instr address a a' b b' h k =
 some_number : {x y : ℕ} → Some x ≡ Some y → x ≡ y
 some_number e = cc
 
-some_pair : {x y : Both × Both} → Some x ≡ Some y → x ≡ y
+pub some_pair : {x y : Both × Both} → Some x ≡ Some y → x ≡ y
 some_pair e = cc
 
-none_pair : {x : Both × Both} → None ≡ Some x → ⊥
+pub none_pair : {x : Both × Both} → None ≡ Some x → ⊥
 none_pair e = cc
 
 some_common : (r : Range) (b : Bits) (v : ℕ) → range_has r v ≡ true → bits_has b v ≡ true → (c : Both) × (reduced r b ≡ Some c) × (both_has c v ≡ true)
@@ -314,11 +316,11 @@ common_more r r' b b' c h k e =
     ]
 
 -- two sets that are both there
-record PairIs (x y : Option Both) (n : Both × Both) : Type 0 where
-  first : x ≡ Some n.0
-  second : y ≡ Some n.1
+pub record PairIs (x y : Option Both) (n : Both × Both) : Type 0 where
+  pub first : x ≡ Some n.0
+  pub second : y ≡ Some n.1
 
-pair_is : (x y : Option Both) (n : Both × Both) → pair_of x y ≡ Some n → PairIs x y n
+pub pair_is : (x y : Option Both) (n : Both × Both) → pair_of x y ≡ Some n → PairIs x y n
 pair_is (Some x) (Some y) n e = record { first = ap (λ (z : Both × Both). Some z.0) (some_pair e); second = ap (λ (z : Both × Both). Some z.1) (some_pair e) }
 pair_is (Some x) None n e = absurd (none_pair e)
 pair_is None y n e = absurd (none_pair e)
@@ -334,7 +336,7 @@ both_no_more (Some r) r' (Some k) k' h g n e =
 both_no_more (Some r) r' None k' h g n e = absurd (none_pair e)
 both_no_more None r' k k' h g n e = absurd (none_pair e)
 
-second_is : (b : Both) (x : Option Both) (n : Both × Both) → with_second b x ≡ Some n → (x ≡ Some n.0) × (b ≡ n.1)
+pub second_is : (b : Both) (x : Option Both) (n : Both × Both) → with_second b x ≡ Some n → (x ≡ Some n.0) × (b ≡ n.1)
 second_is b (Some x) n e = (ap (λ (z : Both × Both). Some z.0) (some_pair e), ap (λ (z : Both × Both). z.1) (some_pair e))
 second_is b None n e = absurd (none_pair e)
 
@@ -359,5 +361,8 @@ narrower row a a' b b' n h k e =
     (λ m f. bits_covers.narrower row a.bits a'.bits b.bits b'.bits m (bits_within a a' h) (bits_within b b' k) f)
     h k n e
 
+noted : (a : Both) (n : ℕ × ℕ) → both_moves.note a ≡ Some n → (v : ℕ) → both_has a v ≡ true → bit_and v n.0 ≡ n.1
+noted a n e v h = bits_covers.noted a.bits n e v ((both_parts a v h).1)
+
 pub both_covers : AreMoves both_sets both_moves
-both_covers = record { covering = covering; monotony = monotony; narrowed = narrowed; narrower = narrower }
+both_covers = record { covering = covering; monotony = monotony; narrowed = narrowed; narrower = narrower; noted = noted }

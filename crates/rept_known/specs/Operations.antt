@@ -100,22 +100,22 @@ loaded_bits Lb = all_open
 loaded_bits Lh = all_open
 loaded_bits Lw = all_open
 
--- The table: the known bits of what the instruction at an address puts into its register, from those of rs1 and rs2. An immediate
+-- The table: the known bits of what the instruction that is followed four bytes from an address puts into its register, from those of rs1 and rs2. An immediate
 -- is an operand that is known. An instruction without one, a call and a counter leave all bits open.
 abbrev pub applied_bits : Instr → ℕ → Bits → Bits → Bits
-applied_bits (Lui rd imm) address a b = all_known imm
-applied_bits (Auipc rd imm) address a b = all_known (beside address imm)
-applied_bits (Jal rd imm) address a b = all_known (following address)
-applied_bits (Jalr rd rs1 imm) address a b = all_known (following address)
-applied_bits (Load op rd rs1 imm) address a b = loaded_bits op
-applied_bits (Imm op rd rs1 imm) address a b = operation_bits (register_form op) a (all_known (numbers.word imm))
-applied_bits (Op op rd rs1 rs2) address a b = operation_bits op a b
-applied_bits (Branch op rs1 rs2 imm) address a b = all_open
-applied_bits (Store op rs1 rs2 imm) address a b = all_open
-applied_bits Fence address a b = all_open
-applied_bits Ecall address a b = all_open
-applied_bits Ebreak address a b = all_open
-applied_bits (Counter rd csr) address a b = all_open
+applied_bits (Lui rd imm) from a b = all_known imm
+applied_bits (Auipc rd imm) from a b = all_known (beside from imm)
+applied_bits (Jal rd imm) from a b = all_known (following from)
+applied_bits (Jalr rd rs1 imm) from a b = all_known (following from)
+applied_bits (Load op rd rs1 imm) from a b = loaded_bits op
+applied_bits (Imm op rd rs1 imm) from a b = operation_bits (register_form op) a (all_known (numbers.word imm))
+applied_bits (Op op rd rs1 rs2) from a b = operation_bits op a b
+applied_bits (Branch op rs1 rs2 imm) from a b = all_open
+applied_bits (Store op rs1 rs2 imm) from a b = all_open
+applied_bits Fence from a b = all_open
+applied_bits Ecall from a b = all_open
+applied_bits Ebreak from a b = all_open
+applied_bits (Counter rd csr) from a b = all_open
 
 -- whether the way of a branch tells that its operands are equal
 abbrev pub tells_equal : BranchOp → Turn → Bool

@@ -17,9 +17,9 @@ impl Transfer for Both {
 
     ghost covers = { both_covers };
 
-    fn apply(instr: &Instr, at: u32, a: Both, b: Both) -> Both {
-        let range = Range::apply(instr, at, a.range(), b.range());
-        let bits = Bits::apply(instr, at, a.bits(), b.bits());
+    fn apply(instr: &Instr, from: u32, a: Both, b: Both) -> Both {
+        let range = Range::apply(instr, from, a.range(), b.range());
+        let bits = Bits::apply(instr, from, a.bits(), b.bits());
         or_all(common(range, bits))
     }
 
@@ -42,6 +42,10 @@ impl Transfer for Both {
             | Instr::Ebreak
             | Instr::Counter { .. } => Some((a, b)),
         }
+    }
+
+    fn note(self) -> Option<(u32, u32)> {
+        self.bits().note()
     }
 }
 

@@ -17,11 +17,11 @@ impl Transfer for Bits {
 
     ghost covers = { bits_covers };
 
-    fn apply(instr: &Instr, at: u32, a: Bits, b: Bits) -> Bits {
+    fn apply(instr: &Instr, from: u32, a: Bits, b: Bits) -> Bits {
         match *instr {
             Instr::Lui { imm, .. } => all_known(imm),
-            Instr::Auipc { imm, .. } => all_known(at.wrapping_add(imm)),
-            Instr::Jal { .. } | Instr::Jalr { .. } => all_known(following(at)),
+            Instr::Auipc { imm, .. } => all_known(from.wrapping_add(imm)),
+            Instr::Jal { .. } | Instr::Jalr { .. } => all_known(following(from)),
             Instr::Load { op, .. } => loaded_bits(op),
             Instr::Imm { op, imm, .. } => operation_bits(
                 register_form(op),
@@ -60,6 +60,10 @@ impl Transfer for Bits {
             | Instr::Ebreak
             | Instr::Counter { .. } => Some((a, b)),
         }
+    }
+
+    fn note(self) -> Option<(u32, u32)> {
+        Some((!self.loose(), self.value()))
     }
 }
 

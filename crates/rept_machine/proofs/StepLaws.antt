@@ -9,6 +9,7 @@ use Rattle.rept_isa.specs.declared.instr.ImmOp.TheVariants.{Addi}
 use Rattle.rept_isa.specs.declared.instr.RegOp.TheVariants.{Add}
 use Rattle.rept_isa.specs.declared.row.StepRow.{StepRow}
 use Rattle.rept_isa.specs.Numbers.{plus}
+use Rattle.rept_isa.specs.Rows.{Addresses, addresses_of}
 use Rattle.rept_isa.specs.Operands.{written_by, unless_zero}
 use Rattle.rept_machine.specs.State.{State}
 use Rattle.rept_machine.specs.Step.{IsStep, HasEffect, Sets}
@@ -29,40 +30,40 @@ kept_by_sets (suc rd) value s t h r other = elim (cases_order r (suc rd)) [
   | inr (inr l) ↦ h.others r (omega arith)
 ]
 
-kept : (instr : Instr) (image_end address next : ℕ) (s t : State) → HasEffect instr image_end address next s t → (r : ℕ) → written_by instr ≢ Some r → t.register r ≡ s.register r
-kept (Lui rd imm) image_end address next s t h r other = kept_by_sets rd _ s t h.result r other
-kept (Auipc rd imm) image_end address next s t h r other = kept_by_sets rd _ s t h.result r other
-kept (Jal rd imm) image_end address next s t h r other = kept_by_sets rd _ s t h.link r other
-kept (Jalr rd rs1 imm) image_end address next s t h r other = kept_by_sets rd _ s t h.link r other
-kept (Branch op rs1 rs2 imm) image_end address next s t h r other = h.registers r
-kept (Load op rd rs1 imm) image_end address next s t h r other = kept_by_sets rd _ s t h.result r other
-kept (Store op rs1 rs2 imm) image_end address next s t h r other = h.registers r
-kept (Imm op rd rs1 imm) image_end address next s t h r other = kept_by_sets rd _ s t h.result r other
-kept (Op op rd rs1 rs2) image_end address next s t h r other = kept_by_sets rd _ s t h.result r other
-kept Fence image_end address next s t h r other = h.registers r
-kept Ecall image_end address next s t h r other = h.others r (λ e. other (ap Some (sym e)))
-kept Ebreak image_end address next s t h r other = absurd h
-kept (Counter rd csr) image_end address next s t h r other = kept_by_sets rd (t.register rd) s t (record { written = λ _. refl; lost = h.lost; others = h.others }) r other
+kept : (instr : Instr) (image_end : ℕ) (a : Addresses) (s t : State) → HasEffect instr image_end a s t → (r : ℕ) → written_by instr ≢ Some r → t.register r ≡ s.register r
+kept (Lui rd imm) image_end a s t h r other = kept_by_sets rd _ s t h.result r other
+kept (Auipc rd imm) image_end a s t h r other = kept_by_sets rd _ s t h.result r other
+kept (Jal rd imm) image_end a s t h r other = kept_by_sets rd _ s t h.link r other
+kept (Jalr rd rs1 imm) image_end a s t h r other = kept_by_sets rd _ s t h.link r other
+kept (Branch op rs1 rs2 imm) image_end a s t h r other = h.registers r
+kept (Load op rd rs1 imm) image_end a s t h r other = kept_by_sets rd _ s t h.result r other
+kept (Store op rs1 rs2 imm) image_end a s t h r other = h.registers r
+kept (Imm op rd rs1 imm) image_end a s t h r other = kept_by_sets rd _ s t h.result r other
+kept (Op op rd rs1 rs2) image_end a s t h r other = kept_by_sets rd _ s t h.result r other
+kept Fence image_end a s t h r other = h.registers r
+kept Ecall image_end a s t h r other = h.others r (λ e. other (ap Some (sym e)))
+kept Ebreak image_end a s t h r other = absurd h
+kept (Counter rd csr) image_end a s t h r other = kept_by_sets rd (t.register rd) s t (record { written = λ _. refl; lost = h.lost; others = h.others }) r other
 
 -- A step leaves every register as it was but the one that its instruction writes.
 pub step-keeps : (image_end : ℕ) (row : StepRow) (s t : State) → IsStep image_end row s t → (r : ℕ) → written_by row.instr ≢ Some r → t.register r ≡ s.register r
-step-keeps image_end row s t h r other = kept row.instr image_end row.at row.next s t h r other
+step-keeps image_end row s t h r other = kept row.instr image_end (addresses_of row) s t h r other
 
 -- the value that LUI, ADDI and ADD put into a register other than x0
 pub step-lui : (image_end : ℕ) (row : StepRow) (s t : State) (rd imm : ℕ) → IsStep image_end row s t → row.instr ≡ Lui rd imm → rd ≢ 0 → t.register rd ≡ imm
 step-lui image_end row s t rd imm h is named =
-    let P : Instr → Type 0 = λ i. HasEffect i image_end row.at row.next s t in
-    let e : HasEffect (Lui rd imm) image_end row.at row.next s t = subst P is h in
+    let P : Instr → Type 0 = λ i. HasEffect i image_end (addresses_of row) s t in
+    let e : HasEffect (Lui rd imm) image_end (addresses_of row) s t = subst P is h in
     e.result.written named
 
 pub step-addi : (image_end : ℕ) (row : StepRow) (s t : State) (rd rs1 : ℕ) (imm : ℤ) → IsStep image_end row s t → row.instr ≡ Imm Addi rd rs1 imm → rd ≢ 0 → t.register rd ≡ plus (s.register rs1) imm
 step-addi image_end row s t rd rs1 imm h is named =
-    let P : Instr → Type 0 = λ i. HasEffect i image_end row.at row.next s t in
-    let e : HasEffect (Imm Addi rd rs1 imm) image_end row.at row.next s t = subst P is h in
+    let P : Instr → Type 0 = λ i. HasEffect i image_end (addresses_of row) s t in
+    let e : HasEffect (Imm Addi rd rs1 imm) image_end (addresses_of row) s t = subst P is h in
     e.result.written named
 
 pub step-add : (image_end : ℕ) (row : StepRow) (s t : State) (rd rs1 rs2 : ℕ) → IsStep image_end row s t → row.instr ≡ Op Add rd rs1 rs2 → rd ≢ 0 → t.register rd ≡ (s.register rs1 + s.register rs2) % 2 ^ 32
 step-add image_end row s t rd rs1 rs2 h is named =
-    let P : Instr → Type 0 = λ i. HasEffect i image_end row.at row.next s t in
-    let e : HasEffect (Op Add rd rs1 rs2) image_end row.at row.next s t = subst P is h in
+    let P : Instr → Type 0 = λ i. HasEffect i image_end (addresses_of row) s t in
+    let e : HasEffect (Op Add rd rs1 rs2) image_end (addresses_of row) s t = subst P is h in
     e.result.written named

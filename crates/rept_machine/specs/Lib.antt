@@ -8,3 +8,4 @@ pub mod Machine
 pub mod Runs
 pub mod State
 pub mod Step
+pub mod Ways

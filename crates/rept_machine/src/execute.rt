@@ -1,6 +1,7 @@
 //! What each instruction does.
 
 ghost use Rattle.std.specs.Prelude.{◌≡◌, ◌<◌, ◌^◌, ℕ, IfOk, OnOk, OnErr, slice_index};
+ghost use Rattle.rept_isa.specs.Rows.{of_word};
 ghost use Rattle.rept_machine.specs.Step.{HasEffect, Computes, Jumps, Calls, far_target};
 ghost use Rattle.rept_machine.specs.Choices.{Picks, IsRunnable, WritesMemory};
 ghost use Rattle.rept_machine.specs.declared.memory.Memory.{Memory};
@@ -14,7 +15,7 @@ use rept_isa::number::{following, plus};
 use rept_isa::{Instr, Reg};
 use std::alloc::AllocError;
 
-/// Does what the instruction at this address does, and answers the next address. Where there is no memory for a store
+/// Does what the instruction of four bytes at this address does, and answers the next address. Where there is no memory for a store
 /// nothing changes.
 pub fn execute(
     registers: &mut [u32; 32],
@@ -23,7 +24,7 @@ pub fn execute(
     at: u32,
 ) -> Result<u32, AllocError>
     requires { IsRunnable instr.now }
-    ensures effect { IfOk result (λ next. (image_end : ℕ) → HasEffect instr.now image_end at next (shown_by registers.old memory.old) (shown_by registers.new memory.new)) }
+    ensures effect { IfOk result (λ next. (image_end : ℕ) → HasEffect instr.now image_end (of_word at next) (shown_by registers.old memory.old) (shown_by registers.new memory.new)) }
     ensures picks { OnOk result (Picks instr.now (shown_by registers.old memory.old) (shown_by registers.new memory.new)) }
     ensures words { (r : ℕ) → slice_index registers.new r < 2 ^ 32 }
     ensures kept { slice_index registers.new 0 ≡ slice_index registers.old 0 }
@@ -71,7 +72,7 @@ pub fn execute(
 fn put(registers: &mut [u32; 32], rd: Reg, value: u32, at: u32) -> u32
     ensures words { (r : ℕ) → slice_index registers.new r < 2 ^ 32 }
     ensures kept { slice_index registers.new 0 ≡ slice_index registers.old 0 }
-    ensures done { (m : Memory) → Computes rd value at result (shown_by registers.old m) (shown_by registers.new m) }
+    ensures done { (m : Memory) → Computes rd value (of_word at result) (shown_by registers.old m) (shown_by registers.new m) }
 {
     write(registers, rd, value);
     following(at)
@@ -81,7 +82,7 @@ fn put(registers: &mut [u32; 32], rd: Reg, value: u32, at: u32) -> u32
 fn jump(registers: &mut [u32; 32], rd: Reg, target: u32, at: u32) -> u32
     ensures words { (r : ℕ) → slice_index registers.new r < 2 ^ 32 }
     ensures kept { slice_index registers.new 0 ≡ slice_index registers.old 0 }
-    ensures done { (m : Memory) → Jumps rd target at result (shown_by registers.old m) (shown_by registers.new m) }
+    ensures done { (m : Memory) → Jumps rd target (of_word at result) (shown_by registers.old m) (shown_by registers.new m) }
 {
     write(registers, rd, following(at));
     target
@@ -89,7 +90,7 @@ fn jump(registers: &mut [u32; 32], rd: Reg, target: u32, at: u32) -> u32
 
 /// Answers a call: 0 in a0.
 fn answer(registers: &mut [u32; 32], at: u32) -> u32
-    ensures call { (m : Memory) (image_end : ℕ) → Calls image_end at result (shown_by registers.old m) (shown_by registers.new m) }
+    ensures call { (m : Memory) (image_end : ℕ) → Calls image_end (of_word at result) (shown_by registers.old m) (shown_by registers.new m) }
     ensures words { (r : ℕ) → slice_index registers.new r < 2 ^ 32 }
     ensures kept { slice_index registers.new 0 ≡ slice_index registers.old 0 }
     ensures zero { slice_index registers.new 10 ≡ 0 }

@@ -1,6 +1,6 @@
 //! The machine that executes code step by step.
 
-ghost use Rattle.std.specs.Prelude.{◌≡◌, ◌+◌, ◌*◌, ◌%◌, ◌^◌, ◌<◌, ◌≤◌, ◌==◌, ◌↔◌, ℕ, List, IfOk, OnOk, OnErr, IfErr, Some, None, Err, IsTrue, length, slice_index, if◌then◌else◌};
+ghost use Rattle.std.specs.Prelude.{◌≡◌, ◌+◌, ◌*◌, ◌%◌, ◌^◌, ◌<◌, ◌≤◌, ◌==◌, ◌↔◌, ℕ, List, IfOk, OnOk, OnErr, IfErr, Some, None, Err, IsTrue, length, slice_index, if◌then◌else◌, false};
 ghost use Rattle.rept_machine.specs.State.{IsState};
 ghost use Rattle.rept_machine.specs.Step.{IsStep};
 ghost use Rattle.rept_machine.specs.Choices.{Picks};
@@ -76,6 +76,7 @@ impl<'a> Machine<'a> {
         ensures next { IfOk result (λ row. pc_of self.new ≡ row.next) }
         ensures instr { IfOk result (λ row. IsNext self.old row.instr) }
         ensures call { IfOk result (λ row. IsTrue row.call ↔ (row.instr ≡ Instr.Ecall)) }
+        ensures long { IfOk result (λ row. row.short ≡ false) }
         ensures code { code_of self.new ≡ code_of self.old }
         ensures base { base_of self.new ≡ base_of self.old }
         ensures cause { IfErr result (λ halt. Halts self.old halt) }
@@ -98,6 +99,7 @@ impl<'a> Machine<'a> {
             instr,
             next,
             call,
+            short: false,
         })
     }
 

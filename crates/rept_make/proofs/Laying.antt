@@ -9,6 +9,7 @@ use Rattle.rept_isa.specs.declared.instr.StoreOp.{StoreOp}
 use Rattle.rept_isa.specs.declared.instr.ImmOp.TheVariants.{Addi}
 use Rattle.std.proofs.lemmas.Bool.{cases_eq}
 use Rattle.rept_isa.specs.Numbers.{word, plus}
+use Rattle.rept_isa.specs.Rows.{Addresses}
 use Rattle.rept_machine.specs.State.{State}
 use Rattle.rept_machine.specs.Arithmetic.{beside, loaded, store_width}
 use Rattle.rept_machine.specs.Step.{SameMemory, HasEffect}
@@ -46,8 +47,8 @@ loads body s n =
     let m3 = m 3 (omega arith) in
     rw (m0, m1, m2, m3) refl
 
-module _ (body : List ℕ) (at next : ℕ) (s t : State) (n : Near s) where
-  stores : (op : StoreOp) (rs1 rs2 j : ℕ) (imm : ℤ) (image_end : ℕ) → plus (s.register rs1) imm ≡ plus (s.register 22) (pos j) → j ≤ 3 → store_width op ≤ 4 → HasEffect (Store op rs1 rs2 imm) image_end at next s t → HasEffect (Store op rs1 rs2 imm) image_end at next (laid body s) (laid body t)
+module _ (body : List ℕ) (place : Addresses) (s t : State) (n : Near s) where
+  stores : (op : StoreOp) (rs1 rs2 j : ℕ) (imm : ℤ) (image_end : ℕ) → plus (s.register rs1) imm ≡ plus (s.register 22) (pos j) → j ≤ 3 → store_width op ≤ 4 → HasEffect (Store op rs1 rs2 imm) image_end place s t → HasEffect (Store op rs1 rs2 imm) image_end place (laid body s) (laid body t)
   stores op rs1 rs2 j imm e base small narrow h = record {
     registers = h.registers;
     written = λ k lt. off_code body (beside (plus (s.register rs1) imm) k) _ (subst (λ (b : ℕ). 66560 ≤ beside b k) (sym base) (near_data s j k n small (omega arith))) ∙ h.written k lt;
@@ -55,7 +56,7 @@ module _ (body : List ℕ) (at next : ℕ) (s t : State) (n : Near s) where
     onward = h.onward;
   }
 
-  pub laid_effect : (instr : Instr) (image_end : ℕ) → IsTame instr → HasEffect instr image_end at next s t → HasEffect instr image_end at next (laid body s) (laid body t)
+  pub laid_effect : (instr : Instr) (image_end : ℕ) → IsTame instr → HasEffect instr image_end place s t → HasEffect instr image_end place (laid body s) (laid body t)
   laid_effect (Imm op rd rs1 imm) e f h = record { result = record { written = h.result.written; lost = h.result.lost; others = h.result.others }; memory = same_laid body s t h.memory; onward = h.onward }
   laid_effect (Op op rd rs1 rs2) e f h = record { result = record { written = h.result.written; lost = h.result.lost; others = h.result.others }; memory = same_laid body s t h.memory; onward = h.onward }
   laid_effect (Load op rd rs1 imm) e f h =
@@ -75,27 +76,27 @@ module _ (body : List ℕ) (at next : ℕ) (s t : State) (n : Near s) where
   laid_effect Ebreak e f h = absurd f
   laid_effect (Counter rd csr) e f h = absurd f
 
-  laid_jump : (rd imm : ℕ) (image_end : ℕ) → HasEffect (Jalr rd 23 (pos imm)) image_end at next s t → HasEffect (Jalr rd 23 (pos imm)) image_end at next (laid body s) (laid body t)
+  laid_jump : (rd imm : ℕ) (image_end : ℕ) → HasEffect (Jalr rd 23 (pos imm)) image_end place s t → HasEffect (Jalr rd 23 (pos imm)) image_end place (laid body s) (laid body t)
   laid_jump rd imm e h = record { link = record { written = h.link.written; lost = h.link.lost; others = h.link.others }; memory = same_laid body s t h.memory; onward = h.onward }
 
-  laid_back : (rd : ℕ) (imm : ℤ) (image_end : ℕ) → HasEffect (Jal rd imm) image_end at next s t → HasEffect (Jal rd imm) image_end at next (laid body s) (laid body t)
+  laid_back : (rd : ℕ) (imm : ℤ) (image_end : ℕ) → HasEffect (Jal rd imm) image_end place s t → HasEffect (Jal rd imm) image_end place (laid body s) (laid body t)
   laid_back rd imm e h = record { link = record { written = h.link.written; lost = h.link.lost; others = h.link.others }; memory = same_laid body s t h.memory; onward = h.onward }
 
-  laid_number : (image_end : ℕ) → HasEffect (Imm Addi 17 0 (pos 172)) image_end at next s t → HasEffect (Imm Addi 17 0 (pos 172)) image_end at next (laid body s) (laid body t)
+  laid_number : (image_end : ℕ) → HasEffect (Imm Addi 17 0 (pos 172)) image_end place s t → HasEffect (Imm Addi 17 0 (pos 172)) image_end place (laid body s) (laid body t)
   laid_number e h = record { result = record { written = h.result.written; lost = h.result.lost; others = h.result.others }; memory = same_laid body s t h.memory; onward = h.onward }
 
-  laid_call : (image_end : ℕ) → Picks Ecall s t → HasEffect Ecall image_end at next s t → HasEffect Ecall image_end at next (laid body s) (laid body t)
+  laid_call : (image_end : ℕ) → Picks Ecall s t → HasEffect Ecall image_end place s t → HasEffect Ecall image_end place (laid body s) (laid body t)
   laid_call e p h = record { others = h.others; memory = λ a no_change. ap (laid_byte body a) (p.1 a); onward = h.onward }
 
-  pub laid_step : (slot : ℕ) (instr : Instr) (image_end : ℕ) → IsPlaced slot instr → Picks instr s t → HasEffect instr image_end at next s t → HasEffect instr image_end at next (laid body s) (laid body t)
+  pub laid_step : (slot : ℕ) (instr : Instr) (image_end : ℕ) → IsPlaced slot instr → Picks instr s t → HasEffect instr image_end place s t → HasEffect instr image_end place (laid body s) (laid body t)
   laid_step slot instr e p picks h = elim (cases_eq slot 64) [
-    | inl x ↦ let i = p.jump x in subst (λ (y : Instr). HasEffect y e at next (laid body s) (laid body t)) (sym i) (laid_jump 1 0 e (subst (λ (y : Instr). HasEffect y e at next s t) i h))
+    | inl x ↦ let i = p.jump x in subst (λ (y : Instr). HasEffect y e place (laid body s) (laid body t)) (sym i) (laid_jump 1 0 e (subst (λ (y : Instr). HasEffect y e place s t) i h))
     | inr a ↦ elim (cases_eq slot 191) [
-      | inl x ↦ let i = p.number x in subst (λ (y : Instr). HasEffect y e at next (laid body s) (laid body t)) (sym i) (laid_number e (subst (λ (y : Instr). HasEffect y e at next s t) i h))
+      | inl x ↦ let i = p.number x in subst (λ (y : Instr). HasEffect y e place (laid body s) (laid body t)) (sym i) (laid_number e (subst (λ (y : Instr). HasEffect y e place s t) i h))
       | inr b ↦ elim (cases_eq slot 192) [
-        | inl x ↦ let i = p.call x in subst (λ (y : Instr). HasEffect y e at next (laid body s) (laid body t)) (sym i) (laid_call e (subst (λ (y : Instr). Picks y s t) i picks) (subst (λ (y : Instr). HasEffect y e at next s t) i h))
+        | inl x ↦ let i = p.call x in subst (λ (y : Instr). HasEffect y e place (laid body s) (laid body t)) (sym i) (laid_call e (subst (λ (y : Instr). Picks y s t) i picks) (subst (λ (y : Instr). HasEffect y e place s t) i h))
         | inr c ↦ elim (cases_eq slot 255) [
-          | inl x ↦ let i = p.back x in subst (λ (y : Instr). HasEffect y e at next (laid body s) (laid body t)) (sym i) (laid_back 0 (negsuc 1019) e (subst (λ (y : Instr). HasEffect y e at next s t) i h))
+          | inl x ↦ let i = p.back x in subst (λ (y : Instr). HasEffect y e place (laid body s) (laid body t)) (sym i) (laid_back 0 (negsuc 1019) e (subst (λ (y : Instr). HasEffect y e place s t) i h))
           | inr d ↦ laid_effect instr e (p.tame a b c d) h
         ]
       ]

@@ -6,12 +6,15 @@ use Rattle.std.proofs.lemmas.Option.{slice_get_within, slice_get-get_or, get_or_
 use Rattle.rept_isa.specs.declared.instr.Instr.{Instr}
 use Rattle.rept_isa.specs.declared.instr.Instr.TheVariants.{Fence}
 use Rattle.rept_isa.specs.declared.row.StepRow.{StepRow}
+use Rattle.rept_isa.specs.Rows.{Addresses, addresses_of, of_word}
+use Rattle.rept_isa.proofs.RowLemmas.{of_long}
 use Rattle.rept_elf.specs.Segments.{ElfSegment, segments, greatest_end}
 use Rattle.rept_elf.specs.Checks.{checks, first_failure}
 use Rattle.rept_elf.specs.declared.fault.Want.TheVariants.{Exec, Core}
 use Rattle.rept_dump.specs.Memory.{byte_at}
 use Rattle.rept_dump.specs.Registers.{Says}
 use Rattle.rept_machine.specs.State.{State, IsState}
+use Rattle.rept_machine.specs.Step.{HasEffect}
 use Rattle.rept_machine.specs.declared.machine.Machine.{Machine}
 use Rattle.rept_machine.specs.Machine.{state_of, pc_of}
 use Rattle.rept_machine.specs.Execution.{Execution}
@@ -31,7 +34,7 @@ use Rattle.rept_make.proofs.Laying.{laid_step}
 use Rattle.rept_make.proofs.Nearness.{near_step}
 
 no_row : StepRow
-no_row = record { at = 0; instr = Fence; next = 0; call = false }
+no_row = record { at = 0; instr = Fence; next = 0; call = false; short = false }
 
 module _ (seed : ℕ) (words : List ℕ) (code : IsCode seed words) (rows : List StepRow) (run : ℕ → State) (made : IsMadeRun seed rows run) where
   spelled_at : (i : ℕ) (row : StepRow) (get : slice_get rows i ≡ Some row) → let m = made.steps i row get in SpellsAt m.slot (get_or words m.slot 0) row.instr
@@ -48,7 +51,9 @@ module _ (seed : ℕ) (words : List ℕ) (code : IsCode seed words) (rows : List
       let m = made.steps i (get_or rows i no_row) get in
       let s = made.states i (omega arith) in
       let p = spelled_at i (get_or rows i no_row) get in
-      let next = near_step (get_or rows i no_row).at m.slot (get_or rows i no_row).next (run i) (run (i + 1)) m.at (near_at i (omega arith)) (get_or rows i no_row).instr 0 m.below s.zero p.placed (m.step 0) in
+      let row : StepRow = get_or rows i no_row in
+      let effect : HasEffect row.instr 0 (of_word row.at row.next) (run i) (run (i + 1)) = subst (λ (a : Addresses). HasEffect row.instr 0 a (run i) (run (i + 1))) (of_long row m.long) (m.step 0) in
+      let next = near_step row.at m.slot row.next (run i) (run (i + 1)) m.at (near_at i (omega arith)) row.instr 0 m.below s.zero p.placed effect in
       let e : i + 1 ≡ suc i = omega arith in
       subst (λ (k : ℕ). Near (run k)) e next.0
 
@@ -86,7 +91,7 @@ executes seed end words registers bytes last code rows run made next saved size 
       let m = made.steps i row get in
       let p = spelled_at seed words code rows run made i row get in
       let w = slice_get_within rows i row get in
-      laid_step (bytes_of_words words) row.at row.next (run i) (run (i + 1)) (near_at seed words code rows run made i (omega arith)) m.slot row.instr end p.placed m.picks (m.step end);
+      laid_step (bytes_of_words words) (addresses_of row) (run i) (run (i + 1)) (near_at seed words code rows run made i (omega arith)) m.slot row.instr end p.placed m.picks (m.step end);
   registers_end = λ r v some get.
       let w = slice_get_within last r v get in
       let lt : r < 32 = omega arith in

@@ -7,6 +7,7 @@ use Rattle.rept_isa.specs.declared.instr.Instr.TheVariants.{Lui, Auipc, Jal, Jal
 use Rattle.rept_isa.specs.declared.instr.ImmOp.{ImmOp}
 use Rattle.rept_isa.specs.declared.instr.ImmOp.TheVariants.{Addi, Andi}
 use Rattle.rept_isa.specs.Numbers.{word, plus, following}
+use Rattle.rept_isa.specs.Rows.{of_word}
 use Rattle.rept_machine.specs.State.{State}
 use Rattle.rept_machine.specs.Arithmetic.{computed, computed_imm, branch_holds}
 use Rattle.rept_machine.specs.Step.{Sets, HasEffect}
@@ -76,7 +77,7 @@ module _ (at slot next : ℕ) (s t : State) (here : at ≡ 65536 + 4 * slot) (n 
   onward : next ≡ following at → slot < 255 → InCode next
   onward e lt = subst InCode (sym e) (follows at slot here lt)
 
-  tame : (instr : Instr) (image_end : ℕ) → IsTame instr → slot < 255 → (slot ≡ 254 → IsStraight instr) → HasEffect instr image_end at next s t → Next t next
+  tame : (instr : Instr) (image_end : ℕ) → IsTame instr → slot < 255 → (slot ≡ 254 → IsStraight instr) → HasEffect instr image_end (of_word at next) s t → Next t next
   tame (Imm op rd rs1 imm) e free lt straight h = elim free [
     | inl f ↦ (near_free rd _ s t n h.result f.1, onward h.onward lt)
     | inr f ↦ (let w : Sets 21 (computed_imm Andi (s.register rs1) (pos 1020)) s t = subst (λ (r : ℕ). Sets r (computed_imm Andi (s.register rs1) (pos 1020)) s t) f.1 (subst (λ (z : ℤ). Sets rd (computed_imm Andi (s.register rs1) z) s t) f.2 (subst (λ (o : ImmOp). Sets rd (computed_imm o (s.register rs1) imm) s t) f.0 h.result)) in masked _ s t n w (mask_small (s.register rs1)), onward h.onward lt)
@@ -101,20 +102,20 @@ module _ (at slot next : ℕ) (s t : State) (here : at ≡ 65536 + 4 * slot) (n 
   tame Ebreak e f lt straight h = absurd f
   tame (Counter rd csr) e f lt straight h = absurd f
 
-  lands : (image_end : ℕ) → HasEffect (Jalr 1 23 (pos 0)) image_end at next s t → next ≡ 65800
+  lands : (image_end : ℕ) → HasEffect (Jalr 1 23 (pos 0)) image_end (of_word at next) s t → next ≡ 65800
   unfolding word
   lands e h = let target = n.target in h.onward ∙ (rw target refl)
 
-  pub jump_lands : (instr : Instr) (image_end : ℕ) → slot ≡ 64 → IsPlaced slot instr → HasEffect instr image_end at next s t → next ≡ 65800
-  jump_lands instr e is p h = lands e (subst (λ (i : Instr). HasEffect i e at next s t) (p.jump is) h)
+  pub jump_lands : (instr : Instr) (image_end : ℕ) → slot ≡ 64 → IsPlaced slot instr → HasEffect instr image_end (of_word at next) s t → next ≡ 65800
+  jump_lands instr e is p h = lands e (subst (λ (i : Instr). HasEffect i e (of_word at next) s t) (p.jump is) h)
 
-  fixed_jump : (image_end : ℕ) → HasEffect (Jalr 1 23 (pos 0)) image_end at next s t → Next t next
+  fixed_jump : (image_end : ℕ) → HasEffect (Jalr 1 23 (pos 0)) image_end (of_word at next) s t → Next t next
   unfolding word
   fixed_jump e h =
       let onto : next ≡ 65800 = lands e h in
       (near_sets 1 _ s t n h.link (λ e. omega arith) (λ e. omega arith) (λ e. omega arith) (λ e. omega arith) (λ e. omega arith), (66, omega arith, omega arith))
 
-  fixed_number : (image_end : ℕ) → s.register 0 ≡ 0 → slot < 255 → HasEffect (Imm Addi 17 0 (pos 172)) image_end at next s t → Next t next
+  fixed_number : (image_end : ℕ) → s.register 0 ≡ 0 → slot < 255 → HasEffect (Imm Addi 17 0 (pos 172)) image_end (of_word at next) s t → Next t next
   unfolding word
   fixed_number e none lt h =
       let w = h.result in
@@ -131,12 +132,12 @@ module _ (at slot next : ℕ) (s t : State) (here : at ≡ 65536 + 4 * slot) (n 
         onward h.onward lt,
       )
 
-  fixed_call : (image_end : ℕ) → slot < 255 → HasEffect Ecall image_end at next s t → Next t next
+  fixed_call : (image_end : ℕ) → slot < 255 → HasEffect Ecall image_end (of_word at next) s t → Next t next
   fixed_call e lt h =
       let o = h.others in
       (near_same s t n (o 17 (λ e. omega arith)) (o 20 (λ e. omega arith)) (o 21 (λ e. omega arith)) (o 22 (λ e. omega arith)) (o 23 (λ e. omega arith)), onward h.onward lt)
 
-  fixed_back : (image_end : ℕ) → slot ≡ 255 → HasEffect (Jal 0 (negsuc 1019)) image_end at next s t → Next t next
+  fixed_back : (image_end : ℕ) → slot ≡ 255 → HasEffect (Jal 0 (negsuc 1019)) image_end (of_word at next) s t → Next t next
   unfolding word
   fixed_back e last h =
       let onto = h.onward in
@@ -144,15 +145,15 @@ module _ (at slot next : ℕ) (s t : State) (here : at ≡ 65536 + 4 * slot) (n 
       let zero : next ≡ 65536 = onto ∙ (rw there refl) in
       (near_sets 0 _ s t n h.link (λ e. omega arith) (λ e. omega arith) (λ e. omega arith) (λ e. omega arith) (λ e. omega arith), (0, omega arith, omega arith))
 
-  pub near_step : (instr : Instr) (image_end : ℕ) → slot < 256 → s.register 0 ≡ 0 → IsPlaced slot instr → HasEffect instr image_end at next s t → Next t next
+  pub near_step : (instr : Instr) (image_end : ℕ) → slot < 256 → s.register 0 ≡ 0 → IsPlaced slot instr → HasEffect instr image_end (of_word at next) s t → Next t next
   near_step instr e below none p h = elim (cases_eq slot 64) [
-    | inl x ↦ fixed_jump e (subst (λ (i : Instr). HasEffect i e at next s t) (p.jump x) h)
+    | inl x ↦ fixed_jump e (subst (λ (i : Instr). HasEffect i e (of_word at next) s t) (p.jump x) h)
     | inr a ↦ elim (cases_eq slot 191) [
-      | inl x ↦ fixed_number e none (omega arith) (subst (λ (i : Instr). HasEffect i e at next s t) (p.number x) h)
+      | inl x ↦ fixed_number e none (omega arith) (subst (λ (i : Instr). HasEffect i e (of_word at next) s t) (p.number x) h)
       | inr b ↦ elim (cases_eq slot 192) [
-        | inl x ↦ fixed_call e (omega arith) (subst (λ (i : Instr). HasEffect i e at next s t) (p.call x) h)
+        | inl x ↦ fixed_call e (omega arith) (subst (λ (i : Instr). HasEffect i e (of_word at next) s t) (p.call x) h)
         | inr c ↦ elim (cases_eq slot 255) [
-          | inl x ↦ fixed_back e x (subst (λ (i : Instr). HasEffect i e at next s t) (p.back x) h)
+          | inl x ↦ fixed_back e x (subst (λ (i : Instr). HasEffect i e (of_word at next) s t) (p.back x) h)
           | inr d ↦ tame instr e (p.tame a b c d) (omega arith) p.straight h
         ]
       ]

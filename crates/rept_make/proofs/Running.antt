@@ -9,6 +9,8 @@ use Rattle.rept_isa.specs.declared.instr.Instr.TheVariants.{Lui, Auipc, Jal, Jal
 use Rattle.rept_isa.specs.declared.instr.ImmOp.TheVariants.{Addi}
 use Rattle.rept_isa.specs.declared.row.StepRow.{StepRow}
 use Rattle.rept_isa.specs.Words.{IsWord}
+use Rattle.rept_isa.specs.Rows.{Addresses, of_word}
+use Rattle.rept_isa.proofs.RowLemmas.{of_long}
 use Rattle.rept_isa.specs.Numbers.{plus, following}
 use Rattle.rept_isa.proofs.WordLemmas.{one_instruction}
 use Rattle.rept_steps.specs.Linked.{BeginAt, EndBefore}
@@ -62,7 +64,7 @@ either_way : (b : Bool) (next x y : ℕ) → next ≡ cond b x y → (next ≡ x
 either_way true next x y e = inl e
 either_way false next x y e = inr e
 
-tame_leads : (instr : Instr) (e at next : ℕ) (s t : State) → IsTame instr → HasEffect instr e at next s t → MayLead (flow_of instr) at next
+tame_leads : (instr : Instr) (e at next : ℕ) (s t : State) → IsTame instr → HasEffect instr e (of_word at next) s t → MayLead (flow_of instr) at next
 tame_leads (Imm op rd rs1 imm) e at next s t f h = h.onward
 tame_leads (Op op rd rs1 rs2) e at next s t f h = h.onward
 tame_leads (Load op rd rs1 imm) e at next s t f h = h.onward
@@ -77,15 +79,15 @@ tame_leads Ecall e at next s t f h = absurd f
 tame_leads Ebreak e at next s t f h = absurd f
 tame_leads (Counter rd csr) e at next s t f h = absurd f
 
-leads : (slot : ℕ) (instr : Instr) (e at next : ℕ) (s t : State) → IsPlaced slot instr → next % 4 ≡ 0 → HasEffect instr e at next s t → MayLead (flow_of instr) at next
+leads : (slot : ℕ) (instr : Instr) (e at next : ℕ) (s t : State) → IsPlaced slot instr → next % 4 ≡ 0 → HasEffect instr e (of_word at next) s t → MayLead (flow_of instr) at next
 leads slot instr e at next s t p even h = elim (cases_eq slot 64) [
   | inl x ↦ let i = p.jump x in subst (λ (y : Instr). MayLead (flow_of y) at next) (sym i) even
   | inr a ↦ elim (cases_eq slot 191) [
-    | inl x ↦ let i = p.number x in subst (λ (y : Instr). MayLead (flow_of y) at next) (sym i) (let k = subst (λ (y : Instr). HasEffect y e at next s t) i h in k.onward)
+    | inl x ↦ let i = p.number x in subst (λ (y : Instr). MayLead (flow_of y) at next) (sym i) (let k = subst (λ (y : Instr). HasEffect y e (of_word at next) s t) i h in k.onward)
     | inr b ↦ elim (cases_eq slot 192) [
-      | inl x ↦ let i = p.call x in subst (λ (y : Instr). MayLead (flow_of y) at next) (sym i) (let k = subst (λ (y : Instr). HasEffect y e at next s t) i h in k.onward)
+      | inl x ↦ let i = p.call x in subst (λ (y : Instr). MayLead (flow_of y) at next) (sym i) (let k = subst (λ (y : Instr). HasEffect y e (of_word at next) s t) i h in k.onward)
       | inr c ↦ elim (cases_eq slot 255) [
-        | inl x ↦ let i = p.back x in subst (λ (y : Instr). MayLead (flow_of y) at next) (sym i) (let k = subst (λ (y : Instr). HasEffect y e at next s t) i h in k.onward)
+        | inl x ↦ let i = p.back x in subst (λ (y : Instr). MayLead (flow_of y) at next) (sym i) (let k = subst (λ (y : Instr). HasEffect y e (of_word at next) s t) i h in k.onward)
         | inr d ↦ tame_leads instr e at next s t (p.tame a b c d) h
       ]
     ]
@@ -186,7 +188,7 @@ before n run last i le = let t : nat_le i n ≡ true = grind (arith, nat_tests) 
 at_last : (n : ℕ) (run : ℕ → State) (last : State) → longer n run last (n + 1) ≡ last
 at_last n run last = let t : nat_le (n + 1) n ≡ false = grind (arith, nat_tests) in rw t refl
 
-module _ (seed : ℕ) (words : List ℕ) (code : IsCode seed words) (old new : Machine) (rows : List StepRow) (ran : Ran seed words old rows) (row : StepRow) (lawful : (e : ℕ) → IsStep e row (state_of old) (state_of new)) (state : IsState (state_of new)) (picks : Picks row.instr (state_of old) (state_of new)) (at : row.at ≡ pc_of old) (next : pc_of new ≡ row.next) (instr : IsNext old row.instr) (call : IsTrue row.call ↔ (row.instr ≡ Ecall)) (kept : code_of new ≡ code_of old) (base : base_of new ≡ base_of old) where
+module _ (seed : ℕ) (words : List ℕ) (code : IsCode seed words) (old new : Machine) (rows : List StepRow) (ran : Ran seed words old rows) (row : StepRow) (lawful : (e : ℕ) → IsStep e row (state_of old) (state_of new)) (state : IsState (state_of new)) (picks : Picks row.instr (state_of old) (state_of new)) (at : row.at ≡ pc_of old) (next : pc_of new ≡ row.next) (instr : IsNext old row.instr) (call : IsTrue row.call ↔ (row.instr ≡ Ecall)) (long : row.short ≡ false) (kept : code_of new ≡ code_of old) (base : base_of new ≡ base_of old) where
   there : row.at ≡ 65536 + 4 * ran.slot.0
   there = at ∙ ran.slot.2
 
@@ -202,8 +204,12 @@ module _ (seed : ℕ) (words : List ℕ) (code : IsCode seed words) (old new : M
   placed : IsPlaced ran.slot.0 row.instr
   placed = subst (λ (i : Instr). IsPlaced ran.slot.0 i) (sym is_made) spelled.placed
 
+  -- the row's addresses are those of an instruction of four bytes
+  effect : (e : ℕ) → HasEffect row.instr e (of_word row.at row.next) (state_of old) (state_of new)
+  effect e = subst (λ (a : Addresses). HasEffect row.instr e a (state_of old) (state_of new)) (of_long row long) (lawful e)
+
   goes : Next (state_of new) row.next
-  goes = near_step row.at ran.slot.0 row.next (state_of old) (state_of new) there ran.near row.instr 0 ran.slot.1 ran.state.zero placed (lawful 0)
+  goes = near_step row.at ran.slot.0 row.next (state_of old) (state_of new) there ran.near row.instr 0 ran.slot.1 ran.state.zero placed (effect 0)
 
   calls_so : row.call ≡ calls (flow_of row.instr)
   calls_so = called row.call row.instr call
@@ -214,12 +220,13 @@ module _ (seed : ℕ) (words : List ℕ) (code : IsCode seed words) (old new : M
       let to = goes.1 in
       record {
         aligned = omega arith;
-        lead = leads ran.slot.0 row.instr 0 row.at row.next (state_of old) (state_of new) placed (let e = to.2 in omega arith) (lawful 0);
+        lead = leads ran.slot.0 row.instr 0 row.at row.next (state_of old) (state_of new) placed (let e = to.2 in omega arith) (effect 0);
         call = calls_so;
+        long = long;
       }
 
   made_row : IsMadeRow seed row (state_of old) (state_of new)
-  made_row = record { slot = ran.slot.0; below = ran.slot.1; at = there; instr = is_made; step = lawful; picks = picks; call = calls_so }
+  made_row = record { slot = ran.slot.0; below = ran.slot.1; at = there; instr = is_made; step = lawful; picks = picks; call = calls_so; long = long }
 
   abbrev run : ℕ → State
   run = longer (length rows) ran.run (state_of new)
@@ -262,7 +269,7 @@ module _ (seed : ℕ) (words : List ℕ) (code : IsCode seed words) (old new : M
     | inr g ↦
         let here : jumps_far (flow_of row.instr) ≡ true = subst (λ (r : StepRow). jumps_far (flow_of r.instr) ≡ true) (sym g.1) far in
         let slot : ran.slot.0 ≡ 64 = far_slot ran.slot.0 row.instr placed here in
-        next ∙ jump_lands row.at ran.slot.0 row.next (state_of old) (state_of new) there ran.near row.instr 0 slot placed (lawful 0)
+        next ∙ jump_lands row.at ran.slot.0 row.next (state_of old) (state_of new) there ran.near row.instr 0 slot placed (effect 0)
   ]
 
   no_call_here : pc_of old ≡ 65800 → row.instr ≡ Ecall → ⊥

@@ -1,5 +1,5 @@
 -- The run of a made program on the machine, from the start registers and a memory of zeros.
-use Rattle.std.specs.Prelude.{◌≡◌, ℕ, ◌+◌, ◌*◌, ◌<◌, ◌≤◌, List, length, slice_get, slice_index, Some}
+use Rattle.std.specs.Prelude.{◌≡◌, ℕ, ◌+◌, ◌*◌, ◌<◌, ◌≤◌, List, length, slice_get, slice_index, Some, false}
 use Rattle.rept_isa.specs.declared.row.StepRow.{StepRow}
 use Rattle.rept_steps.specs.Linked.{BeginAt}
 use Rattle.rept_machine.specs.State.{State, IsState}
@@ -19,6 +19,7 @@ pub record IsMadeRow (seed : ℕ) (row : StepRow) (s t : State) : Type 0 where
   pub step : (image_end : ℕ) → IsStep image_end row s t
   pub picks : Picks row.instr s t
   pub call : row.call ≡ calls (flow_of row.instr)
+  pub long : row.short ≡ false
 
 pub record IsMadeRun (seed : ℕ) (rows : List StepRow) (run : ℕ → State) : Type 0 where
   pub registers : (r : ℕ) → (run 0).register r ≡ slice_index (start_registers seed) r

@@ -5,6 +5,7 @@ use Rattle.std.proofs.lemmas.Bool.{false≢true, cases_Bool, cases_order, cases_
 use Rattle.rept_isa.specs.declared.instr.Instr.{Instr}
 use Rattle.rept_isa.specs.declared.instr.Instr.TheVariants.{Ecall}
 use Rattle.rept_isa.specs.declared.row.StepRow.{StepRow}
+use Rattle.rept_isa.specs.Rows.{Addresses, addresses_of}
 use Rattle.rept_machine.specs.Calls.{MayChange}
 use Rattle.rept_machine.specs.State.{State, IsState}
 use Rattle.rept_machine.specs.Step.{IsStep, HasEffect, Calls}
@@ -30,9 +31,9 @@ third i m below = omega arith
 rest_of : (i m : ℕ) → m < 3 → (3 * i + m) % 3 ≡ m
 rest_of i m below = omega arith
 
-call_is : (instr : Instr) (image_end address next : ℕ) (s t : State) → is_call instr ≡ true → HasEffect instr image_end address next s t → Calls image_end address next s t
-call_is Ecall image_end address next s t e k = k
-call_is _ image_end address next s t e k = absurd (false≢true e)
+call_is : (instr : Instr) (image_end : ℕ) (place : Addresses) (s t : State) → is_call instr ≡ true → HasEffect instr image_end place s t → Calls image_end place s t
+call_is Ecall image_end place s t e k = k
+call_is _ image_end place s t e k = absurd (false≢true e)
 
 abbrev offset : Part → ℕ
 offset whole = 0
@@ -133,11 +134,11 @@ module _ (C : Course) (alone : IsAlone C) (D : Ending) (run : ℕ → State) (x 
       let step : IsStep D.image_end there.0 (run i) (run (suc i)) = subst (λ (j : ℕ). IsStep D.image_end there.0 (run i) (run j)) (omega arith) (x.steps i there.0 there.1) in
       record { its_row = there.0; is_row = there.1; step = step; others = λ v r other. own_others 0 (run i) (run (suc i)) v r refl other }
 
-  call_does : (i : ℕ) → i < n → calls C (row_of 0 i) ≡ true → (its_row : StepRow) × (row_at C (row_of 0 i) ≡ Some its_row) × Calls D.image_end its_row.at its_row.next (run i) (run (suc i))
+  call_does : (i : ℕ) → i < n → calls C (row_of 0 i) ≡ true → (its_row : StepRow) × (row_at C (row_of 0 i) ≡ Some its_row) × Calls D.image_end (addresses_of its_row) (run i) (run (suc i))
   call_does i below call =
       let there = row_there i below in
       let step : IsStep D.image_end there.0 (run i) (run (suc i)) = subst (λ (j : ℕ). IsStep D.image_end there.0 (run i) (run j)) (omega arith) (x.steps i there.0 there.1) in
-      (there.0, there.1, call_is there.0.instr D.image_end there.0.at there.0.next (run i) (run (suc i)) (call_instr i there.0 there.1 call) step)
+      (there.0, there.1, call_is there.0.instr D.image_end (addresses_of there.0) (run i) (run (suc i)) (call_instr i there.0 there.1 call) step)
 
   same_registers : (s u : State) (t r : ℕ) → s.register ≡ u.register → (world_of s).register t r ≡ (world_of u).register t r
   same_registers s u t r same = ap (λ (f : ℕ → ℕ). cond (eqb t 0) f (λ k. 0) r) same

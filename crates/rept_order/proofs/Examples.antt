@@ -12,7 +12,7 @@ use Rattle.rept_order.specs.Moments.Act.{row, dark}
 use Rattle.rept_order.specs.Times.{is_earlier, falls_between}
 
 abbrev a_row : ℕ → Instr → StepRow
-a_row at instr = record { at = at; instr = instr; next = at + 4; call = false }
+a_row at instr = record { at = at; instr = instr; next = at + 4; call = false; short = false }
 
 abbrev slice_from : ℕ → ℕ → ℕ → ℕ → Slice
 slice_from begin end first count = record { stream = 0; begin = begin; end = end; first = first; count = count }

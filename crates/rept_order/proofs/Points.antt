@@ -6,6 +6,7 @@ use Rattle.rept_isa.specs.declared.instr.Instr.{Instr}
 use Rattle.rept_isa.specs.declared.instr.Instr.TheVariants.{Store, Ecall}
 use Rattle.rept_isa.specs.declared.row.StepRow.{StepRow}
 use Rattle.rept_isa.specs.Numbers.{following}
+use Rattle.rept_isa.specs.Rows.{Addresses, from_of, addresses_of}
 use Rattle.rept_machine.specs.State.{State, IsState}
 use Rattle.rept_machine.specs.Step.{IsStep, HasEffect, Calls}
 use Rattle.rept_steps.specs.Course.{Course, Row, row_of, rows_of, IsRow, row_at, is_call, is_call_row, calls}
@@ -178,9 +179,9 @@ module _ (C : Course) (D : Ending) (h : History) (x : IsExecution C D h) where
 same_row : {a b : StepRow} → Some a ≡ Some b → a ≡ b
 same_row e = cc
 
-call_effect : (instr : Instr) (image_end address next : ℕ) (s t : State) → is_call instr ≡ true → Calls image_end address next s t → HasEffect instr image_end address next s t
-call_effect Ecall image_end address next s t e k = k
-call_effect _ image_end address next s t e k = absurd (false≢true e)
+call_effect : (instr : Instr) (image_end : ℕ) (place : Addresses) (s t : State) → is_call instr ≡ true → Calls image_end place s t → HasEffect instr image_end place s t
+call_effect Ecall image_end place s t e k = k
+call_effect _ image_end place s t e k = absurd (false≢true e)
 
 module _ (C : Course) (D : Ending) (h : History) (x : IsExecution C D h) (t i : ℕ) (inside : i < length (rows_of C t)) where
   happens_at : (p : Part) → FitsRow (calls C (row_of t i)) p → (h.place (part_of (row_of t i) p) < h.ticks) × Occurs C D (row_of t i) (record { old = h.world (h.place (part_of (row_of t i) p)); new = h.world (suc (h.place (part_of (row_of t i) p))) }) p
@@ -238,8 +239,8 @@ module _ (C : Course) (D : Ending) (h : History) (x : IsExecution C D h) (t i : 
   call_step its_row memory is call =
       let returned = (happens_at return call).1 in
       let its = same_row (sym returned.is_row ∙ is) in
-      let onward = subst (λ (r : StepRow). r.next ≡ following r.at) its returned.onward in
-      call_effect its_row.instr D.image_end its_row.at its_row.next (state_from (registers_at C h t i) memory) (state_from (registers_at C h t (suc i)) memory) (subst (λ (o : Option StepRow). is_call_row o ≡ true) is call) (record {
+      let onward = subst (λ (r : StepRow). r.next ≡ following (from_of r)) its returned.onward in
+      call_effect its_row.instr D.image_end (addresses_of its_row) (state_from (registers_at C h t i) memory) (state_from (registers_at C h t (suc i)) memory) (subst (λ (o : Option StepRow). is_call_row o ≡ true) is call) (record {
         others = λ s other. ap (λ (f : ℕ → ℕ). f s) (registers_after C D h x t i inside) ∙ call_keeps s other call ∙ ap (λ (f : ℕ → ℕ). f s) (sym (registers_before C D h x t i inside));
         memory = λ a out. refl;
         onward = onward;

@@ -4,6 +4,7 @@
 use Rattle.std.specs.Prelude.{◌≡◌, ◌≢◌, ℕ, suc, ◌<◌, ◌≤◌, true, List, Option, Some, slice_get}
 use Rattle.rept_isa.specs.declared.row.StepRow.{StepRow}
 use Rattle.rept_isa.specs.Numbers.{following}
+use Rattle.rept_isa.specs.Rows.{from_of}
 use Rattle.rept_machine.specs.State.{State, IsState}
 use Rattle.rept_machine.specs.Step.{IsStep}
 use Rattle.rept_machine.specs.Calls.{MayChange}
@@ -84,7 +85,7 @@ pub record Executes (C : Course) (D : Ending) (r : Row) (m : Move) : Type 0 wher
 pub record Returns (C : Course) (r : Row) (m : Move) : Type 0 where
   pub its_row : StepRow
   pub is_row : row_at C r ≡ Some its_row
-  pub onward : its_row.next ≡ following its_row.at
+  pub onward : its_row.next ≡ following (from_of its_row)
   pub own : (s : ℕ) → s ≢ 10 → m.new.register r.thread s ≡ m.old.register r.thread s
   pub others : OthersKeep r.thread m
   pub memory : SameMemory m

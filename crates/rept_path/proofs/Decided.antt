@@ -50,7 +50,7 @@ module _ (code : List ElfSegment) (lead : Lead) (aim : Aim) (past : Place) where
 
   -- what a move gives
   row_of : (p : Place) (a : ℕ) → next_of code lead p ≡ Ok a → (row : StepRow) × IsMove code lead p row
-  row_of p a h = let m = made code lead p a h in (record { at = p.at; instr = m.0; next = a; call = false }, record { next = h; at = refl; instr = m.1; call = refl })
+  row_of p a h = let m = made code lead p a h in (record { at = p.at; instr = m.0; next = a; call = false; short = false }, record { next = h; at = refl; instr = m.1; call = refl; long = refl })
 
   -- a leg without a stop ends after one row more, or goes on
   moves : (leg : List StepRow) → Passes code (course_by lead aim) past leg → ((row : StepRow) → length (along code past leg).rows < lead.room → Passes code (course_by lead aim) past (row ∷ leg) → Ends) → Ends

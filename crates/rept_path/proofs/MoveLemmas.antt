@@ -75,9 +75,9 @@ used_more true n all le more = let m = more refl in omega arith
 used_more false n all le more = omega arith
 
 -- a walk that was moved
-pub moved : (code : List ElfSegment) (how : Lead) (old new : Walk) (row : StepRow) → Counts old → how.room ≡ old.room → how.bits ≡ old.bits.items → next_of code how (here old) ≡ Ok row.next → row.at ≡ old.at → look code old.at ≡ Ok row.instr → row.call ≡ false → new.at ≡ row.next → new.steps ≡ old.steps ++ row ∷ []
+pub moved : (code : List ElfSegment) (how : Lead) (old new : Walk) (row : StepRow) → Counts old → how.room ≡ old.room → how.bits ≡ old.bits.items → next_of code how (here old) ≡ Ok row.next → row.at ≡ old.at → look code old.at ≡ Ok row.instr → row.call ≡ false → row.short ≡ false → new.at ≡ row.next → new.steps ≡ old.steps ++ row ∷ []
     → new.used ≡ old.used + branches_at code old.at → Keeps old new → EndBefore new.steps row.next → Moved code how old new
-moved code how old new row counts limit same next at there plain to pushed used kept ends =
+moved code how old new row counts limit same next at there plain long to pushed used kept ends =
     let back : reverse new.steps ≡ row ∷ reverse old.steps = ap reverse pushed ∙ reverse-append old.steps (row ∷ []) in
     let few : length (reverse old.steps) < how.room = few_before code how (here old) row.next next in
     let more : is_branch code old.at ≡ true → old.used < length old.bits.items = λ t. rw (← same) (bit_before code how (here old) row.next next t) in
@@ -86,7 +86,7 @@ moved code how old new row counts limit same next at there plain to pushed used 
     let branched : new.used ≡ old.used + branches_at code row.at = rw at used in
     record {
       row = row;
-      move = record { next = next; at = at; instr = there; call = plain };
+      move = record { next = next; at = at; instr = there; call = plain; long = long };
       seen = cc;
       counts = record { enough = rw (used, kept.bits) u; few = (let k = kept.room in omega (arith, length-reverse new.steps, longer, limit, few, k)); spare = (let sp = counts.spare in rw kept.bits (omega arith)); linked = rw to ends };
       kept = kept;

@@ -19,11 +19,12 @@ one_move code lead p r s x y =
     let n : r.next ≡ s.next = cc in
     let at : r.at ≡ s.at = x.at ∙ sym y.at in
     let c : r.call ≡ s.call = x.call ∙ sym y.call in
+    let d : r.short ≡ s.short = x.long ∙ sym y.long in
     let u : look code p.at ≡ Ok r.instr = x.instr in
     let v : look code p.at ≡ Ok s.instr = y.instr in
     let i : r.instr ≡ s.instr = cc in
-    let f : ℕ → Instr → ℕ → Bool → StepRow = λ a j b c. record { at = a; instr = j; next = b; call = c } in
-    let one : f r.at r.instr r.next r.call ≡ f s.at s.instr s.next s.call = cc in
+    let f : ℕ → Instr → ℕ → Bool → Bool → StepRow = λ a j b c d. record { at = a; instr = j; next = b; call = c; short = d } in
+    let one : f r.at r.instr r.next r.call r.short ≡ f s.at s.instr s.next s.call s.short = cc in
     one
 
 module _ (code : List ElfSegment) (lead : Lead) (aim : Aim) (past : Place) where

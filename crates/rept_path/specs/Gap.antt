@@ -14,7 +14,7 @@ use Rattle.rept_path.specs.Code.{look, flow_of, is_call}
 use Rattle.rept_path.specs.Moves.{Stand, way_by, successor, ◌>>=◌}
 
 abbrev pub row : ℕ → Instr → ℕ → Bool → StepRow
-row at instr next call = record { at = at; instr = instr; next = next; call = call }
+row at instr next call = record { at = at; instr = instr; next = next; call = call; short = false }
 
 -- the address that the rows must lead to, and the refusal where they don't
 pub record Goal : Type 0 where

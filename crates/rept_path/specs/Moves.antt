@@ -99,6 +99,7 @@ pub record IsMove (code : List ElfSegment) (lead : Lead) (p : Place) (row : Step
   pub at : row.at ≡ p.at
   pub instr : look code p.at ≡ Ok row.instr
   pub call : row.call ≡ false
+  pub long : row.short ≡ false
 
 -- whether the last row is that of an uninferable jump
 unfoldable pub by_jump : List StepRow → Bool

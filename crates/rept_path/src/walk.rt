@@ -89,6 +89,7 @@ fn rows_by_successor(
         instr,
         next,
         call: false,
+        short: false,
     };
     if next == to {
         return Ok((first, None));
@@ -100,6 +101,7 @@ fn rows_by_successor(
             instr,
             next: to,
             call: true,
+            short: false,
         };
         return Ok((first, Some(second)));
     }
@@ -138,6 +140,7 @@ fn rows_across(
             instr,
             next: to,
             call,
+            short: false,
         },
         None,
     ))
@@ -308,6 +311,7 @@ impl Walk {
             instr,
             next,
             call: false,
+            short: false,
         };
         if let Err(_) = self.steps.push(row) {
             return Err(PathFault::OutOfMemory);

@@ -64,6 +64,7 @@ fn steps_of(
             instr,
             next,
             call: instr == Instr::Ecall,
+            short: false,
         })?;
     }
     Ok(rows)

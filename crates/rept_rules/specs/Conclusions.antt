@@ -17,6 +17,7 @@ use Rattle.rept_isa.specs.declared.class.Turn.TheVariants.{Taken, NotTaken}
 use Rattle.rept_isa.specs.declared.row.StepRow.{StepRow}
 use Rattle.rept_isa.specs.Numbers.{plus}
 use Rattle.rept_isa.specs.Operands.{written_by, first_read, second_read, turn_of}
+use Rattle.rept_isa.specs.Rows.{from_of}
 use Rattle.rept_partial.specs.declared.flat.Flat.{Flat}
 use Rattle.rept_partial.specs.declared.flat.Flat.TheVariants.{Unknown, Known}
 use Rattle.rept_machine.specs.Arithmetic.{loaded, word_at, beside, byte_of, store_width, register_form}
@@ -85,7 +86,7 @@ equates _ turn = false
 
 pub data Concludes (row : StepRow) (s : Seen) (d : Drawn) : Type 0 where
   -- 7: the destination has the result that follows from what is known of the operands
-  result : (rd v : ℕ) → written_by row.instr ≡ Some rd → forward_of row.instr row.at (seen_operand s (first_read row.instr)) (seen_operand s (second_read row.instr)) ≡ Known v → Says d 7 After rd v → Concludes row s d
+  result : (rd v : ℕ) → written_by row.instr ≡ Some rd → forward_of row.instr (from_of row) (seen_operand s (first_read row.instr)) (seen_operand s (second_read row.instr)) ≡ Known v → Says d 7 After rd v → Concludes row s d
   -- 8: a load of known bytes at a known base
   load : (op : LoadOp) (rd rs1 : ℕ) (imm : ℤ) (b : ℕ) (memory : ℕ → ℕ) → row.instr ≡ Load op rd rs1 imm → IsKnown s Before rs1 b → AreKnown s Before (plus b imm) (load_width op) memory → Says d 8 After rd (loaded op memory (plus b imm)) → Concludes row s d
   -- 9: a store of a known value at a known base gives each of its bytes

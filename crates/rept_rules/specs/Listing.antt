@@ -11,6 +11,7 @@ use Rattle.rept_isa.specs.declared.class.Turn.{Turn}
 use Rattle.rept_isa.specs.declared.row.StepRow.{StepRow}
 use Rattle.rept_isa.specs.Numbers.{plus}
 use Rattle.rept_isa.specs.Operands.{written_by, first_read, second_read, turn_of, unless_zero}
+use Rattle.rept_isa.specs.Rows.{from_of}
 use Rattle.rept_partial.specs.declared.flat.Flat.{Flat}
 use Rattle.rept_partial.specs.declared.flat.Flat.TheVariants.{Unknown, Known}
 use Rattle.rept_machine.specs.Arithmetic.{beside, store_width, extended}
@@ -99,7 +100,7 @@ known_after s None = Unknown
 known_after s (Some rd) = flat (s.register After rd)
 
 abbrev pub result_drawn : StepRow → Seen → List Drawn
-result_drawn row s = some_drawn 7 After (written_by row.instr) (forward_of row.instr row.at (seen_operand s (first_read row.instr)) (seen_operand s (second_read row.instr)))
+result_drawn row s = some_drawn 7 After (written_by row.instr) (forward_of row.instr (from_of row) (seen_operand s (first_read row.instr)) (seen_operand s (second_read row.instr)))
 
 abbrev pub solve_known : Instr → Side → Flat → Flat → Flat
 solve_known instr side Unknown other = Unknown

@@ -9,7 +9,7 @@ use Rattle.rept_partial.specs.declared.flat.Flat.TheVariants.{Unknown, Known}
 use Rattle.rept_partial.specs.Ranges.{from_to}
 use Rattle.rept_machine.specs.Arithmetic.{store_width}
 use Rattle.rept_alias.specs.Accesses.{hits, call_hits, access_of}
-use Rattle.rept_havoc.specs.Havoc.{changed}
+use Rattle.rept_havoc.specs.Havoc.{changed, IsExact, AreExact}
 use Rattle.rept_view.specs.declared.drawn.When.{When}
 use Rattle.rept_view.specs.declared.drawn.When.TheVariants.{Before, After}
 use Rattle.rept_view.specs.Seen.{Seen}
@@ -43,6 +43,12 @@ may_write (Op op rd rs1 rs2) s image_end a = false
 may_write Fence s image_end a = false
 may_write Ebreak s image_end a = false
 may_write (Counter rd csr) s image_end a = false
+
+-- the number of a call, its arguments and its answer are known: the range of each has one value
+pub record IsKnownCall (s : Seen) (register : ℕ → ℕ) (answer : ℕ) : Type 0 where
+  pub number : IsExact (s.range Before 17) (register 17)
+  pub arguments : AreExact (s.range Before) register
+  pub answered : IsExact (s.range After 10) answer
 
 -- a store of known base writes all of its bytes
 abbrev pub is_sure : Instr → Seen → Bool

@@ -43,22 +43,22 @@ result_of op Unknown Unknown = Unknown
 abbrev pub registers_result : RegOp → ℕ → ℕ → Flat → Flat → Flat
 registers_result op rs1 rs2 a b = if cancels op rs1 rs2 then Known 0 else result_of op (operand rs1 a) (operand rs2 b)
 
--- what the instruction at an address puts into its destination, from what is known of the registers in the places of rs1 and rs2;
+-- what the instruction that is followed four bytes from an address puts into its destination, from what is known of the registers in the places of rs1 and rs2;
 -- LUI, AUIPC, JAL and JALR always give theirs
 abbrev pub forward_of : Instr → ℕ → Flat → Flat → Flat
-forward_of (Lui rd imm) address a b = Known imm
-forward_of (Auipc rd imm) address a b = Known (beside address imm)
-forward_of (Jal rd imm) address a b = Known (following address)
-forward_of (Jalr rd rs1 imm) address a b = Known (following address)
-forward_of (Imm op rd rs1 imm) address a b = result_of (register_form op) (operand rs1 a) (Known (word imm))
-forward_of (Op op rd rs1 rs2) address a b = registers_result op rs1 rs2 a b
-forward_of (Branch op rs1 rs2 imm) address a b = Unknown
-forward_of (Load op rd rs1 imm) address a b = Unknown
-forward_of (Store op rs1 rs2 imm) address a b = Unknown
-forward_of Fence address a b = Unknown
-forward_of Ecall address a b = Unknown
-forward_of Ebreak address a b = Unknown
-forward_of (Counter rd csr) address a b = Unknown
+forward_of (Lui rd imm) from a b = Known imm
+forward_of (Auipc rd imm) from a b = Known (beside from imm)
+forward_of (Jal rd imm) from a b = Known (following from)
+forward_of (Jalr rd rs1 imm) from a b = Known (following from)
+forward_of (Imm op rd rs1 imm) from a b = result_of (register_form op) (operand rs1 a) (Known (word imm))
+forward_of (Op op rd rs1 rs2) from a b = registers_result op rs1 rs2 a b
+forward_of (Branch op rs1 rs2 imm) from a b = Unknown
+forward_of (Load op rd rs1 imm) from a b = Unknown
+forward_of (Store op rs1 rs2 imm) from a b = Unknown
+forward_of Fence from a b = Unknown
+forward_of Ecall from a b = Unknown
+forward_of Ebreak from a b = Unknown
+forward_of (Counter rd csr) from a b = Unknown
 
 -- a value that may be the known one
 abbrev pub Admits : Flat → ℕ → Type 0

@@ -1,9 +1,12 @@
 //! The rules of RV32IM.
 
-ghost use Rattle.std.specs.Prelude.{◌≡◌, ◌+◌, min, Contains};
+ghost use Rattle.std.specs.Prelude.{◌≡◌, ℕ, ◌+◌, ◌^◌, ◌<◌, min, Contains};
+ghost use Rattle.rept_alias.specs.Accesses.{call_hits};
+ghost use Rattle.rept_machine.specs.Calls.{may_change};
 ghost use Rattle.rept_view.specs.declared.drawn.Drawn.{Drawn};
 ghost use Rattle.rept_rules.specs.Conclusions.{Concludes};
 ghost use Rattle.rept_rules.specs.Listing.{conclusions};
+ghost use Rattle.rept_rules.specs.MayWrite.{IsKnownCall, may_write};
 
 use crate::draw::{draw_others, draw_result, load_width, store_width};
 use crate::rest::add_needs;
@@ -65,7 +68,11 @@ impl RowRules for Base {
         needs
     }
 
-    fn touched<V: RowView>(row: &StepRow, view: &V, image_end: u64) -> CallAccess {
+    fn touched<V: RowView>(row: &StepRow, view: &V, image_end: u64) -> CallAccess
+        ensures hits { (a : ℕ) → a < 2 ^ 32 → call_hits result a ≡ may_write row.now.instr (V.seen view.now) image_end a }
+        // Of a call that is known, exactly the bytes of the table of calls.
+        ensures exact { row.now.instr ≡ Instr.Ecall → (register : ℕ → ℕ) (answer a : ℕ) → IsKnownCall (V.seen view.now) register answer → a < 2 ^ 32 → call_hits result a ≡ may_change image_end register answer a }
+    {
         touched(&row.instr, view, image_end)
     }
 

@@ -113,7 +113,7 @@ pub fn draw_result<V: RowView>(drawn: &mut Conclusions, row: &StepRow, view: &V)
     let (first, second) = reads(&row.instr);
     let a = operand_before(view, first);
     let b = operand_before(view, second);
-    let value = forward(&row.instr, row.at, a, b);
+    let value = forward(&row.instr, row.from(), a, b);
     draw_some(
         drawn,
         number::RESULT,

@@ -2,6 +2,7 @@
 
 ghost use Rattle.std.specs.Prelude.{◌≡◌, ◌%◌, ℕ, Some};
 ghost use Rattle.rept_isa.specs.Operands.{written_by};
+ghost use Rattle.rept_isa.specs.Rows.{Addresses};
 ghost use Rattle.rept_machine.specs.State.{State, IsState};
 ghost use Rattle.rept_machine.specs.Step.{HasEffect};
 ghost use Rattle.rept_rules.specs.Results.{HoldsIn};
@@ -29,7 +30,7 @@ pub enum Side {
 /// for MUL with a known odd one, and where the result is a copy of the operand. Unknown for all else.
 pub fn solve(instr: &Instr, which: Side, v: u32, other: Flat) -> Flat
     ensures value { result ≡ solve_of instr.now which v other }
-    ensures sound { (image_end address next rd r w : ℕ) (s t : State) → IsState s → HasEffect instr.now image_end address next s t → written_by instr.now ≡ Some rd → t.register rd ≡ v → operand_of instr.now which ≡ Some r → HoldsIn s (operand_of instr.now (opposite which)) other → result ≡ Flat.Known w → s.register r ≡ w }
+    ensures sound { (image_end rd r w : ℕ) (place : Addresses) (s t : State) → IsState s → HasEffect instr.now image_end place s t → written_by instr.now ≡ Some rd → t.register rd ≡ v → operand_of instr.now which ≡ Some r → HoldsIn s (operand_of instr.now (opposite which)) other → result ≡ Flat.Known w → s.register r ≡ w }
 {
     match *instr {
         Instr::Imm { op, imm, .. } => match which {

@@ -86,7 +86,7 @@ pub get_entry : (entries : List Entry) (i : ℕ) (entry : Entry) → entry ≡ g
 get_entry entries i entry is lt = slice_get-get_or entries i entry lt ∙ ap (λ (x : Entry). Some x) (sym is)
 
 no_row : StepRow
-no_row = record { at = 0; instr = Fence; next = 0; call = false }
+no_row = record { at = 0; instr = Fence; next = 0; call = false; short = false }
 
 abbrev pub no_entry : Entry
 no_entry = record { line = 0; address = 0 }

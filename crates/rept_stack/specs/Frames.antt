@@ -1,10 +1,12 @@
 -- The calls that a thread is in, told by how a return address is kept (RISC-V unprivileged manual, chapter 2.5, "Unconditional
 -- Jumps", with x1 alone as the link register; how calls and returns are matched is the project's own).
-use Rattle.std.specs.Prelude.{ℕ, ◌+◌, ◌%◌, ◌^◌, List, [], ◌∷◌, ◌++◌, Bool, false, ◌==◌, ◌&&◌, if◌then◌else◌}
+use Rattle.std.specs.Prelude.{ℕ, List, [], ◌∷◌, ◌++◌, Bool, false, ◌==◌, ◌&&◌, if◌then◌else◌}
 use Rattle.std.specs.List.{before_last, fold}
 use Rattle.rept_isa.specs.declared.instr.Instr.{Instr}
 use Rattle.rept_isa.specs.declared.instr.Instr.TheVariants as instrs
 use Rattle.rept_isa.specs.declared.row.StepRow.{StepRow}
+use Rattle.rept_isa.specs.Numbers.{following}
+use Rattle.rept_isa.specs.Rows.{from_of}
 use Rattle.rept_stack.specs.declared.frames.Frame.{Frame}
 
 -- the instruction calls: JAL or JALR that keeps the address after it in x1
@@ -18,13 +20,9 @@ abbrev pub returns_by : Instr → Bool
 returns_by (instrs.Jalr rd rs1 imm) = (rd == 0) && (rs1 == 1)
 returns_by _ = false
 
--- the address after the instruction of a row, modulo 2^32
-abbrev pub following : StepRow → ℕ
-following row = (row.at + 4) % 2 ^ 32
-
 -- the call of a row: where it stands, and where it is to go on
 abbrev pub frame_of : StepRow → Frame
-frame_of row = record { at = row.at; back = following row }
+frame_of row = record { at = row.at; back = following (from_of row) }
 
 -- the calls that are left after a return to an address: those before the last that is to go on there; none without such a call
 abbrev pub unwound : ℕ → List Frame → List Frame

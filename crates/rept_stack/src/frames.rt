@@ -3,9 +3,10 @@
 ghost use Rattle.std.specs.Prelude.{◌≡◌, IfOk, OnOk};
 ghost use Rattle.rept_stack.specs.Frames.{after_row, frames_of};
 
-use crate::jumps::{calls, following, returns};
+use crate::jumps::{calls, returns};
 use crate::unwind::unwind;
 use rept_isa::StepRow;
+use rept_isa::number::following;
 use std::alloc::{AllocError, Global};
 
 /// A call that a thread is in.
@@ -24,7 +25,7 @@ fn follow(frames: &mut Vec<Frame>, row: &StepRow) -> Result<(), AllocError>
     if calls(&row.instr) {
         frames.push(Frame {
             at: row.at,
-            back: following(row),
+            back: following(row.from()),
         })?;
         return Ok(());
     }

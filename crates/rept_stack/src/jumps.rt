@@ -1,9 +1,9 @@
 //! Which instructions call and return.
 
 ghost use Rattle.std.specs.Prelude.{◌≡◌};
-ghost use Rattle.rept_stack.specs.Frames.{calls as is_call, returns_by, following as address_after};
+ghost use Rattle.rept_stack.specs.Frames.{calls as is_call, returns_by};
 
-use rept_isa::{Instr, StepRow};
+use rept_isa::Instr;
 
 /// The register that keeps a return address, `ra`.
 const LINK: u8 = 1;
@@ -27,11 +27,4 @@ pub fn returns(instr: &Instr) -> bool
         Instr::Jalr { rd, rs1, .. } => rd.number() == 0 && rs1.number() == LINK,
         _ => false,
     }
-}
-
-/// The address after the instruction of a row.
-pub fn following(row: &StepRow) -> u32
-    ensures { result ≡ address_after row.now }
-{
-    row.at.wrapping_add(4)
 }

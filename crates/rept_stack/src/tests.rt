@@ -9,6 +9,8 @@ use std::test::Fail;
 enum Jump {
     /// JAL with this rd.
     Jal(u8),
+    /// The same of two bytes, as C.JAL.
+    ShortJal(u8),
     /// JALR with this rd, rs1 and immediate.
     Jalr(u8, u8, i32),
     /// FENCE.
@@ -18,7 +20,7 @@ enum Jump {
 /// The instruction of such a row.
 fn instr_of(jump: Jump) -> Option<Instr> {
     Some(match jump {
-        Jump::Jal(rd) => Instr::Jal {
+        Jump::Jal(rd) | Jump::ShortJal(rd) => Instr::Jal {
             rd: Reg::new(rd)?,
             imm: 8,
         },
@@ -102,6 +104,19 @@ const CASES: &[(&[RowOf], &[(u32, u32)])] = &[
     ),
     // The address after the last one is 0.
     (&[(0xffff_fffc, Jump::Jal(1), 0x100)], &[(0xffff_fffc, 0)]),
+    // A short call goes on two bytes after itself.
+    (
+        &[
+            (0x102, Jump::ShortJal(1), 0x200),
+            (0x200, Jump::Jal(1), 0x300),
+            (0x300, Jump::Jalr(0, 1, 0), 0x204),
+        ],
+        &[(0x102, 0x104)],
+    ),
+    (
+        &[(0xffff_fffe, Jump::ShortJal(1), 0x100)],
+        &[(0xffff_fffe, 0)],
+    ),
 ];
 
 #[test]
@@ -115,6 +130,7 @@ fn stacks(rt: HostRuntime) -> Result<(), Fail> {
                 instr,
                 next: *next,
                 call: false,
+                short: matches!(*jump, Jump::ShortJal(_)),
             })?;
         }
         let frames = frames_of(rt.alloc(), steps.as_slice())?;

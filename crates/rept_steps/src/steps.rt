@@ -58,6 +58,7 @@ impl Steps {
             instr,
             next: row.next,
             call: row.call,
+            short: row.short,
         };
         if let Err(_) = self.rows.push(row) {
             return Err(PushFault::OutOfMemory);

@@ -17,6 +17,7 @@ fn step(at: u32, next: u32) -> StepRow
         instr: Instr::Fence,
         next,
         call: false,
+        short: false,
     }
 }
 

@@ -1,5 +1,6 @@
 -- The rules of rows as one record of functions, and their laws as another. This project's own.
 use Rattle.std.specs.Prelude.{◌≡◌, ℕ, ◌<◌, ◌≤◌, ◌^◌, ◌⊎◌, Bool, true, List, length, Contains, Some, ℤ, pos}
+use Rattle.std.specs.List.{All}
 use Rattle.rept_isa.specs.declared.instr.Instr.{Instr}
 use Rattle.rept_isa.specs.declared.instr.Instr.TheVariants.{Load, Store}
 use Rattle.rept_isa.specs.declared.row.StepRow.{StepRow}
@@ -16,7 +17,7 @@ use Rattle.rept_view.specs.declared.drawn.When.TheVariants.{Before, After}
 use Rattle.rept_view.specs.declared.drawn.Drawn.{Drawn}
 use Rattle.rept_view.specs.declared.drawn.Need.{Need}
 use Rattle.rept_view.specs.Seen.{Seen, IsLawful, KnowsMore, Meets, seen_cell, state_at, held}
-use Rattle.rept_view.specs.Written.{Writes}
+use Rattle.rept_view.specs.Written.{Writes, tells_writes}
 
 pub record Rules : Type 0 where
   -- all that a row lets one conclude from what is seen
@@ -93,3 +94,5 @@ pub record AreLawful (rules : Rules) : Type 0 where
   -- where more is known, no more bytes are touched, and what was sure stays sure
   pub touched_less : (image_end : ℕ) (row : StepRow) (s t : Seen) (a : ℕ) → IsLawful s → IsLawful t → KnowsMore s t → a < 2 ^ 32 → rules.touched row t image_end a ≡ true → rules.touched row s image_end a ≡ true
   pub sure_more : (row : StepRow) (s t : Seen) → IsLawful s → IsLawful t → KnowsMore s t → rules.sure row s ≡ true → rules.sure row t ≡ true
+  -- the ranges of the registers that tell a row's bytes are all that tells them
+  pub told : (image_end : ℕ) (row : StepRow) (s t : Seen) (a : ℕ) → All (λ x. s.range x.0 x.1 ≡ t.range x.0 x.1) (tells_writes row.instr) → rules.touched row s image_end a ≡ rules.touched row t image_end a

@@ -123,6 +123,7 @@ fn instructions_by_hand(rt: HostRuntime) {
         },
         next: 0x108,
         call: false,
+        short: false,
     };
     let even = bits((0, 0xfe));
     assert_eq!(rt;

@@ -125,6 +125,7 @@ fn branches_by_hand(rt: HostRuntime) {
             instr,
             next,
             call: false,
+            short: false,
         };
         let left = Range::narrow(&row, range(*p, *q), range(*r, *s));
         assert_eq!(rt;
@@ -148,6 +149,7 @@ fn far_jumps_by_hand(rt: HostRuntime) {
             instr,
             next: *next,
             call: false,
+            short: false,
         };
         let found = match Range::narrow(&row, range(*p, *q), Range::unknown()) {
             None => None,
@@ -194,6 +196,7 @@ fn path(rt: &impl Abort) -> [StepRow; 4] {
         instr,
         next,
         call: false,
+        short: false,
     };
     [
         row(

@@ -159,6 +159,7 @@ fn drawn_of(alloc: Global, word: u32, next: u32, view: &Sample) -> SmallVec<Draw
                 instr,
                 next,
                 call,
+                short: false,
             };
             rules.draw(alloc, &row, view)
         }
@@ -370,6 +371,7 @@ fn first_needs(alloc: Global, word: u32, view: &Sample) -> SmallVec<Need, 10> {
                 instr,
                 next: TARGET,
                 call: false,
+                short: false,
             };
             let drawn = rules.draw(alloc, &row, view);
             match drawn.as_slice().first() {
@@ -471,6 +473,7 @@ fn may_write(word: u32, view: &Sample, a: u32) -> Option<(bool, bool, u32)> {
                 instr,
                 next: NEXT,
                 call,
+                short: false,
             };
             let touched = Base::touched(&row, view, 0x3_0000);
             Some((

@@ -1,6 +1,6 @@
 //! Reasons, worked out by hand: each of these facts has one reason alone, in whatever order facts are learnt.
 
-use super::{CODE, STORED, core, ends_in, steps_of};
+use super::{BOUNDED, CODE, STORED, core, ends_in, steps_of};
 use rept_analysis::Analysis;
 use rept_dump::Dump;
 use rept_elf::{Image, Want};
@@ -25,6 +25,32 @@ const HIDDEN: [(u32, u32, u32); 3] = [
 const AT_ZERO: [(u32, u32, u32); 2] = [
     (0x10000, 0x0000_2423, 0x10004),
     (0x10004, 0x0002_8293, 0x10008),
+];
+
+// `lui x5, 0x20`, `sw x6, 0(x5)`, `addi x0, x0, 0`, `sw x7, 0(x5)`: between the stores the byte is carried onward.
+const KEPT: [(u32, u32, u32); 4] = [
+    (0x10000, 0x0002_02b7, 0x10004),
+    (0x10004, 0x0062_a023, 0x10008),
+    (0x10008, 0x0000_0013, 0x1000c),
+    (0x1000c, 0x0072_a023, 0x10010),
+];
+
+// `xor x6, x5, x7`, `mul x9, x8, x7`, `or x12, x11, x11`, and `lui` of x5, x8 and x11: each is known before by its result alone.
+const SOLVED: [(u32, u32, u32); 6] = [
+    (0x10000, 0x0072_c333, 0x10004),
+    (0x10004, 0x0274_04b3, 0x10008),
+    (0x10008, 0x00b5_e633, 0x1000c),
+    (0x1000c, 0x0002_02b7, 0x10010),
+    (0x10010, 0x0002_0437, 0x10014),
+    (0x10014, 0x0002_05b7, 0x10018),
+];
+
+// `addi x17, x0, 63`, `lui x11, 0x20`, `addi x12, x0, 4`, `ecall`: read, into four bytes
+const CALLED: [(u32, u32, u32); 4] = [
+    (0x10000, 0x03f0_0893, 0x10004),
+    (0x10004, 0x0002_05b7, 0x10008),
+    (0x10008, 0x0040_0613, 0x1000c),
+    (0x1000c, 0x0000_0073, 0x10010),
 ];
 
 /// A register or a byte.
@@ -106,6 +132,60 @@ const OF_AT_ZERO: [Told<'static>; 1] = [Told {
     rule: 6,
     premises: &[(1, At::M(0x20005), 6)],
     ranges: &[(0, 0, 0, 0)],
+}];
+
+const OF_KEPT: [Told<'static>; 1] = [Told {
+    fact: (3, At::M(0x20000), 9),
+    rule: 5,
+    premises: &[(2, At::M(0x20000), 9)],
+    ranges: &[],
+}];
+
+const OF_SOLVED: [Told<'static>; 3] = [
+    Told {
+        fact: (0, At::X(5), 12),
+        rule: 12,
+        premises: &[(1, At::X(6), 15), (0, At::X(7), 3)],
+        ranges: &[],
+    },
+    Told {
+        fact: (1, At::X(8), 5),
+        rule: 13,
+        premises: &[(2, At::X(9), 15), (1, At::X(7), 3)],
+        ranges: &[],
+    },
+    Told {
+        fact: (2, At::X(11), 0x1234),
+        rule: 18,
+        premises: &[(3, At::X(12), 0x1234)],
+        ranges: &[],
+    },
+];
+
+// Below 1 there is 0 alone.
+const OF_BOUNDED: [Told<'static>; 1] = [Told {
+    fact: (1, At::X(5), 0),
+    rule: 17,
+    premises: &[],
+    ranges: &[(1, 5, 0, 0)],
+}];
+
+// Of a call the ranges of x17 and of x10 to x15 before it, and of x10 after it. The byte is the dump's before any fact is learnt, so these
+// are the ranges without facts.
+const OF_CALLED: [Told<'static>; 1] = [Told {
+    fact: (3, At::M(0x20004), 5),
+    rule: 6,
+    premises: &[(4, At::M(0x20004), 5)],
+    ranges: &[
+        (3, 17, 63, 63),
+        (3, 10, 0, 0xffff_ffff),
+        (3, 11, 0x20000, 0x20000),
+        (3, 12, 4, 4),
+        (3, 13, 0, 0xffff_ffff),
+        (3, 14, 0, 0xffff_ffff),
+        (3, 15, 0, 0xffff_ffff),
+        (4, 10, 0, 0xffff_ffff),
+    ],
 }];
 
 fn fact_of(rt: &impl Abort, given: (u32, At, u32)) -> Fact {
@@ -200,5 +280,46 @@ fn reasons_by_hand(rt: HostRuntime) -> Result<(), Fail> {
         &OF_HIDDEN,
     )?;
     check_both(&rt, rt.alloc(), &AT_ZERO, &[(5, 3)], &OF_AT_ZERO)?;
+    check_both(
+        &rt,
+        rt.alloc(),
+        &BOUNDED,
+        &[(5, 0x20000), (6, 1)],
+        &OF_BOUNDED,
+    )?;
+    Ok(())
+}
+
+#[test]
+fn reasons_of_bytes_by_hand(rt: HostRuntime) -> Result<(), Fail> {
+    check_both(
+        &rt,
+        rt.alloc(),
+        &KEPT,
+        &[(5, 0x20000), (6, 9), (7, 7)],
+        &OF_KEPT,
+    )?;
+    check_both(
+        &rt,
+        rt.alloc(),
+        &SOLVED,
+        &[
+            (5, 0x20000),
+            (6, 15),
+            (7, 3),
+            (8, 0x20000),
+            (9, 15),
+            (11, 0x20000),
+            (12, 0x1234),
+        ],
+        &OF_SOLVED,
+    )?;
+    check_both(
+        &rt,
+        rt.alloc(),
+        &CALLED,
+        &[(10, 4), (11, 0x20000), (12, 4), (17, 63)],
+        &OF_CALLED,
+    )?;
     Ok(())
 }

@@ -35,6 +35,20 @@ fn made_runs_are_summed_up(rt: HostRuntime) -> Result<(), Fail> {
     Ok(())
 }
 
+// The longest made run.
+#[test]
+fn longest_made_run_is_summed_up(rt: HostRuntime) -> Result<(), Fail> {
+    let alloc = rt.alloc();
+    let words = word_list(alloc, &["self", "1", "20000"])?;
+    let mut shelf = MemShelf::new(alloc, &[])?;
+    let mut source = MemSource::new(alloc, b"", &[])?;
+    let mut sink = MemSink::new(alloc, 200, &[])?;
+    let status = rept(alloc, words.as_slice(), &mut shelf, &mut source, &mut sink);
+    assert_eq!(rt; status, Status::Ok);
+    assert!(rt; sink.bytes().starts_with(b"steps 20000 calls "));
+    Ok(())
+}
+
 // Where the output fails, the status says so.
 #[test]
 fn made_runs_need_an_output(rt: HostRuntime) -> Result<(), Fail> {

@@ -15,6 +15,12 @@ const PROGRAM: &[u32] = &[
     0x0000006f,
 ];
 
+/// `addi x6, x0, 0`, `bltu x5, x6, 8`, which was taken; at 0x1000c `addi x6, x0, 10`, `addi x5, x0, 7`
+const BELOW_ZERO: &[u32] = &[0x00000313, 0x0062e463, 0x00000013, 0x00a00313, 0x00700293];
+
+/// `bne x8, x9, 8`, which was taken, though both are 0
+const EQUAL: &[u32] = &[0x00941463, 0x00000013, 0x00000013];
+
 /// A trace file over a program, the packet to begin from, and what must come of it with the input `goto 0`.
 struct TraceCase {
     code: &'static [u32],
@@ -62,6 +68,8 @@ const TRACES: &[TraceCase] = traces![
     PROGRAM, b"RTR1\x01\0\0\0\x01\x2f", "0", 0, "path 11 6 0\n", Trace;
     PROGRAM, b"RTR1\x01\0\0\0\x03\x13\x02\x20\x01\x06", "0", 0x10014, "path 12 1 0x00010010\n", Trace;
     PROGRAM, b"RTR1\x01\0\0\0\x03\x13\0\x20\x02\x05\x03", "0", 0x20, "inconsistent empty-range 3 x1\n", Inconsistent;
+    BELOW_ZERO, b"RTR1\x01\0\0\0\x03\x13\0\x20\x02\x05\x04\x01\x4f", "0", 0x10014, "inconsistent empty-range 2 x5\n", Inconsistent;
+    EQUAL, b"RTR1\x01\0\0\0\x03\x03\0\x20\x01\x4f", "0", 0x10008, "inconsistent wrong-turn 0\n", Inconsistent;
 ];
 
 // Paths from a packet on, and each reason why there is none.
@@ -80,6 +88,32 @@ fn traces_are_told(rt: HostRuntime) -> Result<(), Fail> {
         assert_eq!(rt; sink.bytes(), case.output.as_bytes());
         assert_eq!(rt; status, case.status);
     }
-    assert_eq!(rt; Status::Trace.number(), 8);
+    Ok(())
+}
+
+// `addi x5, x5, -1`, `bne x5, x0, -4`, 32,768 times, of which the last branch isn't taken: the longest path. 1,057 maps of 31 branches that
+// were taken are followed by a map with an address of one that wasn't.
+#[test]
+fn longest_path_is_told(rt: HostRuntime) -> Result<(), Fail> {
+    let alloc = rt.alloc();
+    let code = [0xfff28293, 0xfe029ee3];
+    let mut trace = Vec::from_slice(alloc, b"RTR1\x01\0\0\0\x03\x13\0\x20")?;
+    for _ in 0..1057 {
+        trace.extend_from_slice(b"\x01\x01")?;
+    }
+    trace.extend_from_slice(b"\x02\x85\x01\x01\x4f")?;
+    let mut shelf = CalmShelf::new(alloc);
+    shelf.put("e", executable(alloc, 0x10000, &code)?.as_slice())?;
+    shelf.put("c", core_file(alloc, 0x10008, [0, 0, 0])?.as_slice())?;
+    shelf.put("t", trace.as_slice())?;
+    let words = word_list(alloc, &["open", "e", "c", "t"])?;
+    let mut source = CalmSource::new(b"goto 0\nreg x5\n");
+    let mut sink = MemSink::new(alloc, 100, &[])?;
+    let status = rept(alloc, words.as_slice(), &mut shelf, &mut source, &mut sink);
+    assert_eq!(rt; status, Status::Ok);
+    assert_eq!(rt;
+        sink.bytes(),
+        b"point 0 of 65536 pc 0x00010000\nx5 0x00008000\n".as_slice()
+    );
     Ok(())
 }

@@ -5,7 +5,7 @@ use Rattle.rept_rules.specs.Laws.Listed.{listed, concluded}
 use Rattle.rept_rules.specs.Laws.Sound.{sound_by}
 use Rattle.rept_rules.specs.Laws.Own.{own_by, slot_inside_by, slot_once_by}
 use Rattle.rept_rules.specs.Laws.NeedLemmas.{good_by, again_by}
-use Rattle.rept_rules.specs.Laws.WriteLemmas.{covers_by, certain_by, touched_less_by, sure_more_by}
+use Rattle.rept_rules.specs.Laws.WriteLemmas.{covers_by, certain_by, touched_less_by, sure_more_by, told_by}
 use Rattle.rept_rules.specs.Laws.More.{fits_by}
 use Rattle.rept_rules.specs.Laws.Lengths.{few_conclusions, few_needs_of, few_places_of}
 
@@ -23,5 +23,6 @@ base_lawful = record {
   covers = λ image_end row view before after a lawful step fits writes. covers_by row.instr image_end view before after a step.meets step.state_before step.state_after writes;
   certain = λ image_end row view before after a lawful step fits sure may. certain_by row.instr image_end view before after a lawful step.meets fits sure may;
   touched_less = λ image_end row s t a ls lt more fits may. touched_less_by row.instr image_end s t a more may;
+  told = λ image_end row s t a same. told_by row.instr image_end s t a same;
   sure_more = λ row s t ls lt more sure. sure_more_by row.instr s t more sure;
 }

@@ -11,6 +11,7 @@ use Rattle.rept_isa.specs.declared.row.StepRow.{StepRow}
 use Rattle.rept_isa.specs.declared.instr.RegOp.{RegOp}
 use Rattle.rept_isa.specs.Numbers.{word}
 use Rattle.rept_isa.specs.Operands.{turn_of, written_by, first_read, second_read, unless_zero}
+use Rattle.rept_isa.specs.Rows.{from_of}
 use Rattle.rept_partial.specs.declared.flat.Flat.{Flat}
 use Rattle.rept_partial.specs.declared.flat.Flat.TheVariants.{Unknown, Known}
 use Rattle.rept_machine.specs.Arithmetic.{store_width, register_form}
@@ -105,7 +106,7 @@ five_others Ebreak turn s = lit≤ tt
 five_others (Counter rd csr) turn s = lit≤ tt
 
 pub few_conclusions : (row : StepRow) (s : Seen) → length (conclusions row s) ≤ 16
-few_conclusions row s = wider _ 6 16 (lit≤ tt) (joined (result_drawn row s) (others_drawn row.instr (turn_of row) s) 1 5 (one_some 7 After (written_by row.instr) (forward_of row.instr row.at (seen_operand s (first_read row.instr)) (seen_operand s (second_read row.instr)))) (five_others row.instr (turn_of row) s))
+few_conclusions row s = wider _ 6 16 (lit≤ tt) (joined (result_drawn row s) (others_drawn row.instr (turn_of row) s) 1 5 (one_some 7 After (written_by row.instr) (forward_of row.instr (from_of row) (seen_operand s (first_read row.instr)) (seen_operand s (second_read row.instr)))) (five_others row.instr (turn_of row) s))
 
 -- ---- needs
 

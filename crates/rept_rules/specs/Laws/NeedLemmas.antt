@@ -15,6 +15,7 @@ use Rattle.rept_isa.specs.declared.instr.RegOp.TheVariants.{Add, Sub, Xor, Mul}
 use Rattle.rept_isa.specs.declared.row.StepRow.{StepRow}
 use Rattle.rept_isa.specs.Numbers.{plus, word}
 use Rattle.rept_isa.specs.Operands.{written_by, first_read, second_read}
+use Rattle.rept_isa.specs.Rows.{from_of}
 use Rattle.rept_partial.specs.declared.flat.Flat.{Flat}
 use Rattle.rept_partial.specs.declared.flat.Flat.TheVariants.{Unknown, Known}
 use Rattle.rept_machine.specs.Arithmetic.{beside, register_form}
@@ -180,7 +181,7 @@ good_immediate : (row : StepRow) (s : Seen) (op : RegOp) (rs1 w v : ℕ) (b : Bo
 good_immediate row s op rs1 w v true t own e = good_none row s
 good_immediate row s op rs1 w v false f own e = let k = known_first op (first_of s rs1) w v f e in good_register row s Before rs1 own (operand_value s rs1 k.0 k.1)
 
-good_result : (instr : Instr) (row : StepRow) (s : Seen) (rd v : ℕ) → row.instr ≡ instr → forward_of instr row.at (seen_operand s (first_read instr)) (seen_operand s (second_read instr)) ≡ Known v → AreGood row s (needs_of instr s (on_register 7 After rd v))
+good_result : (instr : Instr) (row : StepRow) (s : Seen) (rd v : ℕ) → row.instr ≡ instr → forward_of instr (from_of row) (seen_operand s (first_read instr)) (seen_operand s (second_read instr)) ≡ Known v → AreGood row s (needs_of instr s (on_register 7 After rd v))
 good_result (Imm op n rs1 imm) row s rd v is e = good_immediate row s (register_form op) rs1 (word imm) v (absorbs (register_form op) (word imm)) refl (inl (ap first_read is)) e
 good_result (Op op n rs1 rs2) row s rd v is e = good_choice row s op rs1 rs2 v (cancels op rs1 rs2) (decides op (first_of s rs1)) (decides op (first_of s rs2)) (inl (ap first_read is)) (inr (ap second_read is)) refl refl e
 good_result (Lui n imm) row s rd v is e = good_none row s
@@ -243,7 +244,7 @@ again_immediate : (s t : Seen) (op : RegOp) (rs1 w v : ℕ) (b : Bool) → absor
 again_immediate s t op rs1 w v true u ls lt e h = decided_second op (first_of t rs1) w (first_word t rs1 lt) u ∙ sym (decided_second op (first_of s rs1) w (first_word s rs1 ls) u) ∙ e
 again_immediate s t op rs1 w v false f ls lt e h = ap (λ (x : Flat). result_of op x (Known w)) (same_first s t rs1 (agree_register s t Before rs1 ls lt h)) ∙ e
 
-again_result : (instr : Instr) (row : StepRow) (s t : Seen) (rd v : ℕ) → IsLawful s → IsLawful t → forward_of instr row.at (seen_operand s (first_read instr)) (seen_operand s (second_read instr)) ≡ Known v → Agree s t (needs_of instr s (on_register 7 After rd v)) → forward_of instr row.at (seen_operand t (first_read instr)) (seen_operand t (second_read instr)) ≡ Known v
+again_result : (instr : Instr) (row : StepRow) (s t : Seen) (rd v : ℕ) → IsLawful s → IsLawful t → forward_of instr (from_of row) (seen_operand s (first_read instr)) (seen_operand s (second_read instr)) ≡ Known v → Agree s t (needs_of instr s (on_register 7 After rd v)) → forward_of instr (from_of row) (seen_operand t (first_read instr)) (seen_operand t (second_read instr)) ≡ Known v
 again_result (Imm op n rs1 imm) row s t rd v ls lt e h = again_immediate s t (register_form op) rs1 (word imm) v (absorbs (register_form op) (word imm)) refl ls lt e h
 again_result (Op op n rs1 rs2) row s t rd v ls lt e h = again_choice s t op rs1 rs2 v (cancels op rs1 rs2) (decides op (first_of s rs1)) (decides op (first_of s rs2)) ls lt refl refl e h
 again_result (Lui n imm) row s t rd v ls lt e h = e

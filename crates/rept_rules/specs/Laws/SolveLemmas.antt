@@ -15,6 +15,7 @@ use Rattle.rept_isa.specs.declared.instr.RegOp.TheVariants.{Add, Sub, Xor, Or, A
 use Rattle.rept_isa.specs.Numbers.{word}
 use Rattle.rept_isa.proofs.NumberLemmas.{word-fits}
 use Rattle.rept_isa.specs.Operands.{written_by}
+use Rattle.rept_isa.specs.Rows.{Addresses}
 use Rattle.rept_partial.specs.declared.flat.Flat.{Flat}
 use Rattle.rept_partial.specs.declared.flat.Flat.TheVariants.{Unknown, Known}
 use Rattle.rept_machine.specs.Arithmetic.{computed, register_form, signed_word}
@@ -130,28 +131,28 @@ immediate_solved_is op imm v w a small result e = elim (either_way (is_neutral o
   | inr f ↦ solved_is (register_form op) First a (word imm) w small (word-fits imm) (subst (λ (x : ℕ). solved (register_form op) First x (word imm) ≡ Known w) result (rw f at e))
 ]
 
-pub solve_sound : (instr : Instr) (side : Side) (image_end address next rd r v w : ℕ) (other : Flat) (s t : State) → IsState s → HasEffect instr image_end address next s t → written_by instr ≡ Some rd → t.register rd ≡ v → operand_of instr side ≡ Some r → HoldsIn s (operand_of instr (opposite side)) other → solve_of instr side v other ≡ Known w → s.register r ≡ w
-solve_sound (Imm op n rs1 imm) First image_end address next rd r v w other s t is h named result read holds e =
+pub solve_sound : (instr : Instr) (side : Side) (image_end : ℕ) (place : Addresses) (rd r v w : ℕ) (other : Flat) (s t : State) → IsState s → HasEffect instr image_end place s t → written_by instr ≡ Some rd → t.register rd ≡ v → operand_of instr side ≡ Some r → HoldsIn s (operand_of instr (opposite side)) other → solve_of instr side v other ≡ Known w → s.register r ≡ w
+solve_sound (Imm op n rs1 imm) First image_end place rd r v w other s t is h named result read holds e =
     let d = destination n rd named in
     let value : v ≡ computed (register_form op) (s.register rs1) (word imm) = sym result ∙ ap t.register (sym d.0) ∙ h.result.written d.1 in
     ap s.register (sym (same_some read)) ∙ immediate_solved_is op imm v w (s.register rs1) (is.words rs1) value e
-solve_sound (Imm op n rs1 imm) Second image_end address next rd r v w other s t is h named result read holds e = absurd (unknown e)
-solve_sound (Op op n rs1 rs2) First image_end address next rd r v w other s t is h named result read holds e =
+solve_sound (Imm op n rs1 imm) Second image_end place rd r v w other s t is h named result read holds e = absurd (unknown e)
+solve_sound (Op op n rs1 rs2) First image_end place rd r v w other s t is h named result read holds e =
     let d = destination n rd named in
     let value : v ≡ computed op (s.register rs1) (s.register rs2) = sym result ∙ ap t.register (sym d.0) ∙ h.result.written d.1 in
     ap s.register (sym (same_some read)) ∙ registers_solved_is op First rs1 rs2 v w other s is value holds e
-solve_sound (Op op n rs1 rs2) Second image_end address next rd r v w other s t is h named result read holds e =
+solve_sound (Op op n rs1 rs2) Second image_end place rd r v w other s t is h named result read holds e =
     let d = destination n rd named in
     let value : v ≡ computed op (s.register rs1) (s.register rs2) = sym result ∙ ap t.register (sym d.0) ∙ h.result.written d.1 in
     ap s.register (sym (same_some read)) ∙ registers_solved_is op Second rs1 rs2 v w other s is value holds e
-solve_sound (Lui n imm) side image_end address next rd r v w other s t is h named result read holds e = absurd (unknown e)
-solve_sound (Auipc n imm) side image_end address next rd r v w other s t is h named result read holds e = absurd (unknown e)
-solve_sound (Jal n imm) side image_end address next rd r v w other s t is h named result read holds e = absurd (unknown e)
-solve_sound (Jalr n rs1 imm) side image_end address next rd r v w other s t is h named result read holds e = absurd (unknown e)
-solve_sound (Branch op rs1 rs2 imm) side image_end address next rd r v w other s t is h named result read holds e = absurd (unknown e)
-solve_sound (Load op n rs1 imm) side image_end address next rd r v w other s t is h named result read holds e = absurd (unknown e)
-solve_sound (Store op rs1 rs2 imm) side image_end address next rd r v w other s t is h named result read holds e = absurd (unknown e)
-solve_sound Fence side image_end address next rd r v w other s t is h named result read holds e = absurd (unknown e)
-solve_sound Ecall side image_end address next rd r v w other s t is h named result read holds e = absurd (unknown e)
-solve_sound Ebreak side image_end address next rd r v w other s t is h named result read holds e = absurd (unknown e)
-solve_sound (Counter n csr) side image_end address next rd r v w other s t is h named result read holds e = absurd (unknown e)
+solve_sound (Lui n imm) side image_end place rd r v w other s t is h named result read holds e = absurd (unknown e)
+solve_sound (Auipc n imm) side image_end place rd r v w other s t is h named result read holds e = absurd (unknown e)
+solve_sound (Jal n imm) side image_end place rd r v w other s t is h named result read holds e = absurd (unknown e)
+solve_sound (Jalr n rs1 imm) side image_end place rd r v w other s t is h named result read holds e = absurd (unknown e)
+solve_sound (Branch op rs1 rs2 imm) side image_end place rd r v w other s t is h named result read holds e = absurd (unknown e)
+solve_sound (Load op n rs1 imm) side image_end place rd r v w other s t is h named result read holds e = absurd (unknown e)
+solve_sound (Store op rs1 rs2 imm) side image_end place rd r v w other s t is h named result read holds e = absurd (unknown e)
+solve_sound Fence side image_end place rd r v w other s t is h named result read holds e = absurd (unknown e)
+solve_sound Ecall side image_end place rd r v w other s t is h named result read holds e = absurd (unknown e)
+solve_sound Ebreak side image_end place rd r v w other s t is h named result read holds e = absurd (unknown e)
+solve_sound (Counter n csr) side image_end place rd r v w other s t is h named result read holds e = absurd (unknown e)

@@ -9,15 +9,17 @@ use Rattle.rept_isa.specs.declared.instr.LoadOp.{LoadOp}
 use Rattle.rept_isa.specs.declared.instr.LoadOp.TheVariants.{Lb, Lh, Lw, Lbu, Lhu}
 use Rattle.rept_isa.specs.declared.instr.StoreOp.TheVariants.{Sw}
 use Rattle.rept_isa.specs.declared.class.Turn.{Turn}
-use Rattle.rept_isa.specs.declared.class.Turn.TheVariants.{Taken, NotTaken, Either, NoBranch}
+use Rattle.rept_isa.specs.declared.class.Turn.TheVariants.{Taken, NotTaken}
 use Rattle.rept_isa.specs.declared.row.StepRow.{StepRow}
 use Rattle.rept_isa.specs.Numbers.{plus, following}
 use Rattle.rept_isa.specs.Operands.{written_by, first_read, second_read, turn_of, turn_by, way}
+use Rattle.rept_isa.specs.Rows.{Addresses, from_of, addresses_of}
 use Rattle.rept_partial.specs.declared.flat.Flat.{Flat}
 use Rattle.rept_partial.specs.declared.flat.Flat.TheVariants.{Known}
 use Rattle.rept_machine.specs.Arithmetic.{beside, loaded, word_at, byte_of, extended, branch_holds}
 use Rattle.rept_machine.specs.State.{State, IsState}
 use Rattle.rept_machine.specs.Step.{HasEffect, IsStep}
+use Rattle.rept_machine.specs.Ways.{Tells, way_tells}
 use Rattle.rept_reason.specs.Facts.{flat}
 use Rattle.rept_view.specs.declared.drawn.When.{When}
 use Rattle.rept_view.specs.declared.drawn.When.TheVariants.{Before, After}
@@ -107,98 +109,52 @@ word_at_is m n base w small same bytes =
     let s = sym (bytes 3 (lit< tt)) ∙ same 3 (lit< tt) in
     sym (word_back w small) ∙ rw (p, q, r, s) refl
 
-is_equal : (a b : ℕ) → a ≡ b → (a == b) ≡ true
-is_equal a b e = grind (arith, e)
-
--- which way a branch went tells whether its operands were equal
-taken : (address target next : ℕ) → way address target next ≡ Taken → (next ≡ target) × (target ≢ following address)
-taken address target next e = elim (either_way (target == following address)) [
-  | inl t ↦ absurd (either_taken (rw t at e))
-  | inr f ↦ elim (either_way (next == target)) [
-    | inl g ↦ (equal next target g, λ h. true≢false (sym (is_equal target (following address) h) ∙ f))
-    | inr g ↦ elim (either_way (next == following address)) [
-      | inl h ↦ absurd (not_taken_taken (rw (f, g, h) at e))
-      | inr h ↦ absurd (no_branch_taken (rw (f, g, h) at e))
-    ]
-  ]
-]
-  where
-    either_taken : Either ≡ Taken → ⊥
-    either_taken x = cc
-
-    not_taken_taken : NotTaken ≡ Taken → ⊥
-    not_taken_taken x = cc
-
-    no_branch_taken : NoBranch ≡ Taken → ⊥
-    no_branch_taken x = cc
-
-not_taken : (address target next : ℕ) → way address target next ≡ NotTaken → (next ≡ following address) × (next ≢ target)
-not_taken address target next e = elim (either_way (target == following address)) [
-  | inl t ↦ absurd (either_not (rw t at e))
-  | inr f ↦ elim (either_way (next == target)) [
-    | inl g ↦ absurd (taken_not (rw (f, g) at e))
-    | inr g ↦ elim (either_way (next == following address)) [
-      | inl h ↦ (equal next (following address) h, λ i. true≢false (sym (is_equal next target i) ∙ g))
-      | inr h ↦ absurd (no_branch_not (rw (f, g, h) at e))
-    ]
-  ]
-]
-  where
-    either_not : Either ≡ NotTaken → ⊥
-    either_not x = cc
-
-    taken_not : Taken ≡ NotTaken → ⊥
-    taken_not x = cc
-
-    no_branch_not : NoBranch ≡ NotTaken → ⊥
-    no_branch_not x = cc
-
 equates_is : (op : BranchOp) (turn : Turn) → equates op turn ≡ true → ((op ≡ Beq) × (turn ≡ Taken)) ⊎ ((op ≡ Bne) × (turn ≡ NotTaken))
 equates_is Beq Taken t = inl (refl, refl)
 equates_is Bne NotTaken t = inr (refl, refl)
 equates_is _ _ t = absurd (true≢false (sym t))
 
-equal_by : (a b : ℕ) → ((a == b) ≡ false → ⊥) → a ≡ b
-equal_by a b h = elim (either_way (a == b)) [ inl t ↦ equal a b t | inr f ↦ absurd (h f) ]
+equal_not : (a b : ℕ) → not (a == b) ≡ false → a ≡ b
+equal_not a b e = elim (either_way (a == b)) [ inl t ↦ equal a b t | inr f ↦ absurd (true≢false (rw f at e)) ]
 
 -- a branch that went the way of equal operands had equal ones
-went_equal : (op : BranchOp) (address target next a b : ℕ) → next ≡ (if branch_holds op a b then target else following address) → equates op (way address target next) ≡ true → a ≡ b
-went_equal op address target next a b effect t = elim (equates_is op (way address target next) t) [
-  | inl (is, went) ↦
-      let w = taken address target next went in
-      let e : next ≡ (if a == b then target else following address) = subst (λ (o : BranchOp). next ≡ (if branch_holds o a b then target else following address)) is effect in
-      equal_by a b (λ f. w.1 (sym w.0 ∙ (rw f at e)))
-  | inr (is, went) ↦
-      let w = not_taken address target next went in
-      let e : next ≡ (if not (a == b) then target else following address) = subst (λ (o : BranchOp). next ≡ (if branch_holds o a b then target else following address)) is effect in
-      equal_by a b (λ f. w.1 (rw f at e))
-]
+went_equal : (op : BranchOp) (from target next a b : ℕ) → next ≡ (if branch_holds op a b then target else following from) → equates op (way from target next) ≡ true → a ≡ b
+went_equal op from target next a b effect t =
+    let tells : Tells (way from target next) (branch_holds op a b) = way_tells (branch_holds op a b) from target next effect in
+    elim (equates_is op (way from target next) t) [
+      | inl (is, went) ↦
+          let holds : branch_holds op a b ≡ true = subst (λ (w : Turn). Tells w (branch_holds op a b)) went tells in
+          equal a b (subst (λ (o : BranchOp). branch_holds o a b ≡ true) is holds)
+      | inr (is, went) ↦
+          let fails : branch_holds op a b ≡ false = subst (λ (w : Turn). Tells w (branch_holds op a b)) went tells in
+          equal_not a b (subst (λ (o : BranchOp). branch_holds o a b ≡ false) is fails)
+    ]
 
-copied_sound : (instr : Instr) (image_end address next rd source : ℕ) (s t : State) → IsState s → HasEffect instr image_end address next s t → written_by instr ≡ Some rd → copied instr ≡ Some source → t.register rd ≡ s.register source
-copied_sound (Imm op n rs1 imm) image_end address next rd source s t is h named from = elim (either_way (is_neutral op imm)) [
+copied_sound : (instr : Instr) (image_end rd source : ℕ) (place : Addresses) (s t : State) → IsState s → HasEffect instr image_end place s t → written_by instr ≡ Some rd → copied instr ≡ Some source → t.register rd ≡ s.register source
+copied_sound (Imm op n rs1 imm) image_end rd source place s t is h named from = elim (either_way (is_neutral op imm)) [
   | inl u ↦
       let d = destination n rd named in
       let same = same_some (rw u at from) in
       ap t.register (sym d.0) ∙ h.result.written d.1 ∙ neutral_is op imm (s.register rs1) (is.words rs1) u ∙ ap s.register same
   | inr f ↦ absurd (no_some (rw f at from))
 ]
-copied_sound (Op op n rs1 rs2) image_end address next rd source s t is h named from =
+copied_sound (Op op n rs1 rs2) image_end rd source place s t is h named from =
     let d = destination n rd named in
     ap t.register (sym d.0) ∙ h.result.written d.1 ∙ copied_is op rs1 rs2 source s is from
-copied_sound _ image_end address next rd source s t is h named from = absurd (no_some from)
+copied_sound _ image_end rd source place s t is h named from = absurd (no_some from)
 
 -- the effect of the row's instruction
-effect : (instr : Instr) (image_end : ℕ) (row : StepRow) (s t : State) → row.instr ≡ instr → IsStep image_end row s t → HasEffect instr image_end row.at row.next s t
-effect instr image_end row s t is h = subst (λ (i : Instr). HasEffect i image_end row.at row.next s t) is h
+effect : (instr : Instr) (image_end : ℕ) (row : StepRow) (s t : State) → row.instr ≡ instr → IsStep image_end row s t → HasEffect instr image_end (addresses_of row) s t
+effect instr image_end row s t is h = subst (λ (i : Instr). HasEffect i image_end (addresses_of row) s t) is h
 
 same_operands : (op : BranchOp) (rs1 rs2 : ℕ) (imm : ℤ) (image_end : ℕ) (row : StepRow) (s t : State) → row.instr ≡ Branch op rs1 rs2 imm → equates op (turn_of row) ≡ true → IsStep image_end row s t → s.register rs1 ≡ s.register rs2
 same_operands op rs1 rs2 imm image_end row s t is way step =
     let h = effect (Branch op rs1 rs2 imm) image_end row s t is step in
-    went_equal op row.at (plus row.at imm) row.next (s.register rs1) (s.register rs2) h.onward (sym (ap (λ (i : Instr). equates op (turn_by i row.at row.next)) is) ∙ way)
+    went_equal op (from_of row) (plus row.at imm) row.next (s.register rs1) (s.register rs2) h.onward (sym (ap (λ (i : Instr). equates op (turn_by i (addresses_of row))) is) ∙ way)
 
 pub sound_by : (image_end : ℕ) (row : StepRow) (view : Seen) (before after : State) (d : Drawn) → IsSeenStep image_end row view before after → Concludes row view d → Holds before after d
 sound_by image_end row view before after d step (rules.result rd v named value says) =
-    says_holds before after d 7 After rd v says (admits_known _ (after.register rd) v value (forward_sound row.instr image_end row.at row.next rd before after _ _ step.state_before step.step (seen_holds view before after (first_read row.instr) step.meets) (seen_holds view before after (second_read row.instr) step.meets) named))
+    says_holds before after d 7 After rd v says (admits_known _ (after.register rd) v value (forward_sound row.instr image_end rd (addresses_of row) before after _ _ step.state_before step.step (seen_holds view before after (first_read row.instr) step.meets) (seen_holds view before after (second_read row.instr) step.meets) named))
 sound_by image_end row view before after d step (rules.load op rd rs1 imm b memory is base bytes says) =
     let h = effect (Load op rd rs1 imm) image_end row before after is step.step in
     let e = step.meets.register Before rs1 b base in
@@ -208,7 +164,7 @@ sound_by image_end row view before after d step (rules.store op rs1 rs2 imm b v 
     let h = effect (Store op rs1 rs2 imm) image_end row before after is step.step in
     byte_holds before after d 9 After (plus b imm) v k e (subst (λ (x : ℕ). after.memory (beside (plus x imm) k) ≡ byte_of v k) (step.meets.register Before rs1 b base) (h.written k below ∙ ap (λ (x : ℕ). byte_of x k) (step.meets.register Before rs2 v value)))
 sound_by image_end row view before after d step (rules.solved rule rd r v w side by named read value solved says) =
-    says_holds before after d rule Before r w says (solve_sound row.instr side image_end row.at row.next rd r v w _ before after step.state_before step.step named (step.meets.register After rd v value) read (seen_holds view before after (operand_of row.instr (opposite side)) step.meets) solved)
+    says_holds before after d rule Before r w says (solve_sound row.instr side image_end (addresses_of row) rd r v w _ before after step.state_before step.step named (step.meets.register After rd v value) read (seen_holds view before after (operand_of row.instr (opposite side)) step.meets) solved)
 sound_by image_end row view before after d step (rules.equal_second op rs1 rs2 imm v is way value says) =
     says_holds before after d 14 Before rs2 v says (sym (same_operands op rs1 rs2 imm image_end row before after is way step.step) ∙ step.meets.register Before rs1 v value)
 sound_by image_end row view before after d step (rules.equal_first op rs1 rs2 imm v is way value says) =
@@ -223,6 +179,6 @@ sound_by image_end row view before after d step (rules.store_back rs1 rs2 imm b 
     let e = step.meets.register Before rs1 b base in
     says_holds before after d 16 Before rs2 _ says (word_at_is after.memory memory (plus b imm) (before.register rs2) (step.state_before.words rs2) (λ k below. step.meets.byte After _ _ (bytes k below)) (λ k below. subst (λ (x : ℕ). after.memory (beside (plus x imm) k) ≡ byte_of (before.register rs2) k) e (h.written k below)))
 sound_by image_end row view before after d step (rules.copy rd source v named from value says) =
-    says_holds before after d 18 After rd v says (copied_sound row.instr image_end row.at row.next rd source before after step.state_before step.step named from ∙ step.meets.register Before source v value)
+    says_holds before after d 18 After rd v says (copied_sound row.instr image_end rd source (addresses_of row) before after step.state_before step.step named from ∙ step.meets.register Before source v value)
 sound_by image_end row view before after d step (rules.copy_back rd source v named from value says) =
-    says_holds before after d 18 Before source v says (sym (copied_sound row.instr image_end row.at row.next rd source before after step.state_before step.step named from) ∙ step.meets.register After rd v value)
+    says_holds before after d 18 Before source v says (sym (copied_sound row.instr image_end rd source (addresses_of row) before after step.state_before step.step named from) ∙ step.meets.register After rd v value)

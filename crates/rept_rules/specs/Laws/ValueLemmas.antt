@@ -11,6 +11,7 @@ use Rattle.rept_isa.specs.declared.instr.RegOp.TheVariants.{Sub, Xor, Or, And, M
 use Rattle.rept_isa.specs.Numbers.{word}
 use Rattle.rept_isa.proofs.NumberLemmas.{word-fits}
 use Rattle.rept_isa.specs.Operands.{written_by, first_read, second_read, unless_zero}
+use Rattle.rept_isa.specs.Rows.{Addresses}
 use Rattle.rept_partial.specs.declared.flat.Flat.{Flat}
 use Rattle.rept_partial.specs.declared.flat.Flat.TheVariants.{Unknown, Known}
 use Rattle.rept_machine.specs.Arithmetic.{computed, register_form}
@@ -91,23 +92,23 @@ registers_by false x v f g = g
 registers_sound : (op : RegOp) (rs1 rs2 : ℕ) (s : State) (a b : Flat) → IsState s → Admits a (s.register rs1) → Admits b (s.register rs2) → Admits (registers_result op rs1 rs2 a b) (computed op (s.register rs1) (s.register rs2))
 registers_sound op rs1 rs2 s a b is f g = registers_by (cancels op rs1 rs2) (result_of op (operand rs1 a) (operand rs2 b)) _ (cancelled op rs1 rs2 s is) (result_sound op (operand rs1 a) (operand rs2 b) _ _ (is.words rs1) (is.words rs2) (operand_holds s rs1 a is f) (operand_holds s rs2 b is g))
 
-pub forward_sound : (instr : Instr) (image_end address next rd : ℕ) (s t : State) (a b : Flat) → IsState s → HasEffect instr image_end address next s t → HoldsIn s (first_read instr) a → HoldsIn s (second_read instr) b → written_by instr ≡ Some rd → Admits (forward_of instr address a b) (t.register rd)
-forward_sound (Lui n imm) image_end address next rd s t a b is h f g w = let d = destination n rd w in rw (← d.0) (h.result.written d.1)
-forward_sound (Auipc n imm) image_end address next rd s t a b is h f g w = let d = destination n rd w in rw (← d.0) (h.result.written d.1)
-forward_sound (Jal n imm) image_end address next rd s t a b is h f g w = let d = destination n rd w in rw (← d.0) (h.link.written d.1)
-forward_sound (Jalr n rs1 imm) image_end address next rd s t a b is h f g w = let d = destination n rd w in rw (← d.0) (h.link.written d.1)
-forward_sound (Branch op rs1 rs2 imm) image_end address next rd s t a b is h f g w = tt
-forward_sound (Load op n rs1 imm) image_end address next rd s t a b is h f g w = tt
-forward_sound (Store op rs1 rs2 imm) image_end address next rd s t a b is h f g w = tt
-forward_sound (Imm op n rs1 imm) image_end address next rd s t a b is h f g w =
+pub forward_sound : (instr : Instr) (image_end rd : ℕ) (place : Addresses) (s t : State) (a b : Flat) → IsState s → HasEffect instr image_end place s t → HoldsIn s (first_read instr) a → HoldsIn s (second_read instr) b → written_by instr ≡ Some rd → Admits (forward_of instr place.from a b) (t.register rd)
+forward_sound (Lui n imm) image_end rd place s t a b is h f g w = let d = destination n rd w in rw (← d.0) (h.result.written d.1)
+forward_sound (Auipc n imm) image_end rd place s t a b is h f g w = let d = destination n rd w in rw (← d.0) (h.result.written d.1)
+forward_sound (Jal n imm) image_end rd place s t a b is h f g w = let d = destination n rd w in rw (← d.0) (h.link.written d.1)
+forward_sound (Jalr n rs1 imm) image_end rd place s t a b is h f g w = let d = destination n rd w in rw (← d.0) (h.link.written d.1)
+forward_sound (Branch op rs1 rs2 imm) image_end rd place s t a b is h f g w = tt
+forward_sound (Load op n rs1 imm) image_end rd place s t a b is h f g w = tt
+forward_sound (Store op rs1 rs2 imm) image_end rd place s t a b is h f g w = tt
+forward_sound (Imm op n rs1 imm) image_end rd place s t a b is h f g w =
     let d = destination n rd w in
     let e : t.register rd ≡ computed (register_form op) (s.register rs1) (word imm) = ap t.register (sym d.0) ∙ h.result.written d.1 in
     rw e (result_sound (register_form op) (operand rs1 a) (Known (word imm)) (s.register rs1) (word imm) (is.words rs1) (word-fits imm) (operand_holds s rs1 a is f) refl)
-forward_sound (Op op n rs1 rs2) image_end address next rd s t a b is h f g w =
+forward_sound (Op op n rs1 rs2) image_end rd place s t a b is h f g w =
     let d = destination n rd w in
     let e : t.register rd ≡ computed op (s.register rs1) (s.register rs2) = ap t.register (sym d.0) ∙ h.result.written d.1 in
     rw e (registers_sound op rs1 rs2 s a b is f g)
-forward_sound Fence image_end address next rd s t a b is h f g w = tt
-forward_sound Ecall image_end address next rd s t a b is h f g w = tt
-forward_sound Ebreak image_end address next rd s t a b is h f g w = tt
-forward_sound (Counter n csr) image_end address next rd s t a b is h f g w = tt
+forward_sound Fence image_end rd place s t a b is h f g w = tt
+forward_sound Ecall image_end rd place s t a b is h f g w = tt
+forward_sound Ebreak image_end rd place s t a b is h f g w = tt
+forward_sound (Counter n csr) image_end rd place s t a b is h f g w = tt

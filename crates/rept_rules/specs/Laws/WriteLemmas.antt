@@ -1,6 +1,8 @@
 -- What a row may write is what its steps write.
 use Rattle.std.proofs.Common.{◌≡◌, ℕ, ◌<◌, ◌≤◌, ◌^◌, ◌⊎◌, true, false, inl, inr, refl, sym, ap, subst, ◌∙◌, Bool, ◌&&◌, arith, Option, Some, None, ◌==◌}
-use Rattle.std.specs.Prelude.{is_some}
+use Rattle.std.specs.Prelude.{is_some, cond}
+use Rattle.std.specs.List.{All}
+use Rattle.std.proofs.lemmas.Bool.{cases_eq}
 use Rattle.rept_isa.specs.declared.instr.Instr.{Instr}
 use Rattle.rept_isa.specs.declared.instr.Instr.TheVariants.{Store, Ecall}
 use Rattle.rept_isa.specs.declared.instr.StoreOp.{StoreOp}
@@ -15,13 +17,13 @@ use Rattle.rept_machine.specs.State.{State, IsState}
 use Rattle.rept_machine.specs.Calls.{may_change}
 use Rattle.rept_alias.specs.Accesses.{hits, call_hits, access_of}
 use Rattle.rept_alias.proofs.AccessLemmas as access
-use Rattle.rept_havoc.specs.Havoc.{changed, Lies, NumberWithin}
-use Rattle.rept_havoc.proofs.HavocLemmas.{changed_covers, changed_within}
+use Rattle.rept_havoc.specs.Havoc.{changed, Lies, IsExact, NumberWithin, RangeWithin}
+use Rattle.rept_havoc.proofs.HavocLemmas.{changed_covers, changed_exact, changed_within}
 use Rattle.rept_view.specs.declared.drawn.When.{When}
 use Rattle.rept_view.specs.declared.drawn.When.TheVariants.{Before, After}
 use Rattle.rept_view.specs.Seen.{Seen, IsLawful, KnowsMore, Meets, state_at}
-use Rattle.rept_view.specs.Written.{WritesBy}
-use Rattle.rept_rules.specs.MayWrite.{is_register, range_of, only_value, may_write, is_sure}
+use Rattle.rept_view.specs.Written.{WritesBy, tells_writes}
+use Rattle.rept_rules.specs.MayWrite.{IsKnownCall, is_register, range_of, only_value, may_write, is_sure}
 use Rattle.rept_rules.specs.Laws.ValueLemmas.{either_way, true≢false, equal}
 
 some_store : (op : StoreOp) → 0 < store_width op
@@ -126,3 +128,65 @@ still_sure false x y h t = t
 pub sure_more_by : (instr : Instr) (s t : Seen) → KnowsMore s t → is_sure instr s ≡ true → is_sure instr t ≡ true
 sure_more_by (Store op rs1 rs2 imm) s t more sure = still_sure (is_register rs1) (s.register Before rs1) (t.register Before rs1) (more.register Before rs1) sure
 sure_more_by _ s t more sure = absurd (true≢false (sym sure))
+
+-- a call of which all is known
+known_number : (range : Range) (v : ℕ) → IsExact range v → only_value range ≡ Known v
+known_number range v e =
+    let low = e.0 in
+    let high = e.1 in
+    let same : range.lo ≡ range.hi = low ∙ sym high in
+    let t : (range.lo == range.hi) ≡ true = grind (arith, same) in
+    rw t (ap Known low)
+
+pub exact_by : (s : Seen) (image_end : ℕ) (register : ℕ → ℕ) (answer a : ℕ) → IsKnownCall s register answer → a < 2 ^ 32 → may_write Ecall s image_end a ≡ may_change image_end register answer a
+exact_by s image_end register answer a known fits =
+    ap (λ (n : Flat). call_hits (changed n (s.range Before) (s.range After 10) image_end) a) (known_number (s.range Before 17) (register 17) known.number)
+    ∙ changed_exact (register 17) (s.range Before) (s.range After 10) image_end register answer a refl known.arguments known.answered fits
+
+-- the registers that tell a row's bytes
+equal_within : (x y : Range) → x ≡ y → RangeWithin x y
+equal_within x y e = subst (λ (r : Range). RangeWithin x r) e (omega arith, omega arith)
+
+both_ways : (p q : Bool) → (p ≡ true → q ≡ true) → (q ≡ true → p ≡ true) → p ≡ q
+both_ways true q f g = sym (f refl)
+both_ways false true f g = g refl
+both_ways false false f g = refl
+
+module _ (s t : Seen) where
+  abbrev pub AgreeAt : When → ℕ → Type 0
+  AgreeAt when r = s.range when r ≡ t.range when r
+
+  arguments_agree : AgreeAt Before 10 → AgreeAt Before 11 → AgreeAt Before 12 → AgreeAt Before 13 → AgreeAt Before 14 → AgreeAt Before 15 → (r : ℕ) → 10 ≤ r → r ≤ 15 → AgreeAt Before r
+  arguments_agree e10 e11 e12 e13 e14 e15 r low high = elim (cases_eq r 10) [
+    | inl e ↦ subst (AgreeAt Before) (sym e) e10
+    | inr n10 ↦ elim (cases_eq r 11) [
+      | inl e ↦ subst (AgreeAt Before) (sym e) e11
+      | inr n11 ↦ elim (cases_eq r 12) [
+        | inl e ↦ subst (AgreeAt Before) (sym e) e12
+        | inr n12 ↦ elim (cases_eq r 13) [
+          | inl e ↦ subst (AgreeAt Before) (sym e) e13
+          | inr n13 ↦ elim (cases_eq r 14) [
+            | inl e ↦ subst (AgreeAt Before) (sym e) e14
+            | inr n14 ↦ let e : r ≡ 15 = omega arith in subst (AgreeAt Before) (sym e) e15
+          ]
+        ]
+      ]
+    ]
+  ]
+
+call_told : (s t : Seen) (image_end a : ℕ) → AgreeAt s t Before 17 → ((r : ℕ) → 10 ≤ r → r ≤ 15 → AgreeAt s t Before r) → AgreeAt s t After 10 → may_write Ecall s image_end a ≡ true → may_write Ecall t image_end a ≡ true
+call_told s t image_end a number arguments answered may =
+    let n = equal_within (s.range Before 17) (t.range Before 17) number in
+    changed_within (only_value (s.range Before 17)) (only_value (t.range Before 17)) (s.range Before) (t.range Before) (s.range After 10) (t.range After 10) image_end a (number_within (s.range Before 17) (t.range Before 17) n.0 n.1) (λ r low high. equal_within (s.range Before r) (t.range Before r) (arguments r low high)) (equal_within (s.range After 10) (t.range After 10) answered) may
+
+pub told_by : (instr : Instr) (image_end : ℕ) (s t : Seen) (a : ℕ) → All (λ x. s.range x.0 x.1 ≡ t.range x.0 x.1) (tells_writes instr) → may_write instr s image_end a ≡ may_write instr t image_end a
+told_by (Store op rs1 rs2 imm) image_end s t a h =
+    let base : s.range Before rs1 ≡ t.range Before rs1 = h 0 (Before, 0) (omega arith) in
+    ap (λ (range : Range). hits (access_of (cond (is_register rs1) range (from_to 0 4294967295)) imm (store_width op)) a) base
+told_by Ecall image_end s t a h =
+    let arguments = arguments_agree s t (h 1 (Before, 0) (omega arith)) (h 2 (Before, 0) (omega arith)) (h 3 (Before, 0) (omega arith)) (h 4 (Before, 0) (omega arith)) (h 5 (Before, 0) (omega arith)) (h 6 (Before, 0) (omega arith)) in
+    let number : AgreeAt s t Before 17 = h 0 (Before, 0) (omega arith) in
+    let answered : AgreeAt s t After 10 = h 7 (Before, 0) (omega arith) in
+    both_ways (may_write Ecall s image_end a) (may_write Ecall t image_end a) (call_told s t image_end a number arguments answered)
+    (call_told t s image_end a (sym number) (λ r low high. sym (arguments r low high)) (sym answered))
+told_by _ image_end s t a h = refl

@@ -202,6 +202,50 @@ const TURNS: [(u32, u32, u32, Turn); 16] = [
     (0x0000_0073, 0x10000, 0x10004, Turn::NoBranch), // ecall
 ];
 
+// The same of the expansions of compressed instructions, which two bytes on another one follows.
+const SHORT_TURNS: [(u32, u32, u32, Turn); 8] = [
+    (0x0004_0263, 0x10000, 0x10004, Turn::Taken), // beq x8,x0,+4
+    (0x0004_0263, 0x10000, 0x10002, Turn::NotTaken),
+    (0x0004_0263, 0x10000, 0x10006, Turn::NoBranch),
+    (0x0004_0263, 0xffff_fffe, 2, Turn::Taken),
+    (0x0004_0263, 0xffff_fffe, 0, Turn::NotTaken),
+    (0x0004_0163, 0x10000, 0x10002, Turn::Either), // beq x8,x0,+2
+    (0x0004_0163, 0xffff_fffe, 0, Turn::Either),
+    (0x0020_006f, 0x10000, 0x10002, Turn::NoBranch), // jal x0,+2
+];
+
+/// The row of a word, which is no call.
+fn row_of(word: u32, at: u32, next: u32, short: bool) -> Option<StepRow> {
+    match decode(word) {
+        None => None,
+        Some(instr) => Some(StepRow {
+            at,
+            instr,
+            next,
+            call: false,
+            short,
+        }),
+    }
+}
+
+#[test]
+fn short_rows_by_hand(rt: HostRuntime) -> Result<(), Fail> {
+    for (word, at, next, wanted) in SHORT_TURNS {
+        let row = row_of(word, at, next, true).ok_or("no instruction")?;
+        assert_eq!(rt; turn(&row), wanted, "{word:#x} at {at:#x} to {next:#x}");
+    }
+    for (at, short, from) in [
+        (0x10002, true, 0x10000),
+        (0x10002, false, 0x10002),
+        (0, true, 0xffff_fffe),
+        (0xffff_fffe, false, 0xffff_fffe),
+    ] {
+        let row = row_of(0x0000_0013, at, 0, short).ok_or("no instruction")?;
+        assert_eq!(rt; row.from(), from, "{at:#x} {short}");
+    }
+    Ok(())
+}
+
 #[test]
 fn turns_by_hand(rt: HostRuntime) -> Result<(), Fail> {
     for (word, at, next, wanted) in TURNS {
@@ -211,6 +255,7 @@ fn turns_by_hand(rt: HostRuntime) -> Result<(), Fail> {
             instr,
             next,
             call: word == 0x73,
+            short: false,
         };
         assert_eq!(rt; turn(&row), wanted, "{word:#x} at {at:#x} to {next:#x}");
     }

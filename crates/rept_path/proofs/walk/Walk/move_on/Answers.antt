@@ -17,4 +17,4 @@ returns-clause-ok c =
     let b = c.branches.ensures in
     let taken : c.if-branches.taken ≡ cond (branches (flow_of c.in-Ok.instr)) 1 0 = elim c.if-branches.branch [ then-branches w ↦ rw (w.taken-is, ← b, w.if-branches.true) refl | else-branches w ↦ rw (w.taken-is, ← b, w.if-branches.false) refl ] in
     let same : cond (branches (flow_of c.in-Ok.instr)) 1 0 ≡ cond (is_branch code old.at) 1 0 = ap (λ t. cond t 1 0) (sym (branch_of code old.at c.in-Ok.instr there)) in
-    moved code (lead old c.args.packet c.args.target) old _ (record { at = old.at; instr = c.in-Ok.instr; next = c.in_ok-next.next; call = false }) c.requires refl refl (sym c.in_ok-next.ensures) refl there refl refl c.in_default.ensures.ok (ap (λ n. old.used + n) (taken ∙ same)) (record { bits = refl; reported = refl; inferred = refl; waiting = refl; room = refl }) c.in_default.ensures.ends
+    moved code (lead old c.args.packet c.args.target) old _ (record { at = old.at; instr = c.in-Ok.instr; next = c.in_ok-next.next; call = false; short = false }) c.requires refl refl (sym c.in_ok-next.ensures) refl there refl refl refl c.in_default.ensures.ok (ap (λ n. old.used + n) (taken ∙ same)) (record { bits = refl; reported = refl; inferred = refl; waiting = refl; room = refl }) c.in_default.ensures.ends
