@@ -9,7 +9,7 @@ use Rattle.rept_path.specs.declared.fault.PathFault.TheVariants as fault
 use Rattle.rept_path.specs.declared.rebuilding.Path.{Path}
 use Rattle.rept_ports.specs.Port.{Port, Move}
 use Rattle.rept_found.specs.Truth.{HasNoExecution}
-use Rattle.rept_found.specs.Crash.{Crash, route}
+use Rattle.rept_found.specs.Crash.{Crash}
 use Rattle.rept_serve.specs.Serving.{Reading}
 use Rattle.rept_app.specs.Delivered.{Says, Tells}
 use Rattle.rept_app.specs.Ends.{Stopped, Yields, PortsEnd}
@@ -19,7 +19,7 @@ use Rattle.rept_app.specs.Lines.{status_of}
 use Rattle.rept_app.specs.Path.{IsTracePath, HasNoPath}
 use Rattle.rept_app.specs.Study.{Studies, IsStudied, StudyHolds}
 use Rattle.rept_app.specs.Loading.{CrashBytes}
-use Rattle.rept_app.specs.Told.{crash_path, CrashTrace, trace_in, Examined, NotesTold, Reads}
+use Rattle.rept_app.specs.Told.{CrashTrace, trace_in, path_in, route_of, Examined, NotesTold, Reads}
 use Rattle.rept_app.specs.declared.refusal.Refusal.TheVariants as refusal
 use Rattle.rept_app.specs.declared.status.Status.{Status}
 use Rattle.rept_app.specs.declared.status.Status.TheVariants as ends
@@ -111,7 +111,7 @@ module _ (t : CrashTrace) (status : Status) where
   }
 
   -- a call that stopped ends so whatever the path is
-  stopped_rows : Stopped status → (path : Path) → PathYields (crash_path t.crash path) status
+  stopped_rows : Stopped status → (path : Path) → PathYields (path_in t path) status
   stopped_rows s path = record { conflict = λ _ _. inr s; report = λ _. inr (inr (inr s)) }
 
   pub memory_yields : Stopped status → WalkYields t status
@@ -129,36 +129,36 @@ module _ (t : CrashTrace) (status : Status) where
       stops (inl h) = inr h
       stops (inr h) = h
 
-  module _ (f : PathFault) (none : (path : Path) → IsTracePath t.crash t.trace t.from path → f ≡ fault.OutOfMemory) (one : (g : PathFault) → HasNoPath t.crash t.trace t.from g → (f ≡ fault.OutOfMemory) ⊎ (f ≡ g)) (no_memory : (g : PathFault) → HasNoPath t.crash t.trace t.from g → g ≢ fault.OutOfMemory) where
-    pub refused_told : (f ≡ fault.OutOfMemory) ⊎ HasNoPath t.crash t.trace t.from f → Yields (status_of (refusal.Path f)) status → WalkTold status
+  module _ (f : PathFault) (none : (path : Path) → IsTracePath t.crash t.trace t.manner.from path → f ≡ fault.OutOfMemory) (one : (g : PathFault) → HasNoPath t.crash t.trace t.manner.from g → (f ≡ fault.OutOfMemory) ⊎ (f ≡ g)) (no_memory : (g : PathFault) → HasNoPath t.crash t.trace t.manner.from g → g ≢ fault.OutOfMemory) where
+    pub refused_told : (f ≡ fault.OutOfMemory) ⊎ HasNoPath t.crash t.trace t.manner.from f → Yields (status_of (refusal.Path f)) status → WalkTold status
     refused_told (inl e) so = inr (memory_stops f e so)
     refused_told (inr has) so = trace_told f status (no_memory f has) so
 
-    pub refused_yields : (f ≡ fault.OutOfMemory) ⊎ HasNoPath t.crash t.trace t.from f → Yields (status_of (refusal.Path f)) status → WalkYields t status
+    pub refused_yields : (f ≡ fault.OutOfMemory) ⊎ HasNoPath t.crash t.trace t.manner.from f → Yields (status_of (refusal.Path f)) status → WalkYields t status
     refused_yields why so = record {
       refused = λ g has. same g has (one g has);
       walked = λ path is. stopped_rows (memory_stops f (none path is) so) path;
       only = λ e. which e why;
     }
       where
-        same : (g : PathFault) → HasNoPath t.crash t.trace t.from g → (f ≡ fault.OutOfMemory) ⊎ (f ≡ g) → Yields ends.Trace status
+        same : (g : PathFault) → HasNoPath t.crash t.trace t.manner.from g → (f ≡ fault.OutOfMemory) ⊎ (f ≡ g) → Yields ends.Trace status
         same g has (inl e) = inr (memory_stops f e so)
         same g has (inr e) = trace_told g status (no_memory g has) (subst (λ (x : PathFault). Yields (status_of (refusal.Path x)) status) e so)
 
-        which : status ≡ ends.Trace → (f ≡ fault.OutOfMemory) ⊎ HasNoPath t.crash t.trace t.from f → (g : PathFault) × HasNoPath t.crash t.trace t.from g
+        which : status ≡ ends.Trace → (f ≡ fault.OutOfMemory) ⊎ HasNoPath t.crash t.trace t.manner.from f → (g : PathFault) × HasNoPath t.crash t.trace t.manner.from g
         which e (inl m) = absurd (no_trace status (stopped_path status (memory_stops f m so)) e)
         which e (inr has) = (f, has)
 
   -- where it has a path
-  module _ (path : Path) (only : (others : Path) → IsTracePath t.crash t.trace t.from others → path ≡ others) (none : (f : PathFault) → HasNoPath t.crash t.trace t.from f → ⊥) where
-    path_yields : PathYields (crash_path t.crash path) status → (status ≡ ends.Trace → ⊥) → WalkYields t status
+  module _ (path : Path) (only : (others : Path) → IsTracePath t.crash t.trace t.manner.from others → path ≡ others) (none : (f : PathFault) → HasNoPath t.crash t.trace t.manner.from f → ⊥) where
+    path_yields : PathYields (path_in t path) status → (status ≡ ends.Trace → ⊥) → WalkYields t status
     path_yields yields never = record {
       refused = λ f has. absurd (none f has);
-      walked = λ others is. subst (λ (p : Path). PathYields (crash_path t.crash p) status) (only others is) yields;
+      walked = λ others is. subst (λ (p : Path). PathYields (path_in t p) status) (only others is) yields;
       only = λ e. absurd (never e);
     }
 
-    pub studied_walked : (source sink : Move Port) → IsStudied (crash_path t.crash path) source sink status → IsWalked t source sink status
+    pub studied_walked : (source sink : Move Port) → IsStudied (path_in t path) source sink status → IsWalked t source sink status
     studied_walked source sink s = record {
       ports = s.ports;
       yields = path_yields (record { conflict = s.conflict; report = s.report }) (no_trace status s.ends_so);
@@ -172,22 +172,22 @@ module _ (t : CrashTrace) (reading : Reading) (text : List ℕ) (status : Status
       plain : Says (refusal.Path fault.OutOfMemory) text status → Says refusal.OutOfMemory text status
       plain s = record { line = s.line; ending = s.ending }
 
-  pub refused_walks : (f : PathFault) → (f ≡ fault.OutOfMemory) ⊎ HasNoPath t.crash t.trace t.from f → Tells (refusal.Path f) text status → Walks t reading text status
+  pub refused_walks : (f : PathFault) → (f ≡ fault.OutOfMemory) ⊎ HasNoPath t.crash t.trace t.manner.from f → Tells (refusal.Path f) text status → Walks t reading text status
   refused_walks f (inl e) (inl h) = inr (inl (as_memory f e h))
   refused_walks f (inr has) (inl h) = inl (inl (f, has, h))
   refused_walks f why (inr h) = inr (inl h)
 
-  pub studies_walk : (path : Path) → IsTracePath t.crash t.trace t.from path → Studies (crash_path t.crash path) reading text status → Walks t reading text status
+  pub studies_walk : (path : Path) → IsTracePath t.crash t.trace t.manner.from path → Studies (path_in t path) reading text status → Walks t reading text status
   studies_walk path is (inl h) = inl (inr (path, is, inl h))
   studies_walk path is (inr (inl (a, account, inl h))) = inl (inr (path, is, inr (a, account, h)))
   studies_walk path is (inr (inl (a, account, inr h))) = inr (inr (path, a, is, account, h))
   studies_walk path is (inr (inr h)) = inr (inl h)
 
-pub path_excludes : (t : CrashTrace) (path : Path) → ((others : Path) → IsTracePath t.crash t.trace t.from others → path ≡ others) → HasNoExecution (route t.crash path.steps) → PathExcludes t
-path_excludes t path only none others is = subst (λ (p : Path). HasNoExecution (route t.crash p.steps)) (only others is) none
+pub path_excludes : (t : CrashTrace) (path : Path) → ((others : Path) → IsTracePath t.crash t.trace t.manner.from others → path ≡ others) → HasNoExecution (route_of (path_in t path)) → PathExcludes t
+path_excludes t path only none others is = subst (λ (p : Path). HasNoExecution (route_of (path_in t p))) (only others is) none
 
 -- where a session may have been held over a path, so it may over its trace and its files
-pub study_holds : {P : Type 0} (t : CrashTrace) (path : Path) (status : Status) → IsTracePath t.crash t.trace t.from path → P ⊎ StudyHolds (crash_path t.crash path) status → P ⊎ WalkHolds t status
+pub study_holds : {P : Type 0} (t : CrashTrace) (path : Path) (status : Status) → IsTracePath t.crash t.trace t.manner.from path → P ⊎ StudyHolds (path_in t path) status → P ⊎ WalkHolds t status
 study_holds t path status is (inl p) = inl p
 study_holds t path status is (inr (consistent, so)) = inr ((path, is, consistent), so)
 

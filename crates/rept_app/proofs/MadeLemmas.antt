@@ -26,7 +26,9 @@ use Rattle.rept_make.specs.Files.{bytes_of_words}
 use Rattle.rept_make.specs.Laid.{laid}
 use Rattle.rept_make.specs.Made.{IsMade}
 use Rattle.rept_make.specs.declared.made.Made.{Made}
+use Rattle.rept_words.specs.declared.request.Domain.TheVariants as domain
 use Rattle.rept_app.specs.Delivered.{Delivers, Says, Tells}
+use Rattle.rept_app.specs.Domains.{means_of}
 use Rattle.rept_app.specs.Ends.{Yields, EndsSession, PortsEnd}
 use Rattle.rept_app.specs.Examine.{Examines, WalkYields, NoteYields, FilesEnd}
 use Rattle.rept_app.specs.Forms.{executable_fault, core_image_fault, crash_in}
@@ -81,7 +83,7 @@ module _ (seed steps : ℕ) (made : Made) (m : IsMade seed steps made) where
   abbrev run_made : ℕ → State
   run_made = λ i. laid (bytes_of_words m.words) (m.run i)
 
-  runs_made : Executes (route crash_made m.rows) run_made
+  runs_made : Executes (route (means_of domain.Ranges) crash_made m.rows) run_made
   runs_made = m.execution (last_values m.status) (last_size m.status) (λ r above below. last_at m.status r above below)
 
   abbrev opening_made : Opening
@@ -91,7 +93,7 @@ module _ (seed steps : ℕ) (made : Made) (m : IsMade seed steps made) where
   opens_made = record { bytes = refl; read = reads_made; path = path_made }
 
   -- so the closure has no conflict
-  consistent_made : ((kind : ConflictKind) → ClosureHas (setting crash_made m.rows) kind → HasNoExecution (route crash_made m.rows)) → IsConsistent (setting crash_made m.rows)
+  consistent_made : ((kind : ConflictKind) → ClosureHas (setting (means_of domain.Ranges) crash_made m.rows) kind → HasNoExecution (route (means_of domain.Ranges) crash_made m.rows)) → IsConsistent (setting (means_of domain.Ranges) crash_made m.rows)
   consistent_made none kind has = none kind has run_made runs_made
 
   abbrev AfterCore : Status → Option ElfFault → Type 0
@@ -100,14 +102,14 @@ module _ (seed steps : ℕ) (made : Made) (m : IsMade seed steps made) where
   abbrev AfterExe : Status → Option ElfFault → Type 0
   AfterExe status o = MatchOption o (AfterCore status (core_image_fault made.core)) (λ _. Yields ends.Executable status)
 
-  pub session_made : ((kind : ConflictKind) → ClosureHas (setting crash_made m.rows) kind → HasNoExecution (route crash_made m.rows)) → (status : Status) → FilesEnd (made_bytes made) status → EndsSession status
+  pub session_made : ((kind : ConflictKind) → ClosureHas (setting (means_of domain.Ranges) crash_made m.rows) kind → HasNoExecution (route (means_of domain.Ranges) crash_made m.rows)) → (status : Status) → FilesEnd (made_bytes made) status → EndsSession status
   session_made none status h =
       let notes : (said : Result (List ℕ) CoreFault) → NotesSay (length made.core) (segments made.core) said → NoteYields (made_bytes made) said status =
       subst (AfterCore status) m.core_read (subst (AfterExe status) m.exe_read h) in
       let walk : WalkYields (trace_in (made_bytes made) m.status) status = notes (Ok m.status) m.notes in
       (walk.walked (path_of m.rows) path_made).report (consistent_made none)
 
-pub made_holds : (seed steps : ℕ) → ((crash : Crash) (rows : List StepRow) (known : Knowledge) → IsReport (setting crash rows) known → IsTrueReport (route crash rows) known) → MadeHolds seed steps
+pub made_holds : (seed steps : ℕ) → ((crash : Crash) (rows : List StepRow) (known : Knowledge) → IsReport (setting (means_of domain.Ranges) crash rows) known → IsTrueReport (route (means_of domain.Ranges) crash rows) known) → MadeHolds seed steps
 made_holds seed steps true_of made m =
     (opening_made seed steps made m, opens_made seed steps made m, (run_made seed steps made m, runs_made seed steps made m), λ known report. true_of (crash_made seed steps made m) m.rows known report)
 

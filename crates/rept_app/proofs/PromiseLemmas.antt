@@ -17,10 +17,10 @@ use Rattle.rept_app.specs.Delivered.{Delivers, Says}
 use Rattle.rept_app.specs.Ends.{Yields}
 use Rattle.rept_app.specs.Forms.{executable_fault, core_image_fault}
 use Rattle.rept_app.specs.Lines.{status_of, status_of_path}
-use Rattle.rept_app.specs.Loading.{CrashBytes, crash_bytes, Loading, loading, loading_by, fetched, fetched_all, first_packet, limit_of, MatchLoading}
+use Rattle.rept_app.specs.Loading.{CrashBytes, crash_bytes, Loading, loading, loading_by, fetched, fetched_all, manner_of, limit_of, MatchLoading}
 use Rattle.rept_app.specs.Loading.Loading.{Refused, Loaded, MadeRun}
 use Rattle.rept_app.specs.Promise.{IsOpened, IsAnswered, IsImpossible, Promise}
-use Rattle.rept_app.specs.Told.{Given, Opening, Opens, OpensMade, Reads, Analysed, Walked, NotesTold, Examined, Summed, Told, Interrupted, Writes, NoExecution, crash_at, path_at, route_at, trace_in, made_bytes, summary_line}
+use Rattle.rept_app.specs.Told.{Given, Opening, Opens, OpensMade, Reads, Analysed, Walked, NotesTold, Examined, Summed, Told, Interrupted, Writes, NoExecution, crash_at, domain_at, path_at, route_at, trace_in, made_bytes, summary_line}
 use Rattle.rept_app.specs.Path.{IsTracePath}
 use Rattle.rept_app.specs.Examine.{FilesEnd}
 use Rattle.rept_app.specs.Top.{EndsBy, EndsByFiles}
@@ -30,6 +30,8 @@ use Rattle.rept_app.specs.declared.refusal.Refusal.{Refusal}
 use Rattle.rept_app.specs.declared.refusal.Refusal.TheVariants as refusal
 use Rattle.rept_app.specs.declared.status.Status.{Status}
 use Rattle.rept_app.specs.declared.status.Status.TheVariants as ends
+use Rattle.rept_app.specs.declared.load.Manner.{Manner}
+use Rattle.rept_app.proofs.TopLemmas.{ReportsAreTrue}
 use Rattle.rept_words.specs.Words.{Names, Meaning, meaning_of}
 use Rattle.rept_words.specs.Words.Meaning.{Open, Made as MadeWords}
 
@@ -84,23 +86,23 @@ one_file : (kind : FileKind) (o : Option (List ℕ)) (next : List ℕ → Loadin
 one_file kind None next h = λ (e : ends.NoFile ≡ ends.Inconsistent). cc
 one_file kind (Some bytes) next h = either (nat_lt (limit_of kind) (length bytes)) (Refused (refusal.TooLarge kind)) (next bytes) (λ (e : ends.TooLarge ≡ ends.Inconsistent). cc) (h bytes)
 
-all_files : (files : Files) (names : Names) (from : ℕ) → IsNoConflict (fetched_all files names from)
-all_files files names from =
-    one_file file.Exe (files names.exe) (λ exe. fetched file.Core (files names.core) (λ core. fetched file.Trace (files names.trace) (λ trace. Loaded (crash_bytes exe core trace from))))
-    (λ exe. one_file file.Core (files names.core) (λ core. fetched file.Trace (files names.trace) (λ trace. Loaded (crash_bytes exe core trace from)))
-    (λ core. one_file file.Trace (files names.trace) (λ trace. Loaded (crash_bytes exe core trace from)) (λ trace. tt)))
+all_files : (files : Files) (names : Names) (manner : Manner) → IsNoConflict (fetched_all files names manner)
+all_files files names manner =
+    one_file file.Exe (files names.exe) (λ exe. fetched file.Core (files names.core) (λ core. fetched file.Trace (files names.trace) (λ trace. Loaded (crash_bytes exe core trace manner))))
+    (λ exe. one_file file.Core (files names.core) (λ core. fetched file.Trace (files names.trace) (λ trace. Loaded (crash_bytes exe core trace manner)))
+    (λ core. one_file file.Trace (files names.trace) (λ trace. Loaded (crash_bytes exe core trace manner)) (λ trace. tt)))
 
 no_conflict : (files : Files) (m : Option Meaning) → IsNoConflict (loading_by files m)
 no_conflict files None = λ (e : ends.Usage ≡ ends.Inconsistent). cc
 no_conflict files (Some (MadeWords seed steps)) = tt
-no_conflict files (Some (Open names from)) = all_files files names (first_packet from)
+no_conflict files (Some (Open d names from)) = all_files files names (manner_of d from)
 
 -- the trace of these files has a path, and it is analysed
 pub record Analyses (bytes : CrashBytes) (lines text : List ℕ) (status : Status) : Type 0 where
   pub opening : Opening
   pub same : opening.bytes ≡ bytes
   pub read : Reads opening.bytes opening.note
-  pub path : IsTracePath (crash_at opening) opening.bytes.trace opening.bytes.from opening.path
+  pub path : IsTracePath (crash_at opening) opening.bytes.trace opening.bytes.manner.from opening.path
   pub analysed : Analysed (path_at opening) lines text status
 
 module _ (lines text : List ℕ) (status : Status) (promised : (status ≡ ends.Ok) ⊎ (status ≡ ends.Inconsistent)) where
@@ -191,15 +193,11 @@ whole_conflict g text (inr (inr (inl says))) = no_memory_conflict text says
 whole_conflict g text (inr (inr (inr (inl (o, a, opens, is, cut))))) = absurd cut
 whole_conflict g text (inr (inr (inr (inr (seed, steps, asked, (made, m, o, opens, a, is, left, cut)))))) = absurd cut
 
--- the law that what is told of a report is true
-abbrev pub ReportsAreTrue : Type 0
-ReportsAreTrue = (crash : Crash) (rows : List StepRow) (known : Knowledge) → IsReport (setting crash rows) known → IsTrueReport (route crash rows) known
-
 module _ (true_of : ReportsAreTrue) (g : Given) (out : Move Port) where
   answered_by : (text : List ℕ) → Appends out.before.bytes out.after.bytes text → IsOf g text ends.Ok → IsAnswered g out
   answered_by text written (o, lines, opened, inl (kind, has, says)) = let bad : ends.Ok ≡ ends.Inconsistent = says.ending in let no : ⊥ = cc in absurd no
   answered_by text written (o, lines, opened, inr (a, is, answers)) =
-      record { opening = o; lines = lines; opened = opened; account = a; report = is; text = text; answers = answers; written = written; holds = true_of (crash_at o) o.path.steps a.known is.report }
+      record { opening = o; lines = lines; opened = opened; account = a; report = is; text = text; answers = answers; written = written; holds = true_of (domain_at o) (crash_at o) o.path.steps a.known is.report }
 
   -- a made run isn't inconsistent
   made_ends_well : (l : Loading) (seed steps : ℕ) → l ≡ MadeRun seed steps → (P : Refusal → Type 0) (Q : CrashBytes → Type 0) → MatchLoading l P Q (λ seed steps. Yields ends.Ok ends.Inconsistent) → ⊥

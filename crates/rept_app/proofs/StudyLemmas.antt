@@ -1,13 +1,12 @@
 -- From the report of the analysis to what is written of it.
 use Rattle.std.proofs.Common.{◌≡◌, ◌⊎◌, ℕ, List, inl, inr, refl, subst}
-use Rattle.rept_partial.specs.declared.range.Range.{Range}
 use Rattle.rept_path.specs.declared.rebuilding.Path.{Path}
 use Rattle.rept_ports.specs.Port.{Port, Move}
 use Rattle.rept_report.specs.Closure.{ClosureHas, IsConsistent}
 use Rattle.rept_analysis.specs.State.{Path as AnalysedPath}
 use Rattle.rept_report.specs.declared.conflict.ConflictKind.{ConflictKind}
 use Rattle.rept_analysis.specs.Kept.{answers}
-use Rattle.rept_found.specs.Crash.{Crash, end_pc, setting, route}
+use Rattle.rept_found.specs.Crash.{Crash, Means, end_pc, setting, route}
 use Rattle.rept_found.specs.Telling.{Account, told_of}
 use Rattle.rept_found.specs.View.{View, IsFoundIn, state_in}
 use Rattle.rept_serve.specs.Serving.{Reading}
@@ -20,27 +19,27 @@ use Rattle.rept_app.specs.declared.refusal.Refusal.TheVariants as refusal
 use Rattle.rept_app.specs.declared.status.Status.{Status}
 use Rattle.rept_app.specs.declared.status.Status.TheVariants as ends
 
-module _ (crash : Crash) (path : Path) (reading : Reading) where
-  pub no_memory_studies : (text : List ℕ) (status : Status) → Tells refusal.OutOfMemory text status → Studies (crash_path crash path) reading text status
+module _ {W : Type 0} (m : Means W) (crash : Crash) (path : Path) (reading : Reading) where
+  pub no_memory_studies : (text : List ℕ) (status : Status) → Tells refusal.OutOfMemory text status → Studies (crash_path m crash path) reading text status
   no_memory_studies text status (inl h) = inr (inr h)
   no_memory_studies text status (inr h) = inr (inr h)
 
-  pub conflict_studies : (kind : ConflictKind) → ClosureHas (setting crash path.steps) kind → (text : List ℕ) (status : Status) → Tells (refusal.Inconsistent kind) text status → Studies (crash_path crash path) reading text status
+  pub conflict_studies : (kind : ConflictKind) → ClosureHas (setting m crash path.steps) kind → (text : List ℕ) (status : Status) → Tells (refusal.Inconsistent kind) text status → Studies (crash_path m crash path) reading text status
   conflict_studies kind has text status (inl h) = inl (kind, has, h)
   conflict_studies kind has text status (inr h) = inr (inr h)
 
 -- what is told of an analysis that has ended, and of which it is the account
-module _ (v : View) (crash : Crash) (path : Path) (found : IsFoundIn (route crash path.steps) (end_pc crash.note) v) where
+module _ {W R : Type 0} (m : Means W) (v : View W R) (crash : Crash) (path : Path) (found : IsFoundIn m (route m crash path.steps) (end_pc crash.note) v) where
   abbrev pub account_of : Account
-  account_of = record { known = answers (state_in v); log = (state_in v).known.log; end_pc = v.end_pc; skipped = path.skipped }
+  account_of = record { known = answers (state_in m v); log = (state_in m v).known.log; end_pc = v.end_pc; skipped = path.skipped }
 
-  pub held_studies : (reading : Reading) (text : List ℕ) (status : Status) → Holds (told_of (state_in v).path account_of) reading text status → Studies (crash_path crash path) reading text status
+  pub held_studies : (reading : Reading) (text : List ℕ) (status : Status) → Holds (told_of (state_in m v).path account_of) reading text status → Studies (crash_path m crash path) reading text status
   held_studies reading text status h =
-      inr (inl (account_of, record { report = found.report; log = found.log; ends = found.ends; skipped = refl }, subst (λ (P : AnalysedPath Range). Holds (told_of P account_of) reading text status) found.path h))
+      inr (inl (account_of, record { report = found.report; log = found.log; ends = found.ends; skipped = refl }, subst (λ (P : AnalysedPath W). Holds (told_of P account_of) reading text status) found.path h))
 
 -- where the closure is consistent, a session is held
-pub held_causes : (crash : Crash) (path : Path) (source sink : Move Port) (status : Status) → IsConsistent (setting crash path.steps) → IsCaused source sink status → IsStudied (crash_path crash path) source sink status
-held_causes crash path source sink status consistent c = record {
+pub held_causes : {W : Type 0} (m : Means W) (crash : Crash) (path : Path) (source sink : Move Port) (status : Status) → IsConsistent (setting m crash path.steps) → IsCaused source sink status → IsStudied (crash_path m crash path) source sink status
+held_causes m crash path source sink status consistent c = record {
   ports = c.ports;
   conflict = λ kind has. absurd (consistent kind has);
   report = λ _. c.answered;
@@ -48,8 +47,8 @@ held_causes crash path source sink status consistent c = record {
 }
 
 -- where it has a conflict, one is told
-pub told_causes : (crash : Crash) (path : Path) (source sink : Move Port) (status : Status) (kind : ConflictKind) → ClosureHas (setting crash path.steps) kind → PortsEnd source sink status → Yields ends.Inconsistent status → IsStudied (crash_path crash path) source sink status
-told_causes crash path source sink status kind has ports so = record {
+pub told_causes : {W : Type 0} (m : Means W) (crash : Crash) (path : Path) (source sink : Move Port) (status : Status) (kind : ConflictKind) → ClosureHas (setting m crash path.steps) kind → PortsEnd source sink status → Yields ends.Inconsistent status → IsStudied (crash_path m crash path) source sink status
+told_causes m crash path source sink status kind has ports so = record {
   ports = ports;
   conflict = λ _ _. so;
   report = λ consistent. absurd (consistent kind has);
@@ -61,8 +60,8 @@ told_causes crash path source sink status kind has ports so = record {
     to_all (inr h) = inr (inr (inr (inr h)))
 
 -- where there was no memory for the analysis
-pub memory_causes : (crash : Crash) (path : Path) (source sink : Move Port) (status : Status) → PortsEnd source sink status → Yields ends.OutOfMemory status → IsStudied (crash_path crash path) source sink status
-memory_causes crash path source sink status ports so = record {
+pub memory_causes : {W : Type 0} (m : Means W) (crash : Crash) (path : Path) (source sink : Move Port) (status : Status) → PortsEnd source sink status → Yields ends.OutOfMemory status → IsStudied (crash_path m crash path) source sink status
+memory_causes m crash path source sink status ports so = record {
   ports = ports;
   conflict = λ _ _. inr (stops so);
   report = λ _. inr (inr (inr (stops so)));

@@ -8,8 +8,22 @@ use Rattle.rept_isa.specs.declared.row.StepRow.{StepRow}
 use Rattle.rept_path.specs.declared.rebuilding.Path.{Path}
 use Rattle.rept_reason.specs.Facts.{Knowledge}
 use Rattle.rept_report.specs.Closure.{IsReport}
+use Rattle.rept_report.specs.Setting.{Setting, Uses}
+use Rattle.rept_report.specs.Beside.{beside}
+use Rattle.rept_report.specs.Implied.{HasEnded, known_at_end}
+use Rattle.rept_report.specs.Knowing.{Extends}
+use Rattle.rept_report.specs.Log.{Entry}
+use Rattle.rept_partial.specs.Ranges.{range_sets}
+use Rattle.rept_span.specs.Finer.{kind, IsFiner}
+use Rattle.rept_span.specs.RangeMoves.{range_moves}
+use Rattle.rept_known.specs.Both.{both_sets}
+use Rattle.rept_known.specs.BothMoves.{both_moves}
+use Rattle.rept_known.specs.declared.both.Both.{Both}
+use Rattle.rept_known.proofs.BothFiner.{both_finer}
+use Rattle.rept_rules.specs.Base.{base_rules}
+use Rattle.rept_found.proofs.Truths.{uses_here}
 use Rattle.rept_session.specs.Shown.{Told as ToldOf}
-use Rattle.rept_found.specs.Crash.{Crash, setting, route}
+use Rattle.rept_found.specs.Crash.{Crash, Means, setting, route}
 use Rattle.rept_found.specs.Telling.{told_of}
 use Rattle.rept_found.specs.Truth.{IsTrueReport}
 use Rattle.rept_serve.specs.Serving.{Reading}
@@ -18,13 +32,17 @@ use Rattle.rept_app.specs.Ends.{Stopped, Yields, EndsSession, FaultEnds, PortsEn
 use Rattle.rept_app.specs.Held.{CutOff}
 use Rattle.rept_app.specs.Examine.{Examines, FilesEnd, IsExamined, IsWalkStatus, FilesExclude, FilesHold}
 use Rattle.rept_app.specs.Lines.{status_of}
-use Rattle.rept_app.specs.Loading.{CrashBytes, crash_bytes, Loading, loading, loading_by, fetched, fetched_all, limit_of, MatchLoading, Fits, FitBefore, name_of, loads_to, ComesTo, LoadRefuses, MeaningStops, LoadingStops, LoadsAll, NamesNone, IsAsked, first_packet}
+use Rattle.rept_app.specs.Loading.{CrashBytes, crash_bytes, Loading, loading, loading_by, fetched, fetched_all, limit_of, MatchLoading, Fits, FitBefore, name_of, loads_to, ComesTo, LoadRefuses, MeaningStops, LoadingStops, LoadsAll, NamesNone, IsAsked, manner_of}
 use Rattle.rept_app.specs.Loading.Loading.{Refused, Loaded, MadeRun}
 use Rattle.rept_app.specs.MadeRun.{Sums}
-use Rattle.rept_app.specs.Told.{Given, given, Examined, Summed, summary_line, Opening, Writes, Holds, ReportHolds, MadeHolds, AskedHolds, NoExecution, crash_at, route_at}
+use Rattle.rept_app.specs.Told.{Given, given, Examined, Summed, summary_line, Opening, Writes, Holds, ReportHolds, BitsKnowMore, MadeHolds, AskedHolds, NoExecution, crash_at, domain_at, route_at}
 use Rattle.rept_app.specs.Top.{TopCauses, LacksFile, LoadEnds, LoadsOf, EndsBy, EndsByFiles, AskedEnds, NoneFails, Completes}
 use Rattle.rept_words.specs.Words.{Names, Meaning, meaning_of}
 use Rattle.rept_words.specs.Words.Meaning.{Open, Made}
+use Rattle.rept_words.specs.declared.request.Domain.{Domain}
+use Rattle.rept_words.specs.declared.request.Domain.TheVariants as domain
+use Rattle.rept_app.specs.Domains.{means_of}
+use Rattle.rept_app.specs.declared.load.Manner.{Manner}
 use Rattle.rept_app.specs.declared.load.Asked.{Asked}
 use Rattle.rept_app.specs.declared.load.Asked.TheVariants as asked
 use Rattle.rept_app.specs.declared.load.CrashFiles.{CrashFiles}
@@ -72,27 +90,27 @@ not_over limit n h = grind (arith, nat_tests)
 is_over : (limit n : ℕ) → limit < n → nat_lt limit n ≡ true
 is_over limit n h = grind (arith, nat_tests)
 
-module _ (files : Files) (names : Names) (from : ℕ) where
+module _ (files : Files) (names : Names) (manner : Manner) where
   passes : (kind : FileKind) (name : List ℕ) (next : List ℕ → Loading) (fits : Fits files kind name) → fetched kind (files name) next ≡ next fits.0
   passes kind name next fits =
       ap (λ (o : Option (List ℕ)). fetched kind o next) fits.1 ∙ ap (λ (b : Bool). cond b (Refused (refusal.TooLarge kind)) (next fits.0)) (not_over (limit_of kind) (length fits.0) fits.2)
 
   after_core : List ℕ → List ℕ → Loading
-  after_core exe core = fetched file.Trace (files names.trace) (λ trace. Loaded (crash_bytes exe core trace from))
+  after_core exe core = fetched file.Trace (files names.trace) (λ trace. Loaded (crash_bytes exe core trace manner))
 
   after_exe : List ℕ → Loading
   after_exe exe = fetched file.Core (files names.core) (λ core. after_core exe core)
 
-  comes_to : (kind : FileKind) (r : Refusal) → FitBefore files names kind → ((next : List ℕ → Loading) → fetched kind (files (name_of names kind)) next ≡ Refused r) → fetched_all files names from ≡ Refused r
+  comes_to : (kind : FileKind) (r : Refusal) → FitBefore files names kind → ((next : List ℕ → Loading) → fetched kind (files (name_of names kind)) next ≡ Refused r) → fetched_all files names manner ≡ Refused r
   unfolding after_exe after_core
   comes_to file.Exe r before h = h after_exe
   comes_to file.Core r before h = passes file.Exe names.exe after_exe before ∙ h (after_core before.0)
-  comes_to file.Trace r before h = passes file.Exe names.exe after_exe before.0 ∙ passes file.Core names.core (after_core before.0.0) before.1 ∙ h (λ trace. Loaded (crash_bytes before.0.0 before.1.0 trace from))
+  comes_to file.Trace r before h = passes file.Exe names.exe after_exe before.0 ∙ passes file.Core names.core (after_core before.0.0) before.1 ∙ h (λ trace. Loaded (crash_bytes before.0.0 before.1.0 trace manner))
 
-  lacks : (kind : FileKind) → FitBefore files names kind → files (name_of names kind) ≡ None → fetched_all files names from ≡ Refused (refusal.NoFile kind)
+  lacks : (kind : FileKind) → FitBefore files names kind → files (name_of names kind) ≡ None → fetched_all files names manner ≡ Refused (refusal.NoFile kind)
   lacks kind before none = comes_to kind (refusal.NoFile kind) before (λ next. ap (λ (o : Option (List ℕ)). fetched kind o next) none)
 
-  over : (kind : FileKind) → FitBefore files names kind → IsOver files (name_of names kind) (limit_of kind) → fetched_all files names from ≡ Refused (refusal.TooLarge kind)
+  over : (kind : FileKind) → FitBefore files names kind → IsOver files (name_of names kind) (limit_of kind) → fetched_all files names manner ≡ Refused (refusal.TooLarge kind)
   over kind before large = comes_to kind (refusal.TooLarge kind) before
       (λ next. ap (λ (o : Option (List ℕ)). fetched kind o next) large.1 ∙ ap (λ (b : Bool). cond b (Refused (refusal.TooLarge kind)) (next large.0)) (is_over (limit_of kind) (length large.0) large.2))
 
@@ -109,11 +127,11 @@ one_fetched : (kind : FileKind) (o : Option (List ℕ)) (next : List ℕ → Loa
 one_fetched kind None next h = tt
 one_fetched kind (Some bytes) next h = either_loads (nat_lt (limit_of kind) (length bytes)) (refusal.TooLarge kind) (next bytes) (h bytes)
 
-all_fetched : (files : Files) (names : Names) (from : ℕ) → LoadsFiles (fetched_all files names from)
-all_fetched files names from =
-    one_fetched file.Exe (files names.exe) (λ exe. fetched file.Core (files names.core) (λ core. fetched file.Trace (files names.trace) (λ trace. Loaded (crash_bytes exe core trace from))))
-    (λ exe. one_fetched file.Core (files names.core) (λ core. fetched file.Trace (files names.trace) (λ trace. Loaded (crash_bytes exe core trace from)))
-    (λ core. one_fetched file.Trace (files names.trace) (λ trace. Loaded (crash_bytes exe core trace from)) (λ trace. tt)))
+all_fetched : (files : Files) (names : Names) (manner : Manner) → LoadsFiles (fetched_all files names manner)
+all_fetched files names manner =
+    one_fetched file.Exe (files names.exe) (λ exe. fetched file.Core (files names.core) (λ core. fetched file.Trace (files names.trace) (λ trace. Loaded (crash_bytes exe core trace manner))))
+    (λ exe. one_fetched file.Core (files names.core) (λ core. fetched file.Trace (files names.trace) (λ trace. Loaded (crash_bytes exe core trace manner)))
+    (λ core. one_fetched file.Trace (files names.trace) (λ trace. Loaded (crash_bytes exe core trace manner)) (λ trace. tt)))
 
 abbrev pub opening : CrashBytes → List ℕ → Path → Opening
 opening bytes note path = record { bytes = bytes; note = note; path = path }
@@ -126,20 +144,20 @@ module _ (words : List (List ℕ)) (files : Files) where
       ⊎ (r ≡ refusal.OutOfMemory)
       ⊎ (loading words files ≡ Refused r)
 
-  names_stop : (old new : Shelved) (names : Names) (from : Option ℕ) (kind : FileKind) (r : Refusal) → old.files ≡ Some files → meaning_of words ≡ Some (Open names from) → FitBefore files names kind → new.loads ≡ loads_to kind old.loads
+  names_stop : (old new : Shelved) (d : Domain) (names : Names) (from : Option ℕ) (kind : FileKind) (r : Refusal) → old.files ≡ Some files → meaning_of words ≡ Some (Open d names from) → FitBefore files names kind → new.loads ≡ loads_to kind old.loads
       → Why old new (name_of names kind) kind r → Stops old new r
-  names_stop old new names from kind r told named before loads (inl h) = inl (kind, h.0, (names, from, named, before), loads)
-  names_stop old new names from kind r told named before loads (inr (inl h)) =
-      inr (inr (ap (loading_by files) named ∙ lacks files names (first_packet from) kind before (at_told old.files _ (λ fs. (fs (name_of names kind) ≡ None) × (new.faults ≡ old.faults)) files told h.1).0 ∙ ap Refused (sym h.0)))
-  names_stop old new names from kind r told named before loads (inr (inr (inl h))) =
-      inr (inr (ap (loading_by files) named ∙ over files names (first_packet from) kind before (at_told old.files _ (λ fs. IsOver fs (name_of names kind) (limit_of kind) × (new.faults ≡ old.faults)) files told h.1).0 ∙ ap Refused (sym h.0)))
-  names_stop old new names from kind r told named before loads (inr (inr (inr h))) = inr (inl h)
+  names_stop old new d names from kind r told named before loads (inl h) = inl (kind, h.0, (d, names, from, named, before), loads)
+  names_stop old new d names from kind r told named before loads (inr (inl h)) =
+      inr (inr (ap (loading_by files) named ∙ lacks files names (manner_of d from) kind before (at_told old.files _ (λ fs. (fs (name_of names kind) ≡ None) × (new.faults ≡ old.faults)) files told h.1).0 ∙ ap Refused (sym h.0)))
+  names_stop old new d names from kind r told named before loads (inr (inr (inl h))) =
+      inr (inr (ap (loading_by files) named ∙ over files names (manner_of d from) kind before (at_told old.files _ (λ fs. IsOver fs (name_of names kind) (limit_of kind) × (new.faults ≡ old.faults)) files told h.1).0 ∙ ap Refused (sym h.0)))
+  names_stop old new d names from kind r told named before loads (inr (inr (inr h))) = inr (inl h)
 
   words_stop : (old new : Shelved) (r : Refusal) → old.files ≡ Some files → (m : Option Meaning) → meaning_of words ≡ m → MeaningStops m (move old new) r → Stops old new r
   words_stop old new r told None e h = inr (inr (ap (loading_by files) e ∙ ap Refused (sym h.0)))
   words_stop old new r told (Some (Made seed steps)) e h = absurd h
-  words_stop old new r told (Some (Open names from)) e (kind, s) =
-      names_stop old new names from kind r told e (at_files old.files (λ fs. FitBefore fs names kind) files told s.before) s.loads (why old new (name_of names kind) kind r s.why)
+  words_stop old new r told (Some (Open d names from)) e (kind, s) =
+      names_stop old new d names from kind r told e (at_files old.files (λ fs. FitBefore fs names kind) files told s.before) s.loads (why old new (name_of names kind) kind r s.why)
 
   pub stops : (old new : Shelved) (r : Refusal) → old.files ≡ Some files → LoadingStops (meaning_of words) (move old new) r → Stops old new r
   stops old new r told (inl h) = inr (inl h.0)
@@ -164,7 +182,7 @@ module _ (words : List (List ℕ)) (files : Files) where
   interrupted status (inr h) l some = stopped_at status h l
 
   named_loads : (kind : FileKind) → ComesTo words files kind → LoadsFiles (loading words files)
-  named_loads kind (names, from, named, before) = subst LoadsFiles (sym (ap (loading_by files) named)) (all_fetched files names (first_packet from))
+  named_loads kind (d, names, from, named, before) = subst LoadsFiles (sym (ap (loading_by files) named)) (all_fetched files names (manner_of d from))
 
   by_refusal : (r s : Refusal) (status : Status) → r ≡ s → Yields (status_of r) status → Yields (status_of s) status
   by_refusal r s status e h = subst (λ (x : Refusal). Yields (status_of x) status) e h
@@ -227,9 +245,20 @@ module _ (words : List (List ℕ)) (files : Files) where
     pub examined_excludes : FilesExclude bytes → NoExecution words files
     examined_excludes none o opens = subst (λ (b : CrashBytes). FilesExclude b) (same_files o.bytes opens.loaded) none o.note opens.read o.path opens.path
 
--- what is told of the report of any path and crash, is told of that of the files
-pub reports_hold : (words : List (List ℕ)) (files : Files) → ((crash : Crash) (rows : List StepRow) (known : Knowledge) → IsReport (setting crash rows) known → IsTrueReport (route crash rows) known) → ReportHolds words files
-reports_hold words files true_of o known opens report = true_of (crash_at o) o.path.steps known report
+-- what is told of the report of any path and crash is true, in either domain
+abbrev pub ReportsAreTrue : Type 0
+ReportsAreTrue = (d : Domain) (crash : Crash) (rows : List StepRow) (known : Knowledge) → IsReport (setting (means_of d) crash rows) known → IsTrueReport (route (means_of d) crash rows) known
+
+abbrev TrueOf : {W : Type 0} → Means W → Type 0
+TrueOf m = (crash : Crash) (rows : List StepRow) (known : Knowledge) → IsReport (setting m crash rows) known → IsTrueReport (route m crash rows) known
+
+pub true_in_both : TrueOf (means_of domain.Ranges) → TrueOf (means_of domain.KnownBits) → ReportsAreTrue
+true_in_both ranges bits domain.Ranges = ranges
+true_in_both ranges bits domain.KnownBits = bits
+
+-- so it is of that of the files
+pub reports_hold : (words : List (List ℕ)) (files : Files) → ReportsAreTrue → ReportHolds words files
+reports_hold words files true_of o known opens report = true_of (domain_at o) (crash_at o) o.path.steps known report
 
 -- a session that was cut short ends with one of two statuses
 cut_ends : (t : ToldOf) (reading : Reading) (text : List ℕ) (status : Status) → CutOff t reading text status → (status ≡ ends.InputFault) ⊎ (status ≡ ends.OutOfMemory)
@@ -360,7 +389,7 @@ module _ (old new : Shelved) (source : Port) (sink : Move Port) (status : Status
   meaning_causes None r h so =
       idle_causes ends.Usage (λ (e : ends.Usage ≡ ends.LoadFault). cc) (λ (e : ends.Usage ≡ ends.NoFile). cc) (λ (e : ends.Usage ≡ ends.TooLarge). cc) (ap (λ (s : Shelved). s.faults) h.1) (by r refusal.Usage h.0 so)
   meaning_causes (Some (Made seed steps)) r h so = absurd h
-  meaning_causes (Some (Open names from)) r (kind, s) so = file_causes (name_of names kind) kind r (why old new (name_of names kind) kind r s.why) so
+  meaning_causes (Some (Open d names from)) r (kind, s) so = file_causes (name_of names kind) kind r (why old new (name_of names kind) kind r s.why) so
 
   -- a made run
   pub made_causes : new.faults ≡ old.faults → Yields ends.Ok status → TopCauses (move old new) (move source source) sink status
@@ -380,7 +409,7 @@ module _ (old new : Shelved) (source : Port) (sink : Move Port) (status : Status
   meaning_loads : (m : Option Meaning) (r : Refusal) → MeaningStops m (move old new) r → Yields (status_of r) status → LoadsOf m (move old new) status
   meaning_loads None r h so = tt
   meaning_loads (Some (Made seed steps)) r h so = absurd h
-  meaning_loads (Some (Open names from)) r (kind, s) so = inl (record {
+  meaning_loads (Some (Open d names from)) r (kind, s) so = inl (record {
     last = kind;
     before = s.before;
     loads = s.loads;
@@ -390,7 +419,7 @@ module _ (old new : Shelved) (source : Port) (sink : Move Port) (status : Status
   none_loads : (m : Option Meaning) → new ≡ old → Stopped status → LoadsOf m (move old new) status
   none_loads None same stopped = tt
   none_loads (Some (Made seed steps)) same stopped = tt
-  none_loads (Some (Open names from)) same stopped = inr (same, stopped)
+  none_loads (Some (Open d names from)) same stopped = inr (same, stopped)
 
   pub refused_loads : (m : Option Meaning) (r : Refusal) → LoadingStops m (move old new) r → Yields (status_of r) status → LoadsOf m (move old new) status
   refused_loads m r (inl h) so = none_loads m h.1 (memory (by r refusal.OutOfMemory h.0 so))
@@ -422,7 +451,7 @@ file_status old new name kind r other is (inr (inr (inr h))) e = is.memory (ap s
 meaning_status : (old new : Shelved) (m : Option Meaning) (r : Refusal) (other : Status) → IsOther other → MeaningStops m (move old new) r → status_of r ≡ other → ⊥
 meaning_status old new None r other is h e = is.usage (ap status_of (sym h.0) ∙ e)
 meaning_status old new (Some (Made seed steps)) r other is h e = absurd h
-meaning_status old new (Some (Open names from)) r other is (kind, s) e = file_status old new (name_of names kind) kind r other is (why old new (name_of names kind) kind r s.why) e
+meaning_status old new (Some (Open d names from)) r other is (kind, s) e = file_status old new (name_of names kind) kind r other is (why old new (name_of names kind) kind r s.why) e
 
 pub no_status : (old new : Shelved) (m : Option Meaning) (r : Refusal) (other : Status) → IsOther other → LoadingStops m (move old new) r → status_of r ≡ other → ⊥
 no_status old new m r other is (inl h) e = is.memory (ap status_of (sym h.0) ∙ e)
@@ -432,7 +461,7 @@ no_status old new m r other is (inr h) e = meaning_status old new m r other is h
 pub all_loads : (old new : Shelved) (m : Option Meaning) (status : Status) → LoadsAll m (move old new) → LoadsOf m (move old new) status
 all_loads old new None status h = absurd h
 all_loads old new (Some (Made seed steps)) status h = absurd h
-all_loads old new (Some (Open names from)) status h = inl (record { last = file.Trace; before = h.before; loads = h.loads; all = inl refl })
+all_loads old new (Some (Open d names from)) status h = inl (record { last = file.Trace; before = h.before; loads = h.loads; all = inl refl })
 
 -- the causes of a call whose files were loaded
 pub examined_causes : (old new : Shelved) (bytes : CrashBytes) (source sink : Move Port) (status : Status) → new.files ≡ old.files → new.faults ≡ old.faults → IsExamined bytes source sink status → TopCauses (move old new) source sink status
@@ -491,9 +520,9 @@ of_both o p Q files input e e' h =
     let h₁ : IfSome p (Q files) = subst (λ (x : Option Files). IfSome x (λ fs. IfSome p (Q fs))) e h in
     subst (λ (x : Option (List ℕ)). IfSome x (Q files)) e' h₁
 
-pub loaded_at : (l : Loading) (exe exe' core core' trace trace' : List ℕ) (from : ℕ) → l ≡ Loaded (crash_bytes exe core trace from) → exe' ≡ exe → core' ≡ core → trace' ≡ trace → l ≡ Loaded (crash_bytes exe' core' trace' from)
-loaded_at l exe exe' core core' trace trace' from h e c t =
-    h ∙ ap (λ x. Loaded (crash_bytes x core trace from)) (sym e) ∙ ap (λ x. Loaded (crash_bytes exe' x trace from)) (sym c) ∙ ap (λ x. Loaded (crash_bytes exe' core' x from)) (sym t)
+pub loaded_at : (l : Loading) (exe exe' core core' trace trace' : List ℕ) (manner : Manner) → l ≡ Loaded (crash_bytes exe core trace manner) → exe' ≡ exe → core' ≡ core → trace' ≡ trace → l ≡ Loaded (crash_bytes exe' core' trace' manner)
+loaded_at l exe exe' core core' trace trace' manner h e c t =
+    h ∙ ap (λ x. Loaded (crash_bytes x core trace manner)) (sym e) ∙ ap (λ x. Loaded (crash_bytes exe' x trace manner)) (sym c) ∙ ap (λ x. Loaded (crash_bytes exe' core' x manner)) (sym t)
 
 -- a session may have been held where the files are told
 pub holds_where : {P : Type 0} (o : Option Files) (H : Files → Type 0) (bytes : CrashBytes) (status : Status) → ((files : Files) → o ≡ Some files → FilesHold bytes status → H files) → P ⊎ FilesHold bytes status → P ⊎ (EndsSession status × IfSome o H)
@@ -507,17 +536,17 @@ holds_where o H bytes status h (inr f) = inr (f.1, where_some o H (λ files at. 
 -- what is said of words that ask for a made run, and isn't of others
 pub asked_holds : (m : Option Meaning) → ((seed steps : ℕ) → MadeHolds seed steps) → AskedHolds m
 asked_holds None h = tt
-asked_holds (Some (Open names from)) h = tt
+asked_holds (Some (Open d names from)) h = tt
 asked_holds (Some (Made seed steps)) h = h seed steps
 
 pub loaded_asks : (m : Option Meaning) (old new : Shelved) (status : Status) → LoadsAll m (move old new) → AskedEnds m status
 loaded_asks None old new status h = tt
-loaded_asks (Some (Open names from)) old new status h = tt
+loaded_asks (Some (Open d names from)) old new status h = tt
 loaded_asks (Some (Made seed steps)) old new status h = absurd h
 
 pub loads_named : {P : Type 0} (m : Option Meaning) (old new : Shelved) → LoadsAll m (move old new) → NamesNone m → P
 loads_named None old new h none = absurd h
-loads_named (Some (Open names from)) old new h none = absurd none
+loads_named (Some (Open d names from)) old new h none = absurd none
 loads_named (Some (Made seed steps)) old new h none = absurd h
 
 memory_ends : (r : Refusal) (status : Status) → r ≡ refusal.OutOfMemory → Yields (status_of r) status → Yields ends.Ok status
@@ -529,7 +558,7 @@ memory_ends r status e so = stop (subst (λ (x : Refusal). Yields (status_of x) 
 
 pub refused_asks : (m : Option Meaning) (old new : Shelved) (r : Refusal) (status : Status) → LoadingStops m (move old new) r → Yields (status_of r) status → AskedEnds m status
 refused_asks None old new r status h so = tt
-refused_asks (Some (Open names from)) old new r status h so = tt
+refused_asks (Some (Open d names from)) old new r status h so = tt
 refused_asks (Some (Made seed steps)) old new r status (inl h) so = memory_ends r status h.0 so
 refused_asks (Some (Made seed steps)) old new r status (inr h) so = absurd h
 
@@ -565,3 +594,16 @@ module _ (r : Result Asked Refusal) (a : Asked) where
 
   pub made_at : (seed steps : ℕ) (m : Option Meaning) (old new : Shelved) → r ≡ Ok a → a ≡ asked.Made seed steps → IfOk r (λ x. IsAsked x m (move old new)) → m ≡ Some (Made seed steps)
   made_at seed steps m old new e same h = (ok_at r a (asked.Made seed steps) (λ x. IsAsked x m (move old new)) e same h).0
+
+-- what is known by ranges is known by ranges with known bits, of one path and crash
+abbrev pub FinerLaw : Type 0
+FinerLaw =
+    (S : Setting Both) (es : List Entry) (tracked : ℕ → Bool) (K : Knowledge) → Uses S both_sets both_moves base_rules → IsFiner (kind both_sets both_moves) (kind range_sets range_moves) → HasEnded S es tracked
+    → IsReport (beside S range_sets range_moves) K → Extends K (known_at_end S es tracked)
+
+pub bits_know : (words : List (List ℕ)) (files : Files) → FinerLaw → BitsKnowMore words files
+bits_know words files law o by_ranges by_bits opens r b p c v e =
+    let m : Means Both = means_of domain.KnownBits in
+    let rows : List StepRow = o.path.steps in
+    let known = law (setting m (crash_at o) rows) b.log.entries b.log.tracked by_ranges.known (uses_here m (crash_at o) rows) both_finer b.log.ended r.report p c v e in
+    sym (b.log.knows p c) ∙ known

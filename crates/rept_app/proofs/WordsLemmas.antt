@@ -5,13 +5,14 @@ use Rattle.std.specs.List.{list_all}
 use Rattle.std.specs.Option.{option_and_then}
 use Rattle.std.specs.Str.{bytes_eq}
 use Rattle.rept_number.specs.Numbers.{decimal_of}
-use Rattle.rept_words.specs.Words.{Names, Meaning, is_plain, steps_of, made_of, plain_meaning, meaning_of}
+use Rattle.rept_words.specs.Words.{Names, Meaning, is_plain, steps_of, made_of, domain_of, plain_meaning, meaning_of}
 use Rattle.rept_words.specs.Words.Meaning.{Open, Made}
+use Rattle.rept_words.specs.declared.request.Domain.{Domain}
 
 -- it is one of 1 to 20000
 abbrev pub AsksFew : Option Meaning → Type 0
 AsksFew None = Unit {0}
-AsksFew (Some (Open names from)) = Unit {0}
+AsksFew (Some (Open d names from)) = Unit {0}
 AsksFew (Some (Made seed steps)) = (1 ≤ steps) × (steps ≤ 20000)
 
 abbrev IsFew : Option ℕ → Type 0
@@ -41,18 +42,22 @@ seeded_few (Some s) steps h = made_few s steps h
 made_of_few : (seed steps : List ℕ) → AsksFew (made_of seed steps)
 made_of_few seed steps = seeded_few (decimal_of seed) (steps_of steps) (few_of (decimal_of steps))
 
-from_few : (names : Names) (o : Option ℕ) → AsksFew (option_and_then (λ k. Some (Open names (Some k))) o)
-from_few names None = tt
-from_few names (Some k) = tt
+from_few : (d : Domain) (names : Names) (o : Option ℕ) → AsksFew (option_and_then (λ k. Some (Open d names (Some k))) o)
+from_few d names None = tt
+from_few d names (Some k) = tt
+
+domain_few : (f : Domain → Option Meaning) (o : Option Domain) → ((d : Domain) → AsksFew (f d)) → AsksFew (option_and_then f o)
+domain_few f None h = tt
+domain_few f (Some d) h = h d
 
 plain_few : (words : List (List ℕ)) → AsksFew (plain_meaning words)
 plain_few [] = tt
 plain_few (a ∷ []) = tt
 plain_few (a ∷ b ∷ []) = tt
 plain_few (first ∷ seed ∷ steps ∷ []) = either (bytes_eq first (codes "self")) (made_of seed steps) None (made_of_few seed steps) tt
-plain_few (first ∷ exe ∷ core ∷ trace ∷ []) = either (bytes_eq first (codes "open")) (Some (Open (record { exe = exe; core = core; trace = trace }) None)) None tt tt
+plain_few (first ∷ exe ∷ core ∷ trace ∷ []) = domain_few (λ d. Some (Open d (record { exe = exe; core = core; trace = trace }) None)) (domain_of first) (λ d. tt)
 plain_few (first ∷ exe ∷ core ∷ trace ∷ from ∷ []) =
-    either (bytes_eq first (codes "open")) (option_and_then (λ k. Some (Open (record { exe = exe; core = core; trace = trace }) (Some k))) (decimal_of from)) None (from_few (record { exe = exe; core = core; trace = trace }) (decimal_of from)) tt
+    domain_few (λ d. option_and_then (λ k. Some (Open d (record { exe = exe; core = core; trace = trace }) (Some k))) (decimal_of from)) (domain_of first) (λ d. from_few d (record { exe = exe; core = core; trace = trace }) (decimal_of from))
 plain_few (a ∷ b ∷ c ∷ d ∷ e ∷ f ∷ more) = tt
 
 pub asks_few : (words : List (List ℕ)) (seed steps : ℕ) → meaning_of words ≡ Some (Made seed steps) → (1 ≤ steps) × (steps ≤ 20000)

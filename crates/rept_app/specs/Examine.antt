@@ -9,7 +9,6 @@ use Rattle.rept_ports.specs.Port.{Port, Move}
 use Rattle.rept_report.specs.Closure.{ClosureHas, IsConsistent}
 use Rattle.rept_found.specs.Truth.{HasNoExecution}
 use Rattle.rept_report.specs.declared.conflict.ConflictKind.{ConflictKind}
-use Rattle.rept_found.specs.Crash.{setting, route}
 use Rattle.rept_found.specs.Telling.{Account, told_of}
 use Rattle.rept_serve.specs.Serving.{Reading}
 use Rattle.rept_app.specs.Delivered.{Says}
@@ -18,7 +17,7 @@ use Rattle.rept_app.specs.Forms.{executable_fault, core_image_fault, crash_in}
 use Rattle.rept_app.specs.Held.{CutOff}
 use Rattle.rept_app.specs.Path.{IsTracePath, HasNoPath}
 use Rattle.rept_app.specs.Loading.{CrashBytes}
-use Rattle.rept_app.specs.Told.{CrashPath, crash_path, setting_of, CrashTrace, trace_in, Walked, Examined, Reads, IsAccountOf}
+use Rattle.rept_app.specs.Told.{CrashPath, route_of, setting_of, CrashTrace, trace_in, path_in, Walked, Examined, Reads, IsAccountOf}
 use Rattle.rept_app.specs.declared.refusal.Refusal.TheVariants as refusal
 use Rattle.rept_app.specs.declared.status.Status.{Status}
 use Rattle.rept_app.specs.declared.status.Status.TheVariants as ends
@@ -26,7 +25,7 @@ use Rattle.rept_app.specs.declared.status.Status.TheVariants as ends
 -- the session over the path's report was cut short
 abbrev pub WalkCut : CrashTrace → Reading → List ℕ → Status → Type 0
 WalkCut t reading text status =
-    (path : Path) × (a : Account) × IsTracePath t.crash t.trace t.from path × IsAccountOf (crash_path t.crash path) a × CutOff (told_of (route t.crash path.steps) a) reading text status
+    (path : Path) × (a : Account) × IsTracePath t.crash t.trace t.manner.from path × IsAccountOf (path_in t path) a × CutOff (told_of (route_of (path_in t path)) a) reading text status
 
 -- all of it; or memory ran out; or the session was cut short
 abbrev pub Walks : CrashTrace → Reading → List ℕ → Status → Type 0
@@ -38,15 +37,15 @@ Examines bytes reading text status =
     ⊎ ((note : List ℕ) × Reads bytes note × WalkCut (trace_in bytes note) reading text status)
 
 -- how the analysis of a path ends the call
-pub record PathYields (p : CrashPath) (status : Status) : Type 0 where
+pub record PathYields {W : Type 0} (p : CrashPath W) (status : Status) : Type 0 where
   pub conflict : (kind : ConflictKind) → ClosureHas (setting_of p) kind → Yields ends.Inconsistent status
   pub report : IsConsistent (setting_of p) → EndsSession status
 
 -- How a trace ends the call, whatever the input is. Its status comes only where it has no path.
 pub record WalkYields (t : CrashTrace) (status : Status) : Type 0 where
-  pub refused : (fault : PathFault) → HasNoPath t.crash t.trace t.from fault → Yields ends.Trace status
-  pub walked : (path : Path) → IsTracePath t.crash t.trace t.from path → PathYields (crash_path t.crash path) status
-  pub only : status ≡ ends.Trace → (fault : PathFault) × HasNoPath t.crash t.trace t.from fault
+  pub refused : (fault : PathFault) → HasNoPath t.crash t.trace t.manner.from fault → Yields ends.Trace status
+  pub walked : (path : Path) → IsTracePath t.crash t.trace t.manner.from path → PathYields (path_in t path) status
+  pub only : status ≡ ends.Trace → (fault : PathFault) × HasNoPath t.crash t.trace t.manner.from fault
 
 -- how what the notes say ends the call
 abbrev pub NoteYields : CrashBytes → Result (List ℕ) CoreFault → Status → Type 0
@@ -81,17 +80,17 @@ pub record IsExamined (bytes : CrashBytes) (source sink : Move Port) (status : S
 
 -- a session may have been held, since the trace has a path whose closure has no conflict
 abbrev pub WalkHolds : CrashTrace → Status → Type 0
-WalkHolds t status = ((path : Path) × IsTracePath t.crash t.trace t.from path × IsConsistent (setting t.crash path.steps)) × EndsSession status
+WalkHolds t status = ((path : Path) × IsTracePath t.crash t.trace t.manner.from path × IsConsistent (setting_of (path_in t path))) × EndsSession status
 
 -- the same of the files
 abbrev pub FilesHold : CrashBytes → Status → Type 0
 FilesHold bytes status =
-    ((note : List ℕ) × (path : Path) × Reads bytes note × IsTracePath (crash_in bytes.exe bytes.core note) bytes.trace bytes.from path × IsConsistent (setting (crash_in bytes.exe bytes.core note) path.steps))
+    ((note : List ℕ) × (path : Path) × Reads bytes note × IsTracePath (crash_in bytes.exe bytes.core note) bytes.trace bytes.manner.from path × IsConsistent (setting_of (path_in (trace_in bytes note) path)))
     × EndsSession status
 
 -- no execution of the path ends in the crash
 abbrev pub PathExcludes : CrashTrace → Type 0
-PathExcludes t = (path : Path) → IsTracePath t.crash t.trace t.from path → HasNoExecution (route t.crash path.steps)
+PathExcludes t = (path : Path) → IsTracePath t.crash t.trace t.manner.from path → HasNoExecution (route_of (path_in t path))
 
 abbrev pub FilesExclude : CrashBytes → Type 0
 FilesExclude bytes = (note : List ℕ) → Reads bytes note → PathExcludes (trace_in bytes note)

@@ -1,4 +1,5 @@
 pub mod Delivered
+pub mod Domains
 pub mod Ends
 pub mod Examine
 pub mod Forms

@@ -120,7 +120,7 @@ conflict_text (EmptyRange point reg) = codes "inconsistent empty-range " ++ deci
 conflict_text (WrongTurn step) = codes "inconsistent wrong-turn " ++ decimal step
 
 abbrev pub words_of : Refusal → List ℕ
-words_of refusal.Usage = codes "usage: rept open EXE CORE TRACE [FROM] | rept self SEED STEPS"
+words_of refusal.Usage = codes "usage: rept open|bits EXE CORE TRACE [FROM] | rept self SEED STEPS"
 words_of (refusal.LoadFault f) = codes "load-fault " ++ file_word f
 words_of (refusal.NoFile f) = codes "no-file " ++ file_word f
 words_of (refusal.TooLarge f) = codes "too-large " ++ file_word f

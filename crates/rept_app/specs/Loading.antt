@@ -5,22 +5,24 @@ use Rattle.rept_ports.specs.Port.{Move}
 use Rattle.rept_ports.specs.Shelves.{Files, Shelved, IsOver}
 use Rattle.rept_words.specs.Words.{Names, Meaning, meaning_of}
 use Rattle.rept_words.specs.Words.Meaning.{Open, Made}
+use Rattle.rept_words.specs.declared.request.Domain.{Domain}
 use Rattle.rept_app.specs.declared.load.Asked.{Asked}
 use Rattle.rept_app.specs.declared.load.Asked.TheVariants as asked
+use Rattle.rept_app.specs.declared.load.Manner.{Manner}
 use Rattle.rept_app.specs.declared.refusal.FileKind.{FileKind}
 use Rattle.rept_app.specs.declared.refusal.FileKind.TheVariants as file
 use Rattle.rept_app.specs.declared.refusal.Refusal.{Refusal}
 use Rattle.rept_app.specs.declared.refusal.Refusal.TheVariants as refusal
 
--- the bytes of the executable, the core file and the trace, and the number of the packet to begin from
+-- the bytes of the executable, the core file and the trace; the number of the packet to begin from, and the domain of values
 pub record CrashBytes : Type 0 where
   pub exe : List ℕ
   pub core : List ℕ
   pub trace : List ℕ
-  pub from : ℕ
+  pub manner : Manner
 
-abbrev pub crash_bytes : List ℕ → List ℕ → List ℕ → ℕ → CrashBytes
-crash_bytes exe core trace from = record { exe = exe; core = core; trace = trace; from = from }
+abbrev pub crash_bytes : List ℕ → List ℕ → List ℕ → Manner → CrashBytes
+crash_bytes exe core trace manner = record { exe = exe; core = core; trace = trace; manner = manner }
 
 -- a refusal; or the bytes of three files; or the seed and the count of steps of a made run, for which nothing is loaded
 pub data Loading : Type 0 where
@@ -40,19 +42,22 @@ fetched kind None next = Refused (refusal.NoFile kind)
 fetched kind (Some bytes) next = if nat_lt (limit_of kind) (length bytes) then Refused (refusal.TooLarge kind) else next bytes
 
 -- the three files, one after the other
-abbrev pub fetched_all : Files → Names → ℕ → Loading
-fetched_all files names from =
-    fetched file.Exe (files names.exe) (λ exe. fetched file.Core (files names.core) (λ core. fetched file.Trace (files names.trace) (λ trace. Loaded (crash_bytes exe core trace from))))
+abbrev pub fetched_all : Files → Names → Manner → Loading
+fetched_all files names manner =
+    fetched file.Exe (files names.exe) (λ exe. fetched file.Core (files names.core) (λ core. fetched file.Trace (files names.trace) (λ trace. Loaded (crash_bytes exe core trace manner))))
 
 -- the packet to begin from: the first one, where the words name none
 abbrev pub first_packet : Option ℕ → ℕ
 first_packet None = 0
 first_packet (Some from) = from
 
+abbrev pub manner_of : Domain → Option ℕ → Manner
+manner_of d from = record { from = first_packet from; domain = d }
+
 abbrev pub loading_by : Files → Option Meaning → Loading
 loading_by files None = Refused refusal.Usage
 loading_by files (Some (Made seed steps)) = MadeRun seed steps
-loading_by files (Some (Open names from)) = fetched_all files names (first_packet from)
+loading_by files (Some (Open d names from)) = fetched_all files names (manner_of d from)
 
 -- what words and files come to: no meaning, a made run, the first file that is missing or too large, or all files
 abbrev pub loading : List (List ℕ) → Files → Loading
@@ -87,7 +92,7 @@ loads_to file.Trace loads = next_count (next_count (next_count loads))
 
 -- the words name three files, of which those before this one are there and within their limits
 abbrev pub ComesTo : List (List ℕ) → Files → FileKind → Type 0
-ComesTo words files kind = (names : Names) × (from : Option ℕ) × (meaning_of words ≡ Some (Open names from)) × FitBefore files names kind
+ComesTo words files kind = (d : Domain) × (names : Names) × (from : Option ℕ) × (meaning_of words ≡ Some (Open d names from)) × FitBefore files names kind
 
 -- Why this file isn't loaded: by the files where they are told, and otherwise by the count of the shelf's faults.
 abbrev pub LoadRefuses : Move Shelved → List ℕ → FileKind → Refusal → Type 0
@@ -109,7 +114,7 @@ pub record StopsAt (shelf : Move Shelved) (names : Names) (kind : FileKind) (r :
 abbrev pub MeaningStops : Option Meaning → Move Shelved → Refusal → Type 0
 MeaningStops None shelf r = (r ≡ refusal.Usage) × (shelf.after ≡ shelf.before)
 MeaningStops (Some (Made seed steps)) shelf r = ⊥
-MeaningStops (Some (Open names from)) shelf r = (kind : FileKind) × StopsAt shelf names kind r
+MeaningStops (Some (Open d names from)) shelf r = (kind : FileKind) × StopsAt shelf names kind r
 
 -- why no files are loaded: there was no memory to read the words, or by these
 abbrev pub LoadingStops : Option Meaning → Move Shelved → Refusal → Type 0
@@ -119,7 +124,7 @@ LoadingStops m shelf r = ((r ≡ refusal.OutOfMemory) × (shelf.after ≡ shelf.
 abbrev pub NamesNone : Option Meaning → Type 0
 NamesNone None = Unit {0}
 NamesNone (Some (Made seed steps)) = Unit {0}
-NamesNone (Some (Open names from)) = ⊥
+NamesNone (Some (Open d names from)) = ⊥
 
 -- what all loads do to a shelf: its files stay, at most one fault is counted, and none where all files are loaded
 pub record ShelfMoves {T E : Type 0} (shelf : Move Shelved) (result : Result T E) : Type 0 where
@@ -137,11 +142,11 @@ pub record AllLoaded (names : Names) (shelf : Move Shelved) : Type 0 where
 abbrev pub LoadsAll : Option Meaning → Move Shelved → Type 0
 LoadsAll None shelf = ⊥
 LoadsAll (Some (Made seed steps)) shelf = ⊥
-LoadsAll (Some (Open names from)) shelf = AllLoaded names shelf
+LoadsAll (Some (Open d names from)) shelf = AllLoaded names shelf
 
 -- what was loaded, or is to be made
 abbrev pub asked_for : Asked → Loading
-asked_for (asked.Files l) = Loaded (crash_bytes l.exe.items l.core.items l.trace.items l.from)
+asked_for (asked.Files l) = Loaded (crash_bytes l.exe.items l.core.items l.trace.items l.manner)
 asked_for (asked.Made seed steps) = MadeRun seed steps
 
 -- All three files of the words were loaded, and the trace is within its limit; or the words ask for a made run, and the shelf is as it was.

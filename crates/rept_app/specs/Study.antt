@@ -14,7 +14,7 @@ use Rattle.rept_app.specs.declared.status.Status.{Status}
 use Rattle.rept_app.specs.declared.status.Status.TheVariants as ends
 
 -- a conflict that the closure has, or a session over its report, or memory ran out before
-abbrev pub Studies : CrashPath → Reading → List ℕ → Status → Type 0
+abbrev pub Studies : {W : Type 0} → CrashPath W → Reading → List ℕ → Status → Type 0
 Studies p reading text status =
     ((kind : ConflictKind) × ClosureHas (setting_of p) kind × Says (refusal.Inconsistent kind) text status)
     ⊎ ((a : Account) × IsAccountOf p a × Holds (told_of (route_of p) a) reading text status)
@@ -22,12 +22,12 @@ Studies p reading text status =
 
 -- Each fault has its cause and ends the call; a conflict is told where the closure has one, and a session is held where it has
 -- none, unless the call stops before.
-pub record IsStudied (p : CrashPath) (source sink : Move Port) (status : Status) : Type 0 where
+pub record IsStudied {W : Type 0} (p : CrashPath W) (source sink : Move Port) (status : Status) : Type 0 where
   pub ports : PortsEnd source sink status
   pub conflict : (kind : ConflictKind) → ClosureHas (setting_of p) kind → Yields ends.Inconsistent status
   pub report : IsConsistent (setting_of p) → EndsSession status
   pub ends_so : (status ≡ ends.Inconsistent) ⊎ EndsSession status
 
 -- a session may have been held, since the closure has no conflict
-abbrev pub StudyHolds : CrashPath → Status → Type 0
+abbrev pub StudyHolds : {W : Type 0} → CrashPath W → Status → Type 0
 StudyHolds p status = IsConsistent (setting_of p) × EndsSession status

@@ -3,19 +3,19 @@ use Rattle.std.specs.Prelude.{◌≡◌, ◌⊎◌, ℕ, List, [], ◌∷◌, �
 use Rattle.rept_elf.specs.Segments.{segments}
 use Rattle.rept_dump.specs.Registers.{Says as NotesSay}
 use Rattle.rept_dump.specs.declared.fault.CoreFault.{CoreFault}
-use Rattle.rept_partial.specs.declared.range.Range.{Range}
 use Rattle.rept_path.specs.declared.fault.PathFault.{PathFault}
 use Rattle.rept_path.specs.declared.rebuilding.Path.{Path}
 use Rattle.rept_ports.specs.Port.{Move, move}
 use Rattle.rept_ports.specs.Shelves.{Files, Shelved}
 use Rattle.rept_machine.specs.State.{State}
 use Rattle.rept_reason.specs.Facts.{Knowledge}
+use Rattle.rept_report.specs.Knowing.{Extends}
 use Rattle.rept_report.specs.Closure.{ClosureHas, IsConsistent, IsReport}
 use Rattle.rept_report.specs.Setting.{Setting}
 use Rattle.rept_report.specs.declared.conflict.ConflictKind.{ConflictKind}
 use Rattle.rept_analysis.specs.Logged.{IsLogOf}
 use Rattle.rept_analysis.specs.State.{Path as AnalysedPath}
-use Rattle.rept_found.specs.Crash.{Crash, end_pc, route, setting}
+use Rattle.rept_found.specs.Crash.{Crash, Means, end_pc, route, setting}
 use Rattle.rept_found.specs.Telling.{Account, told_of}
 use Rattle.rept_found.specs.Truth.{Executes, HasNoExecution, IsTrueReport}
 use Rattle.rept_serve.specs.Serving.{Reading}
@@ -23,64 +23,73 @@ use Rattle.rept_make.specs.Made.{IsMade}
 use Rattle.rept_make.specs.declared.made.Made.{Made}
 use Rattle.rept_words.specs.Words.{Meaning, meaning_of}
 use Rattle.rept_words.specs.Words.Meaning.{Open, Made as MadeWords}
+use Rattle.rept_words.specs.declared.request.Domain.{Domain}
+use Rattle.rept_words.specs.declared.request.Domain.TheVariants as domain
 use Rattle.rept_app.specs.Delivered.{Says}
+use Rattle.rept_app.specs.Domains.{SetsOf, means_of}
 use Rattle.rept_app.specs.Forms.{executable_fault, core_image_fault, crash_in}
 use Rattle.rept_app.specs.Held.{Replies, CutOff}
 use Rattle.rept_app.specs.Loading.{CrashBytes, crash_bytes, loading, MatchLoading, ComesTo, loads_to}
 use Rattle.rept_app.specs.Loading.Loading.{Loaded}
 use Rattle.rept_app.specs.Path.{IsTracePath, HasNoPath}
+use Rattle.rept_app.specs.declared.load.Manner.{Manner}
 use Rattle.rept_app.specs.declared.refusal.FileKind.{FileKind}
 use Rattle.rept_app.specs.declared.refusal.Refusal.TheVariants as refusal
 use Rattle.rept_app.specs.declared.status.Status.{Status}
 
--- a path, and the crash in which it ends
-pub record CrashPath : Type 0 where
+-- a path, the crash in which it ends, and the sets as which values are followed along it
+pub record CrashPath (W : Type 0) : Type 0 where
+  pub means : Means W
   pub crash : Crash
   pub path : Path
 
-abbrev pub crash_path : Crash → Path → CrashPath
-crash_path crash path = record { crash = crash; path = path }
+abbrev pub crash_path : {W : Type 0} → Means W → Crash → Path → CrashPath W
+crash_path m crash path = record { means = m; crash = crash; path = path }
 
 -- the steps of the path, and what is given besides
-abbrev pub route_of : CrashPath → AnalysedPath Range
-route_of p = route p.crash p.path.steps
+abbrev pub route_of : {W : Type 0} → CrashPath W → AnalysedPath W
+route_of p = route p.means p.crash p.path.steps
 
 -- the analysis of the path
-abbrev pub setting_of : CrashPath → Setting Range
-setting_of p = setting p.crash p.path.steps
+abbrev pub setting_of : {W : Type 0} → CrashPath W → Setting W
+setting_of p = setting p.means p.crash p.path.steps
 
 -- what a session tells by: the report of the path, an order in which it was learnt, the program counter of the note, and the count of
 -- packets that were left out
-pub record IsAccountOf (p : CrashPath) (a : Account) : Type 0 where
+pub record IsAccountOf {W : Type 0} (p : CrashPath W) (a : Account) : Type 0 where
   pub report : IsReport (setting_of p) a.known
   pub log : IsLogOf (setting_of p) a.known a.log
   pub ends : a.end_pc ≡ end_pc p.crash.note
   pub skipped : a.skipped ≡ p.path.skipped
 
 -- The closure of the path and the crash has a conflict, of which the line tells one; or its report answers the input.
-abbrev pub Analysed : CrashPath → List ℕ → List ℕ → Status → Type 0
+abbrev pub Analysed : {W : Type 0} → CrashPath W → List ℕ → List ℕ → Status → Type 0
 Analysed p input text status =
     ((kind : ConflictKind) × ClosureHas (setting_of p) kind × Says (refusal.Inconsistent kind) text status)
     ⊎ ((a : Account) × IsAccountOf p a × Replies (told_of (route_of p) a) input text status)
 
--- the bytes of a trace file, the number of the packet to begin from, and the crash in which the path ends
+-- the bytes of a trace file, the crash in which the path ends, the number of the packet to begin from, and the domain of values
 pub record CrashTrace : Type 0 where
   pub crash : Crash
   pub trace : List ℕ
-  pub from : ℕ
+  pub manner : Manner
 
-abbrev pub crash_trace : Crash → List ℕ → ℕ → CrashTrace
-crash_trace crash trace from = record { crash = crash; trace = trace; from = from }
+abbrev pub crash_trace : Crash → List ℕ → Manner → CrashTrace
+crash_trace crash trace manner = record { crash = crash; trace = trace; manner = manner }
+
+-- a path of the trace, with its crash, and the sets of the domain
+abbrev pub path_in : (t : CrashTrace) → Path → CrashPath (SetsOf t.manner.domain)
+path_in t path = crash_path (means_of t.manner.domain) t.crash path
 
 -- the trace of three files, of which the register note has this descriptor
 abbrev pub trace_in : CrashBytes → List ℕ → CrashTrace
-trace_in bytes note = crash_trace (crash_in bytes.exe bytes.core note) bytes.trace bytes.from
+trace_in bytes note = crash_trace (crash_in bytes.exe bytes.core note) bytes.trace bytes.manner
 
 -- The trace has no path, for a reason that the line tells; or the one that it has is analysed.
 abbrev pub Walked : CrashTrace → List ℕ → List ℕ → Status → Type 0
 Walked t input text status =
-    ((fault : PathFault) × HasNoPath t.crash t.trace t.from fault × Says (refusal.Path fault) text status)
-    ⊎ ((path : Path) × IsTracePath t.crash t.trace t.from path × Analysed (crash_path t.crash path) input text status)
+    ((fault : PathFault) × HasNoPath t.crash t.trace t.manner.from fault × Says (refusal.Path fault) text status)
+    ⊎ ((path : Path) × IsTracePath t.crash t.trace t.manner.from path × Analysed (path_in t path) input text status)
 
 -- The core file's notes are refused; or they give the registers, and the trace is walked.
 abbrev pub NotesTold : CrashBytes → List ℕ → List ℕ → Status → Type 0
@@ -98,9 +107,9 @@ Examined bytes input text status =
 abbrev pub summary_line : List ℕ
 summary_line = codes "summary" ++ 10 ∷ []
 
--- the files of a made crash, from the first packet on
+-- the files of a made crash, from the first packet on, with values followed as ranges
 abbrev pub made_bytes : Made → CrashBytes
-made_bytes made = crash_bytes made.exe made.core made.trace 0
+made_bytes made = crash_bytes made.exe made.core made.trace (record { from = 0; domain = domain.Ranges })
 
 -- what is written of a made run: what the files of its crash tell, answering `summary`
 abbrev pub Summed : ℕ → ℕ → List ℕ → Status → Type 0
@@ -118,30 +127,33 @@ pub record Opening : Type 0 where
   pub note : List ℕ
   pub path : Path
 
--- the crash that they tell, the path that ends in it, and its analysis
+-- the crash that they tell, the path that ends in it, and its analysis in the domain that is asked for
 abbrev pub crash_at : Opening → Crash
 crash_at o = crash_in o.bytes.exe o.bytes.core o.note
 
-abbrev pub path_at : Opening → CrashPath
-path_at o = crash_path (crash_at o) o.path
+abbrev pub domain_at : Opening → Domain
+domain_at o = o.bytes.manner.domain
 
-abbrev pub route_at : Opening → AnalysedPath Range
+abbrev pub path_at : (o : Opening) → CrashPath (SetsOf (domain_at o))
+path_at o = crash_path (means_of (domain_at o)) (crash_at o) o.path
+
+abbrev pub route_at : (o : Opening) → AnalysedPath (SetsOf (domain_at o))
 route_at o = route_of (path_at o)
 
-abbrev pub setting_at : Opening → Setting Range
+abbrev pub setting_at : (o : Opening) → Setting (SetsOf (domain_at o))
 setting_at o = setting_of (path_at o)
 
 -- the words and the files come to it: the files are accepted, this is what the note holds, and the trace has this path
 pub record Opens (words : List (List ℕ)) (files : Files) (o : Opening) : Type 0 where
   pub loaded : loading words files ≡ Loaded o.bytes
   pub read : Reads o.bytes o.note
-  pub path : IsTracePath (crash_at o) o.bytes.trace o.bytes.from o.path
+  pub path : IsTracePath (crash_at o) o.bytes.trace o.bytes.manner.from o.path
 
 -- the files of a made crash come to it
 pub record OpensMade (made : Made) (o : Opening) : Type 0 where
   pub bytes : o.bytes ≡ made_bytes made
   pub read : Reads o.bytes o.note
-  pub path : IsTracePath (crash_at o) o.bytes.trace o.bytes.from o.path
+  pub path : IsTracePath (crash_at o) o.bytes.trace o.bytes.manner.from o.path
 
 -- the session over the report of a made run was cut short
 abbrev pub SumCut : ℕ → ℕ → List ℕ → Status → Type 0
@@ -207,5 +219,13 @@ MadeHolds seed steps =
 -- the same of words that ask for a made run
 abbrev pub AskedHolds : Option Meaning → Type 0
 AskedHolds None = Unit {0}
-AskedHolds (Some (Open names from)) = Unit {0}
+AskedHolds (Some (Open d names from)) = Unit {0}
 AskedHolds (Some (MadeWords seed steps)) = MadeHolds seed steps
+
+-- Of one path and crash: each fact of the report by ranges stands in the report by ranges and known bits.
+abbrev pub BitsKnowMore : List (List ℕ) → Files → Type 0
+BitsKnowMore words files =
+    (o : Opening) (by_ranges by_bits : Account) → Opens words files o
+    → IsAccountOf (crash_path (means_of domain.Ranges) (crash_at o) o.path) by_ranges
+    → IsAccountOf (crash_path (means_of domain.KnownBits) (crash_at o) o.path) by_bits
+    → Extends by_ranges.known by_bits.known

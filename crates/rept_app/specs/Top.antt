@@ -46,7 +46,7 @@ pub record LastLoad (names : Names) (shelf : Move Shelved) (status : Status) : T
 abbrev pub LoadsOf : Option Meaning → Move Shelved → Status → Type 0
 LoadsOf None shelf status = Unit {0}
 LoadsOf (Some (Made seed steps)) shelf status = Unit {0}
-LoadsOf (Some (Open names from)) shelf status = LastLoad names shelf status ⊎ ((shelf.after ≡ shelf.before) × Stopped status)
+LoadsOf (Some (Open d names from)) shelf status = LastLoad names shelf status ⊎ ((shelf.after ≡ shelf.before) × Stopped status)
 
 -- a call that ends so, unless a file can't be loaded, the output fails, or memory runs out
 abbrev pub EndsBy : Status → Status → Type 0
@@ -70,5 +70,5 @@ Completes g sink status = (status ≡ ends.OutOfMemory) ⊎ ((text : List ℕ) �
 -- how words that ask for a made run end the call: well, whatever the ports are, unless the output fails or memory runs out
 abbrev pub AskedEnds : Option Meaning → Status → Type 0
 AskedEnds None status = Unit {0}
-AskedEnds (Some (Open names from)) status = Unit {0}
+AskedEnds (Some (Open d names from)) status = Unit {0}
 AskedEnds (Some (Made seed steps)) status = Yields ends.Ok status

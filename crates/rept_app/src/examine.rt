@@ -8,6 +8,7 @@ ghost use Rattle.rept_app.specs.Examine.{Examines, IsExamined, FilesExclude, Fil
 ghost use Rattle.rept_app.specs.Loading.{crash_bytes};
 ghost use Rattle.rept_app.specs.Told.{crash_trace};
 
+use crate::load::Manner;
 use crate::path::trace_path;
 use crate::refusal::Refusal;
 use crate::status::Status;
@@ -18,21 +19,21 @@ use rept_elf::{Image, Want};
 use rept_ports::{Sink, Source};
 use std::alloc::Global;
 
-/// Reads the files, rebuilds the path from a packet on, and studies it.
+/// Reads the files, rebuilds the path from a packet on, and studies it in a domain.
 pub fn examine<S: Source, K: Sink>(
     alloc: Global,
     exe: &[u8],
     core: &[u8],
     trace: &[u8],
-    from: u32,
+    manner: Manner,
     input: &mut S,
     out: &mut K,
 ) -> Status
     requires { length trace.now < 2 ^ 32 }
-    ensures text { IfSome (S.port input.old).bytes (λ bytes. Delivers (Examines (crash_bytes exe.now core.now trace.now from) (record { input = bytes; left = (S.port input.new).bytes })) (move (K.port out.old) (K.port out.new)) result) }
-    ensures causes { IsExamined (crash_bytes exe.now core.now trace.now from) (move (S.port input.old) (S.port input.new)) (move (K.port out.old) (K.port out.new)) result }
-    ensures stays { (input.new ≡ input.old) ⊎ FilesHold (crash_bytes exe.now core.now trace.now from) result }
-    ensures impossible { result ≡ Status.Inconsistent → FilesExclude (crash_bytes exe.now core.now trace.now from) }
+    ensures text { IfSome (S.port input.old).bytes (λ bytes. Delivers (Examines (crash_bytes exe.now core.now trace.now manner) (record { input = bytes; left = (S.port input.new).bytes })) (move (K.port out.old) (K.port out.new)) result) }
+    ensures causes { IsExamined (crash_bytes exe.now core.now trace.now manner) (move (S.port input.old) (S.port input.new)) (move (K.port out.old) (K.port out.new)) result }
+    ensures stays { (input.new ≡ input.old) ⊎ FilesHold (crash_bytes exe.now core.now trace.now manner) result }
+    ensures impossible { result ≡ Status.Inconsistent → FilesExclude (crash_bytes exe.now core.now trace.now manner) }
 {
     let exe_image = match Image::read(exe, Want::Exec) {
         Ok(image) => image,
@@ -46,7 +47,7 @@ pub fn examine<S: Source, K: Sink>(
         Ok(dump) => dump,
         Err(fault) => return tell(alloc, out, &Refusal::Core(fault)),
     };
-    walk(alloc, &dump, trace, from, input, out)
+    walk(alloc, &dump, trace, manner, input, out)
 }
 
 /// Rebuilds the path and studies it.
@@ -54,19 +55,19 @@ fn walk<S: Source, K: Sink>(
     alloc: Global,
     dump: &Dump<'_>,
     trace: &[u8],
-    from: u32,
+    manner: Manner,
     input: &mut S,
     out: &mut K,
 ) -> Status
     requires { length trace.now < 2 ^ 32 }
-    ensures text { IfSome (S.port input.old).bytes (λ bytes. Delivers (Walks (crash_trace (crash_of dump.now) trace.now from) (record { input = bytes; left = (S.port input.new).bytes })) (move (K.port out.old) (K.port out.new)) result) }
-    ensures causes { IsWalked (crash_trace (crash_of dump.now) trace.now from) (move (S.port input.old) (S.port input.new)) (move (K.port out.old) (K.port out.new)) result }
-    ensures stays { (input.new ≡ input.old) ⊎ WalkHolds (crash_trace (crash_of dump.now) trace.now from) result }
-    ensures impossible { result ≡ Status.Inconsistent → PathExcludes (crash_trace (crash_of dump.now) trace.now from) }
+    ensures text { IfSome (S.port input.old).bytes (λ bytes. Delivers (Walks (crash_trace (crash_of dump.now) trace.now manner) (record { input = bytes; left = (S.port input.new).bytes })) (move (K.port out.old) (K.port out.new)) result) }
+    ensures causes { IsWalked (crash_trace (crash_of dump.now) trace.now manner) (move (S.port input.old) (S.port input.new)) (move (K.port out.old) (K.port out.new)) result }
+    ensures stays { (input.new ≡ input.old) ⊎ WalkHolds (crash_trace (crash_of dump.now) trace.now manner) result }
+    ensures impossible { result ≡ Status.Inconsistent → PathExcludes (crash_trace (crash_of dump.now) trace.now manner) }
 {
-    let path = match trace_path(alloc, trace, dump, from) {
+    let path = match trace_path(alloc, trace, dump, manner.from) {
         Ok(path) => path,
         Err(fault) => return tell(alloc, out, &Refusal::Path(fault)),
     };
-    study(alloc, &path, dump, input, out)
+    study(alloc, manner.domain, &path, dump, input, out)
 }

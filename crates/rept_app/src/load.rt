@@ -11,16 +11,24 @@ ghost use Rattle.rept_app.specs.Loading.Loading.{Loaded};
 
 use crate::refusal::{FileKind, Refusal};
 use rept_ports::{LoadFault, Shelf};
-use rept_words::{FileNames, Request, meaning};
+use rept_words::{Domain, FileNames, Request, meaning};
 use std::alloc::Global;
 
-/// The bytes of the three files of a crash, and the number of the packet to begin from.
+/// How the files of a crash are studied: the number of the packet from which the path is rebuilt, and the domain in which values are
+/// followed.
+#[derive(Clone, Copy)]
+pub struct Manner {
+    pub from: u32,
+    pub domain: Domain,
+}
+
+/// The bytes of the three files of a crash, and how they are studied.
 #[derive(Drop)]
 pub struct CrashFiles {
     pub exe: Vec<u8>,
     pub core: Vec<u8>,
     pub trace: Vec<u8>,
-    pub from: u32,
+    pub manner: Manner,
 }
 
 /// What the words ask for: the files of a crash, which are loaded, or a made run.
@@ -77,9 +85,9 @@ fn load_names<H: Shelf>(
     alloc: Global,
     shelf: &mut H,
     names: FileNames<'_>,
-    from: u32,
+    manner: Manner,
 ) -> Result<CrashFiles, Refusal>
-    ensures loaded { IfOk result (λ l. IfSome (H.port shelf.old).files (λ files. fetched_all files (named_by names.entry) from ≡ Loaded (crash_bytes l.exe.items l.core.items l.trace.items l.from))) }
+    ensures loaded { IfOk result (λ l. IfSome (H.port shelf.old).files (λ files. fetched_all files (named_by names.entry) manner ≡ Loaded (crash_bytes l.exe.items l.core.items l.trace.items l.manner))) }
     ensures within { IfOk result (λ l. length l.trace.items ≤ limit_of FileKind.Trace) }
     ensures before { IsOk result → IfSome (H.port shelf.old).files (λ files. FitBefore files (named_by names.entry) FileKind.Trace) }
     ensures loads { IsOk result → (H.port shelf.new).loads ≡ loads_to FileKind.Trace (H.port shelf.old).loads }
@@ -99,7 +107,7 @@ fn load_names<H: Shelf>(
             exe,
             core,
             trace,
-            from,
+            manner,
         }),
         Err(refusal) => Err(refusal),
     }
@@ -121,8 +129,20 @@ pub fn load_files<H: Shelf>(
 {
     match meaning(alloc, words) {
         Ok(None) => Err(Refusal::Usage),
-        Ok(Some(Request::Open { names, from })) => {
-            match load_names(alloc, shelf, names, first_packet_of(from)) {
+        Ok(
+            Some(
+                Request::Open {
+                    domain,
+                    names,
+                    from,
+                },
+            ),
+        ) => {
+            let manner = Manner {
+                from: first_packet_of(from),
+                domain,
+            };
+            match load_names(alloc, shelf, names, manner) {
                 Ok(files) => Ok(Asked::Files(files)),
                 Err(refusal) => Err(refusal),
             }

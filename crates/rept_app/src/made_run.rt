@@ -8,6 +8,7 @@ ghost use Rattle.rept_app.specs.Ends.{Yields, PortsEnd};
 ghost use Rattle.rept_app.specs.MadeRun.{Sums};
 
 use crate::examine::examine;
+use crate::load::Manner;
 use crate::status::Status;
 use crate::tell::tell_no_memory;
 use rept_make::{Made, make};
@@ -15,6 +16,7 @@ use rept_partial::Range;
 use rept_ports::{CalmSource, Sink};
 use rept_report::reports_are_sound;
 use rept_rules::Base;
+use rept_words::Domain;
 use std::alloc::Global;
 
 /// Makes the crash of a seed after so many steps, and writes the summary of its analysis. No file is loaded, and no input is read.
@@ -43,5 +45,9 @@ fn answer_summary<K: Sink>(alloc: Global, made: &Made, out: &mut K) -> Status
     let core = made.core.bytes();
     let trace = made.trace.bytes();
     let mut input = CalmSource::new(b"summary\n");
-    examine(alloc, exe, core, trace, 0, &mut input, out)
+    let manner = Manner {
+        from: 0,
+        domain: Domain::Ranges,
+    };
+    examine(alloc, exe, core, trace, manner, &mut input, out)
 }

@@ -72,7 +72,7 @@ impl Refusal {
         let mut text = Text::new(alloc);
         match self {
             Refusal::Usage => {
-                text.push(b"usage: rept open EXE CORE TRACE [FROM] | rept self SEED STEPS")?
+                text.push(b"usage: rept open|bits EXE CORE TRACE [FROM] | rept self SEED STEPS")?
             }
             Refusal::LoadFault(file) => push_file(&mut text, b"load-fault ", *file)?,
             Refusal::NoFile(file) => push_file(&mut text, b"no-file ", *file)?,

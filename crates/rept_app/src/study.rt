@@ -5,10 +5,12 @@ ghost use Rattle.rept_dump.specs.Dump.{registers_of};
 ghost use Rattle.rept_ports.specs.Port.{move};
 ghost use Rattle.rept_found.specs.Truth.{HasNoExecution};
 ghost use Rattle.rept_steps.specs.Linked.{EndBefore};
-ghost use Rattle.rept_found.specs.Crash.{crash_of, end_pc, setting, route};
+ghost use Rattle.rept_found.specs.Crash.{crash_of, end_pc, means};
+ghost use Rattle.rept_rules.specs.Base.{base_rules};
 ghost use Rattle.rept_app.specs.Delivered.{Delivers};
+ghost use Rattle.rept_app.specs.Domains.{means_of};
 ghost use Rattle.rept_app.specs.Study.{Studies, IsStudied, StudyHolds};
-ghost use Rattle.rept_app.specs.Told.{crash_path};
+ghost use Rattle.rept_app.specs.Told.{crash_path, route_of};
 
 use crate::hold::hold;
 use crate::refusal::Refusal;
@@ -16,12 +18,39 @@ use crate::status::Status;
 use crate::tell::tell;
 use rept_dump::Dump;
 use rept_found::{Stop, search};
+use rept_known::Both;
+use rept_partial::Range;
 use rept_path::Path;
 use rept_ports::{Sink, Source};
+use rept_rules::Base;
+use rept_span::Transfer;
+use rept_words::Domain;
 use std::alloc::Global;
 
-/// Analyses a path that ends in a dump, and answers the input, or tells a conflict.
+/// Analyses a path that ends in a dump, with values followed in a domain, and answers the input, or tells a conflict.
 pub fn study<S: Source, K: Sink>(
+    alloc: Global,
+    domain: Domain,
+    path: &Path,
+    dump: &Dump<'_>,
+    input: &mut S,
+    out: &mut K,
+) -> Status
+    requires some { 0 < length path.now.steps }
+    requires ends { EndBefore path.now.steps (end_pc (registers_of dump.now)) }
+    ensures text { IfSome (S.port input.old).bytes (λ bytes. Delivers (Studies (crash_path (means_of domain) (crash_of dump.now) path.now) (record { input = bytes; left = (S.port input.new).bytes })) (move (K.port out.old) (K.port out.new)) result) }
+    ensures causes { IsStudied (crash_path (means_of domain) (crash_of dump.now) path.now) (move (S.port input.old) (S.port input.new)) (move (K.port out.old) (K.port out.new)) result }
+    ensures stays { (input.new ≡ input.old) ⊎ StudyHolds (crash_path (means_of domain) (crash_of dump.now) path.now) result }
+    ensures impossible { result ≡ Status.Inconsistent → HasNoExecution (route_of (crash_path (means_of domain) (crash_of dump.now) path.now)) }
+{
+    match domain {
+        Domain::Ranges => study_by::<Range, S, K>(alloc, path, dump, input, out),
+        Domain::KnownBits => study_by::<Both, S, K>(alloc, path, dump, input, out),
+    }
+}
+
+/// The same, with values followed as sets of `W`.
+fn study_by<W: Transfer, S: Source, K: Sink>(
     alloc: Global,
     path: &Path,
     dump: &Dump<'_>,
@@ -30,12 +59,12 @@ pub fn study<S: Source, K: Sink>(
 ) -> Status
     requires some { 0 < length path.now.steps }
     requires ends { EndBefore path.now.steps (end_pc (registers_of dump.now)) }
-    ensures text { IfSome (S.port input.old).bytes (λ bytes. Delivers (Studies (crash_path (crash_of dump.now) path.now) (record { input = bytes; left = (S.port input.new).bytes })) (move (K.port out.old) (K.port out.new)) result) }
-    ensures causes { IsStudied (crash_path (crash_of dump.now) path.now) (move (S.port input.old) (S.port input.new)) (move (K.port out.old) (K.port out.new)) result }
-    ensures stays { (input.new ≡ input.old) ⊎ StudyHolds (crash_path (crash_of dump.now) path.now) result }
-    ensures impossible { result ≡ Status.Inconsistent → HasNoExecution (route (crash_of dump.now) path.now.steps) }
+    ensures text { IfSome (S.port input.old).bytes (λ bytes. Delivers (Studies (crash_path (means W.sets W.moves base_rules) (crash_of dump.now) path.now) (record { input = bytes; left = (S.port input.new).bytes })) (move (K.port out.old) (K.port out.new)) result) }
+    ensures causes { IsStudied (crash_path (means W.sets W.moves base_rules) (crash_of dump.now) path.now) (move (S.port input.old) (S.port input.new)) (move (K.port out.old) (K.port out.new)) result }
+    ensures stays { (input.new ≡ input.old) ⊎ StudyHolds (crash_path (means W.sets W.moves base_rules) (crash_of dump.now) path.now) result }
+    ensures impossible { result ≡ Status.Inconsistent → HasNoExecution (route_of (crash_path (means W.sets W.moves base_rules) (crash_of dump.now) path.now)) }
 {
-    match search(alloc, &path.steps, dump) {
+    match search::<W, Base>(alloc, &path.steps, dump, Base::new()) {
         Ok(mut found) => hold(alloc, &mut found, path.skipped, input, out),
         Err(Stop::Conflict(kind)) => tell(alloc, out, &Refusal::Inconsistent(kind)),
         Err(Stop::OutOfMemory) => tell(alloc, out, &Refusal::OutOfMemory),

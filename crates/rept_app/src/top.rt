@@ -6,7 +6,7 @@ ghost use Rattle.rept_app.specs.Delivered.{Delivers};
 ghost use Rattle.rept_app.specs.Ends.{EndsSession};
 ghost use Rattle.rept_app.specs.Loading.{NamesNone};
 ghost use Rattle.rept_app.specs.Promise.{Promise};
-ghost use Rattle.rept_app.specs.Told.{AskedHolds, Writes, Holds, ReportHolds, NoExecution, given};
+ghost use Rattle.rept_app.specs.Told.{AskedHolds, BitsKnowMore, Writes, Holds, ReportHolds, NoExecution, given};
 ghost use Rattle.rept_app.specs.Top.{AskedEnds, TopCauses, LoadsOf, EndsByFiles, NoneFails, Completes};
 ghost use Rattle.rept_words.specs.Words.{meaning_of};
 
@@ -16,14 +16,18 @@ use crate::made_run::tell_made_run;
 use crate::status::Status;
 use crate::tell::tell;
 use rept_found::reports_are_true;
+use rept_known::Both;
+use rept_partial::Range;
 use rept_ports::{Shelf, Sink, Source};
+use rept_report::finer_sets_know_more;
+use rept_rules::Base;
 use std::alloc::Global;
 
 /// Opens the crash that the words name, and answers the commands of the input; or sums up a made run.
 ///
-/// The words are `open EXE CORE TRACE`, and maybe the number of the packet to begin from. The executable, the core file and the
+/// The words are `open EXE CORE TRACE`, or `bits` in the place of `open`, and maybe the number of the packet to begin from. The executable, the core file and the
 /// instruction trace are loaded from the shelf; the path that the trace tells is rebuilt; what registers and memory held along it is
-/// inferred from what the core file has of them; and each command is answered on the output. Where the files contradict each other,
+/// inferred from what the core file has of them, with values followed as ranges by `open`, and as ranges with known bits by `bits`; and each command is answered on the output. Where the files contradict each other,
 /// or something is refused, one line is written before the status.
 ///
 /// Or they are `self SEED STEPS`: the three files of a made crash take the place of files, and the command `summary` that of the input.
@@ -74,14 +78,19 @@ pub fn rept<H: Shelf, S: Source, K: Sink>(
     // on it; a conflict is told only where there is no such execution.
     ensures sound { IfSome (H.port shelf.old).files (λ files. ReportHolds (map string_bytes words.now) files) }
     ensures impossible { IfSome (H.port shelf.old).files (λ files. result ≡ Status.Inconsistent → NoExecution (map string_bytes words.now) files) }
+
+    // Whatever `open` knows of the files, `bits` knows of them.
+    ensures bits { IfSome (H.port shelf.old).files (λ files. BitsKnowMore (map string_bytes words.now) files) }
 {
-    reports_are_true();
+    reports_are_true::<Range, Base>();
+    reports_are_true::<Both, Base>();
+    finer_sets_know_more::<Both, Range, Base>();
     match load_files(alloc, words, shelf) {
         Ok(Asked::Files(files)) => {
             let exe = files.exe.as_slice();
             let core = files.core.as_slice();
             let trace = files.trace.as_slice();
-            examine(alloc, exe, core, trace, files.from, input, out)
+            examine(alloc, exe, core, trace, files.manner, input, out)
         }
         Ok(Asked::Made { seed, steps }) => tell_made_run(alloc, seed, steps, out),
         Err(refusal) => tell(alloc, out, &refusal),

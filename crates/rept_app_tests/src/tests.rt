@@ -42,12 +42,22 @@ struct Case {
 
 const OPEN: &[&str] = &["open", "e", "c", "t"];
 
+const BITS: &[&str] = &["bits", "e", "c", "t"];
+
+/// `ori x7,x6,1` and `andi x5,x7,1`, and then 0 to x5, x7 and x6.
+const ODD: &[u32] = &[0x00136393, 0x0013f293, 0x00000293, 0x00000393, 0x00000313];
+
+/// `ori x7,x6,1`, `andi x5,x7,7`, `slli x5,x5,4` and `addi x5,x5,-16`, and then 0 to x5, x7 and x6.
+const MASKED: &[u32] = &[
+    0x00136393, 0x0073f293, 0x00429293, 0xff028293, 0x00000293, 0x00000393, 0x00000313,
+];
+
 const THREE: &[u32] = &[0x00700293, 0x00328313, 0x006283b3];
 
 const UNKNOWN_AT_0: &str =
     "point 0 of 3 pc 0x00010000\nx1 0x00000000\nx2 0x00000000\nx3 0x00000000\nx4 0x00000000\nx5 unknown\nx6 unknown\nx7 unknown\nx8 0x00000000\nx9 0x00000000\nx10 0x00000000\nx11 0x00000000\nx12 0x00000000\nx13 0x00000000\nx14 0x00000000\nx15 0x00000000\nx16 0x00000000\nx17 0x00000000\nx18 0x00000000\nx19 0x00000000\nx20 0x00000000\nx21 0x00000000\nx22 0x00000000\nx23 0x00000000\nx24 0x00000000\nx25 0x00000000\nx26 0x00000000\nx27 0x00000000\nx28 0x00000000\nx29 0x00000000\nx30 0x00000000\nx31 0x00000000\n";
 
-const USAGE: &str = "usage: rept open EXE CORE TRACE [FROM] | rept self SEED STEPS\n";
+const USAGE: &str = "usage: rept open|bits EXE CORE TRACE [FROM] | rept self SEED STEPS\n";
 
 /// The worked crashes, and one case of each refusal.
 const CASES: &[Case] = &[
@@ -242,6 +252,70 @@ const CASES: &[Case] = &[
         input: "",
         output: "no-file core\n",
         status: Status::NoFile,
+    },
+    Case {
+        words: BITS,
+        code: ODD,
+        pc: 0x10014,
+        registers: [0, 0, 0],
+        difference: 0x12,
+        input: "goto 2\nreg x5\n",
+        output: "point 2 of 5 pc 0x00010008\nx5 0x00000001\n",
+        status: Status::Ok,
+    },
+    Case {
+        words: OPEN,
+        code: ODD,
+        pc: 0x10014,
+        registers: [0, 0, 0],
+        difference: 0x12,
+        input: "goto 2\nreg x5\nrange x5\n",
+        output: "point 2 of 5 pc 0x00010008\nx5 unknown\nx5 0x00000000..0x00000001\n",
+        status: Status::Ok,
+    },
+    // x5 keeps what `andi` leaves of an odd word, 1, up to point 4, where the dump has 0; ranges alone don't tell.
+    Case {
+        words: BITS,
+        code: &[0x00136393, 0x0013f293, 0x00000393, 0x00000313],
+        pc: 0x10010,
+        registers: [0, 0, 0],
+        difference: 0x0e,
+        input: "goto 2\nreg x5\n",
+        output: "inconsistent empty-range 4 x5\n",
+        status: Status::Inconsistent,
+    },
+    Case {
+        words: OPEN,
+        code: &[0x00136393, 0x0013f293, 0x00000393, 0x00000313],
+        pc: 0x10010,
+        registers: [0, 0, 0],
+        difference: 0x0e,
+        input: "goto 2\nreg x5\n",
+        output: "point 2 of 4 pc 0x00010008\nx5 0x00000000\n",
+        status: Status::Ok,
+    },
+    // a sum, a shift and masks, by the known bits of compilers
+    Case {
+        words: &["bits", "e", "c", "t", "0"],
+        code: MASKED,
+        pc: 0x1001c,
+        registers: [0, 0, 0],
+        difference: 0x1a,
+        input: "goto 1\nrange x0\nrange x5\nrange x7\ngoto 2\nrange x5\ngoto 3\nrange x5\ngoto 4\nrange x5\n",
+        output: "point 1 of 7 pc 0x00010004\nx0 0x00000000..0x00000000 known 0xffffffff value 0x00000000\nx5 0x00000000..0xffffffff known 0x00000000 value 0x00000000\nx7 0x00000001..0xffffffff known 0x00000001 value 0x00000001\npoint 2 of 7 pc 0x00010008\nx5 0x00000001..0x00000007 known 0xfffffff9 value 0x00000001\npoint 3 of 7 pc 0x0001000c\nx5 0x00000010..0x00000070 known 0xffffff9f value 0x00000010\npoint 4 of 7 pc 0x00010010\nx5 0x00000000..0x00000060 known 0xffffff9f value 0x00000000\n",
+        status: Status::Ok,
+    },
+    Case {
+        words: BITS,
+        code: &[
+            0x00136393, 0x007382b3, 0x0012f293, 0x00000293, 0x00000393, 0x00000313,
+        ],
+        pc: 0x10018,
+        registers: [0, 0, 0],
+        difference: 0x16,
+        input: "goto 3\nrange x5\n",
+        output: "point 3 of 6 pc 0x0001000c\nx5 0x00000000..0x00000000 known 0xffffffff value 0x00000000\n",
+        status: Status::Ok,
     },
 ];
 

@@ -1,6 +1,5 @@
 -- What an analysis answers is what is shown of its report.
 use Rattle.std.proofs.Common.{◌≡◌, ℕ, zero, suc, ◌+◌, ◌<◌, ◌≤◌, Bool, true, false, cond, ap, subst, ◌∙◌, arith, refl}
-use Rattle.rept_partial.specs.declared.range.Range.{Range}
 use Rattle.rept_reason.specs.Facts.{Knowledge}
 use Rattle.rept_report.specs.declared.counts.Counts.{Counts}
 use Rattle.rept_report.specs.declared.writer.Writer.{Writer}
@@ -16,8 +15,8 @@ use Rattle.rept_analysis.proofs.Answering.{none_found, spared_none, spared_too, 
 use Rattle.rept_found.specs.Telling.{writer_at, last_writer, counts_of}
 
 -- the greatest step below a point that may write a byte, where none from it on may
-module _ (P : Path Range) (K : Knowledge) (p a : ℕ) where
-  abbrev S : Setting Range
+module _ {W : Type 0} (P : Path W) (K : Knowledge) (p a : ℕ) where
+  abbrev S : Setting W
   S = along P
 
   by_test : (j : ℕ) → j < p → NoneMayWrite S K (passage a (j + 1) p) → (NoneMayWrite S K (passage a j p) → IsWriter S K (spot p a) (last_writer S K j a)) → (b : Bool) → may_write S K j a ≡ b → IsWriter S K (spot p a) (cond b (writer_at S K j) (last_writer S K j a))
@@ -37,7 +36,7 @@ module _ (P : Path Range) (K : Knowledge) (p a : ℕ) where
   writer_is w h = one_writer S K p a w (last_writer S K p a) h last_writer_is
 
 -- counts by their equations
-pub counted : (S : Setting Range) (K : Knowledge) (c : Counts) → IsCounted S K c → c ≡ counts_of S K
+pub counted : {W : Type 0} (S : Setting W) (K : Knowledge) (c : Counts) → IsCounted S K c → c ≡ counts_of S K
 counted S K c h =
     ap (λ n. record { steps = n; calls = c.calls; registers = c.registers; exact = c.exact; inexact = c.inexact }) h.steps
     ∙ ap (λ n. record { steps = (counts_of S K).steps; calls = n; registers = c.registers; exact = c.exact; inexact = c.inexact }) h.calls

@@ -1,19 +1,18 @@
 -- What is told of a report holds in every execution, and reasons rest on it.
 use Rattle.std.proofs.Common.{◌≡◌, ℕ, ◌+◌, ◌<◌, ◌≤◌, ◌^◌, Bool, true, cond, eqb, List, All, Option, Some, None, inl, inr, refl, sym, ap, subst, ◌∙◌, arith}
 use mathlib.Core.Path.{fun_ext}
+use Rattle.std.specs.Prelude.{bit_and}
 use Rattle.std.proofs.lemmas.Bool.{cases_eq, cond-true, cond-false, eq-eqb, ne_eqb, leb-true}
 use Rattle.std.proofs.lemmas.List.Elements.{All-weaker}
 use Rattle.rept_isa.specs.declared.row.StepRow.{StepRow}
 use Rattle.rept_machine.specs.State.{State}
-use Rattle.rept_partial.specs.Ranges.{range_sets, range_lawful}
-use Rattle.rept_partial.specs.declared.range.Range.{Range}
+use Rattle.rept_partial.specs.Sets.{AreLawful as AreLawfulSets}
 use Rattle.rept_reason.specs.declared.fact.Fact.{Fact}
 use Rattle.rept_reason.specs.declared.reason.Looked.{Looked}
 use Rattle.rept_reason.specs.declared.fact.Cell.{Cell}
 use Rattle.rept_reason.specs.declared.fact.Cell.TheVariants.{Register, Byte}
 use Rattle.rept_reason.specs.Facts.{Knowledge, register_known}
-use Rattle.rept_rules.specs.Base.{base_rules}
-use Rattle.rept_span.specs.RangeMoves.{range_moves}
+use Rattle.rept_span.specs.Moves.{AreMoves}
 use Rattle.rept_span.specs.Ranges.{range}
 use Rattle.rept_report.specs.Setting.{Setting, Uses, way_of}
 use Rattle.rept_report.specs.Runs.{Runs, StepWrites as RowWrites, is_call}
@@ -21,15 +20,17 @@ use Rattle.rept_report.specs.OneThread.{run_of}
 use Rattle.rept_report.specs.Spots.{spot}
 use Rattle.rept_report.specs.declared.writer.Writer.{Writer}
 use Rattle.rept_report.specs.declared.writer.Writer as writers
-use Rattle.rept_report.specs.Views.{all_words}
+use Rattle.rept_report.specs.Views.{bounds}
+use Rattle.rept_report.proofs.ViewLaws.{bounds_cover, words_between}
+use Rattle.rept_span.proofs.RangeLaws.{HasIn}
 use Rattle.rept_report.specs.Soundness.{IsSound, HasNoExecution as HasNoRun, WriterHolds as WriterHoldsIn}
 use Rattle.rept_report.specs.Why.{Because, IsReason, IsGiven, RangeAlwaysHolds as RangeHoldsInRuns}
 use Rattle.rept_report.specs.Implied.{HasEnded, known_at_end}
 use Rattle.rept_report.specs.Log.{Entry, logged_of}
 use Rattle.rept_report.proofs.OneThread.{rows_within, are_points, execution_runs, none_later, writes_told}
 use Rattle.rept_analysis.specs.State.{Path, along}
-use Rattle.rept_found.specs.Crash.{Crash, route, setting}
-use Rattle.rept_found.specs.Telling.{last_writer, left_of, shown_of}
+use Rattle.rept_found.specs.Crash.{Crash, Means, route, setting}
+use Rattle.rept_found.specs.Telling.{last_writer, noted, shown_of}
 use Rattle.rept_found.specs.Truth.{Executes, HasNoExecution, StepWrites, WriterHolds, RangeAlwaysHolds, IsTrueOf, IsTrueReason, IsTrueReport}
 use Rattle.rept_found.proofs.Tellings.{last_writer_is}
 
@@ -44,13 +45,21 @@ register_true K s p r v zero known e =
       | inr ne ↦ known (sym (cond-false (eqb r 0) (Some 0) (K p (Register r)) (ne_eqb r 0 ne)) ∙ e)
     ]
 
--- a word lies in the values that are left, where it lies in those of the report
-left_true : (o : Option Range) (v : ℕ) → v < 2 ^ 32 → ((set : Range) → o ≡ Some set → range_sets.has set v ≡ true) → ((left_of o).lo ≤ v) × (v ≤ (left_of o).hi)
-left_true None v small in_set = range_lawful.bounds all_words v (range_lawful.unknown v small)
-left_true (Some set) v small in_set = range_lawful.bounds set v (in_set set refl)
+-- a word lies between the bounds of the values that are left, where it is one of those of the report
+left_true : {W : Type 0} (m : Means W) → AreLawfulSets m.sets → (o : Option W) (v : ℕ) → v < 2 ^ 32 → ((set : W) → o ≡ Some set → m.sets.has set v ≡ true) → ((bounds m.sets o).lo ≤ v) × (v ≤ (bounds m.sets o).hi)
+left_true m laws None v small in_set = words_between v small
+left_true m laws (Some set) v small in_set = bounds_cover m.sets laws (Some set) v (in_set set refl)
+
+-- and has the bits that are noted of them
+noted_true : {W : Type 0} (m : Means W) → AreMoves m.sets m.moves → (o : Option W) (v : ℕ) (n : ℕ × ℕ) → ((set : W) → o ≡ Some set → m.sets.has set v ≡ true) → noted m.moves o ≡ Some n → bit_and v n.0 ≡ n.1
+noted_true m moves None v n in_set e = absurd (nothing e)
+  where
+    nothing : {n : ℕ × ℕ} → None ≡ Some n → ⊥
+    nothing e = cc
+noted_true m moves (Some set) v n in_set e = moves.noted set n e v (in_set set refl)
 
 -- An execution of the path is a run, so what holds in every run holds in it.
-module _ (P : Path Range) where
+module _ {W : Type 0} (P : Path W) where
   runs : (states : ℕ → State) → Executes P states → Runs (along P) (run_of states)
   runs states x = execution_runs P.sets P.moves P.rules P.given states x
 
@@ -83,17 +92,18 @@ module _ (P : Path Range) where
   ranges_true : (xs : List Looked) → All (RangeHoldsInRuns (along P)) xs → All (RangeAlwaysHolds P) xs
   ranges_true xs h = All-weaker (RangeHoldsInRuns (along P)) (RangeAlwaysHolds P) (λ x holds states e. holds (run_of states) (runs states e)) xs h
 
-module _ (crash : Crash) (rows : List StepRow) (K : Knowledge) where
-  abbrev Here : Setting Range
-  Here = setting crash rows
+module _ {W : Type 0} (m : Means W) (sets : AreLawfulSets m.sets) (moves : AreMoves m.sets m.moves) (crash : Crash) (rows : List StepRow) (K : Knowledge) where
+  abbrev Here : Setting W
+  Here = setting m crash rows
 
-  abbrev There : Path Range
-  There = route crash rows
+  abbrev There : Path W
+  There = route m crash rows
 
   answers_true : IsSound Here K → (end : ℕ) (run : ℕ → State) → Executes There run → IsTrueOf There (shown_of There K end) run
   answers_true sound end run x = record {
     registers = λ p r v early e. register_true K (run p) p r v (x.states p early).zero (λ known. sound.facts p (Register r) v known (run_of run) (runs There run x)) e;
-    ranges = λ p r early. left_true (range (way_of Here) K p r) ((run p).register r) ((x.states p early).words r) (λ set is. sound.ranges p r set early is (run_of run) (runs There run x));
+    ranges = λ p r early. left_true m sets (range (way_of Here) K p r) ((run p).register r) ((x.states p early).words r) (λ set is. sound.ranges p r set early is (run_of run) (runs There run x));
+    notes = λ p r n early e. noted_true m moves (range (way_of Here) K p r) ((run p).register r) n (λ set is. sound.ranges p r set early is (run_of run) (runs There run x)) e;
     bytes = λ p a v e. sound.facts p (Byte a) v e (run_of run) (runs There run x);
     writers = λ p a early small. writer_true There run p a (last_writer Here K p a) (sound.writers p a (last_writer Here K p a) early small (last_writer_is There K p a) (run_of run) (runs There run x));
   }
@@ -114,5 +124,5 @@ module _ (crash : Crash) (rows : List StepRow) (K : Knowledge) where
         reason_true l.entries l.tracked log why l.knows (premises l.entries l.tracked f why l.ended here) (ranges l.entries l.tracked f why l.ended here);
   }
 
-pub uses_here : (crash : Crash) (rows : List StepRow) → Uses (setting crash rows) range_sets range_moves base_rules
-uses_here crash rows = record { its_sets = refl; its_moves = refl; its_rules = refl; its_legs = rows_within rows; its_moments = are_points rows }
+pub uses_here : {W : Type 0} (m : Means W) (crash : Crash) (rows : List StepRow) → Uses (setting m crash rows) m.sets m.moves m.rules
+uses_here m crash rows = record { its_sets = refl; its_moves = refl; its_rules = refl; its_legs = rows_within rows; its_moments = are_points rows }

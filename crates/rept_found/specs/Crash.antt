@@ -7,11 +7,10 @@ use Rattle.rept_dump.specs.Dump.{exe_of, core_of, registers_of}
 use Rattle.rept_dump.specs.Memory.{byte_at}
 use Rattle.rept_dump.specs.declared.dump.Dump.{Dump}
 use Rattle.rept_isa.specs.declared.row.StepRow.{StepRow}
-use Rattle.rept_partial.specs.Ranges.{range_sets}
-use Rattle.rept_partial.specs.declared.range.Range.{Range}
+use Rattle.rept_partial.specs.Sets.{Sets}
 use Rattle.rept_report.specs.Setting.{Setting}
-use Rattle.rept_rules.specs.Base.{base_rules}
-use Rattle.rept_span.specs.RangeMoves.{range_moves}
+use Rattle.rept_span.specs.Moves.{Moves}
+use Rattle.rept_view.specs.Rules.{Rules}
 use Rattle.rept_analysis.specs.State.{Path, along}
 
 -- an executable and the core file of its crash: the segments of each, and the descriptor of the register note
@@ -35,16 +34,24 @@ last_value note r = if r == 0 then 0 else word_at note (72 + 4 * r)
 unfoldable pub last_values : List ℕ → List ℕ
 last_values note = map (last_value note) (range_with_len 0 32)
 
--- A path over the executable, and the registers and bytes of the core file in which it ends. Values are followed as ranges, and the
--- rows let one draw what the rules of RV32IM say.
-abbrev pub route : Crash → List StepRow → Path Range
-route crash rows = record {
-  sets = range_sets;
-  moves = range_moves;
-  rules = base_rules;
+-- the sets as which values are followed, and what the rows let one draw
+pub record Means (W : Type 0) : Type 0 where
+  pub sets : Sets W
+  pub moves : Moves W
+  pub rules : Rules
+
+abbrev pub means : {W : Type 0} → Sets W → Moves W → Rules → Means W
+means sets moves rules = record { sets = sets; moves = moves; rules = rules }
+
+-- a path over the executable, and the registers and bytes of the core file in which it ends
+abbrev pub route : {W : Type 0} → Means W → Crash → List StepRow → Path W
+route m crash rows = record {
+  sets = m.sets;
+  moves = m.moves;
+  rules = m.rules;
   given = record { rows = rows; last = last_values crash.note; dump = byte_at crash.exe crash.core; image_end = greatest_end crash.exe };
 }
 
 -- the setting of which a report of that path speaks
-abbrev pub setting : Crash → List StepRow → Setting Range
-setting crash rows = along (route crash rows)
+abbrev pub setting : {W : Type 0} → Means W → Crash → List StepRow → Setting W
+setting m crash rows = along (route m crash rows)

@@ -1,36 +1,36 @@
 -- What a session tells of a report: what is known, and what follows from it. This project's own.
 use Rattle.std.specs.Prelude.{ℕ, zero, suc, ◌+◌, true, false, List, Option, Some, None, if◌then◌else◌}
-use Rattle.rept_partial.specs.declared.range.Range.{Range}
 use Rattle.rept_reason.specs.declared.fact.Fact.{Fact}
 use Rattle.rept_reason.specs.declared.fact.Cell.TheVariants.{Byte}
 use Rattle.rept_reason.specs.Facts.{Knowledge, register_known}
+use Rattle.rept_span.specs.Moves.{Moves}
 use Rattle.rept_span.specs.Ranges.{range}
 use Rattle.rept_report.specs.declared.counts.Counts.{Counts}
 use Rattle.rept_report.specs.declared.writer.Writer.{Writer}
 use Rattle.rept_report.specs.declared.writer.Writer as writers
 use Rattle.rept_report.specs.Setting.{Setting, way_of}
-use Rattle.rept_report.specs.Views.{all_words, may_write, is_sure}
+use Rattle.rept_report.specs.Views.{bounds, may_write, is_sure}
 use Rattle.rept_report.specs.Why.{IsReason}
 use Rattle.rept_analysis.specs.Counts.{calls_below, stores_below, known_below}
 use Rattle.rept_analysis.specs.State.{Path, along}
 use Rattle.rept_session.specs.Shown.{Shown, Told, told}
 
 -- of a step that may write a byte: whether it is known that it does
-abbrev pub writer_at : Setting Range → Knowledge → ℕ → Writer
+abbrev pub writer_at : {W : Type 0} → Setting W → Knowledge → ℕ → Writer
 writer_at S K j = if is_sure S K j then writers.TheVariants.Writes j else writers.TheVariants.MayWrite j
 
 -- the greatest step before a point that may write the byte
-abbrev pub last_writer : Setting Range → Knowledge → ℕ → ℕ → Writer
+abbrev pub last_writer : {W : Type 0} → Setting W → Knowledge → ℕ → ℕ → Writer
 last_writer S K zero a = writers.TheVariants.None
 last_writer S K (suc j) a = if may_write S K j a then writer_at S K j else last_writer S K j a
 
--- the values that are left, of which a report has some
-abbrev pub left_of : Option Range → Range
-left_of None = all_words
-left_of (Some set) = set
+-- the bits in which all values that are left are alike
+abbrev pub noted : {W : Type 0} → Moves W → Option W → Option (ℕ × ℕ)
+noted moves None = None
+noted moves (Some set) = moves.note set
 
 -- how many steps, environment calls, known registers, and stores to known and to unknown addresses there are
-abbrev pub counts_of : Setting Range → Knowledge → Counts
+abbrev pub counts_of : {W : Type 0} → Setting W → Knowledge → Counts
 counts_of S K = record {
   steps = S.legs.count;
   calls = calls_below S.legs S.legs.count;
@@ -40,12 +40,13 @@ counts_of S K = record {
 }
 
 -- what is shown of a report, over a path that leads to an address
-abbrev pub shown_of : Path Range → Knowledge → ℕ → Shown
+abbrev pub shown_of : {W : Type 0} → Path W → Knowledge → ℕ → Shown
 shown_of P K end = record {
   rows = P.given.rows;
   end_pc = end;
   register = register_known K;
-  range = λ p r. left_of (range (way_of (along P)) K p r);
+  range = λ p r. bounds P.sets (range (way_of (along P)) K p r);
+  note = λ p r. noted P.moves (range (way_of (along P)) K p r);
   byte = λ p a. K p (Byte a);
   writer = λ p a. last_writer (along P) K p a;
   counts = counts_of (along P) K;
@@ -60,5 +61,5 @@ pub record Account : Type 0 where
   pub skipped : ℕ
 
 -- what a session tells of it, with reasons by that order
-abbrev pub told_of : Path Range → Account → Told
+abbrev pub told_of : {W : Type 0} → Path W → Account → Told
 told_of P a = told (shown_of P a.known a.end_pc) a.skipped (IsReason (along P) a.log)

@@ -1,9 +1,8 @@
 -- What is told of a report holds in every execution of the path that ends in the dump. This project's own.
-use Rattle.std.specs.Prelude.{◌≡◌, ℕ, ◌+◌, ◌<◌, ◌≤◌, ◌^◌, ⊤, All, List, length, Some, slice_get}
+use Rattle.std.specs.Prelude.{◌≡◌, ℕ, ◌+◌, ◌<◌, ◌≤◌, ◌^◌, ⊤, All, List, length, Some, slice_get, bit_and}
 use Rattle.rept_isa.specs.declared.row.StepRow.{StepRow}
 use Rattle.rept_machine.specs.State.{State}
 use Rattle.rept_machine.specs.Execution.{Execution}
-use Rattle.rept_partial.specs.declared.range.Range.{Range}
 use Rattle.rept_reason.specs.declared.fact.Fact.{Fact}
 use Rattle.rept_reason.specs.declared.reason.Looked.{Looked}
 use Rattle.rept_reason.specs.Facts.{Knowledge}
@@ -18,46 +17,47 @@ use Rattle.rept_session.specs.Shown.{Shown}
 use Rattle.rept_found.specs.Telling.{shown_of}
 
 -- an execution of the path that ends in the dump
-abbrev pub Executes : Path Range → (ℕ → State) → Type 0
+abbrev pub Executes : {W : Type 0} → Path W → (ℕ → State) → Type 0
 Executes P run = Execution P.given.image_end P.given.rows P.given.last P.given.dump run
 
 -- no execution of the path ends in the dump
-abbrev pub HasNoExecution : Path Range → Type 0
+abbrev pub HasNoExecution : {W : Type 0} → Path W → Type 0
 HasNoExecution P = (run : ℕ → State) → Executes P run → ⊥
 
 -- step j of an execution writes the byte
-pub record StepWrites (P : Path Range) (run : ℕ → State) (j a : ℕ) : Type 0 where
+pub record StepWrites {W : Type 0} (P : Path W) (run : ℕ → State) (j a : ℕ) : Type 0 where
   pub row : StepRow
   pub is_row : slice_get P.given.rows j ≡ Some row
   pub writes : Writes P.given.image_end row (run j) (run (j + 1)) a
 
 -- Of an execution: step j writes the byte, and no later step before the point does; or no step after j and before the point
 -- does; or no step before the point does. Of several nothing is said, nor are they told of one path.
-abbrev pub WriterHolds : Path Range → (ℕ → State) → Spot → Writer → Type 0
+abbrev pub WriterHolds : {W : Type 0} → Path W → (ℕ → State) → Spot → Writer → Type 0
 WriterHolds P run x (writers.TheVariants.Writes j) = StepWrites P run j x.address × ((k : ℕ) → j < k → k < x.point → StepWrites P run k x.address → ⊥)
 WriterHolds P run x (writers.TheVariants.MayWrite j) = (k : ℕ) → j < k → k < x.point → StepWrites P run k x.address → ⊥
 WriterHolds P run x writers.TheVariants.Several = ⊤
 WriterHolds P run x writers.TheVariants.None = (k : ℕ) → k < x.point → StepWrites P run k x.address → ⊥
 
 -- Of one execution: each value of a register and each byte that is told is the one that it has, each register lies between the
--- bounds that are told, and what is told of the step that last wrote a byte is so: that step wrote it and no later one did, no later
+-- bounds that are told and has the bits that are noted, and what is told of the step that last wrote a byte is so: that step wrote it and no later one did, no later
 -- one did, or none did.
-pub record IsTrueOf (P : Path Range) (s : Shown) (run : ℕ → State) : Type 0 where
+pub record IsTrueOf {W : Type 0} (P : Path W) (s : Shown) (run : ℕ → State) : Type 0 where
   pub registers : (p r v : ℕ) → p ≤ length P.given.rows → s.register p r ≡ Some v → (run p).register r ≡ v
   pub ranges : (p r : ℕ) → p ≤ length P.given.rows → ((s.range p r).lo ≤ (run p).register r) × ((run p).register r ≤ (s.range p r).hi)
+  pub notes : (p r : ℕ) (n : ℕ × ℕ) → p ≤ length P.given.rows → s.note p r ≡ Some n → bit_and ((run p).register r) n.0 ≡ n.1
   pub bytes : (p a v : ℕ) → s.byte p a ≡ Some v → (run p).memory a ≡ v
   pub writers : (p a : ℕ) → p ≤ length P.given.rows → a < 2 ^ 32 → WriterHolds P run (spot p a) (s.writer p a)
 
 -- the register's value lies in the range in every execution
-abbrev pub RangeAlwaysHolds : Path Range → Looked → Type 0
+abbrev pub RangeAlwaysHolds : {W : Type 0} → Path W → Looked → Type 0
 RangeAlwaysHolds P x = (run : ℕ → State) → Executes P run → (x.range.lo ≤ (run x.point).register x.reg) × ((run x.point).register x.reg ≤ x.range.hi)
 
 -- Of a reason: the facts that it rests on are of the report, and the ranges that it lists hold in every execution.
-pub record IsTrueReason (P : Path Range) (K : Knowledge) (why : Because) : Type 0 where
+pub record IsTrueReason {W : Type 0} (P : Path W) (K : Knowledge) (why : Because) : Type 0 where
   pub premises : All (IsGiven K) why.premises
   pub ranges : All (RangeAlwaysHolds P) why.ranges
 
 -- all that a session tells of a report, whatever the order in which it was learnt
-pub record IsTrueReport (P : Path Range) (K : Knowledge) : Type 0 where
+pub record IsTrueReport {W : Type 0} (P : Path W) (K : Knowledge) : Type 0 where
   pub answers : (end : ℕ) (run : ℕ → State) → Executes P run → IsTrueOf P (shown_of P K end) run
   pub reasons : (log : List Fact) (fact : Fact) (why : Because) → IsLogOf (along P) K log → IsReason (along P) log fact why → IsTrueReason P K why

@@ -4,21 +4,24 @@ use crate::found::Found;
 use rept_isa::{Reg, StepRow};
 use rept_partial::{Flat, Range};
 use rept_reason::{Fact, Reason};
-use rept_report::{Counts, Writer};
+use rept_report::{Counts, Writer, bounds};
 use rept_session::Findings;
+use rept_span::Transfer;
+use rept_view::RowRules;
 use rept_word::OutOfMemory;
 use std::alloc::Global;
 
-impl<'a> Findings for Found<'a> {
+impl<'a, W: Transfer, R: RowRules> Findings for Found<'a, W, R> {
     ghost use Rattle.rept_report.specs.Why.{IsReason};
     ghost use Rattle.rept_analysis.specs.Kept.{answers};
     ghost use Rattle.rept_analysis.specs.State.{along};
     ghost use Rattle.rept_found.specs.Telling.{shown_of};
+    ghost use Rattle.rept_found.specs.Crash.{means};
     ghost use Rattle.rept_found.specs.View.{state_in};
 
-    ghost shown = { λ f. shown_of (state_in f).path (answers (state_in f)) f.end_pc };
+    ghost shown = { λ f. shown_of (state_in (means W.sets W.moves R.rules) f).path (answers (state_in (means W.sets W.moves R.rules) f)) f.end_pc };
 
-    ghost reasons = { λ f fact why. IsReason (along (state_in f).path) (state_in f).known.log fact why };
+    ghost reasons = { λ f fact why. IsReason (along (state_in (means W.sets W.moves R.rules) f).path) (state_in (means W.sets W.moves R.rules) f).known.log fact why };
 
     fn rows(&self) -> &[StepRow] {
         self.analysis.account();
@@ -38,7 +41,11 @@ impl<'a> Findings for Found<'a> {
     }
 
     fn range(&self, point: u32, register: Reg) -> Range {
-        self.analysis.range(point, register)
+        bounds(self.analysis.range(point, register))
+    }
+
+    fn note(&self, point: u32, register: Reg) -> Option<(u32, u32)> {
+        self.analysis.range(point, register).note()
     }
 
     fn byte(&self, point: u32, address: u32) -> Option<u8> {

@@ -5,7 +5,7 @@ use rept_ports::{CalmShelf, CalmSource, MemSink, Unreadable};
 use std::process::ExitCode;
 use std::test::Fail;
 
-const USAGE: &str = "usage: rept open EXE CORE TRACE [FROM] | rept self SEED STEPS\n";
+const USAGE: &str = "usage: rept open|bits EXE CORE TRACE [FROM] | rept self SEED STEPS\n";
 
 // No words, words that aren't text, and no memory for them.
 #[test]

@@ -21,7 +21,7 @@ impl Findings for Unknown {
     ghost use Rattle.std.specs.Prelude.{None, []};
     ghost use Rattle.rept_report.specs.declared.writer.Writer.TheVariants as writers;
 
-    ghost shown = { λ u. record { rows = []; end_pc = 16; register = λ point r. None; range = λ point r. u.range; byte = λ point a. None; writer = λ point a. writers.None; counts = record { steps = 0; calls = 0; registers = 0; exact = 0; inexact = 0 } } };
+    ghost shown = { λ u. record { rows = []; end_pc = 16; register = λ point r. None; range = λ point r. u.range; note = λ point r. None; byte = λ point a. None; writer = λ point a. writers.None; counts = record { steps = 0; calls = 0; registers = 0; exact = 0; inexact = 0 } } };
 
     ghost reasons = { λ u fact why. ⊥ };
 
@@ -39,6 +39,10 @@ impl Findings for Unknown {
 
     fn range(&self, _point: u32, _register: Reg) -> Range {
         self.range
+    }
+
+    fn note(&self, _point: u32, _register: Reg) -> Option<(u32, u32)> {
+        None
     }
 
     fn byte(&self, _point: u32, _address: u32) -> Option<u8> {

@@ -14,9 +14,11 @@ pub record Shown : Type 0 where
   -- the steps, and the address after the last one
   pub rows : List StepRow
   pub end_pc : ℕ
-  -- at a point, the value of a register, the values that it may have, the byte at an address, and the step that wrote it last
+  -- at a point, the value of a register, the values that it may have, the bits in which all of them are alike (a mask, and what they
+  -- are) where bits are followed, the byte at an address, and the step that wrote it last
   pub register : ℕ → ℕ → Option ℕ
   pub range : ℕ → ℕ → Range
+  pub note : ℕ → ℕ → Option (ℕ × ℕ)
   pub byte : ℕ → ℕ → Option ℕ
   pub writer : ℕ → ℕ → Writer
   pub counts : Counts

@@ -48,8 +48,13 @@ register_lines s point = flat_map (register_line s point) (range_with_len 1 31)
 abbrev pub range_text : ℕ → Range → List ℕ
 range_text r range = register_text r ++ codes " " ++ hex_word range.lo ++ codes ".." ++ hex_word range.hi
 
+-- ` known HEX value HEX`: a mask of the bits in which all values are alike, and what they are; nothing where bits aren't followed
+abbrev pub note_text : Option (ℕ × ℕ) → List ℕ
+note_text None = []
+note_text (Some known) = codes " known " ++ hex_word known.0 ++ codes " value " ++ hex_word known.1
+
 abbrev pub range_line : Shown → ℕ → ℕ → List ℕ
-range_line s point r = range_text r (s.range point r) ++ 10 ∷ []
+range_line s point r = range_text r (s.range point r) ++ note_text (s.note point r) ++ 10 ∷ []
 
 -- addresses go on from the highest one to 0
 abbrev pub wrapped : ℕ → ℕ

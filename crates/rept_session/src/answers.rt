@@ -10,7 +10,7 @@ use crate::command::{BadCommand, Command};
 use crate::findings::Findings;
 use crate::lines::{memory_text, register_texts, step_texts};
 use crate::parser::parse;
-use crate::pieces::{push_numbered, push_range, push_value, push_writer};
+use crate::pieces::{push_note, push_numbered, push_range, push_value, push_writer};
 use crate::reasons::{why_byte, why_register};
 use crate::reply::Answer;
 use rept_isa::Reg;
@@ -203,8 +203,10 @@ fn range_text<F: Findings>(
     ensures { IfOk result (λ text. text ≡ range_line (F.shown findings.now) point register) }
 {
     let range = findings.range(point, register);
+    let note = findings.note(point, register);
     let mut text = Text::new(alloc);
     push_range(&mut text, register, range)?;
+    push_note(&mut text, note)?;
     text.push(b"\n")?;
     Ok(text)
 }

@@ -39,6 +39,12 @@ pub trait Findings {
         requires { point ≤ length (shown self.now).rows }
         ensures { result ≡ (shown self.now).range point register };
 
+    /// The bits in which all values that a register may have at a point are alike, where bits are followed: a mask, and what they
+    /// are. The bits of the second that aren't in the mask are 0.
+    fn note(&self, point: u32, register: Reg) -> Option<(u32, u32)>
+        requires { point ≤ length (shown self.now).rows }
+        ensures { result ≡ (shown self.now).note point register };
+
     /// The byte at an address at a point, where it is known.
     fn byte(&self, point: u32, address: u32) -> Option<u8>
         requires { point ≤ length (shown self.now).rows }

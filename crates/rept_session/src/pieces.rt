@@ -3,7 +3,7 @@
 ghost use Rattle.std.specs.Prelude.{◌≡◌, ◌++◌, OnOk, Some, codes};
 ghost use Rattle.std.specs.Fmt.{decimal};
 ghost use Rattle.rept_isa.specs.Texts.{register_text};
-ghost use Rattle.rept_session.specs.Texts.{byte_text, cell_text, looked_line, premise_line, range_text, step_line, value_line, value_text, writer_text};
+ghost use Rattle.rept_session.specs.Texts.{byte_text, cell_text, looked_line, note_text, premise_line, range_text, step_line, value_line, value_text, writer_text};
 ghost use Rattle.rept_word.specs.Hex.{hex_byte, hex_word};
 
 use rept_isa::{Reg, Shown, StepRow};
@@ -58,6 +58,26 @@ pub fn push_range(text: &mut Text, register: Reg, range: Range) -> Result<(), Ou
     text.push_word(range.lo())?;
     text.push(b"..")?;
     text.push_word(range.hi())?;
+    Ok(())
+}
+
+/// The bits in which all values are alike: a mask, and what they are.
+pub fn push_note(text: &mut Text, note: Option<(u32, u32)>) -> Result<(), OutOfMemory>
+    ensures { OnOk result (text.new ≡ text.old ++ note_text note) }
+{
+    match note {
+        None => Ok(()),
+        Some((mask, value)) => push_bits(text, mask, value),
+    }
+}
+
+fn push_bits(text: &mut Text, mask: u32, value: u32) -> Result<(), OutOfMemory>
+    ensures { OnOk result (text.new ≡ text.old ++ (codes " known " ++ hex_word mask ++ codes " value " ++ hex_word value)) }
+{
+    text.push(b" known ")?;
+    text.push_word(mask)?;
+    text.push(b" value ")?;
+    text.push_word(value)?;
     Ok(())
 }
 

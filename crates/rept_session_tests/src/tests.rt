@@ -120,6 +120,16 @@ fn commands_are_answered(rt: HostRuntime) -> Result<(), Fail> {
     compare(&rt, rt.alloc(), &table)
 }
 
+#[test]
+fn known_bits_are_told(rt: HostRuntime) -> Result<(), Fail> {
+    let mut findings = two_steps();
+    findings.note = Some((15, 9));
+    let answer = answer_line(rt.alloc(), &mut findings, 7, 0, b"range a0")?;
+    let line = "x10 0x00000010..0xffffffff known 0x0000000f value 0x00000009\n";
+    assert_eq!(rt; answer.text.bytes(), line.as_bytes());
+    Ok(())
+}
+
 fn compare(rt: &impl Abort, alloc: Global, rows: &[(u32, &str, u32, &str)]) -> Result<(), Fail> {
     for (cursor, line, moved, text) in rows {
         let answer = ask(alloc, *cursor, line)?;

@@ -3,14 +3,19 @@ use Rattle.std.proofs.Common.{◌≡◌, ℕ, List, [], ◌∷◌, Bool, true, f
 use Rattle.std.specs.Prelude.{◌⊎◌, None, Some, not, ◌&&◌, ◌||◌, nat_le}
 use Rattle.std.specs.List.{list_all}
 use Rattle.std.specs.Str.{bytes_eq}
+use Rattle.std.specs.Option.{option_and_then}
 use Rattle.std.proofs.lemmas.Bool.{leb-true}
 use Rattle.clap.specs.Words.{Row, Rule, Text, is_simple, subcommand_of, fault_of, is_simple_and_free, Kinds}
 use Rattle.clap.specs.Walk.{reading_by}
 use Rattle.clap.specs.declared.parser.matches.ValueSource.TheVariants.{CommandLine}
 use Rattle.clap.proofs.OnLiterals.{clap_on_literals}
 use Rattle.rept_words.specs.CommandLine.{rept_app, needed, other}
-use Rattle.rept_words.specs.Words.{is_plain, plain_meaning, meaning_of}
+use Rattle.rept_number.specs.Numbers.{decimal_of}
+use Rattle.rept_words.specs.Words.{is_plain, domain_of, plain_meaning, meaning_of}
+use Rattle.rept_words.specs.Words.Meaning.{Open}
 use Rattle.rept_words.specs.Found.{found_meaning, is_screened}
+use Rattle.rept_words.specs.declared.request.Domain.{Domain}
+use Rattle.rept_words.specs.declared.request.Domain.TheVariants as domain
 
 pub simple : is_simple rept_app ≡ true
 unfolding clap_on_literals
@@ -71,63 +76,82 @@ refused words bad nothing = record { takes_them = λ k. absurd (clash (fault_of 
 taken : (words : List Text) → fault_of rept_app words ≡ [] → found_meaning (subcommand_of rept_app words) ≡ plain_meaning words → Outcome words
 taken words right found = record { takes_them = λ _. found; refuses = λ k. absurd (k right) }
 
--- after `open`
-wrong_none : has_fault (fault_of rept_app (codes "open" ∷ [])) ≡ true
-unfolding clap_on_literals
-wrong_none = refl
+-- the first word for a domain
+abbrev word_of : Domain → Text
+word_of domain.Ranges = codes "open"
+word_of domain.KnownBits = codes "bits"
 
-wrong_one : (e0 : ℕ) (e : List ℕ) → nat_eq e0 45 ≡ false → has_fault (fault_of rept_app (codes "open" ∷ (e0 ∷ e) ∷ [])) ≡ true
+-- after `open` and `bits`
+wrong_none : (d : Domain) → has_fault (fault_of rept_app (word_of d ∷ [])) ≡ true
 unfolding clap_on_literals
-wrong_one e0 e he = rw (he, he) refl
+wrong_none domain.Ranges = refl
+wrong_none domain.KnownBits = refl
 
-wrong_two : (e0 c0 : ℕ) (e c : List ℕ) → nat_eq e0 45 ≡ false → nat_eq c0 45 ≡ false → has_fault (fault_of rept_app (codes "open" ∷ (e0 ∷ e) ∷ (c0 ∷ c) ∷ [])) ≡ true
+wrong_one : (d : Domain) (e0 : ℕ) (e : List ℕ) → nat_eq e0 45 ≡ false → has_fault (fault_of rept_app (word_of d ∷ (e0 ∷ e) ∷ [])) ≡ true
 unfolding clap_on_literals
-wrong_two e0 c0 e c he hc = rw (he, he) (rw (hc, hc) refl)
+wrong_one domain.Ranges e0 e he = rw (he, he) refl
+wrong_one domain.KnownBits e0 e he = rw (he, he) refl
 
-wrong_five : (e0 c0 t0 f0 g0 : ℕ) (e c t f g : List ℕ) → nat_eq e0 45 ≡ false → nat_eq c0 45 ≡ false → nat_eq t0 45 ≡ false → nat_eq f0 45 ≡ false → nat_eq g0 45 ≡ false
-    → has_fault (fault_of rept_app (codes "open" ∷ (e0 ∷ e) ∷ (c0 ∷ c) ∷ (t0 ∷ t) ∷ (f0 ∷ f) ∷ (g0 ∷ g) ∷ [])) ≡ true
+wrong_two : (d : Domain) (e0 c0 : ℕ) (e c : List ℕ) → nat_eq e0 45 ≡ false → nat_eq c0 45 ≡ false → has_fault (fault_of rept_app (word_of d ∷ (e0 ∷ e) ∷ (c0 ∷ c) ∷ [])) ≡ true
 unfolding clap_on_literals
-wrong_five e0 c0 t0 f0 g0 e c t f g he hc ht hf hg = rw (he, he) (rw (hc, hc) (rw (ht, ht) (rw (hf, hf) (rw (hg, hg) refl))))
+wrong_two domain.Ranges e0 c0 e c he hc = rw (he, he) (rw (hc, hc) refl)
+wrong_two domain.KnownBits e0 c0 e c he hc = rw (he, he) (rw (hc, hc) refl)
 
-right_three : (e0 c0 t0 : ℕ) (e c t : List ℕ) → nat_eq e0 45 ≡ false → nat_eq c0 45 ≡ false → nat_eq t0 45 ≡ false → fault_of rept_app (codes "open" ∷ (e0 ∷ e) ∷ (c0 ∷ c) ∷ (t0 ∷ t) ∷ []) ≡ []
+wrong_five : (d : Domain) (e0 c0 t0 f0 g0 : ℕ) (e c t f g : List ℕ) → nat_eq e0 45 ≡ false → nat_eq c0 45 ≡ false → nat_eq t0 45 ≡ false → nat_eq f0 45 ≡ false → nat_eq g0 45 ≡ false
+    → has_fault (fault_of rept_app (word_of d ∷ (e0 ∷ e) ∷ (c0 ∷ c) ∷ (t0 ∷ t) ∷ (f0 ∷ f) ∷ (g0 ∷ g) ∷ [])) ≡ true
 unfolding clap_on_literals
-right_three e0 c0 t0 e c t he hc ht = rw (he, he) (rw (hc, hc) (rw (ht, ht) refl))
+wrong_five domain.Ranges e0 c0 t0 f0 g0 e c t f g he hc ht hf hg = rw (he, he) (rw (hc, hc) (rw (ht, ht) (rw (hf, hf) (rw (hg, hg) refl))))
+wrong_five domain.KnownBits e0 c0 t0 f0 g0 e c t f g he hc ht hf hg = rw (he, he) (rw (hc, hc) (rw (ht, ht) (rw (hf, hf) (rw (hg, hg) refl))))
 
-right_four : (e0 c0 t0 f0 : ℕ) (e c t f : List ℕ) → nat_eq e0 45 ≡ false → nat_eq c0 45 ≡ false → nat_eq t0 45 ≡ false → nat_eq f0 45 ≡ false
-    → fault_of rept_app (codes "open" ∷ (e0 ∷ e) ∷ (c0 ∷ c) ∷ (t0 ∷ t) ∷ (f0 ∷ f) ∷ []) ≡ []
+right_three : (d : Domain) (e0 c0 t0 : ℕ) (e c t : List ℕ) → nat_eq e0 45 ≡ false → nat_eq c0 45 ≡ false → nat_eq t0 45 ≡ false → fault_of rept_app (word_of d ∷ (e0 ∷ e) ∷ (c0 ∷ c) ∷ (t0 ∷ t) ∷ []) ≡ []
 unfolding clap_on_literals
-right_four e0 c0 t0 f0 e c t f he hc ht hf = rw (he, he) (rw (hc, hc) (rw (ht, ht) (rw (hf, hf) refl)))
+right_three domain.Ranges e0 c0 t0 e c t he hc ht = rw (he, he) (rw (hc, hc) (rw (ht, ht) refl))
+right_three domain.KnownBits e0 c0 t0 e c t he hc ht = rw (he, he) (rw (hc, hc) (rw (ht, ht) refl))
+
+right_four : (d : Domain) (e0 c0 t0 f0 : ℕ) (e c t f : List ℕ) → nat_eq e0 45 ≡ false → nat_eq c0 45 ≡ false → nat_eq t0 45 ≡ false → nat_eq f0 45 ≡ false
+    → fault_of rept_app (word_of d ∷ (e0 ∷ e) ∷ (c0 ∷ c) ∷ (t0 ∷ t) ∷ (f0 ∷ f) ∷ []) ≡ []
+unfolding clap_on_literals
+right_four domain.Ranges e0 c0 t0 f0 e c t f he hc ht hf = rw (he, he) (rw (hc, hc) (rw (ht, ht) (rw (hf, hf) refl)))
+right_four domain.KnownBits e0 c0 t0 f0 e c t f he hc ht hf = rw (he, he) (rw (hc, hc) (rw (ht, ht) (rw (hf, hf) refl)))
 
 abbrev rows_three : Text → Text → Text → List Row
 rows_three e c t = row (needed (codes "exe")) e ∷ row (needed (codes "core")) c ∷ row (needed (codes "trace")) t ∷ []
 
-rows_of_three : (e0 c0 t0 : ℕ) (e c t : List ℕ) → nat_eq e0 45 ≡ false → nat_eq c0 45 ≡ false → nat_eq t0 45 ≡ false
-    → subcommand_of rept_app (codes "open" ∷ (e0 ∷ e) ∷ (c0 ∷ c) ∷ (t0 ∷ t) ∷ []) ≡ Some (codes "open", rows_three (e0 ∷ e) (c0 ∷ c) (t0 ∷ t))
+rows_of_three : (d : Domain) (e0 c0 t0 : ℕ) (e c t : List ℕ) → nat_eq e0 45 ≡ false → nat_eq c0 45 ≡ false → nat_eq t0 45 ≡ false
+    → subcommand_of rept_app (word_of d ∷ (e0 ∷ e) ∷ (c0 ∷ c) ∷ (t0 ∷ t) ∷ []) ≡ Some (word_of d, rows_three (e0 ∷ e) (c0 ∷ c) (t0 ∷ t))
 unfolding clap_on_literals
-rows_of_three e0 c0 t0 e c t he hc ht = rw (he, he) (rw (hc, hc) (rw (ht, ht) refl))
+rows_of_three domain.Ranges e0 c0 t0 e c t he hc ht = rw (he, he) (rw (hc, hc) (rw (ht, ht) refl))
+rows_of_three domain.KnownBits e0 c0 t0 e c t he hc ht = rw (he, he) (rw (hc, hc) (rw (ht, ht) refl))
 
-rows_of_four : (e0 c0 t0 f0 : ℕ) (e c t f : List ℕ) → nat_eq e0 45 ≡ false → nat_eq c0 45 ≡ false → nat_eq t0 45 ≡ false → nat_eq f0 45 ≡ false
-    → subcommand_of rept_app (codes "open" ∷ (e0 ∷ e) ∷ (c0 ∷ c) ∷ (t0 ∷ t) ∷ (f0 ∷ f) ∷ []) ≡ Some (codes "open", rows_three (e0 ∷ e) (c0 ∷ c) (t0 ∷ t) ++ row (other (codes "from")) (f0 ∷ f) ∷ [])
+rows_of_four : (d : Domain) (e0 c0 t0 f0 : ℕ) (e c t f : List ℕ) → nat_eq e0 45 ≡ false → nat_eq c0 45 ≡ false → nat_eq t0 45 ≡ false → nat_eq f0 45 ≡ false
+    → subcommand_of rept_app (word_of d ∷ (e0 ∷ e) ∷ (c0 ∷ c) ∷ (t0 ∷ t) ∷ (f0 ∷ f) ∷ []) ≡ Some (word_of d, rows_three (e0 ∷ e) (c0 ∷ c) (t0 ∷ t) ++ row (other (codes "from")) (f0 ∷ f) ∷ [])
 unfolding clap_on_literals
-rows_of_four e0 c0 t0 f0 e c t f he hc ht hf = rw (he, he) (rw (hc, hc) (rw (ht, ht) (rw (hf, hf) refl)))
+rows_of_four domain.Ranges e0 c0 t0 f0 e c t f he hc ht hf = rw (he, he) (rw (hc, hc) (rw (ht, ht) (rw (hf, hf) refl)))
+rows_of_four domain.KnownBits e0 c0 t0 f0 e c t f he hc ht hf = rw (he, he) (rw (hc, hc) (rw (ht, ht) (rw (hf, hf) refl)))
 
-found_three : (e c t : Text) → found_meaning (Some (codes "open", rows_three e c t)) ≡ plain_meaning (codes "open" ∷ e ∷ c ∷ t ∷ [])
-found_three e c t = refl
+found_three : (d : Domain) (e c t : Text) → found_meaning (Some (word_of d, rows_three e c t)) ≡ plain_meaning (word_of d ∷ e ∷ c ∷ t ∷ [])
+found_three domain.Ranges e c t = refl
+found_three domain.KnownBits e c t = refl
 
-found_four : (e c t f : Text) → found_meaning (Some (codes "open", rows_three e c t ++ row (other (codes "from")) f ∷ [])) ≡ plain_meaning (codes "open" ∷ e ∷ c ∷ t ∷ f ∷ [])
-found_four e c t f = refl
+found_four : (d : Domain) (e c t f : Text) → found_meaning (Some (word_of d, rows_three e c t ++ row (other (codes "from")) f ∷ [])) ≡ plain_meaning (word_of d ∷ e ∷ c ∷ t ∷ f ∷ [])
+found_four domain.Ranges e c t f = refl
+found_four domain.KnownBits e c t f = refl
 
-opens : (ws : List Text) → AllPlain ws → length ws ≤ 5 → Outcome (codes "open" ∷ ws)
-opens [] none h = refused (codes "open" ∷ []) wrong_none refl
-opens (w ∷ []) (more (plain p) none) h = refused (codes "open" ∷ w ∷ []) (wrong_one _ _ p) refl
-opens (w ∷ x ∷ []) (more (plain p) (more (plain q) none)) h = refused (codes "open" ∷ w ∷ x ∷ []) (wrong_two _ _ _ _ p q) refl
-opens (w ∷ x ∷ y ∷ []) (more (plain p) (more (plain q) (more (plain r) none))) h =
-    taken (codes "open" ∷ w ∷ x ∷ y ∷ []) (right_three _ _ _ _ _ _ p q r) (ap found_meaning (rows_of_three _ _ _ _ _ _ p q r) ∙ found_three w x y)
-opens (w ∷ x ∷ y ∷ z ∷ []) (more (plain p) (more (plain q) (more (plain r) (more (plain s) none)))) h =
-    taken (codes "open" ∷ w ∷ x ∷ y ∷ z ∷ []) (right_four _ _ _ _ _ _ _ _ p q r s) (ap found_meaning (rows_of_four _ _ _ _ _ _ _ _ p q r s) ∙ found_four w x y z)
-opens (w ∷ x ∷ y ∷ z ∷ v ∷ []) (more (plain p) (more (plain q) (more (plain r) (more (plain s) (more (plain t) none))))) h =
-    refused (codes "open" ∷ w ∷ x ∷ y ∷ z ∷ v ∷ []) (wrong_five _ _ _ _ _ _ _ _ _ _ p q r s t) refl
-opens (w ∷ x ∷ y ∷ z ∷ v ∷ u ∷ ws) a h = absurd (omega arith)
+opens : (d : Domain) (ws : List Text) → AllPlain ws → length ws ≤ 5 → Outcome (word_of d ∷ ws)
+opens d [] none h = refused (word_of d ∷ []) (wrong_none d) refl
+opens d (w ∷ []) (more (plain p) none) h = refused (word_of d ∷ w ∷ []) (wrong_one d _ _ p) refl
+opens d (w ∷ x ∷ []) (more (plain p) (more (plain q) none)) h = refused (word_of d ∷ w ∷ x ∷ []) (wrong_two d _ _ _ _ p q) (no_run d w x)
+  where
+    no_run : (d : Domain) (w x : Text) → plain_meaning (word_of d ∷ w ∷ x ∷ []) ≡ None
+    no_run domain.Ranges w x = refl
+    no_run domain.KnownBits w x = refl
+opens d (w ∷ x ∷ y ∷ []) (more (plain p) (more (plain q) (more (plain r) none))) h =
+    taken (word_of d ∷ w ∷ x ∷ y ∷ []) (right_three d _ _ _ _ _ _ p q r) (ap found_meaning (rows_of_three d _ _ _ _ _ _ p q r) ∙ found_three d w x y)
+opens d (w ∷ x ∷ y ∷ z ∷ []) (more (plain p) (more (plain q) (more (plain r) (more (plain s) none)))) h =
+    taken (word_of d ∷ w ∷ x ∷ y ∷ z ∷ []) (right_four d _ _ _ _ _ _ _ _ p q r s) (ap found_meaning (rows_of_four d _ _ _ _ _ _ _ _ p q r s) ∙ found_four d w x y z)
+opens d (w ∷ x ∷ y ∷ z ∷ v ∷ []) (more (plain p) (more (plain q) (more (plain r) (more (plain s) (more (plain t) none))))) h =
+    refused (word_of d ∷ w ∷ x ∷ y ∷ z ∷ v ∷ []) (wrong_five d _ _ _ _ _ _ _ _ _ _ p q r s t) refl
+opens d (w ∷ x ∷ y ∷ z ∷ v ∷ u ∷ ws) a h = absurd (omega arith)
 
 -- after `self`
 bare_none : has_fault (fault_of rept_app (codes "self" ∷ [])) ≡ true
@@ -181,29 +205,48 @@ makes (w ∷ x ∷ y ∷ z ∷ v ∷ []) (more (plain p) (more (plain q) (more (
 makes (w ∷ x ∷ y ∷ z ∷ v ∷ u ∷ ws) a h = absurd (omega arith)
 
 -- the same, of words that are screened
-by_first : (first : Text) (ws : List Text) → (bytes_eq first (codes "open") ≡ true) ⊎ (bytes_eq first (codes "self") ≡ true) → AllPlain ws → length ws ≤ 5 → Outcome (first ∷ ws)
-by_first first ws (inl named) bare few = let is : first ≡ codes "open" = search rules in subst (λ w. Outcome (w ∷ ws)) (sym is) (opens ws bare few)
-by_first first ws (inr made) bare few = let is : first ≡ codes "self" = search rules in subst (λ w. Outcome (w ∷ ws)) (sym is) (makes ws bare few)
+abbrev IsNamed : Text → Type 0
+IsNamed first = (bytes_eq first (codes "open") ≡ true) ⊎ (bytes_eq first (codes "bits") ≡ true) ⊎ (bytes_eq first (codes "self") ≡ true)
+
+abbrev named : Text → Bool
+named first = bytes_eq first (codes "open") || bytes_eq first (codes "bits") || bytes_eq first (codes "self")
+
+named_by : (first : Text) → named first ≡ true → IsNamed first
+named_by first h = by_last (one_true (bytes_eq first (codes "open") || bytes_eq first (codes "bits")) (bytes_eq first (codes "self")) h)
+  where
+    by_two : (bytes_eq first (codes "open") ≡ true) ⊎ (bytes_eq first (codes "bits") ≡ true) → IsNamed first
+    by_two (inl k) = inl k
+    by_two (inr k) = inr (inl k)
+
+    by_last : ((bytes_eq first (codes "open") || bytes_eq first (codes "bits")) ≡ true) ⊎ (bytes_eq first (codes "self") ≡ true) → IsNamed first
+    by_last (inl k) = by_two (one_true (bytes_eq first (codes "open")) (bytes_eq first (codes "bits")) k)
+    by_last (inr k) = inr (inr k)
+
+by_first : (first : Text) (ws : List Text) → IsNamed first → AllPlain ws → length ws ≤ 5 → Outcome (first ∷ ws)
+by_first first ws (inl h) bare few = let is : first ≡ codes "open" = search rules in subst (λ w. Outcome (w ∷ ws)) (sym is) (opens domain.Ranges ws bare few)
+by_first first ws (inr (inl h)) bare few = let is : first ≡ codes "bits" = search rules in subst (λ w. Outcome (w ∷ ws)) (sym is) (opens domain.KnownBits ws bare few)
+by_first first ws (inr (inr h)) bare few = let is : first ≡ codes "self" = search rules in subst (λ w. Outcome (w ∷ ws)) (sym is) (makes ws bare few)
 
 pub screened : (words : List Text) → is_screened words ≡ true → Outcome words
 screened [] h = let bad : ⊥ = cc in absurd bad
 screened (first ∷ ws) h =
-    let k = both_true (bytes_eq first (codes "open") || bytes_eq first (codes "self")) (nat_le (length ws) 5 && list_all is_plain ws) h in
-    let m = both_true (nat_le (length ws) 5) (list_all is_plain ws) k.1 in by_first first ws (one_true _ _ k.0) (all_plain ws m.1) (leb-true (length ws) 5 m.0)
+    let k = both_true (named first) (nat_le (length ws) 5 && list_all is_plain ws) h in
+    let m = both_true (nat_le (length ws) 5) (list_all is_plain ws) k.1 in by_first first ws (named_by first k.0) (all_plain ws m.1) (leb-true (length ws) 5 m.0)
 
-plain_first : (first : Text) → (bytes_eq first (codes "open") || bytes_eq first (codes "self")) ≡ true → is_plain first ≡ true
+plain_first : (first : Text) → named first ≡ true → is_plain first ≡ true
 plain_first [] h = let bad : ⊥ = cc in absurd bad
-plain_first (b ∷ bs) h = by (one_true _ _ h)
+plain_first (b ∷ bs) h = by (named_by (b ∷ bs) h)
   where
-    by : (bytes_eq (b ∷ bs) (codes "open") ≡ true) ⊎ (bytes_eq (b ∷ bs) (codes "self") ≡ true) → is_plain (b ∷ bs) ≡ true
-    by (inl named) = let is : b ∷ bs ≡ codes "open" = search rules in ap is_plain is
-    by (inr made) = let is : b ∷ bs ≡ codes "self" = search rules in ap is_plain is
+    by : IsNamed (b ∷ bs) → is_plain (b ∷ bs) ≡ true
+    by (inl h) = let is : b ∷ bs ≡ codes "open" = search rules in ap is_plain is
+    by (inr (inl h)) = let is : b ∷ bs ≡ codes "bits" = search rules in ap is_plain is
+    by (inr (inr h)) = let is : b ∷ bs ≡ codes "self" = search rules in ap is_plain is
 
 -- screened words are plain
 pub screened_meaning : (words : List Text) → is_screened words ≡ true → meaning_of words ≡ plain_meaning words
 screened_meaning [] h = let bad : ⊥ = cc in absurd bad
 screened_meaning (first ∷ ws) h =
-    let k = both_true (bytes_eq first (codes "open") || bytes_eq first (codes "self")) (nat_le (length ws) 5 && list_all is_plain ws) h in
+    let k = both_true (named first) (nat_le (length ws) 5 && list_all is_plain ws) h in
     let m = both_true (nat_le (length ws) 5) (list_all is_plain ws) k.1 in
     let all : list_all is_plain (first ∷ ws) ≡ true = rw (plain_first first k.0, m.1) refl in
     ap (λ q. cond q (plain_meaning (first ∷ ws)) None) all
@@ -217,13 +260,16 @@ long_meaning first (w ∷ x ∷ y ∷ []) h = let bad : ⊥ = cc in absurd bad
 long_meaning first (w ∷ x ∷ y ∷ z ∷ []) h = let bad : ⊥ = cc in absurd bad
 long_meaning first (w ∷ x ∷ y ∷ z ∷ v ∷ ws) h = refl
 
-other_meaning : (first : Text) (ws : List Text) → bytes_eq first (codes "open") ≡ false → bytes_eq first (codes "self") ≡ false → plain_meaning (first ∷ ws) ≡ None
-other_meaning first [] ho hs = refl
-other_meaning first (w ∷ []) ho hs = refl
-other_meaning first (w ∷ x ∷ []) ho hs = rw (hs) refl
-other_meaning first (w ∷ x ∷ y ∷ []) ho hs = rw (ho) refl
-other_meaning first (w ∷ x ∷ y ∷ z ∷ []) ho hs = rw (ho) refl
-other_meaning first (w ∷ x ∷ y ∷ z ∷ v ∷ ws) ho hs = refl
+no_domain : (first : Text) → bytes_eq first (codes "open") ≡ false → bytes_eq first (codes "bits") ≡ false → domain_of first ≡ None
+no_domain first ho hb = rw (ho, hb) refl
+
+other_meaning : (first : Text) (ws : List Text) → bytes_eq first (codes "open") ≡ false → bytes_eq first (codes "bits") ≡ false → bytes_eq first (codes "self") ≡ false → plain_meaning (first ∷ ws) ≡ None
+other_meaning first [] ho hb hs = refl
+other_meaning first (w ∷ []) ho hb hs = refl
+other_meaning first (w ∷ x ∷ []) ho hb hs = rw (hs) refl
+other_meaning first (w ∷ x ∷ y ∷ []) ho hb hs = ap (λ o. option_and_then (λ d. Some (Open d (record { exe = w; core = x; trace = y }) None)) o) (no_domain first ho hb)
+other_meaning first (w ∷ x ∷ y ∷ z ∷ []) ho hb hs = ap (λ o. option_and_then (λ d. option_and_then (λ k. Some (Open d (record { exe = w; core = x; trace = y }) (Some k))) (decimal_of z)) o) (no_domain first ho hb)
+other_meaning first (w ∷ x ∷ y ∷ z ∷ v ∷ ws) ho hb hs = refl
 
 unplain : (words : List Text) → list_all is_plain words ≡ false → meaning_of words ≡ None
 unplain words h = ap (λ q. cond q (plain_meaning words) None) h
@@ -237,16 +283,17 @@ meaningless words h = by (list_all is_plain words)
 
 pub unscreened : (words : List Text) → is_screened words ≡ false → meaning_of words ≡ None
 unscreened [] h = refl
-unscreened (first ∷ ws) h = by (bytes_eq first (codes "open")) (bytes_eq first (codes "self")) (nat_le (length ws) 5) (list_all is_plain ws) refl refl refl refl h
+unscreened (first ∷ ws) h = by (bytes_eq first (codes "open")) (bytes_eq first (codes "bits")) (bytes_eq first (codes "self")) (nat_le (length ws) 5) (list_all is_plain ws) refl refl refl refl refl h
   where
-    by : (o s n p : Bool) → bytes_eq first (codes "open") ≡ o → bytes_eq first (codes "self") ≡ s → nat_le (length ws) 5 ≡ n → list_all is_plain ws ≡ p → ((o || s) && (n && p)) ≡ false
+    by : (o b s n p : Bool) → bytes_eq first (codes "open") ≡ o → bytes_eq first (codes "bits") ≡ b → bytes_eq first (codes "self") ≡ s → nat_le (length ws) 5 ≡ n → list_all is_plain ws ≡ p → ((o || b || s) && (n && p)) ≡ false
         → meaning_of (first ∷ ws) ≡ None
-    by false false n p ho hs hn hp h = meaningless (first ∷ ws) (other_meaning first ws ho hs)
-    by o s false p ho hs hn hp h = meaningless (first ∷ ws) (long_meaning first ws hn)
-    by o s n false ho hs hn hp h = unplain (first ∷ ws) (last (is_plain first))
+    by false false false n p ho hb hs hn hp h = meaningless (first ∷ ws) (other_meaning first ws ho hb hs)
+    by o b s false p ho hb hs hn hp h = meaningless (first ∷ ws) (long_meaning first ws hn)
+    by o b s n false ho hb hs hn hp h = unplain (first ∷ ws) (last (is_plain first))
       where
         last : (q : Bool) → (q && list_all is_plain ws) ≡ false
         last true = hp
         last false = refl
-    by true s true true ho hs hn hp h = let bad : ⊥ = cc in absurd bad
-    by false true true true ho hs hn hp h = let bad : ⊥ = cc in absurd bad
+    by true b s true true ho hb hs hn hp h = let bad : ⊥ = cc in absurd bad
+    by false true s true true ho hb hs hn hp h = let bad : ⊥ = cc in absurd bad
+    by false false true true true ho hb hs hn hp h = let bad : ⊥ = cc in absurd bad

@@ -9,5 +9,5 @@ abbrev pub named_by : FileNames → Names
 named_by names = record { exe = names.exe.now; core = names.core.now; trace = names.trace.now }
 
 abbrev pub asked_by : Request → Meaning
-asked_by (request.Open names from) = Open (named_by names) from
+asked_by (request.Open domain names from) = Open domain (named_by names) from
 asked_by (request.Made seed steps) = Made seed steps

@@ -1,4 +1,4 @@
--- The command line as a command of `clap`: two subcommands, whose words go by their places. This project's own.
+-- The command line as a command of `clap`: three subcommands, whose words go by their places. This project's own.
 use Rattle.std.specs.Prelude.{true, Some, codes}
 use Rattle.clap.specs.Words.{App, Rule, Text, new_app, new_rule, with_rule, with_subcommand}
 use Rattle.clap.specs.declared.builder.ArgAction.TheVariants.{Set}
@@ -14,8 +14,9 @@ other id = record (new_rule id) { action = Some Set }
 abbrev pub plain_app : Text → App
 plain_app name = record (new_app name) { top = record (new_app name).top { disable_help_flag = true } }
 
-abbrev pub open_app : App
-open_app = with_rule (with_rule (with_rule (with_rule (plain_app (codes "open")) (needed (codes "exe"))) (needed (codes "core"))) (needed (codes "trace"))) (other (codes "from"))
+-- one whose words are the files of a crash, and maybe a packet's number
+abbrev pub files_app : Text → App
+files_app name = with_rule (with_rule (with_rule (with_rule (plain_app name) (needed (codes "exe"))) (needed (codes "core"))) (needed (codes "trace"))) (other (codes "from"))
 
 abbrev pub self_app : App
 self_app = with_rule (with_rule (plain_app (codes "self")) (needed (codes "seed"))) (needed (codes "steps"))
@@ -25,4 +26,4 @@ abbrev pub bare_app : App
 bare_app = record (new_app (codes "rept")) { top = record (new_app (codes "rept")).top { no_binary_name = true; disable_help_flag = true; disable_help_subcommand = true; subcommand_required = true } }
 
 abbrev pub rept_app : App
-rept_app = with_subcommand (with_subcommand bare_app open_app.top) self_app.top
+rept_app = with_subcommand (with_subcommand (with_subcommand bare_app (files_app (codes "open")).top) (files_app (codes "bits")).top) self_app.top

@@ -6,6 +6,8 @@ use Rattle.std.specs.Option.{option_and_then}
 use Rattle.clap.specs.Words.{Row, Text, first_of}
 use Rattle.rept_number.specs.Numbers.{decimal_of}
 use Rattle.rept_words.specs.Words.{Names, Meaning, is_plain, made_of}
+use Rattle.rept_words.specs.declared.request.Domain.{Domain}
+use Rattle.rept_words.specs.declared.request.Domain.TheVariants as domain
 use Rattle.rept_words.specs.Words.Meaning.{Open}
 
 -- the names of the files, where all three are found
@@ -14,22 +16,23 @@ names_by rows =
     option_and_then (λ exe. option_and_then (λ core. option_and_then (λ trace. Some (record { exe = exe; core = core; trace = trace }))
     (first_of (codes "trace") rows)) (first_of (codes "core") rows)) (first_of (codes "exe") rows)
 
--- `open` with these names and the word of a packet, if there is one
-abbrev pub open_with : Names → Option Text → Option Meaning
-open_with names None = Some (Open names None)
-open_with names (Some from) = option_and_then (λ k. Some (Open names (Some k))) (decimal_of from)
+-- these names and the word of a packet, if there is one
+abbrev pub open_with : Domain → Names → Option Text → Option Meaning
+open_with d names None = Some (Open d names None)
+open_with d names (Some from) = option_and_then (λ k. Some (Open d names (Some k))) (decimal_of from)
 
-abbrev pub open_by : List Row → Option Meaning
-open_by rows = option_and_then (λ names. open_with names (first_of (codes "from") rows)) (names_by rows)
+abbrev pub open_by : Domain → List Row → Option Meaning
+open_by d rows = option_and_then (λ names. open_with d names (first_of (codes "from") rows)) (names_by rows)
 
 abbrev pub made_by : List Row → Option Meaning
 made_by rows = option_and_then (λ seed. option_and_then (λ steps. made_of seed steps) (first_of (codes "steps") rows)) (first_of (codes "seed") rows)
 
 -- the meaning of the words that are found after a subcommand
 abbrev pub found_meaning : Option (Text × List Row) → Option Meaning
-found_meaning found = option_and_then (λ p. if bytes_eq p.0 (codes "open") then open_by p.1 else made_by p.1) found
+found_meaning found =
+    option_and_then (λ p. if bytes_eq p.0 (codes "open") then open_by domain.Ranges p.1 else if bytes_eq p.0 (codes "bits") then open_by domain.KnownBits p.1 else made_by p.1) found
 
--- plain words after `open` or `self`, five of them at most
+-- plain words after `open`, `bits` or `self`, five of them at most
 abbrev pub is_screened : List (List ℕ) → Bool
 is_screened [] = false
-is_screened (first ∷ words) = (bytes_eq first (codes "open") || bytes_eq first (codes "self")) && (nat_le (length words) 5 && list_all is_plain words)
+is_screened (first ∷ words) = (bytes_eq first (codes "open") || bytes_eq first (codes "bits") || bytes_eq first (codes "self")) && (nat_le (length words) 5 && list_all is_plain words)

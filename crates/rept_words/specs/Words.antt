@@ -4,6 +4,8 @@ use Rattle.std.specs.List.{list_all}
 use Rattle.std.specs.Str.{bytes_eq}
 use Rattle.std.specs.Option.{option_and_then}
 use Rattle.rept_number.specs.Numbers.{decimal_of}
+use Rattle.rept_words.specs.declared.request.Domain.{Domain}
+use Rattle.rept_words.specs.declared.request.Domain.TheVariants as domain
 
 -- the names of the files of a crash
 pub record Names : Type 0 where
@@ -11,9 +13,9 @@ pub record Names : Type 0 where
   pub core : List ℕ
   pub trace : List ℕ
 
--- `open` names three files and may name the packet to begin from; `self` gives a seed and a count of steps
+-- `open` and `bits` name three files and may name the packet to begin from; `self` gives a seed and a count of steps
 pub data Meaning : Type 0 where
-  Open : Names → Option ℕ → Meaning
+  Open : Domain → Names → Option ℕ → Meaning
   Made : ℕ → ℕ → Meaning
 
 -- not empty, and no leading hyphen
@@ -28,12 +30,19 @@ steps_of word = option_and_then (λ n. if nat_lt 0 n && nat_le n 20000 then Some
 abbrev pub made_of : List ℕ → List ℕ → Option Meaning
 made_of seed steps = option_and_then (λ s. option_and_then (λ n. Some (Made s n)) (steps_of steps)) (decimal_of seed)
 
+-- the domain that a first word asks for
+abbrev pub domain_of : List ℕ → Option Domain
+domain_of first =
+    if bytes_eq first (codes "open") then Some domain.Ranges
+    else if bytes_eq first (codes "bits") then Some domain.KnownBits
+    else None
+
 -- the meaning of plain words, by their count and the first of them
 abbrev pub plain_meaning : List (List ℕ) → Option Meaning
 plain_meaning (first ∷ exe ∷ core ∷ trace ∷ []) =
-    if bytes_eq first (codes "open") then Some (Open (record { exe = exe; core = core; trace = trace }) None) else None
+    option_and_then (λ d. Some (Open d (record { exe = exe; core = core; trace = trace }) None)) (domain_of first)
 plain_meaning (first ∷ exe ∷ core ∷ trace ∷ from ∷ []) =
-    if bytes_eq first (codes "open") then option_and_then (λ k. Some (Open (record { exe = exe; core = core; trace = trace }) (Some k))) (decimal_of from) else None
+    option_and_then (λ d. option_and_then (λ k. Some (Open d (record { exe = exe; core = core; trace = trace }) (Some k))) (decimal_of from)) (domain_of first)
 plain_meaning (first ∷ seed ∷ steps ∷ []) = if bytes_eq first (codes "self") then made_of seed steps else None
 plain_meaning words = None
 

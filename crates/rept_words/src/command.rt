@@ -3,7 +3,7 @@
 ghost use Rattle.std.specs.Prelude.{◌≡◌, IfOk, false};
 ghost use Rattle.clap.specs.Words.{app_of, rule_of, with_rule};
 ghost use Rattle.clap.specs.declared.builder.command.Command.TheViews.{out-Command as fields_of};
-ghost use Rattle.rept_words.specs.CommandLine.{needed, other, plain_app, bare_app, open_app, self_app, rept_app};
+ghost use Rattle.rept_words.specs.CommandLine.{needed, other, plain_app, bare_app, files_app, self_app, rept_app};
 
 use clap::{Arg, ArgAction, Command};
 use rept_word::OutOfMemory;
@@ -43,11 +43,12 @@ fn with_word<'a>(command: Command<'a>, word: Arg<'a>) -> Result<Command<'a>, Out
     command.arg(word)
 }
 
-fn open_command<'a>(alloc: Global) -> Result<Command<'a>, OutOfMemory>
-    ensures app { IfOk result (λ c. app_of c ≡ open_app) }
+/// A command of this name whose words are the files of a crash, and maybe a packet's number.
+fn files_command<'a>(alloc: Global, name: &'a str) -> Result<Command<'a>, OutOfMemory>
+    ensures app { IfOk result (λ c. app_of c ≡ files_app name.entry.now) }
     ensures local { IfOk result (λ c. (fields_of c).has_globals ≡ false) }
 {
-    let command = plain_command(alloc, "open");
+    let command = plain_command(alloc, name);
     let command = with_word(command, needed_word(alloc, "exe"))?;
     let command = with_word(command, needed_word(alloc, "core"))?;
     let command = with_word(command, needed_word(alloc, "trace"))?;
@@ -75,11 +76,15 @@ fn bare_command<'a>(alloc: Global) -> Command<'a>
         .subcommand_required(true)
 }
 
-/// The command `rept`, with the subcommands `open` and `self`, whose words go by their places. It has no help of its own.
+/// The command `rept`, with the subcommands `open`, `bits` and `self`, whose words go by their places. It has no help of its own.
 pub fn rept_command<'a>(alloc: Global) -> Result<Command<'a>, OutOfMemory>
     ensures { IfOk result (λ c. app_of c ≡ rept_app) }
 {
-    let open = open_command(alloc)?;
+    let open = files_command(alloc, "open")?;
+    let bits = files_command(alloc, "bits")?;
     let made = self_command(alloc)?;
-    bare_command(alloc).subcommand(open)?.subcommand(made)
+    bare_command(alloc)
+        .subcommand(open)?
+        .subcommand(bits)?
+        .subcommand(made)
 }

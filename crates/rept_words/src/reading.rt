@@ -9,7 +9,7 @@ ghost use Rattle.rept_words.specs.Found.{found_meaning, is_screened, made_by, na
 ghost use Rattle.rept_words.specs.Words.{is_plain, made_of, meaning_of, steps_of};
 
 use crate::command::rept_command;
-use crate::request::{FileNames, Request};
+use crate::request::{Domain, FileNames, Request};
 use clap::ArgMatches;
 use clap::error::ErrorKind;
 use rept_number::decimal;
@@ -17,7 +17,7 @@ use rept_word::OutOfMemory;
 use std::alloc::{AllocError, Global};
 
 /// What the words ask for. None exactly where they have no meaning: where a word is empty or begins with a hyphen, where
-/// they are neither of the two forms, or a number is out of form or of range. The only refusal is out of memory.
+/// they are none of the forms, or a number is out of form or of range. The only refusal is out of memory.
 pub fn meaning<'a>(alloc: Global, words: &'a [String]) -> Result<Option<Request<'a>>, OutOfMemory>
     ensures { IfOk result (λ r. option_map asked_by r ≡ meaning_of (map string_bytes words.entry.now)) }
 {
@@ -42,7 +42,7 @@ fn is_screened(words: &[String]) -> bool
     match words {
         [] => false,
         [first, rest @ ..] => {
-            (first.as_str() == "open" || first.as_str() == "self")
+            (first.as_str() == "open" || first.as_str() == "bits" || first.as_str() == "self")
                 && rest.len() <= 5
                 && are_plain(rest)
         }
@@ -78,7 +78,9 @@ fn asked<'a>(matches: &ArgMatches<'a>) -> Option<Request<'a>>
         return None;
     };
     if name == "open" {
-        opened(found)
+        opened(Domain::Ranges, found)
+    } else if name == "bits" {
+        opened(Domain::KnownBits, found)
     } else {
         made(found)
     }
@@ -91,25 +93,30 @@ fn word_of<'a>(matches: &ArgMatches<'a>, id: &str) -> Option<&'a str>
     matches.get_str(id)
 }
 
-fn opened<'a>(found: &ArgMatches<'a>) -> Option<Request<'a>>
-    ensures { option_map asked_by result ≡ open_by (rows_of (found_of found.now)) }
+fn opened<'a>(domain: Domain, found: &ArgMatches<'a>) -> Option<Request<'a>>
+    ensures { option_map asked_by result ≡ open_by domain (rows_of (found_of found.now)) }
 {
     let Some(names) = names(found) else {
         return None;
     };
     match word_of(found, "from") {
-        None => Some(Request::Open { names, from: None }),
-        Some(word) => from_packet(names, word),
+        None => Some(Request::Open {
+            domain,
+            names,
+            from: None,
+        }),
+        Some(word) => from_packet(domain, names, word),
     }
 }
 
-fn from_packet<'a>(names: FileNames<'a>, word: &str) -> Option<Request<'a>>
-    ensures { option_map asked_by result ≡ open_with (named_by names.entry) (Some word.now) }
+fn from_packet<'a>(domain: Domain, names: FileNames<'a>, word: &str) -> Option<Request<'a>>
+    ensures { option_map asked_by result ≡ open_with domain (named_by names.entry) (Some word.now) }
 {
     let Some(from) = decimal(word.as_bytes()) else {
         return None;
     };
     Some(Request::Open {
+        domain,
         names,
         from: Some(from),
     })

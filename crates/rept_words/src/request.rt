@@ -8,11 +8,21 @@ pub struct FileNames<'a> {
     pub trace: &'a str,
 }
 
+/// The abstract domain in which the values of registers are followed along the path.
+#[derive(Clone, Copy, Debug, PartialEq, Eq)]
+pub enum Domain {
+    /// `open`: ranges.
+    Ranges,
+    /// `bits`: ranges, and the bits that are known of the values in them.
+    KnownBits,
+}
+
 /// What the words ask for.
 #[derive(Clone, Copy, Debug, PartialEq, Eq)]
 pub enum Request<'a> {
-    /// `open EXE CORE TRACE [FROM]`: `from` is the number of the packet to begin from.
+    /// `open EXE CORE TRACE [FROM]`, or `bits` with the same words: `from` is the number of the packet to begin from.
     Open {
+        domain: Domain,
         names: FileNames<'a>,
         from: Option<u32>,
     },

@@ -1,6 +1,6 @@
 //! Words of the command line, and what they ask for.
 
-use rept_words::{FileNames, Request, meaning};
+use rept_words::{Domain, FileNames, Request, meaning};
 use std::alloc::{AllocError, Global};
 use std::test::Fail;
 
@@ -13,22 +13,35 @@ fn words_of(alloc: Global, line: &str) -> Result<Vec<String>, AllocError> {
     Ok(words)
 }
 
-fn open(from: Option<u32>) -> Option<Request<'static>> {
+fn open(domain: Domain, from: Option<u32>) -> Option<Request<'static>> {
     let names = FileNames {
         exe: "e",
         core: "c",
         trace: "t",
     };
-    Some(Request::Open { names, from })
+    Some(Request::Open {
+        domain,
+        names,
+        from,
+    })
 }
 
 #[test]
 fn words_have_their_meaning(rt: HostRuntime) -> Result<(), Fail> {
     let alloc = rt.alloc();
     let table = [
-        ("open e c t", open(None)),
-        ("open e c t 7", open(Some(7))),
-        ("open e c t 4294967295", open(Some(4294967295))),
+        ("open e c t", open(Domain::Ranges, None)),
+        ("open e c t 7", open(Domain::Ranges, Some(7))),
+        (
+            "open e c t 4294967295",
+            open(Domain::Ranges, Some(4294967295)),
+        ),
+        ("bits e c t", open(Domain::KnownBits, None)),
+        ("bits e c t 7", open(Domain::KnownBits, Some(7))),
+        ("bits e c t 0x7", None),
+        ("bits e c t 7 8", None),
+        ("bits e c", None),
+        ("bits e  t", None),
         ("open e c t 4294967296", None),
         ("open e c t 0x7", None),
         ("open e c t 7 8", None),

@@ -15,6 +15,7 @@ use std::alloc::{AllocError, Global};
 pub struct Fixed {
     pub rows: [StepRow; 2],
     pub range: Range,
+    pub note: Option<(u32, u32)>,
     pub counts: Counts,
 }
 
@@ -22,7 +23,7 @@ impl Findings for Fixed {
     ghost use Rattle.std.specs.Prelude.{None, Some, nat_lt, ◌==◌, if◌then◌else◌};
     ghost use Rattle.rept_report.specs.declared.writer.Writer.TheVariants.{MayWrite};
 
-    ghost shown = { λ f. record { rows = f.rows; end_pc = 65544; register = λ point r. if point == 0 then None else Some 43981; range = λ point r. f.range; byte = λ point a. if nat_lt a 16 then Some a else None; writer = λ point a. MayWrite 1; counts = f.counts } };
+    ghost shown = { λ f. record { rows = f.rows; end_pc = 65544; register = λ point r. if point == 0 then None else Some 43981; range = λ point r. f.range; note = λ point r. f.note; byte = λ point a. if nat_lt a 16 then Some a else None; writer = λ point a. MayWrite 1; counts = f.counts } };
 
     ghost reasons = { λ f fact why. Unit {0} };
 
@@ -40,6 +41,10 @@ impl Findings for Fixed {
 
     fn range(&self, _point: u32, _register: Reg) -> Range {
         self.range
+    }
+
+    fn note(&self, _point: u32, _register: Reg) -> Option<(u32, u32)> {
+        self.note
     }
 
     fn byte(&self, _point: u32, address: u32) -> Option<u8> {
@@ -110,6 +115,7 @@ pub fn two_steps() -> Fixed
             },
         ],
         range: Range::new(16, u32::MAX),
+        note: None,
         counts: Counts {
             steps: 2,
             calls: 1,

@@ -9,13 +9,13 @@ use Rattle.rept_app.proofs.examine.walk.Goals as goal
 
 pub returns-in-Err-clause-text : goal.returns-in-Err-clause-text
 returns-in-Err-clause-text g c =
-    let trace = crash_trace (crash_of c.args.dump.now) c.args.trace.now c.args.from in
+    let trace = crash_trace (crash_of c.args.dump.now) c.args.trace.now c.args.manner in
     where_told _ _ (λ left told. delivers_as _ (Walks trace (reading_of left (g.S.Source.port c.args.input.now).bytes)) _ _
     (λ text status. refused_walks trace (reading_of left (g.S.Source.port c.args.input.now).bytes) text status c.in-Err.fault c.in-Err.ensures.refusal) c.tell.ensures)
 
 pub returns-in-Err-clause-causes : goal.returns-in-Err-clause-causes
 returns-in-Err-clause-causes g c =
-    let trace = crash_trace (crash_of c.args.dump.now) c.args.trace.now c.args.from in
+    let trace = crash_trace (crash_of c.args.dump.now) c.args.trace.now c.args.manner in
     let told = ends_told (refusal.Path c.in-Err.fault) _ c.tell.result c.tell.ensures in
     told_walked trace c.tell.result _ _ (told_ports (refusal.Path c.in-Err.fault) (g.S.Source.port c.args.input.now) _ c.tell.result (not_input c.in-Err.fault) (not_output c.in-Err.fault) c.tell.ensures)
     (refused_told trace c.tell.result c.in-Err.fault c.in-Err.ensures.only_path c.in-Err.ensures.only_refusal c.in-Err.ensures.other c.in-Err.ensures.refusal told)
@@ -23,17 +23,17 @@ returns-in-Err-clause-causes g c =
 
 pub returns-clause-text : goal.returns-clause-text
 returns-clause-text g c =
-    let trace = crash_trace (crash_of c.args.dump.now) c.args.trace.now c.args.from in
+    let trace = crash_trace (crash_of c.args.dump.now) c.args.trace.now c.args.manner in
     where_told _ _ (λ left told. delivers_as _ (Walks trace (reading_of left (g.S.Source.port c.study.new.input).bytes)) _ _
     (λ text status h. studies_walk trace (reading_of left (g.S.Source.port c.study.new.input).bytes) text status c.in-Ok.path c.in-Ok.ensures.path h)
     (at_some (g.S.Source.port c.args.input.now).bytes left _ told c.study.ensures.text))
 
 pub returns-clause-causes : goal.returns-clause-causes
 returns-clause-causes g c =
-    studied_walked (crash_trace (crash_of c.args.dump.now) c.args.trace.now c.args.from) c.study.result c.in-Ok.path c.in-Ok.ensures.only_path c.in-Ok.ensures.only_refusal _ _ c.study.ensures.causes
+    studied_walked (crash_trace (crash_of c.args.dump.now) c.args.trace.now c.args.manner) c.study.result c.in-Ok.path c.in-Ok.ensures.only_path c.in-Ok.ensures.only_refusal _ _ c.study.ensures.causes
 
 pub returns-clause-stays : goal.returns-clause-stays
-returns-clause-stays g c = study_holds (crash_trace (crash_of c.args.dump.now) c.args.trace.now c.args.from) c.in-Ok.path c.study.result c.in-Ok.ensures.path c.study.ensures.stays
+returns-clause-stays g c = study_holds (crash_trace (crash_of c.args.dump.now) c.args.trace.now c.args.manner) c.in-Ok.path c.study.result c.in-Ok.ensures.path c.study.ensures.stays
 
 pub returns-clause-impossible : goal.returns-clause-impossible
-returns-clause-impossible g c none = path_excludes (crash_trace (crash_of c.args.dump.now) c.args.trace.now c.args.from) c.in-Ok.path c.in-Ok.ensures.only_path (c.study.ensures.impossible none)
+returns-clause-impossible g c none = path_excludes (crash_trace (crash_of c.args.dump.now) c.args.trace.now c.args.manner) c.in-Ok.path c.in-Ok.ensures.only_path (c.study.ensures.impossible none)

@@ -9,14 +9,14 @@ use Rattle.rept_app.specs.MadeRun.{Sums}
 use Rattle.rept_app.specs.declared.load.Asked.TheVariants as asked
 use Rattle.rept_app.proofs.MadeLemmas.{made_holds}
 use Rattle.rept_app.proofs.WordsLemmas.{asks_few}
-use Rattle.rept_app.specs.Told.{Writes, Holds, ReportHolds, NoExecution, given}
+use Rattle.rept_app.specs.Told.{Writes, BitsKnowMore, Holds, ReportHolds, NoExecution, given}
 use Rattle.rept_app.specs.Top.{EndsByFiles}
 use Rattle.rept_words.specs.Words.{meaning_of}
 use Rattle.rept_app.specs.declared.status.Status.TheVariants as ends
 use Rattle.rept_app.proofs.DeliveredLemmas.{delivers_as, ends_told, told_ports, not_yielded}
 use Rattle.rept_app.proofs.PromiseLemmas.{promised}
 use Rattle.rept_app.proofs.ToldLemmas.{where_told, at_some, reading_of}
-use Rattle.rept_app.proofs.TopLemmas.{both, of_both, loaded_at, stops, refused_ends, refused_writes, refused_causes, refused_loads, no_status, input_only, output_only, conflict_only, examined_writes, examined_ends, examined_causes, examined_excludes, all_loads, files_hold, holds_where, reports_hold, completed, ok_at, done_at, all_at, made_at, asked_holds, loaded_asks, loads_named, refused_asks, made_asks, made_loads, made_means, made_causes, made_ends, made_writes, no_other}
+use Rattle.rept_app.proofs.TopLemmas.{both, of_both, loaded_at, stops, refused_ends, refused_writes, refused_causes, refused_loads, no_status, input_only, output_only, conflict_only, examined_writes, examined_ends, examined_causes, examined_excludes, true_in_both, bits_know, all_loads, files_hold, holds_where, reports_hold, completed, ok_at, done_at, all_at, made_at, asked_holds, loaded_asks, loads_named, refused_asks, made_asks, made_loads, made_means, made_causes, made_ends, made_writes, no_other}
 use Rattle.rept_app.proofs.top.rept.Goals as goal
 
 pub returns-in-Ok-Files-clause-causes : goal.returns-in-Ok-Files-clause-causes
@@ -30,18 +30,18 @@ pub returns-in-Ok-Files-clause-stays : goal.returns-in-Ok-Files-clause-stays
 returns-in-Ok-Files-clause-stays g c =
     let words = map string_bytes c.args.words.now in
     holds_where (g.H.Shelf.port c.args.shelf.now).files (Holds words) _ c.examine.result (λ files told.
-    let loaded : loading words files ≡ Loaded (crash_bytes c.in-Ok-Files.files.exe.items c.in-Ok-Files.files.core.items c.in-Ok-Files.files.trace.items c.in-Ok-Files.files.from) =
-    at_some (g.H.Shelf.port c.args.shelf.now).files files (λ fs. loading words fs ≡ Loaded (crash_bytes c.in-Ok-Files.files.exe.items c.in-Ok-Files.files.core.items c.in-Ok-Files.files.trace.items c.in-Ok-Files.files.from)) told (ok_at c.load_files.result c.in-Ok-Files.field-0 (asked.Files c.in-Ok-Files.files) (λ a. IfSome (g.H.Shelf.port c.args.shelf.now).files (λ fs. loading words fs ≡ asked_for a)) c.in-Ok-Files.is c.in-Ok-Files.field-0-is c.load_files.ensures.loaded) in
-    files_hold words files (crash_bytes c.as_slice-exe.result.now c.as_slice-core.result.now c.as_slice-trace.result.now c.in-Ok-Files.files.from)
+    let loaded : loading words files ≡ Loaded (crash_bytes c.in-Ok-Files.files.exe.items c.in-Ok-Files.files.core.items c.in-Ok-Files.files.trace.items c.in-Ok-Files.files.manner) =
+    at_some (g.H.Shelf.port c.args.shelf.now).files files (λ fs. loading words fs ≡ Loaded (crash_bytes c.in-Ok-Files.files.exe.items c.in-Ok-Files.files.core.items c.in-Ok-Files.files.trace.items c.in-Ok-Files.files.manner)) told (ok_at c.load_files.result c.in-Ok-Files.field-0 (asked.Files c.in-Ok-Files.files) (λ a. IfSome (g.H.Shelf.port c.args.shelf.now).files (λ fs. loading words fs ≡ asked_for a)) c.in-Ok-Files.is c.in-Ok-Files.field-0-is c.load_files.ensures.loaded) in
+    files_hold words files (crash_bytes c.as_slice-exe.result.now c.as_slice-core.result.now c.as_slice-trace.result.now c.in-Ok-Files.files.manner)
     (loaded_at _ _ _ _ _ _ _ _ loaded c.as_slice-exe.ensures.value c.as_slice-core.ensures.value c.as_slice-trace.ensures.value) c.examine.result) c.examine.ensures.stays
 
 pub returns-in-Ok-Files-clause-files : goal.returns-in-Ok-Files-clause-files
 returns-in-Ok-Files-clause-files g c =
     let words = map string_bytes c.args.words.now in
     where_told (g.H.Shelf.port c.args.shelf.now).files (λ files. EndsByFiles words files c.examine.result) (λ files told.
-    let loaded : loading words files ≡ Loaded (crash_bytes c.in-Ok-Files.files.exe.items c.in-Ok-Files.files.core.items c.in-Ok-Files.files.trace.items c.in-Ok-Files.files.from) =
-    at_some (g.H.Shelf.port c.args.shelf.now).files files (λ fs. loading words fs ≡ Loaded (crash_bytes c.in-Ok-Files.files.exe.items c.in-Ok-Files.files.core.items c.in-Ok-Files.files.trace.items c.in-Ok-Files.files.from)) told (ok_at c.load_files.result c.in-Ok-Files.field-0 (asked.Files c.in-Ok-Files.files) (λ a. IfSome (g.H.Shelf.port c.args.shelf.now).files (λ fs. loading words fs ≡ asked_for a)) c.in-Ok-Files.is c.in-Ok-Files.field-0-is c.load_files.ensures.loaded) in
-    examined_ends words files (crash_bytes c.as_slice-exe.result.now c.as_slice-core.result.now c.as_slice-trace.result.now c.in-Ok-Files.files.from)
+    let loaded : loading words files ≡ Loaded (crash_bytes c.in-Ok-Files.files.exe.items c.in-Ok-Files.files.core.items c.in-Ok-Files.files.trace.items c.in-Ok-Files.files.manner) =
+    at_some (g.H.Shelf.port c.args.shelf.now).files files (λ fs. loading words fs ≡ Loaded (crash_bytes c.in-Ok-Files.files.exe.items c.in-Ok-Files.files.core.items c.in-Ok-Files.files.trace.items c.in-Ok-Files.files.manner)) told (ok_at c.load_files.result c.in-Ok-Files.field-0 (asked.Files c.in-Ok-Files.files) (λ a. IfSome (g.H.Shelf.port c.args.shelf.now).files (λ fs. loading words fs ≡ asked_for a)) c.in-Ok-Files.is c.in-Ok-Files.field-0-is c.load_files.ensures.loaded) in
+    examined_ends words files (crash_bytes c.as_slice-exe.result.now c.as_slice-core.result.now c.as_slice-trace.result.now c.in-Ok-Files.files.manner)
     (loaded_at _ _ _ _ _ _ _ _ loaded c.as_slice-exe.ensures.value c.as_slice-core.ensures.value c.as_slice-trace.ensures.value) _ _ c.examine.result c.examine.ensures.causes)
 
 pub returns-in-Ok-Files-clause-text : goal.returns-in-Ok-Files-clause-text
@@ -51,13 +51,13 @@ returns-in-Ok-Files-clause-text g c =
     let source = move (g.S.Source.port c.args.input.now) (g.S.Source.port c.examine.new.input) in
     let sink = move (g.K.Sink.port c.args.out.now) (g.K.Sink.port c.examine.new.out) in
     both (g.H.Shelf.port c.args.shelf.now).files (g.S.Source.port c.args.input.now).bytes _ (λ files told left told_left.
-    let loaded : loading words files ≡ Loaded (crash_bytes c.in-Ok-Files.files.exe.items c.in-Ok-Files.files.core.items c.in-Ok-Files.files.trace.items c.in-Ok-Files.files.from) =
-    at_some (g.H.Shelf.port c.args.shelf.now).files files (λ fs. loading words fs ≡ Loaded (crash_bytes c.in-Ok-Files.files.exe.items c.in-Ok-Files.files.core.items c.in-Ok-Files.files.trace.items c.in-Ok-Files.files.from)) told (ok_at c.load_files.result c.in-Ok-Files.field-0 (asked.Files c.in-Ok-Files.files) (λ a. IfSome (g.H.Shelf.port c.args.shelf.now).files (λ fs. loading words fs ≡ asked_for a)) c.in-Ok-Files.is c.in-Ok-Files.field-0-is c.load_files.ensures.loaded) in
+    let loaded : loading words files ≡ Loaded (crash_bytes c.in-Ok-Files.files.exe.items c.in-Ok-Files.files.core.items c.in-Ok-Files.files.trace.items c.in-Ok-Files.files.manner) =
+    at_some (g.H.Shelf.port c.args.shelf.now).files files (λ fs. loading words fs ≡ Loaded (crash_bytes c.in-Ok-Files.files.exe.items c.in-Ok-Files.files.core.items c.in-Ok-Files.files.trace.items c.in-Ok-Files.files.manner)) told (ok_at c.load_files.result c.in-Ok-Files.field-0 (asked.Files c.in-Ok-Files.files) (λ a. IfSome (g.H.Shelf.port c.args.shelf.now).files (λ fs. loading words fs ≡ asked_for a)) c.in-Ok-Files.is c.in-Ok-Files.field-0-is c.load_files.ensures.loaded) in
     let here = loaded_at _ _ _ _ _ _ _ _ loaded c.as_slice-exe.ensures.value c.as_slice-core.ensures.value c.as_slice-trace.ensures.value in
-    delivers_as (Examines (crash_bytes c.as_slice-exe.result.now c.as_slice-core.result.now c.as_slice-trace.result.now c.in-Ok-Files.files.from) (reading_of left source.after.bytes)) (Writes (given words files shelf (reading_of left source.after.bytes))) sink c.examine.result
-    (λ text status. examined_writes words files shelf source left text status (crash_bytes c.as_slice-exe.result.now c.as_slice-core.result.now c.as_slice-trace.result.now c.in-Ok-Files.files.from) here)
+    delivers_as (Examines (crash_bytes c.as_slice-exe.result.now c.as_slice-core.result.now c.as_slice-trace.result.now c.in-Ok-Files.files.manner) (reading_of left source.after.bytes)) (Writes (given words files shelf (reading_of left source.after.bytes))) sink c.examine.result
+    (λ text status. examined_writes words files shelf source left text status (crash_bytes c.as_slice-exe.result.now c.as_slice-core.result.now c.as_slice-trace.result.now c.in-Ok-Files.files.manner) here)
     (at_some (g.S.Source.port c.args.input.now).bytes left
-    (λ input. Delivers (Examines (crash_bytes c.as_slice-exe.result.now c.as_slice-core.result.now c.as_slice-trace.result.now c.in-Ok-Files.files.from) (reading_of input source.after.bytes)) sink c.examine.result)
+    (λ input. Delivers (Examines (crash_bytes c.as_slice-exe.result.now c.as_slice-core.result.now c.as_slice-trace.result.now c.in-Ok-Files.files.manner) (reading_of input source.after.bytes)) sink c.examine.result)
     told_left c.examine.ensures.text))
 
 pub returns-in-Ok-Files-clause-complete : goal.returns-in-Ok-Files-clause-complete
@@ -72,15 +72,15 @@ returns-in-Ok-Files-clause-complete g c =
     (returns-in-Ok-Files-clause-text g c)))
 
 pub returns-in-Ok-Files-clause-sound : goal.returns-in-Ok-Files-clause-sound
-returns-in-Ok-Files-clause-sound g c = where_told (g.H.Shelf.port c.args.shelf.now).files (ReportHolds (map string_bytes c.args.words.now)) (λ files told. reports_hold (map string_bytes c.args.words.now) files c.reports_are_true.ensures)
+returns-in-Ok-Files-clause-sound g c = where_told (g.H.Shelf.port c.args.shelf.now).files (ReportHolds (map string_bytes c.args.words.now)) (λ files told. reports_hold (map string_bytes c.args.words.now) files (true_in_both c.reports_are_true.ensures c.reports_are_true-2.ensures))
 
 pub returns-in-Ok-Files-clause-impossible : goal.returns-in-Ok-Files-clause-impossible
 returns-in-Ok-Files-clause-impossible g c =
     let words = map string_bytes c.args.words.now in
     where_told (g.H.Shelf.port c.args.shelf.now).files (λ files. c.examine.result ≡ ends.Inconsistent → NoExecution words files) (λ files told ok.
-    let loaded : loading words files ≡ Loaded (crash_bytes c.in-Ok-Files.files.exe.items c.in-Ok-Files.files.core.items c.in-Ok-Files.files.trace.items c.in-Ok-Files.files.from) =
-    at_some (g.H.Shelf.port c.args.shelf.now).files files (λ fs. loading words fs ≡ Loaded (crash_bytes c.in-Ok-Files.files.exe.items c.in-Ok-Files.files.core.items c.in-Ok-Files.files.trace.items c.in-Ok-Files.files.from)) told (ok_at c.load_files.result c.in-Ok-Files.field-0 (asked.Files c.in-Ok-Files.files) (λ a. IfSome (g.H.Shelf.port c.args.shelf.now).files (λ fs. loading words fs ≡ asked_for a)) c.in-Ok-Files.is c.in-Ok-Files.field-0-is c.load_files.ensures.loaded) in
-    examined_excludes words files (crash_bytes c.as_slice-exe.result.now c.as_slice-core.result.now c.as_slice-trace.result.now c.in-Ok-Files.files.from)
+    let loaded : loading words files ≡ Loaded (crash_bytes c.in-Ok-Files.files.exe.items c.in-Ok-Files.files.core.items c.in-Ok-Files.files.trace.items c.in-Ok-Files.files.manner) =
+    at_some (g.H.Shelf.port c.args.shelf.now).files files (λ fs. loading words fs ≡ Loaded (crash_bytes c.in-Ok-Files.files.exe.items c.in-Ok-Files.files.core.items c.in-Ok-Files.files.trace.items c.in-Ok-Files.files.manner)) told (ok_at c.load_files.result c.in-Ok-Files.field-0 (asked.Files c.in-Ok-Files.files) (λ a. IfSome (g.H.Shelf.port c.args.shelf.now).files (λ fs. loading words fs ≡ asked_for a)) c.in-Ok-Files.is c.in-Ok-Files.field-0-is c.load_files.ensures.loaded) in
+    examined_excludes words files (crash_bytes c.as_slice-exe.result.now c.as_slice-core.result.now c.as_slice-trace.result.now c.in-Ok-Files.files.manner)
     (loaded_at _ _ _ _ _ _ _ _ loaded c.as_slice-exe.ensures.value c.as_slice-core.ensures.value c.as_slice-trace.ensures.value) (c.examine.ensures.impossible ok))
 
 pub returns-in-Err-clause-causes : goal.returns-in-Err-clause-causes
@@ -142,7 +142,7 @@ returns-in-Err-clause-complete g c =
     (returns-in-Err-clause-text g c)))
 
 pub returns-in-Err-clause-sound : goal.returns-in-Err-clause-sound
-returns-in-Err-clause-sound g c = where_told (g.H.Shelf.port c.args.shelf.now).files (ReportHolds (map string_bytes c.args.words.now)) (λ files told. reports_hold (map string_bytes c.args.words.now) files c.reports_are_true.ensures)
+returns-in-Err-clause-sound g c = where_told (g.H.Shelf.port c.args.shelf.now).files (ReportHolds (map string_bytes c.args.words.now)) (λ files told. reports_hold (map string_bytes c.args.words.now) files (true_in_both c.reports_are_true.ensures c.reports_are_true-2.ensures))
 
 pub returns-in-Ok-Files-clause-unread : goal.returns-in-Ok-Files-clause-unread
 returns-in-Ok-Files-clause-unread g c = λ none. loads_named (meaning_of (map string_bytes c.args.words.now)) (g.H.Shelf.port c.args.shelf.now) (g.H.Shelf.port c.load_files.new.shelf)
@@ -190,7 +190,7 @@ pub returns-in-Ok-Made-clause-executed : goal.returns-in-Ok-Made-clause-executed
 returns-in-Ok-Made-clause-executed g c = asked_holds (meaning_of (map string_bytes c.args.words.now)) (λ seed steps. made_holds seed steps c.reports_are_true.ensures)
 
 pub returns-in-Ok-Made-clause-sound : goal.returns-in-Ok-Made-clause-sound
-returns-in-Ok-Made-clause-sound g c = where_told (g.H.Shelf.port c.args.shelf.now).files (ReportHolds (map string_bytes c.args.words.now)) (λ files told. reports_hold (map string_bytes c.args.words.now) files c.reports_are_true.ensures)
+returns-in-Ok-Made-clause-sound g c = where_told (g.H.Shelf.port c.args.shelf.now).files (ReportHolds (map string_bytes c.args.words.now)) (λ files told. reports_hold (map string_bytes c.args.words.now) files (true_in_both c.reports_are_true.ensures c.reports_are_true-2.ensures))
 
 pub returns-in-Ok-Made-clause-impossible : goal.returns-in-Ok-Made-clause-impossible
 returns-in-Ok-Made-clause-impossible g c =
@@ -232,7 +232,7 @@ returns-in-Ok-Files-clause-promise g c =
     let source = move (g.S.Source.port c.args.input.now) (g.S.Source.port c.examine.new.input) in
     let sink = move (g.K.Sink.port c.args.out.now) (g.K.Sink.port c.examine.new.out) in
     both shelf.before.files source.before.bytes _ (λ files told left told_left.
-    promised c.reports_are_true.ensures (given words files shelf (reading_of left source.after.bytes)) sink c.examine.result
+    promised (true_in_both c.reports_are_true.ensures c.reports_are_true-2.ensures) (given words files shelf (reading_of left source.after.bytes)) sink c.examine.result
     (of_both shelf.before.files source.before.bytes (λ fs input. Delivers (Writes (given words fs shelf (reading_of input source.after.bytes))) sink c.examine.result) files left told told_left (returns-in-Ok-Files-clause-text g c))
     (at_some shelf.before.files files (λ fs. EndsByFiles words fs c.examine.result) told (returns-in-Ok-Files-clause-files g c))
     (at_some shelf.before.files files (λ fs. c.examine.result ≡ ends.Inconsistent → NoExecution words fs) told (returns-in-Ok-Files-clause-impossible g c)))
@@ -244,7 +244,7 @@ returns-in-Ok-Made-clause-promise g c =
     let source = move (g.S.Source.port c.args.input.now) (g.S.Source.port c.args.input.now) in
     let sink = move (g.K.Sink.port c.args.out.now) (g.K.Sink.port c.tell_made_run.new.out) in
     both shelf.before.files source.before.bytes _ (λ files told left told_left.
-    promised c.reports_are_true.ensures (given words files shelf (reading_of left source.after.bytes)) sink c.tell_made_run.result
+    promised (true_in_both c.reports_are_true.ensures c.reports_are_true-2.ensures) (given words files shelf (reading_of left source.after.bytes)) sink c.tell_made_run.result
     (of_both shelf.before.files source.before.bytes (λ fs input. Delivers (Writes (given words fs shelf (reading_of input source.after.bytes))) sink c.tell_made_run.result) files left told told_left (returns-in-Ok-Made-clause-text g c))
     (at_some shelf.before.files files (λ fs. EndsByFiles words fs c.tell_made_run.result) told (returns-in-Ok-Made-clause-files g c))
     (at_some shelf.before.files files (λ fs. c.tell_made_run.result ≡ ends.Inconsistent → NoExecution words fs) told (returns-in-Ok-Made-clause-impossible g c)))
@@ -256,7 +256,16 @@ returns-in-Err-clause-promise g c =
     let source = move (g.S.Source.port c.args.input.now) (g.S.Source.port c.args.input.now) in
     let sink = move (g.K.Sink.port c.args.out.now) (g.K.Sink.port c.tell.new.out) in
     both shelf.before.files source.before.bytes _ (λ files told left told_left.
-    promised c.reports_are_true.ensures (given words files shelf (reading_of left source.after.bytes)) sink c.tell.result
+    promised (true_in_both c.reports_are_true.ensures c.reports_are_true-2.ensures) (given words files shelf (reading_of left source.after.bytes)) sink c.tell.result
     (of_both shelf.before.files source.before.bytes (λ fs input. Delivers (Writes (given words fs shelf (reading_of input source.after.bytes))) sink c.tell.result) files left told told_left (returns-in-Err-clause-text g c))
     (at_some shelf.before.files files (λ fs. EndsByFiles words fs c.tell.result) told (returns-in-Err-clause-files g c))
     (at_some shelf.before.files files (λ fs. c.tell.result ≡ ends.Inconsistent → NoExecution words fs) told (returns-in-Err-clause-impossible g c)))
+
+pub returns-in-Ok-Files-clause-bits : goal.returns-in-Ok-Files-clause-bits
+returns-in-Ok-Files-clause-bits g c = where_told (g.H.Shelf.port c.args.shelf.now).files (BitsKnowMore (map string_bytes c.args.words.now)) (λ files told. bits_know (map string_bytes c.args.words.now) files c.finer_sets_know_more.ensures)
+
+pub returns-in-Ok-Made-clause-bits : goal.returns-in-Ok-Made-clause-bits
+returns-in-Ok-Made-clause-bits g c = where_told (g.H.Shelf.port c.args.shelf.now).files (BitsKnowMore (map string_bytes c.args.words.now)) (λ files told. bits_know (map string_bytes c.args.words.now) files c.finer_sets_know_more.ensures)
+
+pub returns-in-Err-clause-bits : goal.returns-in-Err-clause-bits
+returns-in-Err-clause-bits g c = where_told (g.H.Shelf.port c.args.shelf.now).files (BitsKnowMore (map string_bytes c.args.words.now)) (λ files told. bits_know (map string_bytes c.args.words.now) files c.finer_sets_know_more.ensures)

@@ -1,30 +1,29 @@
 use Rattle.std.proofs.Common.{◌≡◌, ◌∙◌, subst}
 use Rattle.rept_dump.specs.Dump.{registers_of}
-use Rattle.rept_partial.specs.declared.range.Range.{Range}
 use Rattle.rept_report.specs.Closure.{ClosureHas}
 use Rattle.rept_report.specs.Soundness.{HasNoExecution}
 use Rattle.rept_analysis.specs.declared.stop.Stop.TheVariants.{Conflict}
 use Rattle.rept_analysis.specs.State.{Path, along}
-use Rattle.rept_found.specs.Crash.{crash_of, end_pc, route}
+use Rattle.rept_found.specs.Crash.{crash_of, end_pc, means, route}
 use Rattle.rept_found.proofs.Settings.{route_is, found_in, stop_is}
 use Rattle.rept_found.proofs.Truths.{no_execution}
 use Rattle.rept_found.proofs.found.search.Goals as goal
 
 pub returns-in-Ok-refine-clause-found : goal.returns-in-Ok-refine-clause-found
-returns-in-Ok-refine-clause-found c =
-    let here = route_is c.in-Ok.analysis (crash_of c.args.dump.now) c.args.steps.now c.in-Ok.ensures.path c.in-Ok.ensures.last c.account.ensures.last c.in-Ok.ensures.memory in
+returns-in-Ok-refine-clause-found g c =
+    let here = route_is (means g.W.Partial.sets g.W.Transfer.moves g.R.RowRules.rules) c.in-Ok.analysis (crash_of c.args.dump.now) c.args.steps.now c.in-Ok.ensures.path c.in-Ok.ensures.last c.account.ensures.last c.in-Ok.ensures.memory in
     let complete = c.in-Ok-refine.ensures.complete in
-    found_in (record { analysis = c.refine.new.self; end_pc = c.status-status.result.pc }) (route (crash_of c.args.dump.now) c.args.steps.now) (end_pc (registers_of c.args.dump.now))
+    found_in (means g.W.Partial.sets g.W.Transfer.moves g.R.RowRules.rules) (record { analysis = c.refine.new.self; end_pc = c.status-status.result.pc }) (route (means g.W.Partial.sets g.W.Transfer.moves g.R.RowRules.rules) (crash_of c.args.dump.now) c.args.steps.now) (end_pc (registers_of c.args.dump.now))
     (c.refine.ensures.path ∙ here) c.status-status.ensures.pc c.in-Ok-refine.ensures.report (c.account-in-Ok-refine.ensures.log complete)
 
 pub returns-clause-conflict : goal.returns-clause-conflict
-returns-clause-conflict c = λ kind e.
-    let here = route_is c.in-Ok.analysis (crash_of c.args.dump.now) c.args.steps.now c.in-Ok.ensures.path c.in-Ok.ensures.last c.account.ensures.last c.in-Ok.ensures.memory in
+returns-clause-conflict g c = λ kind e.
+    let here = route_is (means g.W.Partial.sets g.W.Transfer.moves g.R.RowRules.rules) c.in-Ok.analysis (crash_of c.args.dump.now) c.args.steps.now c.in-Ok.ensures.path c.in-Ok.ensures.last c.account.ensures.last c.in-Ok.ensures.memory in
     let same : c.in-Err.stop ≡ Conflict kind = cc in
-    subst (λ (P : Path Range). ClosureHas (along P) kind) here (c.refine.ensures.conflict kind (stop_is c.refine.result c.in-Err.stop kind c.in-Err.is same))
+    subst (λ (P : Path g.row.W.Denot). ClosureHas (along P) kind) here (c.refine.ensures.conflict kind (stop_is c.refine.result c.in-Err.stop kind c.in-Err.is same))
 
 pub returns-clause-impossible : goal.returns-clause-impossible
-returns-clause-impossible c = λ kind e.
-    let here = route_is c.in-Ok.analysis (crash_of c.args.dump.now) c.args.steps.now c.in-Ok.ensures.path c.in-Ok.ensures.last c.account.ensures.last c.in-Ok.ensures.memory in
+returns-clause-impossible g c = λ kind e.
+    let here = route_is (means g.W.Partial.sets g.W.Transfer.moves g.R.RowRules.rules) c.in-Ok.analysis (crash_of c.args.dump.now) c.args.steps.now c.in-Ok.ensures.path c.in-Ok.ensures.last c.account.ensures.last c.in-Ok.ensures.memory in
     let same : c.in-Err.stop ≡ Conflict kind = cc in
-    no_execution (route (crash_of c.args.dump.now) c.args.steps.now) (subst (λ (P : Path Range). HasNoExecution (along P)) here (c.refine.ensures.impossible kind (stop_is c.refine.result c.in-Err.stop kind c.in-Err.is same)))
+    no_execution (route (means g.W.Partial.sets g.W.Transfer.moves g.R.RowRules.rules) (crash_of c.args.dump.now) c.args.steps.now) (subst (λ (P : Path g.row.W.Denot). HasNoExecution (along P)) here (c.refine.ensures.impossible kind (stop_is c.refine.result c.in-Err.stop kind c.in-Err.is same)))

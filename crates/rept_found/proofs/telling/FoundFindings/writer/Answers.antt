@@ -3,11 +3,12 @@ use Rattle.rept_report.specs.Spots.{spot}
 use Rattle.rept_report.specs.Writers.{IsWriter}
 use Rattle.rept_analysis.specs.Kept.{answers}
 use Rattle.rept_analysis.specs.State.{along}
+use Rattle.rept_found.specs.Crash.{means}
 use Rattle.rept_found.specs.View.{View, state_in}
 use Rattle.rept_found.proofs.Tellings.{writer_is}
 use Rattle.rept_found.proofs.telling.FoundFindings.writer.Goals as goal
 
 pub returns : goal.returns
-returns c =
-    writer_is (state_in c.args.self.now).path (answers (state_in c.args.self.now)) c.args.point c.args.address c.writer.result
-    (subst (λ (v : View). IsWriter (along (state_in v).path) (answers (state_in v)) (spot c.args.point c.args.address) c.writer.result) c.self.view_is (c.writer.ensures.ended c.self.invariant.0))
+returns g c =
+    writer_is (state_in (means g.W.Partial.sets g.W.Transfer.moves g.R.RowRules.rules) c.args.self.now).path (answers (state_in (means g.W.Partial.sets g.W.Transfer.moves g.R.RowRules.rules) c.args.self.now)) c.args.point c.args.address c.writer.result
+    (subst (λ (v : View g.row.W.Denot g.row.R.Denot). IsWriter (along (state_in (means g.W.Partial.sets g.W.Transfer.moves g.R.RowRules.rules) v).path) (answers (state_in (means g.W.Partial.sets g.W.Transfer.moves g.R.RowRules.rules) v)) (spot c.args.point c.args.address) c.writer.result) c.self.view_is (c.writer.ensures.ended c.self.invariant.0))
