@@ -13,7 +13,7 @@ use Rattle.rept_analysis.specs.Drawing.{Knows, IsTracked, Grows, HasNews, Drew, 
 use Rattle.rept_analysis.specs.Drawing.HasNews.{fact, address, anew}
 
 pub Grows_itself : {W : Type 0} (a : State W) → Grows a a
-Grows_itself a = record { path = refl; rows = refl; spans = refl; filled = refl; shown = refl; complete = refl; conflict = refl; answers = refl; older = refl; more = λ p c v e. e; tracked = λ x h. h; counted = omega arith; writing = refl; fewer = omega arith; spent = omega arith; words = λ w. w }
+Grows_itself a = record { path = refl; rows = refl; spans = refl; filled = refl; shown = refl; complete = refl; conflict = refl; answers = refl; older = refl; more = λ p c v e. e; tracked = λ x h. h; counted = omega arith; writing = λ h. h; fewer = omega arith; spent = omega arith; words = λ w. w }
 
 pub Grows_trans : {W : Type 0} (a b c : State W) → Grows a b → Grows b c → Grows a c
 Grows_trans a b c g h = record {
@@ -29,7 +29,7 @@ Grows_trans a b c g h = record {
   more = λ p d v e. h.more p d v (g.more p d v e);
   tracked = λ x t. h.tracked x (g.tracked x t);
   counted = let i = g.counted in let j = h.counted in omega (arith, i, j);
-  writing = h.writing ∙ g.writing;
+  writing = λ w. h.writing (g.writing w);
   fewer = let i = g.fewer in let j = h.fewer in omega (arith, i, j);
   spent = let i = g.spent in let j = h.spent in omega (arith, i, j);
   words = λ w. h.words (g.words w);

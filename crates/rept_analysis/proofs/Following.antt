@@ -1,5 +1,5 @@
 -- What a row lets follow.
-use Rattle.std.proofs.Common.{◌≡◌, ◌≢◌, ℕ, ◌+◌, ◌<◌, ◌≤◌, ◌^◌, eqb, ltb, false, true, min, List, length, Option, Some, None, inl, inr, refl, sym, ap, subst, ◌∙◌, arith, Contains, slice_get, get_or}
+use Rattle.std.proofs.Common.{◌≡◌, ◌≢◌, ℕ, ◌+◌, ◌<◌, ◌≤◌, ◌^◌, eqb, ltb, false, min, List, length, Option, Some, None, inl, inr, refl, sym, ap, subst, ◌∙◌, arith, Contains, slice_get, get_or}
 use Rattle.std.proofs.lemmas.Option.{slice_get-get_or, same_Some}
 use Rattle.std.proofs.lemmas.Bool.{cases_Bool, cond-true, cond-false, ne_eqb, cases_lt, lt-ltb, le-ltb, false≢true}
 use mathlib.Core.Path.{fun_ext}
@@ -223,10 +223,6 @@ access_after s t i access g h a small = rw (g.path, g.older) (h a small)
 
 pub fitted_after : {W : Type 0} (s t : State W) → Grows s t → IsFitted s → IsFitted t
 fitted_after s t g h = rw (g.path, g.spans, g.older) h
-
--- a byte that may be written needs no carrying
-pub hit_carried : {W : Type 0} (s : State W) (i a : ℕ) (access : CallAccess) → a < 2 ^ 32 → IsAccess i access s → call_hits access a ≡ true → IsCarriedAt i a s
-hit_carried s i a access small h hit = record { onward = λ v spared e. absurd (false≢true (sym spared ∙ sym (h a small) ∙ hit)); back = λ v spared e. absurd (false≢true (sym spared ∙ sym (h a small) ∙ hit)) }
 
 -- an element that was read
 pub slice_read : (xs : List Drawn) (k : ℕ) (d : Drawn) → k < length xs → d ≡ get_or xs k d → slice_get xs k ≡ Some d

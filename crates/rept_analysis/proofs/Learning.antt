@@ -29,6 +29,7 @@ use Rattle.rept_analysis.specs.Drawing.HasNews.{fact, address}
 use Rattle.rept_analysis.specs.Kept.{IsKept}
 use Rattle.rept_analysis.specs.declared.pass.Pass.{Pass}
 use Rattle.rept_analysis.specs.declared.pass.Pass.TheVariants.{Never}
+use Rattle.rept_analysis.proofs.Barriers.{writings_still}
 use Rattle.rept_analysis.proofs.Passing.{passes_more, never_pass}
 use Rattle.rept_analysis.proofs.Reserve.{room_like, room_drawn, room_last, room_to_draw, room_to_read, room_tracked, room_to_track, room_new}
 use Rattle.rept_analysis.specs.Told.{IsTold, Tells, TellsByte, Tracks}
@@ -164,7 +165,7 @@ module _ {W : Type 0} (s : State W) (kept : IsKept s) (f : Fact) (keep : Bool) (
       more = more;
       tracked = λ a h. subst (λ (xs : List ℕ). Contains xs a) (sym n.tracked) h;
       counted = rw n.tracked (omega arith);
-      writing = refl;
+      writing = writings_still s (with_known s k) refl refl (old_part s.filled kept.filled) more refl (λ _. next_words);
       fewer = omega arith;
       spent = omega arith;
       words = λ _. next_words;
@@ -338,7 +339,7 @@ module _ {W : Type 0} (s : State W) (kept : IsKept s) (a : ℕ) (small : a < 2 ^
       more = λ p c v e. sym (same_knows p c) ∙ e;
       tracked = still;
       counted = let long = length_push s.known.store.tracked a in rw h.tracked (omega (arith, long));
-      writing = refl;
+      writing = writings_still s (with_known s k) refl refl (ap (λ (fs : List Fact). oldest s.filled fs) h.log) (λ p c v e. sym (same_knows p c) ∙ e) refl (λ words p r v e. words p r v (same_knows p (Register r) ∙ e));
       fewer = omega arith;
       spent = omega arith;
       words = λ words p r v e. words p r v (same_knows p (Register r) ∙ e);

@@ -1,6 +1,7 @@
 pub mod Account
 pub mod Along
 pub mod Answering
+pub mod Barriers
 pub mod Cells
 pub mod Counting
 pub mod Drawn

@@ -1,18 +1,23 @@
 -- The list of the rows that may write.
-use Rattle.std.proofs.Common.{◌≡◌, ℕ, zero, suc, ◌+◌, ◌-◌, ◌<◌, ◌≤◌, ◌^◌, false, List, [], ◌∷◌, ◌++◌, length, Some, None, inl, inr, refl, sym, ap, subst, ◌∙◌, arith, slice_get}
-use Rattle.std.proofs.lemmas.Bool.{cases_lt, cases_eq}
+use Rattle.std.proofs.Common.{◌≡◌, ℕ, zero, suc, ◌+◌, ◌-◌, ◌<◌, ◌≤◌, ◌^◌, ◌⊎◌, true, false, List, [], ◌∷◌, ◌++◌, length, Option, Some, None, inl, inr, refl, sym, ap, subst, ◌∙◌, arith, slice_get}
+use Rattle.std.proofs.lemmas.Bool.{cases_lt, cases_eq, false≢true}
 use Rattle.std.proofs.lemmas.Option.{slice_get-get_or, slice_get_within}
 use Rattle.std.proofs.lemmas.List.{length_push, get_or_append_left, get_or_push}
 use Rattle.rept_alias.specs.Accesses.{call_hits}
 use Rattle.rept_alias.specs.declared.addresses.CallAccess.{CallAccess}
-use Rattle.rept_writing.specs.Hits.{hits_at, IsFirstHit}
+use Rattle.rept_writing.specs.Hits.{hits_at, IsFirstHit, IsPastHit}
+use Rattle.rept_versions.specs.declared.facts.Stretch.{Stretch}
+use Rattle.rept_versions.specs.Facts.{Told, Nexts}
+use Rattle.rept_reason.specs.Facts.{told}
+use Rattle.rept_report.specs.Views.{may_write}
+use Rattle.rept_report.proofs.Told.{same_some, none_some}
 use Rattle.rept_report.specs.Log.{oldest}
 use Rattle.rept_writing.specs.declared.list.Writing.{Writing}
 use Rattle.rept_analysis.specs.Work.{row_past}
-use Rattle.rept_analysis.specs.State.{State, with_writing}
-use Rattle.rept_analysis.specs.Drawing.{Grows, IsAccess, IsSparedAt, IsSparedNow, IsSpared, IsSparedBetween, IsSilent, IsCarriedFrom, past, IsWriting, AreWritingsBefore, AreWritings, SameFacts, IsFitted}
-use Rattle.rept_analysis.proofs.Following.{fitted_after}
-use Rattle.rept_analysis.proofs.Spreading.{between_none, carried_hit}
+use Rattle.rept_analysis.specs.State.{State, with_writing, along}
+use Rattle.rept_analysis.specs.Drawing.{Grows, IsAccess, IsSparedAt, IsSpared, IsSparedBetween, IsSilent, IsCarriedAt, IsCarriedFrom, IsCarriedBeside, IsCarriedAlong, IsStopAt, past, IsWriting, AreWritingsBefore, AreBarriers, AreWritings, AreExact, SameFacts, IsFitted}
+use Rattle.rept_analysis.proofs.Barriers.{past_at}
+use Rattle.rept_analysis.proofs.Spreading.{between_none, segment_free}
 
 -- the same rows may write where path, facts and sets are the same
 module _ {W : Type 0} (s t : State W) (setting : t.path ≡ s.path) (older : oldest t.filled t.known.log ≡ oldest s.filled s.known.log) where
@@ -27,10 +32,7 @@ module _ {W : Type 0} (s t : State W) (setting : t.path ≡ s.path) (older : old
   }
 
 pub writings_after : {W : Type 0} (s t : State W) → Grows s t → AreWritings s → AreWritings t
-writings_after s t g h =
-    let listed = writings_like s t g.path g.older (length s.path.given.rows) s.work.writing h.listed in
-    let same : length s.path.given.rows ≡ length t.path.given.rows = rw g.rows refl in
-    record { fitted = fitted_after s t g h.fitted; listed = subst (λ (n : ℕ). AreWritingsBefore n t.work.writing t) same (subst (λ (xs : List Writing). AreWritingsBefore (length s.path.given.rows) xs t) (sym g.writing) listed) }
+writings_after s t g h = g.writing h
 
 -- a row that may write nothing
 pub listed_less : {W : Type 0} (s : State W) (i : ℕ) (list : List Writing) → ((a : ℕ) → a < 2 ^ 32 → IsSparedAt i a s) → AreWritingsBefore i list s → AreWritingsBefore (i + 1) list s
@@ -112,17 +114,6 @@ between_silent s from middle to a small le before after low i (inl x) =
     ]
 between_silent s from middle to a small le before after low i (inr x) = let p = x.0 in let q = x.1 in absurd (omega (arith, p, q, le, low))
 
--- the row at an index
-pub past_at : (list : List Writing) (k : ℕ) (w : Writing) → slice_get list k ≡ Some w → past list (k + 1) ≡ w.row + 1
-past_at list k w at = at_suc (k + 1) refl
-  where
-    at_suc : (n : ℕ) → n ≡ k + 1 → past list n ≡ w.row + 1
-    at_suc zero e = absurd (omega (arith, e))
-    at_suc (suc m) e = let same : m ≡ k = omega (arith, e) in rw same (ap row_past at)
-
-pub listed_end : {W : Type 0} (s t : State W) → Grows s t → AreWritings s → AreWritingsBefore (length s.path.given.rows) s.work.writing t
-listed_end s t g h = writings_like s t g.path g.older (length s.path.given.rows) s.work.writing h.listed
-
 -- with another list everything else is the same
 pub listed_same : {W : Type 0} (s t : State W) (list : List Writing) → t ≡ with_writing s list → SameFacts s t
 listed_same s t list is = subst (λ (x : State _). SameFacts s x) (sym is) (record { path = refl; known = refl; shown = refl; complete = refl; conflict = refl; draws = refl; drawn = refl })
@@ -166,13 +157,12 @@ reach_none s from a = record { order = omega arith; spared = between_none s from
 same_hit : (list : List Writing) (j a : ℕ) (w : Writing) → slice_get list j ≡ Some w → hits_at list j a ≡ call_hits w.access a
 same_hit list j a w at = rw at refl
 
-module _ {W : Type 0} (n : ℕ) (list : List Writing) (s : State W) (h : AreWritingsBefore n list s) (from a : ℕ) (small : a < 2 ^ 32) where
+module _ {W : Type 0} (list : List Writing) (s : State W) (h : AreBarriers list s) (from a : ℕ) (small : a < 2 ^ 32) where
   -- over a row of the list that may not write the byte
   reach_over : (j : ℕ) (w : Writing) → slice_get list j ≡ Some w → hits_at list j a ≡ false → IsReached s from (past list j) a → IsReached s from (past list (j + 1)) a
   reach_over j w at miss x =
       let row = h.each j w at in
-      let spared : IsSparedAt w.row a s = sym (row.access a small) ∙ sym (same_hit list j a w at) ∙ miss in
-      rw (past_at list j w at) (reach_spared s from w.row a (inl spared) (reach_silent s from (past list j) w.row a small row.low row.silent x))
+      rw (past_at list j w at) (reach_spared s from w.row a (row.others a small (sym (same_hit list j a w at) ∙ miss)) (reach_silent s from (past list j) w.row a small row.low row.silent x))
 
   -- over all of them from an index to another one
   reach_all : (k m j : ℕ) → j ≡ k + m → j ≤ length list → IsMissed list k j a → IsReached s from (past list k) a → IsReached s from (past list j) a
@@ -184,57 +174,145 @@ module _ {W : Type 0} (n : ℕ) (list : List Writing) (s : State W) (h : AreWrit
       let there = slice_get-get_or list i (record { row = 0; access = record { first = None; second = None } }) (omega (arith, same, le)) in
       rw same (reach_over i _ there (miss i (omega arith) (omega (arith, same))) before)
 
--- the next row that may write the byte
-pub record IsStop {W : Type 0} (s t : State W) (from a hit : ℕ) (w : Writing) : Type 0 where
-  pub order : from ≤ w.row
-  pub spared : IsSparedBetween from w.row a t
-  pub inside : w.row < length s.path.given.rows
-  pub within : hit < length s.work.writing
-  pub next : past s.work.writing (hit + 1) ≡ w.row + 1
-  pub passed : IsCarriedFrom a 0 w.row s → IsCarriedFrom a 0 (w.row + 1) s
+-- from an index of the list on, to the next row that may write the byte, or to the end
+module _ {W : Type 0} (s : State W) (h : AreWritings s) (a k : ℕ) (small : a < 2 ^ 32) where
+  abbrev rows : List Writing
+  rows = s.work.writing
 
-module _ {W : Type 0} (s t : State W) (grows : Grows s t) (listed : AreWritings s) (from a k : ℕ) (small : a < 2 ^ 32) (start : from ≡ past s.work.writing k) where
-  here : IsReached t from (past s.work.writing k) a
-  here = subst (λ (p : ℕ). IsReached t from p a) start (reach_none t from a)
+  here : IsReached s (past rows k) (past rows k) a
+  here = reach_none s (past rows k) a
 
-  later : AreWritingsBefore (length s.path.given.rows) s.work.writing t
-  later = listed_end s t grows listed
-
-  pub hit_stop : (hit : ℕ) (w : Writing) → IsFirstHit t.work.writing k a hit → slice_get t.work.writing hit ≡ Some w → IsStop s t from a hit w
-  hit_stop hit w found there =
-      let first : IsFirstHit s.work.writing k a hit = subst (λ (xs : List Writing). IsFirstHit xs k a hit) grows.writing found in
-      let at : slice_get s.work.writing hit ≡ Some w = subst (λ (xs : List Writing). slice_get xs hit ≡ Some w) grows.writing there in
-      let row = later.each hit w at in
-      let old = listed.listed.each hit w at in
+  pub hit_reached : (hit : ℕ) (w : Writing) → IsFirstHit rows k a hit → slice_get rows hit ≡ Some w → IsReached s (past rows k) w.row a
+  hit_reached hit w first at =
       let low = first.from in
       let inside = first.inside in
-      let all = reach_all (length s.path.given.rows) s.work.writing t later from a small k (hit - k) hit (omega (arith, low)) (omega (arith, inside)) first.none_before here in
-      let reached = reach_silent t from (past s.work.writing hit) w.row a small row.low row.silent all in
-      record {
-        order = reached.order;
-        spared = reached.spared;
-        inside = old.inside;
-        within = inside;
-        next = past_at s.work.writing hit w at;
-        passed = λ h. carried_hit s a 0 w.row w.access small old.access (sym (same_hit s.work.writing hit a w at) ∙ first.hits) h;
-      }
+      let row = h.barriers.each hit w at in
+      let all = reach_all rows s h.barriers (past rows k) a small k (hit - k) hit (omega (arith, low)) (omega (arith, inside)) first.none_before here in
+      reach_silent s (past rows k) (past rows hit) w.row a small row.low row.silent all
 
-  pub end_reached : k ≤ length s.work.writing → ((j : ℕ) → k ≤ j → hits_at t.work.writing j a ≡ false) → IsReached t from (length s.path.given.rows) a
+  pub hit_inside : (hit : ℕ) (w : Writing) → slice_get rows hit ≡ Some w → w.row < length s.path.given.rows
+  hit_inside hit w at = (h.barriers.each hit w at).inside
+
+  pub hit_stops : (hit : ℕ) (w : Writing) → IsFirstHit rows k a hit → slice_get rows hit ≡ Some w → IsStopAt k a w.row s
+  hit_stops hit w first at = inr (record { index = hit; writing = w; from = first.from; found = at; row = refl; hits = sym (same_hit rows hit a w at) ∙ first.hits })
+
+  pub end_reached : k ≤ length rows → ((j : ℕ) → k ≤ j → hits_at rows j a ≡ false) → IsReached s (past rows k) (length s.path.given.rows) a
   end_reached low missed =
-      let none : (j : ℕ) → k ≤ j → hits_at s.work.writing j a ≡ false = subst (λ (xs : List Writing). (j : ℕ) → k ≤ j → hits_at xs j a ≡ false) grows.writing missed in
-      let all = reach_all (length s.path.given.rows) s.work.writing t later from a small k (length s.work.writing - k) (length s.work.writing) (omega (arith, low)) (omega arith) (λ j le lt. none j le) here in
-      reach_silent t from (past s.work.writing (length s.work.writing)) (length s.path.given.rows) a small later.low later.silent all
+      let all = reach_all rows s h.barriers (past rows k) a small k (length rows - k) (length rows) (omega (arith, low)) (omega arith) (λ j le lt. missed j le) here in
+      reach_silent s (past rows k) (past rows (length rows)) (length s.path.given.rows) a small h.barriers.low h.barriers.silent all
 
--- rows that may not write the byte, one that may not by what is known by now, and others after it
-pub spared_over : {W : Type 0} (s : State W) (from row to a : ℕ) → from ≤ row → row + 1 ≤ to → IsSparedBetween from row a s → IsSparedNow row a s → IsSparedBetween (row + 1) to a s → IsSparedBetween from to a s
-spared_over s from row to a low high before now after i (inl x) =
-    let p = x.0 in
-    let q = x.1 in
-    elim (cases_lt i row) [
-      | inl less ↦ before i (inl (p, less))
-      | inr more ↦ elim (cases_eq i row) [
-        | inl e ↦ rw e (inr now)
-        | inr ne ↦ after i (inl (omega (arith, more, ne), q))
+-- the list as it was made
+pub listed_barriers : {W : Type 0} (s : State W) → AreWritingsBefore (length s.path.given.rows) s.work.writing s → AreBarriers s.work.writing s
+listed_barriers s h = record {
+  each = λ k w at. let x = h.each k w at in record { low = x.low; inside = x.inside; others = λ a small miss. inl (sym (x.access a small) ∙ miss); silent = x.silent };
+  low = h.low;
+  silent = h.silent;
+}
+
+pub listed_exact : {W : Type 0} (s : State W) → AreWritingsBefore (length s.path.given.rows) s.work.writing s → AreExact s
+listed_exact s h k w a at small hits = sym ((h.each k w at).access a small) ∙ hits
+
+-- a byte that a row may write needs no carrying over it
+blocked : {W : Type 0} (s : State W) (i a : ℕ) → may_write (along s.path) (told (oldest s.filled s.known.log)) i a ≡ true → IsCarriedAt i a s
+blocked s i a hit = record { onward = λ v spared h. absurd (false≢true (sym spared ∙ hit)); back = λ v spared h. absurd (false≢true (sym spared ∙ hit)) }
+
+module _ {W : Type 0} (s : State W) (a point k to : ℕ) (small : a < 2 ^ 32) (last : IsPastHit s.work.writing point a k) (stop : IsStopAt k a to s) where
+  at_stop : IsStopAt k a to s → AreExact s → (i : ℕ) → i ≡ to → i < length s.path.given.rows → IsCarriedAt i a s
+  at_stop (inl end) exact i e inside = absurd (omega (arith, end, e, inside))
+  at_stop (inr x) exact i e inside = subst (λ (n : ℕ). IsCarriedAt n a s) (x.row ∙ sym e) (blocked s x.writing.row a (exact x.index x.writing a x.found small x.hits))
+
+  -- over the rows around a point, and those at both ends
+  pub beside_closed : IsCarriedFrom a (past s.work.writing k) to s → IsCarriedBeside a point to s
+  beside_closed carried =
+      elim last.before [
+        | inl e ↦ record {
+          first = 0;
+          low = omega arith;
+          closed = λ exact i low le inside. elim (cases_lt i to) [
+            | inl lt ↦ carried i (from_start e i) lt
+            | inr ge ↦ at_stop stop exact i (omega (arith, le, ge)) inside
+          ];
+        }
+        | inr (j, e, hit) ↦ record {
+          first = hit.writing.row;
+          low = let lower = hit.lower in omega (arith, lower);
+          closed = λ exact i low le inside. elim (cases_eq i hit.writing.row) [
+            | inl same ↦ subst (λ (n : ℕ). IsCarriedAt n a s) (sym same) (blocked s hit.writing.row a (exact j hit.writing a hit.stands small hit.hits))
+            | inr ne ↦ elim (cases_lt i to) [
+              | inl lt ↦ carried i (let next = past_at s.work.writing j hit.writing hit.stands in rw (e, next) (omega (arith, low, ne))) lt
+              | inr ge ↦ at_stop stop exact i (omega (arith, le, ge)) inside
+            ]
+          ];
+        }
       ]
+    where
+      from_start : k ≡ 0 → (i : ℕ) → past s.work.writing k ≤ i
+      from_start e i = rw e (omega arith)
+
+  pub beside_onward : point ≤ length s.path.given.rows → point ≤ to
+  beside_onward early =
+      elim stop [
+        | inl end ↦ omega (arith, early, end)
+        | inr x ↦ elim (cases_lt to point) [
+          | inl lt ↦ absurd (last.none_after x.index x.from (record { writing = x.writing; stands = x.found; lower = let row = x.row in omega (arith, row, lt); hits = x.hits }))
+          | inr ge ↦ ge
+        ]
+      ]
+
+-- the byte is carried over the rows below one, where the list is exact
+abbrev pub IsCarriedBelow : {W : Type 0} → ℕ → ℕ → State W → Type 0
+IsCarriedBelow a from s = AreExact s → (i : ℕ) → i < from → i < length s.path.given.rows → IsCarriedAt i a s
+
+-- where a value begins after a point, or where it ends if it begins there or before
+abbrev pub IsEdge : ℕ → Stretch → ℕ → Type 0
+IsEdge from stretch point = ((from < stretch.first) × (point ≡ stretch.first)) ⊎ ((stretch.first ≤ from) × (point ≡ stretch.last))
+
+module _ {W : Type 0} (s : State W) (a from point : ℕ) (stretch : Stretch) (next : Nexts s.known.store.fact a from (Some stretch)) (edge : IsEdge from stretch point) where
+  edge_carried : IsEdge from stretch point → (i : ℕ) → from ≤ i → i + 1 < point → IsCarriedAt i a s
+  edge_carried (inl (later, is)) i low lt = record {
+    onward = λ v spared h. absurd (none_some (sym (next.free i low (omega (arith, is, lt))) ∙ h));
+    back = λ v spared h. absurd (none_some (sym (next.free (i + 1) (omega (arith, low)) (omega (arith, is, lt))) ∙ h));
+  }
+  edge_carried (inr (begun, is)) i low lt =
+      let this = next.run.value i (omega (arith, begun, low)) (omega (arith, is, lt)) in
+      let after = next.run.value (i + 1) (omega (arith, begun, low)) (omega (arith, is, lt)) in
+      record { onward = λ v spared h. after ∙ ap Some (same_some (sym this ∙ h)); back = λ v spared h. this ∙ ap Some (same_some (sym after ∙ h)) }
+
+  pub edge_onward : from ≤ point
+  edge_onward = elim edge [ inl (later, is) ↦ omega (arith, later, is) | inr (begun, is) ↦ let reaches = next.reaches in omega (arith, reaches, is) ]
+
+  -- over the rows to the edge, and those around it
+  pub below_beside : (to : ℕ) → IsCarriedBelow a from s → IsCarriedBeside a point to s → IsCarriedBelow a (to + 1) s
+  below_beside to below beside exact i lt inside =
+      elim (cases_lt i from) [
+        | inl less ↦ below exact i less inside
+        | inr more ↦ elim (cases_lt i beside.first) [
+          | inl early ↦ let low = beside.low in edge_carried edge i more (omega (arith, early, low))
+          | inr late ↦ beside.closed exact i late (omega (arith, lt)) inside
+        ]
+      ]
+
+  -- the edge is after all rows
+  pub below_edge : length s.path.given.rows < point → IsCarriedBelow a from s → IsCarriedAlong a s
+  below_edge far below exact i low lt =
+      elim (cases_lt i from) [
+        | inl less ↦ below exact i less lt
+        | inr more ↦ edge_carried edge i more (omega (arith, lt, far))
+      ]
+
+-- a stretch that wasn't found
+pub nexts_none : (f : Told) (a p : ℕ) (x : Option Stretch) → ((y : Stretch) → x ≡ Some y → ⊥) → Nexts f a p x → Nexts f a p None
+nexts_none f a p None never h = h
+nexts_none f a p (Some y) never h = absurd (never y refl)
+
+-- nothing is known of the byte from a point on
+pub below_free : {W : Type 0} (s : State W) (a from : ℕ) → Nexts s.known.store.fact a from None → IsCarriedBelow a from s → IsCarriedAlong a s
+below_free s a from none below exact i low lt =
+    elim (cases_lt i from) [
+      | inl less ↦ below exact i less lt
+      | inr more ↦ segment_free s a from (length s.path.given.rows) (λ q least most. none q least) i more lt
     ]
-spared_over s from row to a low high before now after i (inr x) = let p = x.0 in let q = x.1 in absurd (omega (arith, p, q, low, high))
+
+-- all rows are below
+pub below_all : {W : Type 0} (s : State W) (a from : ℕ) → length s.path.given.rows < from → IsCarriedBelow a from s → IsCarriedAlong a s
+below_all s a from far below exact i low lt = below exact i (omega (arith, lt, far)) lt

@@ -11,7 +11,6 @@ use Rattle.rept_reason.specs.declared.fact.Cell.{Cell}
 use Rattle.rept_reason.specs.declared.fact.Cell.TheVariants.{Register, Byte}
 use Rattle.rept_reason.specs.Facts.{told}
 use Rattle.rept_view.specs.declared.drawn.When.{When}
-use Rattle.rept_view.specs.declared.drawn.When.TheVariants.{Before, After}
 use Rattle.rept_view.specs.declared.drawn.Drawn.{Drawn}
 use Rattle.rept_view.specs.Seen.{seen_cell}
 use Rattle.rept_log.specs.Around.{around, around_lawful}
@@ -30,9 +29,11 @@ use Rattle.rept_analysis.specs.Drawing.HasNews.{anew}
 use Rattle.rept_analysis.specs.declared.halt.Halt.{Halt}
 use Rattle.rept_analysis.specs.declared.halt.Halt.TheVariants.{Clash, OutOfMemory}
 use Rattle.rept_span.specs.Filled.{View}
+use Rattle.rept_analysis.proofs.Barriers.{writings_still}
 use Rattle.rept_analysis.proofs.Drawn.{list_known}
 use Rattle.rept_analysis.specs.Kept.{IsKept, IsDrawnWith, IsPass}
 use Rattle.rept_analysis.proofs.Cells.{cells_less, cells_back}
+use Rattle.rept_view.specs.declared.drawn.When.TheVariants.{Before, After}
 
 -- where no less is known
 module _ {W : Type 0} (s t : State W) (same : t.path ≡ s.path) (more : (p : ℕ) (c : Cell) (v : ℕ) → Knows p c v s → Knows p c v t) where
@@ -139,7 +140,7 @@ module _ {W : Type 0} (s b : State W) (n i : ℕ) (p q : Pass) (once : n ≤ s.w
     more = grows.more;
     tracked = grows.tracked;
     counted = grows.counted;
-    writing = grows.writing;
+    writing = λ h. writings_still b (with_drawn b (set b.work.drawn i q)) refl refl refl (λ p c v e. e) refl (λ w. w) (grows.writing (writings_still s (with_draws s n) refl refl refl (λ p c v e. e) refl (λ w. w) h));
     fewer = let less = left_lower in omega (arith, less);
     spent = let less = left_lower in let draws : b.work.draws ≡ n = rw still refl in omega (arith, less, draws, once);
     words = grows.words;

@@ -18,20 +18,19 @@ use Rattle.std.specs.declared.alloc.AllocError.{AllocError}
 use Rattle.rept_reason.specs.declared.fact.Fact.{Fact}
 use Rattle.rept_versions.specs.declared.facts.Carried.{Carried}
 use Rattle.rept_versions.specs.declared.facts.Carried.TheVariants.{Same, More, Stop}
-use Rattle.rept_alias.specs.declared.addresses.CallAccess.{CallAccess}
-use Rattle.rept_alias.specs.Accesses.{call_hits}
 use Rattle.rept_versions.specs.declared.facts.Stretch.{Stretch}
 use Rattle.rept_versions.specs.Facts.{Told, Store, change, Between, Spreads, Carries as StoreCarries, Nexts}
 use Rattle.rept_log.proofs.Stores.{stays_same}
 use Rattle.rept_log.specs.Known.{Known, knows, known_change, AddsByte, SameLog}
 use Rattle.rept_analysis.specs.State.{State, all_known, Path, along}
 use Rattle.rept_report.specs.Why.{fact_of}
-use Rattle.rept_analysis.specs.Drawing.{Knows, IsTracked, Grows, IsBrought, IsSpared, IsSparedBetween, IsSpreadTo, IsCarriedFrom, IsCarriedAt, IsAccess}
+use Rattle.rept_analysis.specs.Drawing.{Knows, IsTracked, Grows, IsBrought, IsSpared, IsSparedBetween, IsSpreadTo, IsCarriedFrom}
 use Rattle.rept_analysis.specs.Drawing.HasNews.{fact}
 use Rattle.rept_analysis.specs.Told.{Sends}
 use Rattle.rept_analysis.specs.Kept.{IsKept}
+use Rattle.rept_analysis.proofs.Barriers.{writings_still}
 use Rattle.rept_analysis.proofs.Drawn.{Grows_itself, Grows_trans}
-use Rattle.rept_analysis.proofs.Following.{brought_follows, hit_carried}
+use Rattle.rept_analysis.proofs.Following.{brought_follows}
 use Rattle.rept_analysis.proofs.Passing.{passes_more}
 use Rattle.rept_analysis.proofs.Learning.{with_known, same_known, kept_same, known_words, new_byte}
 use Rattle.rept_analysis.proofs.Reserve.{room_like}
@@ -213,7 +212,7 @@ module _ {W : Type 0} (s : State W) (laws : HasLaws (along s.path)) (kept : IsKe
             more = λ p c w e. more_of p c w (g.more p c w e) facts k_log;
             tracked = λ b h. subst (λ (xs : List ℕ). Contains xs b) (sym same_tracked) h;
             counted = rw same_tracked (omega arith);
-            writing = refl;
+            writing = writings_still s (with_known s k) refl refl (rw log refl) (λ p c w e. more_of p c w (g.more p c w e) facts k_log) refl (λ words p r w e. words p r w (rw log at e));
             fewer = omega arith;
             spent = omega arith;
             words = λ words p r w e. words p r w (rw log at e);
@@ -377,20 +376,6 @@ segment_free s a from to none i le lt = record {
   onward = λ w spared h. absurd (none_some (sym (none i le (omega (arith, lt))) ∙ h));
   back = λ w spared h. absurd (none_some (sym (none (i + 1) (omega (arith, le)) (omega (arith, lt))) ∙ h));
 }
-
-pub carried_join : {W : Type 0} (s : State W) (a from middle to : ℕ) → IsCarriedFrom a from middle s → IsCarriedFrom a middle to s → IsCarriedFrom a from to s
-carried_join s a from middle to one two i le lt =
-    elim (cases_lt i middle) [
-      | inl less ↦ one i le less
-      | inr more ↦ two i more lt
-    ]
-
-pub carried_hit : {W : Type 0} (s : State W) (a from i : ℕ) (access : CallAccess) → a < 2 ^ 32 → IsAccess i access s → call_hits access a ≡ true → IsCarriedFrom a from i s → IsCarriedFrom a from (i + 1) s
-carried_hit s a from i access small h hit before j le lt =
-    elim (cases_lt j i) [
-      | inl less ↦ before j le less
-      | inr more ↦ let e : i ≡ j = omega (arith, lt, more) in subst (λ (k : ℕ). IsCarriedAt k a s) e (hit_carried s i a access small h hit)
-    ]
 
 pub next_free : {W : Type 0} (s : State W) (a from to : ℕ) → Nexts s.known.store.fact a from None → IsCarriedFrom a from to s
 next_free s a from to h = segment_free s a from to (λ q low high. h q low)

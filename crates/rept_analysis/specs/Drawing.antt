@@ -1,5 +1,5 @@
 -- What drawing conclusions does to an analysis. This project's own.
-use Rattle.std.specs.Prelude.{◌≡◌, ◌≢◌, ℕ, zero, suc, ◌+◌, ◌<◌, ◌≤◌, ◌^◌, ◌⊎◌, Bool, true, false, List, length, Some, None, Contains, slice_get}
+use Rattle.std.specs.Prelude.{◌≡◌, ◌≢◌, ℕ, zero, suc, ◌+◌, ◌-◌, ◌<◌, ◌≤◌, ◌^◌, ◌⊎◌, Bool, true, false, List, length, Some, None, Contains, slice_get}
 use Rattle.rept_isa.specs.declared.row.StepRow.{StepRow}
 use Rattle.rept_isa.specs.Operands.{written_by}
 use Rattle.rept_versions.specs.Facts.{Between, Course}
@@ -16,7 +16,7 @@ use Rattle.rept_span.specs.Filled.{entry_at, IsFilled}
 use Rattle.rept_view.specs.declared.drawn.Drawn.{Drawn}
 use Rattle.rept_view.specs.Rules.{IsRowByte, Fits}
 use Rattle.rept_log.specs.Around.{around}
-use Rattle.rept_report.specs.Setting.{way_of}
+use Rattle.rept_report.specs.Setting.{HasLaws, way_of}
 use Rattle.rept_report.specs.Views.{point_of, may_write}
 use Rattle.rept_report.specs.Conclusions.{HasWords, IsCarried, Concludes}
 use Rattle.rept_report.specs.Conflicts.{IsQuiet}
@@ -37,6 +37,52 @@ Knows p c v s = all_known s p c ≡ Some v
 abbrev pub IsTracked : {W : Type 0} → ℕ → State W → Type 0
 IsTracked a s = Contains s.known.store.tracked a
 
+-- the sets are those of some of the facts
+abbrev pub IsFitted : {W : Type 0} → State W → Type 0
+IsFitted s = IsFilled (way_of (along s.path)) s.spans (told (oldest s.filled s.known.log))
+
+-- row i may not write the byte, by the facts of which the sets are
+abbrev pub IsSparedAt : {W : Type 0} → ℕ → ℕ → State W → Type 0
+IsSparedAt i a s = may_write (along s.path) (told (oldest s.filled s.known.log)) i a ≡ false
+
+-- row i may not write the byte, by all that is known by now, if that leaves no range empty and no turn wrong
+abbrev pub IsSparedNow : {W : Type 0} → ℕ → ℕ → State W → Type 0
+IsSparedNow i a s = IsQuiet (along s.path) (all_known s) → may_write (along s.path) (all_known s) i a ≡ false
+
+-- it may not, by the one or by the other
+abbrev pub IsSpared : {W : Type 0} → ℕ → ℕ → State W → Type 0
+IsSpared i a s = IsSparedAt i a s ⊎ IsSparedNow i a s
+
+-- no row from one to before another may write anything, by the facts of which the sets are
+abbrev pub IsSilent : {W : Type 0} → ℕ → ℕ → State W → Type 0
+IsSilent from to s = (i a : ℕ) → from ≤ i → i < to → a < 2 ^ 32 → IsSparedAt i a s
+
+-- the row after the one before an index in a list of rows that may write
+abbrev pub past : List Writing → ℕ → ℕ
+past list zero = 0
+past list (suc k) = row_past (slice_get list k)
+
+-- A row of such a list: it may not write what isn't among its addresses, by the one or by the other, and no row between the one before
+-- it and this one may write.
+pub record IsBarrier {W : Type 0} (list : List Writing) (k : ℕ) (w : Writing) (s : State W) : Type 0 where
+  pub low : past list k ≤ w.row
+  pub inside : w.row < length s.path.given.rows
+  pub others : (a : ℕ) → a < 2 ^ 32 → call_hits w.access a ≡ false → IsSpared w.row a s
+  pub silent : IsSilent (past list k) w.row s
+
+-- no row but these may write
+pub record AreBarriers {W : Type 0} (list : List Writing) (s : State W) : Type 0 where
+  pub each : (k : ℕ) (w : Writing) → slice_get list k ≡ Some w → IsBarrier list k w s
+  pub low : past list (length list) ≤ length s.path.given.rows
+  pub silent : IsSilent (past list (length list)) (length s.path.given.rows) s
+
+-- the sets are those of some of the facts, and no row may write but those of the list
+pub record AreWritings {W : Type 0} (s : State W) : Type 0 where
+  pub laws : HasLaws (along s.path)
+  pub words : HasWords (all_known s)
+  pub fitted : IsFitted s
+  pub barriers : AreBarriers s.work.writing s
+
 -- another state of the same analysis, which knows no less
 pub record Grows {W : Type 0} (old new : State W) : Type 0 where
   pub path : new.path ≡ old.path
@@ -51,7 +97,7 @@ pub record Grows {W : Type 0} (old new : State W) : Type 0 where
   pub more : (p : ℕ) (c : Cell) (v : ℕ) → Knows p c v old → Knows p c v new
   pub tracked : (a : ℕ) → IsTracked a old → IsTracked a new
   pub counted : length old.known.store.tracked ≤ length new.known.store.tracked
-  pub writing : new.work.writing ≡ old.work.writing
+  pub writing : AreWritings old → AreWritings new
   pub fewer : left new.work.drawn ≤ left old.work.drawn
   pub spent : new.work.draws + left new.work.drawn ≤ old.work.draws + left old.work.drawn
   pub words : HasWords (all_known old) → HasWords (all_known new)
@@ -91,10 +137,6 @@ pub record IsClash {W : Type 0} (s : State W) (f : Fact) (known : ℕ) : Type 0 
 abbrev pub IsHalt : {W : Type 0} → State W → Halt → Type 0
 IsHalt s (Clash p c known value) = IsClash s (fact_of p c value) known
 IsHalt s OutOfMemory = s.work.joins ≡ false
-
--- the sets are those of some of the facts
-abbrev pub IsFitted : {W : Type 0} → State W → Type 0
-IsFitted s = IsFilled (way_of (along s.path)) s.spans (told (oldest s.filled s.known.log))
 
 -- a register has one value before and after row i
 pub record IsKeptAt {W : Type 0} (i r : ℕ) (s : State W) : Type 0 where
@@ -246,18 +288,6 @@ LastBytesKnown s = (a : ℕ) → IsTracked a s → LastByteKnown a s
 abbrev pub SinglesKnown : {W : Type 0} → State W → Type 0
 SinglesKnown s = SinglesBelow (length s.path.given.rows + 1) s
 
--- row i may not write the byte, by the facts of which the sets are
-abbrev pub IsSparedAt : {W : Type 0} → ℕ → ℕ → State W → Type 0
-IsSparedAt i a s = may_write (along s.path) (told (oldest s.filled s.known.log)) i a ≡ false
-
--- row i may not write the byte, by all that is known by now, if that leaves no range empty and no turn wrong
-abbrev pub IsSparedNow : {W : Type 0} → ℕ → ℕ → State W → Type 0
-IsSparedNow i a s = IsQuiet (along s.path) (all_known s) → may_write (along s.path) (all_known s) i a ≡ false
-
--- it may not, by the one or by the other
-abbrev pub IsSpared : {W : Type 0} → ℕ → ℕ → State W → Type 0
-IsSpared i a s = IsSparedAt i a s ⊎ IsSparedNow i a s
-
 -- so may none of the rows between two points
 abbrev pub IsSparedBetween : {W : Type 0} → ℕ → ℕ → ℕ → State W → Type 0
 IsSparedBetween from to a s = (i : ℕ) → ((from ≤ i) × (i < to)) ⊎ ((to ≤ i) × (i < from)) → IsSpared i a s
@@ -270,9 +300,31 @@ IsSpreadTo course s = (q : ℕ) → Between course.from course.to q → Knows q 
 abbrev pub IsCarriedFrom : {W : Type 0} → ℕ → ℕ → ℕ → State W → Type 0
 IsCarriedFrom a from to s = (i : ℕ) → from ≤ i → i < to → IsCarriedAt i a s
 
--- over all rows
+-- the rows of the list may write all of their addresses, by the facts of which the sets are
+abbrev pub AreExact : {W : Type 0} → State W → Type 0
+AreExact s = (k : ℕ) (w : Writing) (a : ℕ) → slice_get s.work.writing k ≡ Some w → a < 2 ^ 32 → call_hits w.access a ≡ true → may_write (along s.path) (told (oldest s.filled s.known.log)) w.row a ≡ true
+
+-- over all rows, where the list is exact
 abbrev pub IsCarriedAlong : {W : Type 0} → ℕ → State W → Type 0
-IsCarriedAlong a s = IsCarriedFrom a 0 (length s.path.given.rows) s
+IsCarriedAlong a s = AreExact s → IsCarriedFrom a 0 (length s.path.given.rows) s
+
+-- the row at which a search for one that may write the byte ended, from an index of the list on: such a row, or the end
+pub record IsHitFrom {W : Type 0} (k a to : ℕ) (s : State W) : Type 0 where
+  pub index : ℕ
+  pub writing : Writing
+  pub from : k ≤ index
+  pub found : slice_get s.work.writing index ≡ Some writing
+  pub row : writing.row ≡ to
+  pub hits : call_hits writing.access a ≡ true
+
+abbrev pub IsStopAt : {W : Type 0} → ℕ → ℕ → ℕ → State W → Type 0
+IsStopAt k a to s = (to ≡ length s.path.given.rows) ⊎ IsHitFrom k a to s
+
+-- the byte is carried over the rows from one before a point to another one, where the list is exact
+pub record IsCarriedBeside {W : Type 0} (a point to : ℕ) (s : State W) : Type 0 where
+  pub first : ℕ
+  pub low : first ≤ point - 1
+  pub closed : AreExact s → (i : ℕ) → first ≤ i → i ≤ to → i < length s.path.given.rows → IsCarriedAt i a s
 
 -- so are the first n tracked bytes
 abbrev pub CarriedAlongBelow : {W : Type 0} → ℕ → State W → Type 0
@@ -281,15 +333,6 @@ CarriedAlongBelow n s = (k a : ℕ) → k < n → slice_get s.known.store.tracke
 -- so are all
 abbrev pub AllCarried : {W : Type 0} → State W → Type 0
 AllCarried s = (a : ℕ) → IsTracked a s → IsCarriedAlong a s
-
--- no row from one to before another may write anything, by the facts of which the sets are
-abbrev pub IsSilent : {W : Type 0} → ℕ → ℕ → State W → Type 0
-IsSilent from to s = (i a : ℕ) → from ≤ i → i < to → a < 2 ^ 32 → IsSparedAt i a s
-
--- the row after the one before an index in a list of rows that may write
-abbrev pub past : List Writing → ℕ → ℕ
-past list zero = 0
-past list (suc k) = row_past (slice_get list k)
 
 -- a row of such a list, with the bytes that it may write; no row between the one before it and this one may write
 pub record IsWriting {W : Type 0} (list : List Writing) (k : ℕ) (w : Writing) (s : State W) : Type 0 where
@@ -303,8 +346,3 @@ pub record AreWritingsBefore {W : Type 0} (n : ℕ) (list : List Writing) (s : S
   pub each : (k : ℕ) (w : Writing) → slice_get list k ≡ Some w → IsWriting list k w s
   pub low : past list (length list) ≤ n
   pub silent : IsSilent (past list (length list)) n s
-
--- the sets are those of some of the facts, and the rows that may write by these are listed
-pub record AreWritings {W : Type 0} (s : State W) : Type 0 where
-  pub fitted : IsFitted s
-  pub listed : AreWritingsBefore (length s.path.given.rows) s.work.writing s

@@ -34,6 +34,7 @@ mod stopping;
 mod sweeping;
 mod why;
 
+use crate::fresh::Fresh;
 use crate::pass::Passes;
 use crate::stop::Stop;
 use rept_dump::Dump;
@@ -65,6 +66,11 @@ pub struct Analysis<'a, B: ByteFacts, W: Transfer, R: RowRules> {
     conflict: Option<ConflictKind>,
     writing: Writings,
     drawn: Passes,
+    /// whether a row was put in the list anew since the last store of unknown address that was looked at
+    is_freed: bool,
+    /// whether one was since the last pass over all rows began
+    has_put: bool,
+    fresh: Fresh,
 }
 
 impl<'a, B: ByteFacts, W: Transfer, R: RowRules> Model for Analysis<'a, B, W, R> {
@@ -120,6 +126,7 @@ impl<'a, B: ByteFacts, W: Transfer, R: RowRules> Analysis<'a, B, W, R> {
         let spans = Spans::new(alloc, count + 1)?;
         let writing = Writings::new(alloc, rows.len(), bytes as usize)?;
         let drawn = Passes::new(alloc, rows.len())?;
+        let fresh = Fresh::new(alloc, rows.len())?;
         Ok(Analysis {
             alloc,
             rows,
@@ -134,6 +141,9 @@ impl<'a, B: ByteFacts, W: Transfer, R: RowRules> Analysis<'a, B, W, R> {
             conflict: None,
             writing,
             drawn,
+            is_freed: false,
+            has_put: false,
+            fresh,
         })
     }
 

@@ -2,6 +2,7 @@
 #![tactic(auto)]
 
 pub mod analysis;
+mod fresh;
 mod halt;
 mod moment;
 mod offset;

@@ -64,4 +64,5 @@ filed_sorted list narrow sorted wide filed moved = record {
   rising = filed.rising;
   inside = filed.inside;
   few = filed.few;
+  apart = All-permutation (λ (h : Hit). Contains wide h.index → ⊥) narrow sorted moved filed.apart;
 }

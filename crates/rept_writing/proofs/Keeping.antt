@@ -1,10 +1,12 @@
 -- The single addresses of a row of few, and what is kept when a row is added.
 use Rattle.std.proofs.Common.{◌≡◌, ℕ, zero, suc, ◌+◌, ◌-◌, ◌<◌, ◌≤◌, ◌^◌, ◌⊎◌, ◌||◌, Bool, true, false, List, [], ◌∷◌, ◌++◌, length, Option, Some, None, inl, inr, refl, sym, ◌∙◌, ap, subst, arith}
-use Rattle.std.specs.Prelude.{slice_get, if◌then◌else◌}
+use Rattle.std.specs.Prelude.{slice_get, set, get_or, if◌then◌else◌}
 use Rattle.std.specs.List.{All, Contains}
-use Rattle.std.proofs.lemmas.Bool.{cases_lt}
-use Rattle.std.proofs.lemmas.List.{length-append}
-use Rattle.std.proofs.lemmas.List.Elements.{All-nil, All-push, All-append, All-weaker, Contains-append_left, Contains-append_right, Contains-push}
+use Rattle.std.proofs.lemmas.Bool.{cases_lt, cases_eq}
+use Rattle.std.proofs.lemmas.List.{length-append, length-set, length-take-le}
+use Rattle.std.proofs.Math.ListN.{take}
+use Rattle.std.proofs.Math.Seq.{take-suc}
+use Rattle.std.proofs.lemmas.List.Elements.{All-nil, All-push, All-append, All-weaker, All-contains, Contains-append_left, Contains-append_right, Contains-append_cases, Contains-push}
 use Rattle.std.proofs.lemmas.List.Sorted.{IsNonDecreasingBy-push}
 use Rattle.std.proofs.lemmas.Option.{slice_get_within}
 use Rattle.rept_alias.specs.Accesses.{hits, hits_part, call_hits, distance, beside}
@@ -118,6 +120,14 @@ more_sound list w narrow sound = All-weaker (λ (h : Hit). hits_at list h.index 
 more_inside : (list : List Writing) (w : Writing) (wide : List ℕ) → All (λ j. j < length list) wide → All (λ j. j < length (list ++ w ∷ [])) wide
 more_inside list w wide inside = All-weaker (λ (j : ℕ). j < length list) (λ (j : ℕ). j < length (list ++ w ∷ [])) (λ j lt. omega (arith, lt, length-append list (w ∷ []))) wide inside
 
+set_elsewhere : (xs : List Writing) (i j : ℕ) (w : Writing) → (j ≡ i → ⊥) → slice_get (set xs i w) j ≡ slice_get xs j
+set_elsewhere [] zero j w ne = refl
+set_elsewhere [] (suc i) j w ne = refl
+set_elsewhere (x ∷ xs) zero zero w ne = absurd (ne refl)
+set_elsewhere (x ∷ xs) zero (suc j) w ne = refl
+set_elsewhere (x ∷ xs) (suc i) zero w ne = refl
+set_elsewhere (x ∷ xs) (suc i) (suc j) w ne = set_elsewhere xs i j w (λ e. ne (ap suc e))
+
 -- a row of few was added
 pub filed_narrow : (list : List Writing) (narrow new : List Hit) (wide : List ℕ) (w : Writing) → IsFiled list narrow wide → IsKeptByAddress w.access (length list) narrow new → IsFiled (list ++ w ∷ []) new wide
 filed_narrow list narrow new wide w filed kept = record {
@@ -129,8 +139,12 @@ filed_narrow list narrow new wide w filed kept = record {
   rising = filed.rising;
   inside = more_inside list w wide filed.inside;
   few = omega (arith, filed.few, length-append list (w ∷ []));
+  apart = subst (All (λ (h : Hit). Contains wide h.index → ⊥)) (sym kept.is) (All-append (λ (h : Hit). Contains wide h.index → ⊥) narrow (hits_of w.access (length list)) filed.apart (All-weaker (IsOfRow w.access (length list)) (λ (h : Hit). Contains wide h.index → ⊥) (λ h o there. new_index h.index o.0 there) (hits_of w.access (length list)) (row_sound w.access (length list) narrow new kept)));
 }
   where
+    new_index : (i : ℕ) → i ≡ length list → Contains wide i → ⊥
+    new_index i e there = let lt = All-contains (λ (j : ℕ). j < length list) wide i filed.inside there in omega (arith, e, lt)
+
     last : All (λ h. hits_at (list ++ w ∷ []) h.index h.address ≡ true) (hits_of w.access (length list))
     last = All-weaker (IsOfRow w.access (length list)) (λ (h : Hit). hits_at (list ++ w ∷ []) h.index h.address ≡ true) (λ h o. subst (λ (i : ℕ). hits_at (list ++ w ∷ []) i h.address ≡ true) (sym o.0) (end_hits list w h.address ∙ o.1)) (hits_of w.access (length list)) (row_sound w.access (length list) narrow new kept)
 
@@ -145,4 +159,67 @@ filed_wide list narrow wide w filed = record {
   rising = IsNonDecreasingBy-push (λ (j : ℕ). j) wide (length list) filed.rising (λ d some. omega (arith, filed.inside (length wide - 1) d (omega (arith, some))));
   inside = All-push (λ (j : ℕ). j < length (list ++ w ∷ [])) wide (length list) (more_inside list w wide filed.inside) (omega (arith, length-append list (w ∷ [])));
   few = omega (arith, filed.few, length-append list (w ∷ []), length-append wide (length list ∷ []));
+  apart = λ k h lt. not_there (get_or narrow k h) (filed.sound k h lt) (filed.apart k h lt);
 }
+  where
+    last : (i : ℕ) → Contains (length list ∷ []) i → i ≡ length list
+    last i there = sym (All-contains (λ (j : ℕ). length list ≡ j) (length list ∷ []) i (All-push (λ (j : ℕ). length list ≡ j) [] (length list) (All-nil (λ (j : ℕ). length list ≡ j)) refl) there)
+
+    not_there : (h : Hit) → hits_at list h.index h.address ≡ true → (Contains wide h.index → ⊥) → Contains (wide ++ length list ∷ []) h.index → ⊥
+    not_there h hits before there = elim (Contains-append_cases wide (length list ∷ []) h.index there) [
+      | inl old ↦ before old
+      | inr new ↦ let e = last h.index new in let lt = inside_of list h.index h.address hits in omega (arith, e, lt)
+    ]
+
+-- another row at an index that is kept for a row of many
+pub filed_replaced : (list : List Writing) (narrow : List Hit) (wide : List ℕ) (k : ℕ) (w : Writing) → Contains wide k → IsFiled list narrow wide → IsFiled (set list k w) narrow wide
+filed_replaced list narrow wide k w there filed = record {
+  sound = λ i h lt. kept_hit (get_or narrow i h) (filed.sound i h lt) (filed.apart i h lt);
+  complete = λ j a fits h. elim (cases_eq j k) [
+    | inl e ↦ inr (subst (Contains wide) (sym e) there)
+    | inr ne ↦ filed.complete j a fits (sym (other j a ne) ∙ h)
+  ];
+  rising = filed.rising;
+  inside = subst (λ (n : ℕ). All (λ j. j < n) wide) (sym (length-set list k w)) filed.inside;
+  few = rw (length-set list k w) filed.few;
+  apart = filed.apart;
+}
+  where
+    other : (j a : ℕ) → (j ≡ k → ⊥) → hits_at (set list k w) j a ≡ hits_at list j a
+    other j a ne = ap (λ x. may_write x a) (set_elsewhere list k j w ne)
+
+    kept_hit : (h : Hit) → hits_at list h.index h.address ≡ true → (Contains wide h.index → ⊥) → hits_at (set list k w) h.index h.address ≡ true
+    kept_hit h hits apart = other h.index h.address (λ e. apart (subst (Contains wide) (sym e) there)) ∙ hits
+
+-- nothing is kept of no row
+pub filed_none : IsFiled [] [] []
+filed_none = record {
+  sound = All-nil (λ (h : Hit). hits_at [] h.index h.address ≡ true);
+  complete = λ j a fits h. absurd (none (inside_of [] j a h));
+  rising = λ i j d le lt. absurd (omega (arith, lt));
+  inside = All-nil (λ (j : ℕ). j < 0);
+  few = omega arith;
+  apart = All-nil (λ (h : Hit). Contains [] h.index → ⊥);
+}
+  where
+    none : {j : ℕ} → j < 0 → ⊥
+    none lt = omega (arith, lt)
+
+take_next : (list : List Writing) (k : ℕ) (d : Writing) → k < length list → take (k + 1) list ≡ take k list ++ get_or list k d ∷ []
+take_next list k d lt = let same : suc k ≡ k + 1 = omega arith in subst (λ (n : ℕ). take n list ≡ take k list ++ get_or list k d ∷ []) same (take-suc list k d lt)
+
+-- the first rows of a list, and one more
+pub filed_next : (list : List Writing) (k : ℕ) (d : Writing) (narrow new : List Hit) (wide newer : List ℕ) → k < length list → IsFiled (take k list) narrow wide → (IsKeptByAddress (get_or list k d).access k narrow new × (newer ≡ wide)) ⊎ ((new ≡ narrow) × (newer ≡ wide ++ k ∷ [])) → IsFiled (take (k + 1) list) new newer
+filed_next list k d narrow new wide newer lt filed (inl (kept, same)) =
+    let long : length (take k list) ≡ k = length-take-le k list (omega (arith, lt)) in
+    subst (λ (xs : List Writing). IsFiled xs new newer) (sym (take_next list k d lt)) (subst (λ (js : List ℕ). IsFiled (take k list ++ get_or list k d ∷ []) new js) (sym same) (filed_narrow (take k list) narrow new wide (get_or list k d) filed (subst (λ (n : ℕ). IsKeptByAddress (get_or list k d).access n narrow new) (sym long) kept)))
+filed_next list k d narrow new wide newer lt filed (inr (same, added)) =
+    let long : length (take k list) ≡ k = length-take-le k list (omega (arith, lt)) in
+    subst (λ (xs : List Writing). IsFiled xs new newer) (sym (take_next list k d lt)) (subst (λ (hs : List Hit). IsFiled (take k list ++ get_or list k d ∷ []) hs newer) (sym same) (subst (λ (js : List ℕ). IsFiled (take k list ++ get_or list k d ∷ []) narrow js) (sym added) (subst (λ (n : ℕ). IsFiled (take k list ++ get_or list k d ∷ []) narrow (wide ++ n ∷ [])) long (filed_wide (take k list) narrow wide (get_or list k d) filed))))
+
+-- all rows of a list are the first ones
+pub take_all : (k : ℕ) (list : List Writing) → length list ≤ k → take k list ≡ list
+take_all zero [] le = refl
+take_all (suc k) [] le = refl
+take_all zero (x ∷ xs) le = absurd (omega (arith, le))
+take_all (suc k) (x ∷ xs) le = ap (λ (ys : List Writing). x ∷ ys) (take_all k xs (omega (arith, le)))

@@ -72,10 +72,11 @@ pub record IsKeptByAddress (access : CallAccess) (index : ℕ) (old new : List H
   pub is : new ≡ old ++ hits_of access index
 
 -- Each address that the row at an index may write stands among the single ones with that index, or the index among those of rows of
--- many addresses; and nothing else stands there.
+-- many addresses, but not both; and nothing else stands there.
 pub record IsFiled (list : List Writing) (narrow : List Hit) (wide : List ℕ) : Type 0 where
   pub sound : All (λ h. hits_at list h.index h.address ≡ true) narrow
   pub complete : (j a : ℕ) → a < 2 ^ 32 → hits_at list j a ≡ true → Contains narrow (hit a j) ⊎ Contains wide j
   pub rising : IsNonDecreasing wide
   pub inside : All (λ j. j < length list) wide
   pub few : length wide ≤ length list
+  pub apart : All (λ h. Contains wide h.index → ⊥) narrow

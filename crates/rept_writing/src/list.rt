@@ -1,14 +1,21 @@
 //! The list of rows that may write, with what finds them by address.
 
-ghost use Rattle.std.specs.Prelude.{◌≡◌, ◌+◌, ◌<◌, ◌≤◌, [], ◌∷◌, ◌++◌, IfOk, Some, length, slice_get};
+ghost use Rattle.std.specs.Prelude.{◌≡◌, ◌+◌, ◌<◌, ◌≤◌, [], ◌∷◌, ◌++◌, IfOk, Some, true, false, length, set, slice_get};
+ghost use Rattle.std.specs.Vec.{vec_len, vec_capacity};
 ghost use Rattle.rept_writing.specs.Hits.{IsNextHit, IsPastHit, IsSplitAt, AreInOrder};
-ghost use Rattle.rept_writing.specs.Filed.{sooner};
+ghost use Rattle.rept_writing.specs.Filed.{IsFiled, sooner};
 
 use crate::narrow::{Hit, file, next_narrow, past_narrow};
-use crate::wide::{next_wide, past_wide, scan, scan_back};
+use crate::wide::{is_among, next_wide, past_wide, scan, scan_back};
 use rept_alias::CallAccess;
 use std::alloc::{AllocError as OutOfMemory, Global};
 use std::marker::Model;
+
+/// So many rows are replaced at least before it is worth the time to find them by address again.
+const WORN: usize = 64;
+
+/// And one in so many rows.
+const SHARE: usize = 32;
 
 /// A row that may write, and the bytes that it may write.
 #[derive(Clone, Copy, PartialEq, Eq, Debug)]
@@ -30,6 +37,8 @@ pub struct Writings {
     wide: Vec<usize>,
     /// whether `narrow` is in order
     is_indexed: bool,
+    /// how many of the others were replaced since then
+    replaced: usize,
 }
 
 impl Model for Writings {
@@ -60,6 +69,7 @@ impl Writings {
             narrow,
             wide,
             is_indexed: false,
+            replaced: 0,
         })
     }
 
@@ -101,12 +111,38 @@ impl Writings {
         list[k]
     }
 
-    /// Makes the rows found fast by address, up to the next change. The list stays as it is; no memory is taken.
+    /// Puts a row in the place of the one at an index, if that one may write many addresses, and answers whether it is so. Of a row of
+    /// few each address is kept by itself, so that it stays.
+    pub fn replace(&mut self, k: usize, writing: Writing) -> bool
+        requires { k < length self.old.list }
+        ensures replaced { result ≡ true → self.new.list ≡ set self.old.list k writing }
+        ensures same { result ≡ false → self.new ≡ self.old }
+        ensures room { self.new.room ≡ self.old.room }
+    {
+        if !is_among(self.wide.as_slice(), k) {
+            return false;
+        }
+        self.list[k] = writing;
+        self.replaced = self.replaced.wrapping_add(1);
+        true
+    }
+
+    /// Whether so many rows were replaced since `index` that a search may go past many that don't write the address, and it is worth
+    /// the time to call `index` again.
+    pub fn is_worn(&self) -> bool {
+        self.replaced >= WORN && self.replaced >= self.list.len() / SHARE
+    }
+
+    /// Makes the rows found fast by address, up to the next row that is added. The list stays as it is; no memory is taken.
     pub fn index(&mut self)
         ensures { self.new ≡ self.old }
     {
+        self.narrow.clear();
+        self.wide.clear();
+        file_all(self.list.as_slice(), &mut self.narrow, &mut self.wide);
         self.narrow.sort_unstable();
         self.is_indexed = true;
+        self.replaced = 0;
     }
 
     /// The index of the first row from index k on that may write the address. None is said exactly where there is none.
@@ -148,6 +184,20 @@ impl Writings {
         } else {
             scan_back(list, k, a)
         }
+    }
+}
+
+/// Keeps the addresses of all rows, or their indices, where nothing is kept yet.
+fn file_all(list: &[Writing], narrow: &mut Vec<Hit>, wide: &mut Vec<usize>)
+    requires none { narrow.old.items ≡ [] }
+    requires clear { wide.old.items ≡ [] }
+    requires room { length list.now ≤ vec_capacity wide.old }
+    ensures filed { IsFiled list.now narrow.new.items wide.new.items }
+    ensures capacity { vec_capacity wide.new ≡ vec_capacity wide.old }
+{
+    for k in 0..list.len() {
+        let access = list[k].access;
+        file(narrow, wide, k, &access);
     }
 }
 

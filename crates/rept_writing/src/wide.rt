@@ -68,3 +68,11 @@ pub fn past_wide(list: &[Writing], wide: &[usize], k: usize, a: u32) -> usize
     }
     0
 }
+
+/// Whether an index is one of these. Where they aren't in order it may say no.
+pub fn is_among(wide: &[usize], k: usize) -> bool
+    ensures { result ≡ true → Contains wide.now k }
+{
+    let at = wide.partition_point(|j| *j < k);
+    at < wide.len() && wide[at] == k
+}

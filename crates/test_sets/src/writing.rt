@@ -3,7 +3,7 @@
 ghost use Rattle.std.specs.Prelude.{◌≡◌, length, IfOk};
 
 use rept_alias::{Access, CallAccess};
-use rept_writing::Writings;
+use rept_writing::{Writing, Writings};
 use std::alloc::{AllocError as OutOfMemory, Global};
 use std::process::Abort;
 use std::test::Fail;
@@ -100,8 +100,50 @@ fn look_back(rt: &impl Abort, writings: &Writings) {
     }
 }
 
+/// Looks past the range of the table, in whose place a shorter one was put.
+fn look_past(rt: &impl Abort, writings: &Writings) {
+    for (k, a, expected) in [
+        (0, 104, None),
+        (1, 100, Some(3)),
+        (0, 95, Some(2)),
+        (0, 98, Some(2)),
+        (0, 94, None),
+        (3, 95, None),
+    ] {
+        assert_eq!(rt; writings.next_hit(k, a), expected);
+    }
+    for (row, a, expected) in [(13, 100, 1), (16, 98, 3), (99, 99, 0)] {
+        assert_eq!(rt; writings.past_hit(row, a), expected);
+    }
+}
+
+/// Puts a shorter range in the place of that of the table, so many times.
+fn shorten(rt: &impl Abort, writings: &mut Writings, times: usize) {
+    let access = CallAccess {
+        first: part(Some((95, 98))),
+        second: None,
+    };
+    for _ in 0..times {
+        if 2 < writings.len() {
+            assert_eq!(rt; writings.replace(2, Writing { row: 12, access }), true);
+        }
+    }
+}
+
+/// Puts the first row in its own place, which is refused where each of its addresses is kept by itself.
+fn renew(rt: &impl Abort, writings: &mut Writings, expected: bool) {
+    let access = CallAccess {
+        first: part(Some((100, 103))),
+        second: None,
+    };
+    if 0 < writings.len() {
+        assert_eq!(rt; writings.replace(0, Writing { row: 10, access }), expected);
+    }
+}
+
 // The first row of the table from an index on whose addresses include the one that is looked up, and the place after the last one
-// below a number, by hand: as the list stands, in order, and where single addresses have no room, or room for some rows only.
+// below a number, by hand: as the list stands, in order, and where single addresses have no room, or room for some rows only; and where
+// a range was put in the place of another one, so often that it is worth the time to put all in order again.
 #[test]
 fn rows_by_hand(rt: HostRuntime) -> Result<(), Fail> {
     for bytes in [64, 0, 5] {
@@ -112,6 +154,15 @@ fn rows_by_hand(rt: HostRuntime) -> Result<(), Fail> {
         look(&rt, &writings);
         look_back(&rt, &writings);
         assert_eq!(rt; writings.len(), 6);
+        renew(&rt, &mut writings, bytes == 0);
+        shorten(&rt, &mut writings, 62);
+        assert_eq!(rt; writings.is_worn(), false);
+        shorten(&rt, &mut writings, 2);
+        assert_eq!(rt; writings.is_worn(), true);
+        look_past(&rt, &writings);
+        writings.index();
+        assert_eq!(rt; writings.is_worn(), false);
+        look_past(&rt, &writings);
         writings.clear();
         writings.index();
         assert_eq!(rt; writings.next_hit(0, 100), None);

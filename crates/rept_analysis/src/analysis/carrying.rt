@@ -1,17 +1,20 @@
 //! The carrying of bytes over rows that may not write them.
 
-ghost use Rattle.std.specs.Prelude.{◌≡◌, ◌↔◌, ◌∷◌, ◌++◌, [], ◌+◌, ◌^◌, ◌<◌, ◌≤◌, ℕ, length, true, false, Some, None, IsTrue, IfOk, IfErr, slice_get, ⊤};
+ghost use Rattle.std.specs.Prelude.{◌≡◌, ◌↔◌, ◌∷◌, ◌++◌, [], ◌+◌, ◌^◌, ◌<◌, ◌≤◌, ◌⊎◌, ℕ, length, true, false, Some, None, IsTrue, IfOk, IfErr, set, slice_get, ⊤};
 ghost use Rattle.rept_alias.specs.Accesses.{call_hits};
 ghost use Rattle.rept_reason.specs.declared.fact.Cell.TheVariants.{Byte};
 ghost use Rattle.rept_versions.specs.Facts.{Nexts};
 ghost use Rattle.rept_analysis.specs.State.{state_of, with_writing};
-ghost use Rattle.rept_analysis.specs.Drawing.{Knows, IsTracked, past, Grows, Drew, IsHalt, IsFitted, IsAccess, AreWritings, AreWritingsBefore, IsSparedBetween, IsSpreadTo, IsCarriedFrom, IsCarriedAlong, AllCarried};
+ghost use Rattle.rept_analysis.specs.Drawing.{Knows, IsTracked, past, Grows, Drew, IsHalt, IsFitted, IsAccess, AreWritings, AreWritingsBefore, AreExact, IsUncut, IsSparedBetween, IsStopAt, IsSpreadTo, IsCarriedFrom, IsCarriedBeside, IsCarriedAlong, AllCarried};
 ghost use Rattle.rept_analysis.specs.Told.{Sends};
-ghost use Rattle.rept_writing.specs.Hits.{IsNextHit};
+ghost use Rattle.rept_isa.specs.declared.row.StepRow.{StepRow};
+ghost use Rattle.rept_writing.specs.Hits.{AreInOrder, IsNextHit, IsPastHit};
+ghost use Rattle.rept_writing.specs.declared.list.Writing.{Writing};
 
 use super::Analysis;
 use crate::halt::Halt;
 use rept_alias::CallAccess;
+use rept_isa::{Instr, StepRow};
 use rept_reason::Cell;
 use rept_span::Transfer;
 use rept_versions::{ByteFacts, Carried, Stretch};
@@ -19,17 +22,27 @@ use rept_view::RowRules;
 use rept_writing::Writing;
 use std::alloc::AllocError as OutOfMemory;
 
-/// So many rows of the list are looked at before a load.
-const NEAR: usize = 8;
-
-/// So many rows are passed over where a byte is carried that may write it by the list, and may not by what is known by now.
-const PASSED: u32 = 1;
-
 /// Whether an access has no address.
 fn is_none(access: &CallAccess) -> bool
     ensures { result ≡ true → (a : ℕ) → call_hits access.now a ≡ false }
 {
     access.first.is_none() && access.second.is_none()
+}
+
+/// Whether it is a store.
+pub fn is_store(instr: &Instr) -> bool {
+    matches!(*instr, Instr::Store { .. })
+}
+
+/// Where the value of a stretch begins, or where it ends if it begins at a point or before.
+fn edge(stretch: &Stretch, from: u32) -> u32
+    ensures { ((from < stretch.now.first) × (result ≡ stretch.now.first)) ⊎ ((stretch.now.first ≤ from) × (result ≡ stretch.now.last)) }
+{
+    if from < stretch.first {
+        stretch.first
+    } else {
+        stretch.last
+    }
 }
 
 /// Whether a stretch has each point from one to another one.
@@ -132,11 +145,19 @@ impl<'a, B: ByteFacts, W: Transfer, R: RowRules> Analysis<'a, B, W, R> {
         self.writing.at(k)
     }
 
-    /// An index in that list, after the last row before a point that may write the byte.
+    /// The index in that list after the last row before a point that may write the byte.
     fn past_hit(&self, point: u32, a: u32) -> usize
-        ensures { result ≤ length self.now.work.writing }
+        ensures bound { result ≤ length self.now.work.writing }
+        ensures past { AreInOrder self.now.work.writing → IsPastHit self.now.work.writing point a result }
     {
         self.writing.past_hit(point, a)
+    }
+
+    /// How many rows that list has.
+    fn writing_count(&self) -> usize
+        ensures { result ≡ length self.now.work.writing }
+    {
+        self.writing.len()
     }
 
     /// How many rows of that list stand before row i.
@@ -146,19 +167,95 @@ impl<'a, B: ByteFacts, W: Transfer, R: RowRules> Analysis<'a, B, W, R> {
         self.writing.before(i)
     }
 
-    /// Whether the nearest row before row i that may write the byte by the list may not by what is known by now. Only the last few
-    /// rows of the list are looked at, so that a path on which many rows may write something takes no longer.
-    pub(super) fn is_freed(&self, i: u32, a: u32) -> bool
-        requires writings { AreWritings (state_of W.sets W.moves R.rules B.store self.now) }
+    /// Puts a row in the place of the one at an index of that list, if by the list that one may write many addresses.
+    fn put_writing(&mut self, k: usize, writing: Writing) -> bool
+        requires open { self.old.complete ≡ false }
+        requires within { k < length self.old.work.writing }
+        ensures put { result ≡ true → (state_of W.sets W.moves R.rules B.store self.new) ≡ with_writing (state_of W.sets W.moves R.rules B.store self.old) (set self.old.work.writing k writing) }
+        ensures same { result ≡ false → (state_of W.sets W.moves R.rules B.store self.new) ≡ (state_of W.sets W.moves R.rules B.store self.old) }
     {
-        let end = self.listed_before(i);
-        for k in (end.saturating_sub(NEAR)..end).rev() {
-            let near = self.writing_at(k);
-            if near.access.may_hit(a) {
-                return self.is_spared(near.row, a);
-            }
+        self.writing.replace(k, writing)
+    }
+
+    /// Keeps that a row was put in the list anew.
+    fn note_put(&mut self)
+        ensures { self.new ≡ self.old }
+    {
+        self.is_freed = true;
+        self.has_put = true;
+    }
+
+    /// Keeps that no row was since the store that is looked at.
+    pub(super) fn note_store(&mut self)
+        ensures { self.new ≡ self.old }
+    {
+        self.is_freed = false;
+    }
+
+    /// Keeps that a pass over all rows begins.
+    pub(super) fn note_pass(&mut self)
+        ensures { self.new ≡ self.old }
+    {
+        self.has_put = false;
+    }
+
+    /// Whether a row was put in the list anew since the last store of unknown address that was looked at: then bytes may be carried
+    /// that weren't before.
+    pub(super) fn is_freed(&self) -> bool {
+        self.is_freed
+    }
+
+    /// Whether a row was since the last pass over all rows began.
+    pub(super) fn has_put(&self) -> bool {
+        self.has_put
+    }
+
+    /// Makes the rows of the list found by the byte again, where many were put in it anew.
+    fn renew_index(&mut self)
+        requires open { self.old.complete ≡ false }
+        ensures { (state_of W.sets W.moves R.rules B.store self.new) ≡ (state_of W.sets W.moves R.rules B.store self.old) }
+    {
+        if self.writing.is_worn() {
+            self.index_writing();
         }
-        false
+    }
+
+    /// Puts the bytes that row i may write by all that is known by now in the list, where it may write many by the list.
+    fn list_anew(&mut self, k: usize, i: u32, row: &StepRow)
+        requires inside { i < length self.old.rows }
+        requires row { slice_get self.old.rows i ≡ Some row.now }
+        requires listed { (w : Writing) → slice_get self.old.work.writing k ≡ Some w → w.row ≡ i }
+        requires within { k < length self.old.work.writing }
+        requires writings { AreWritings (state_of W.sets W.moves R.rules B.store self.old) }
+        requires open { self.old.complete ≡ false }
+        ensures grows { Grows (state_of W.sets W.moves R.rules B.store self.old) (state_of W.sets W.moves R.rules B.store self.new) }
+        ensures uncut { IsUncut (state_of W.sets W.moves R.rules B.store self.old) → IsUncut (state_of W.sets W.moves R.rules B.store self.new) }
+    {
+        let access = self.access_now(i, row);
+        let put = self.put_writing(k, Writing { row: i, access });
+        if put {
+            self.note_put();
+            self.renew_index();
+        }
+    }
+
+    /// So for a store that may stand in the list or not; nothing for another row, and nothing in the first round.
+    pub(super) fn free(&mut self, i: u32, row: &StepRow)
+        requires inside { i < length self.old.rows }
+        requires row { slice_get self.old.rows i ≡ Some row.now }
+        requires writings { AreWritings (state_of W.sets W.moves R.rules B.store self.old) }
+        requires open { self.old.complete ≡ false }
+        ensures grows { Grows (state_of W.sets W.moves R.rules B.store self.old) (state_of W.sets W.moves R.rules B.store self.new) }
+        ensures uncut { IsUncut (state_of W.sets W.moves R.rules B.store self.old) → IsUncut (state_of W.sets W.moves R.rules B.store self.new) }
+    {
+        let k = self.listed_before(i);
+        if !is_store(&row.instr) || self.is_first_round() || k >= self.writing_count() {
+            return;
+        }
+        let listed = self.writing_at(k);
+        if listed.row == i {
+            self.list_anew(k, i, row);
+        }
     }
 
     /// The row after the one before an index in that list, or the first one.
@@ -175,47 +272,27 @@ impl<'a, B: ByteFacts, W: Transfer, R: RowRules> Analysis<'a, B, W, R> {
         row + 1
     }
 
-    /// The number of the first row from an index of the list on that may write the byte, or the number of rows. It goes past so many
-    /// rows at most that may write the byte by the list, and may not by what is known by now.
-    fn next_writer(&self, k: usize, a: u32, most: u32) -> u32
+    /// The number of the first row from an index of the list on that may write the byte, or the number of rows.
+    fn next_writer(&self, k: usize, a: u32) -> u32
         requires writings { AreWritings (state_of W.sets W.moves R.rules B.store self.now) }
         requires within { k ≤ length self.now.work.writing }
         ensures last { result ≤ length self.now.rows }
         ensures order { past self.now.work.writing k ≤ result }
         ensures spared { IsSparedBetween (past self.now.work.writing k) result a (state_of W.sets W.moves R.rules B.store self.now) }
+        ensures stop { IsStopAt k a result (state_of W.sets W.moves R.rules B.store self.now) }
     {
         match self.next_hit(k, a) {
             None => self.count(),
             Some(hit) => {
                 let row = self.writing_at(hit).row;
-                if most > 0 && self.is_spared(row, a) {
-                    return self.next_writer(hit + 1, a, most - 1);
-                }
                 row
             }
         }
     }
 
-    /// An index in the list, after the last row before a point that may write the byte, past one row at most that may not by what is
-    /// known by now.
-    fn past_writer(&self, point: u32, a: u32) -> usize
-        requires writings { AreWritings (state_of W.sets W.moves R.rules B.store self.now) }
-        ensures { result ≤ length self.now.work.writing }
-    {
-        let k = self.past_hit(point, a);
-        if k == 0 {
-            return 0;
-        }
-        let row = self.writing_at(k - 1).row;
-        if self.is_spared(row, a) {
-            return self.past_hit(row, a);
-        }
-        k
-    }
-
     /// Whether this is the first round: the sets are those of no facts. The addresses of most stores become known in it, so that bytes
     /// are carried only after it, and not in pieces.
-    fn is_first_round(&self) -> bool
+    pub(super) fn is_first_round(&self) -> bool
         ensures { IsTrue result ↔ (self.now.filled ≡ 0) }
     {
         self.filled == 0
@@ -229,9 +306,9 @@ impl<'a, B: ByteFacts, W: Transfer, R: RowRules> Analysis<'a, B, W, R> {
         ensures drew { IfOk result (λ learnt. Drew (state_of W.sets W.moves R.rules B.store self.old) (state_of W.sets W.moves R.rules B.store self.new) learnt (λ _. ⊤)) }
         ensures halt { IfErr result (λ h. IsHalt (state_of W.sets W.moves R.rules B.store self.new) h) }
     {
-        let k = self.past_writer(point, a);
+        let k = self.past_hit(point, a);
         let from = self.row_past(k);
-        let to = self.next_writer(k, a, PASSED);
+        let to = self.next_writer(k, a);
         let learnt = self.carry_segment(a, from, to)?;
         Ok(learnt)
     }
@@ -274,7 +351,26 @@ impl<'a, B: ByteFacts, W: Transfer, R: RowRules> Analysis<'a, B, W, R> {
         Ok(told | carried)
     }
 
-    /// The value of a byte over all rows that may not write it.
+    /// The value of a byte from the last row before a point that may write it to the next one. Answers whether it was new, and that next
+    /// row, or the number of rows.
+    fn carry_beside(&mut self, a: u32, point: u32) -> Result<(bool, u32), Halt>
+        requires point { point ≤ length self.old.rows }
+        requires writings { AreWritings (state_of W.sets W.moves R.rules B.store self.old) }
+        requires open { self.old.complete ≡ false }
+        ensures grows { Grows (state_of W.sets W.moves R.rules B.store self.old) (state_of W.sets W.moves R.rules B.store self.new) }
+        ensures drew { IfOk result (λ ended. Drew (state_of W.sets W.moves R.rules B.store self.old) (state_of W.sets W.moves R.rules B.store self.new) ended.0 (IsCarriedBeside a point ended.1)) }
+        ensures halt { IfErr result (λ h. IsHalt (state_of W.sets W.moves R.rules B.store self.new) h) }
+        ensures onward { IfOk result (λ ended. (point ≤ ended.1) × (ended.1 ≤ length self.old.rows)) }
+    {
+        let k = self.past_hit(point, a);
+        let from = self.row_past(k);
+        let to = self.next_writer(k, a);
+        let learnt = self.carry_segment(a, from, to)?;
+        Ok((learnt, to))
+    }
+
+    /// The value of a byte over all rows that may not write it: from each point at which its value begins or ends, and nowhere else, so that
+    /// a path on which many rows may write something takes no longer.
     fn carry_address(&mut self, a: u32) -> Result<bool, Halt>
         requires writings { AreWritings (state_of W.sets W.moves R.rules B.store self.old) }
         requires open { self.old.complete ≡ false }
@@ -285,22 +381,19 @@ impl<'a, B: ByteFacts, W: Transfer, R: RowRules> Analysis<'a, B, W, R> {
         let rows = self.count();
         let mut learnt = false;
         let mut from = 0;
-        let mut k = 0;
-        loop {
-            match self.next_hit(k, a) {
-                None => {
-                    let new = self.carry_segment(a, from, rows)?;
-                    return Ok(learnt | new);
-                }
-                Some(hit) => {
-                    let row = self.writing_at(hit).row;
-                    let new = self.carry_segment(a, from, row)?;
-                    learnt = learnt | new;
-                    from = row + 1;
-                    k = hit + 1;
-                }
+        while from <= rows {
+            let Some(stretch) = self.stretch(a, from) else {
+                return Ok(learnt);
+            };
+            let point = edge(&stretch, from);
+            if point > rows {
+                return Ok(learnt);
             }
+            let beside = self.carry_beside(a, point)?;
+            learnt = learnt | beside.0;
+            from = beside.1 + 1;
         }
+        Ok(learnt)
     }
 
     /// The values of all tracked bytes.
@@ -370,7 +463,9 @@ impl<'a, B: ByteFacts, W: Transfer, R: RowRules> Analysis<'a, B, W, R> {
         requires fitted { IsFitted (state_of W.sets W.moves R.rules B.store self.old) }
         ensures same { (state_of W.sets W.moves R.rules B.store self.new) ≡ with_writing (state_of W.sets W.moves R.rules B.store self.old) self.new.work.writing }
         ensures listed { AreWritings (state_of W.sets W.moves R.rules B.store self.new) }
+        ensures exact { AreExact (state_of W.sets W.moves R.rules B.store self.new) }
     {
+        self.held();
         let count = self.count();
         self.clear_writing();
         for i in 0..count {

@@ -15,6 +15,7 @@ ghost use Rattle.rept_analysis.specs.Drawing.{IsTracked, Grows, Drew, IsHalt, Ke
 ghost use Rattle.rept_log.specs.Known.{known_of};
 ghost use Rattle.rept_analysis.specs.Told.{Tracks};
 
+use super::carrying::is_store;
 use super::{Analysis, register};
 use crate::halt::Halt;
 use crate::offset::address;
@@ -52,6 +53,16 @@ fn is_same(first: Flat, second: Flat) -> bool
     ensures { IsTrue result ↔ (first ≡ second) }
 {
     first == second
+}
+
+/// 1 where there is a register.
+fn one_if(r: Option<Reg>) -> u32
+    ensures { result ≤ 1 }
+{
+    match r {
+        Some(_) => 1,
+        None => 0,
+    }
 }
 
 /// The point around which row i's bytes are carried: after it where it stores, and else before it.
@@ -328,40 +339,55 @@ impl<'a, B: ByteFacts, W: Transfer, R: RowRules> Analysis<'a, B, W, R> {
         }
     }
 
-    /// Whether row i loads a value that isn't known, over a row that doesn't write the first of its bytes, as is known only now.
-    fn loads_over(&self, i: u32, row: &StepRow) -> bool
-        requires inside { i < length self.now.rows }
-        requires writings { AreWritings (state_of W.sets W.moves R.rules B.store self.now) }
+    /// Whether row i's first byte isn't known, and may be carried to it: a row was put in the list anew since the last store of unknown
+    /// address that was looked at.
+    fn lacks_byte(&mut self, i: u32, row: &StepRow) -> bool
+        requires inside { i < length self.old.rows }
+        ensures { self.new ≡ self.old }
     {
-        let Instr::Load { rd, rs1, .. } = row.instr else {
-            return false;
-        };
-        let _count = self.count();
-        if !is_same(self.known(i + 1, rd), Flat::Unknown) {
+        if !self.is_freed() {
             return false;
         }
-        match self.known(i, rs1) {
-            Flat::Unknown => false,
-            Flat::Known(base) => self.is_freed(i, address(base, &row.instr)),
+        let (first, _) = reads(&row.instr);
+        let _count = self.count();
+        match first {
+            None => false,
+            Some(r) => match self.known(i, r) {
+                Flat::Unknown => {
+                    if is_store(&row.instr) {
+                        self.note_store();
+                    }
+                    false
+                }
+                Flat::Known(base) => {
+                    let point = after_store(i, &row.instr);
+                    R::places(row) > 0
+                        && self.known_byte(point, address(base, &row.instr)).is_none()
+                }
+            },
         }
     }
 
-    /// The bytes of such a load, carried to it, so that its rules are drawn with them.
+    /// The bytes of such a row, carried to it, so that its rules are drawn with them.
     fn fetch(&mut self, i: u32, row: &StepRow) -> Result<bool, Halt>
         requires inside { i < length self.old.rows }
+        requires row { slice_get self.old.rows i ≡ Some row.now }
         requires writings { AreWritings (state_of W.sets W.moves R.rules B.store self.old) }
         requires open { self.old.complete ≡ false }
         ensures grows { Grows (state_of W.sets W.moves R.rules B.store self.old) (state_of W.sets W.moves R.rules B.store self.new) }
         ensures drew { IfOk result (λ learnt. Drew (state_of W.sets W.moves R.rules B.store self.old) (state_of W.sets W.moves R.rules B.store self.new) learnt (λ _. ⊤)) }
         ensures halt { IfErr result (λ h. IsHalt (state_of W.sets W.moves R.rules B.store self.new) h) }
     {
-        if !self.loads_over(i, row) {
+        if !self.lacks_byte(i, row) {
             return Ok(false);
         }
-        self.carry_row(i, row)
+        let tracked = self.track_row(i, row)?;
+        let carried = self.carry_row(i, row)?;
+        Ok(tracked | carried)
     }
 
-    /// All that row i lets one draw; where its rules were drawn, its bytes are carried at once.
+    /// All that row i lets one draw; where its rules were drawn, the bytes that it may write are listed anew, and its bytes are carried at
+    /// once.
     fn draw_around(&mut self, i: u32, row: &StepRow) -> Result<bool, Halt>
         requires inside { i < length self.old.rows }
         requires row { slice_get self.old.rows i ≡ Some row.now }
@@ -377,12 +403,13 @@ impl<'a, B: ByteFacts, W: Transfer, R: RowRules> Analysis<'a, B, W, R> {
         if !drawn {
             return Ok(false);
         }
+        self.free(i, row);
         self.carry_row(i, row)?;
         Ok(true)
     }
 
     /// All that row i lets one conclude.
-    pub(super) fn draw_row(&mut self, i: u32) -> Result<bool, Halt>
+    fn draw_row(&mut self, i: u32) -> Result<bool, Halt>
         requires inside { i < length self.old.rows }
         requires writings { AreWritings (state_of W.sets W.moves R.rules B.store self.old) }
         requires open { self.old.complete ≡ false }
@@ -397,5 +424,62 @@ impl<'a, B: ByteFacts, W: Transfer, R: RowRules> Analysis<'a, B, W, R> {
         let tracked = self.track_row(i, &row)?;
         let drawn = self.draw_around(i, &row)?;
         Ok(registers | fetched | tracked | drawn)
+    }
+
+    /// Keeps that row i was looked at, since which the log may have grown.
+    fn note_row(&mut self, i: u32, len: u32)
+        ensures { self.new ≡ self.old }
+    {
+        let has_news = self.len() > len;
+        self.fresh.note(i, has_news);
+    }
+
+    /// All that row i lets one conclude, and that it was looked at.
+    pub(super) fn draw_noted(&mut self, i: u32) -> Result<bool, Halt>
+        requires inside { i < length self.old.rows }
+        requires writings { AreWritings (state_of W.sets W.moves R.rules B.store self.old) }
+        requires open { self.old.complete ≡ false }
+        requires uncut { IsUncut (state_of W.sets W.moves R.rules B.store self.old) }
+        ensures grows { Grows (state_of W.sets W.moves R.rules B.store self.old) (state_of W.sets W.moves R.rules B.store self.new) }
+        ensures drew { IfOk result (λ learnt. Drew (state_of W.sets W.moves R.rules B.store self.old) (state_of W.sets W.moves R.rules B.store self.new) learnt (IsRowClosed i)) }
+        ensures halt { IfErr result (λ h. IsHalt (state_of W.sets W.moves R.rules B.store self.new) h) }
+    {
+        let len = self.len();
+        let learnt = self.draw_row(i)?;
+        self.note_row(i, len);
+        Ok(learnt)
+    }
+
+    /// Whether row i may tell something new: something was learnt beside it since it was looked at, or it looks at bytes of which not all
+    /// are known, which are learnt along many rows.
+    fn may_tell(&self, i: u32) -> bool
+        requires { i < length self.now.rows }
+    {
+        if self.fresh.has(i) {
+            return true;
+        }
+        let row = self.row(i);
+        let places = R::places(&row).min(4);
+        let (first, second) = reads(&row.instr);
+        let operands = one_if(first) + one_if(second) + one_if(writes(&row.instr));
+        let pass = self.pass(i);
+        places > 0 && !is_with(pass, operands + 2 * places)
+    }
+
+    /// All that row i lets one conclude, where it may tell something new.
+    pub(super) fn draw_fresh(&mut self, i: u32) -> Result<bool, Halt>
+        requires inside { i < length self.old.rows }
+        requires writings { AreWritings (state_of W.sets W.moves R.rules B.store self.old) }
+        requires open { self.old.complete ≡ false }
+        requires uncut { IsUncut (state_of W.sets W.moves R.rules B.store self.old) }
+        ensures grows { Grows (state_of W.sets W.moves R.rules B.store self.old) (state_of W.sets W.moves R.rules B.store self.new) }
+        ensures drew { IfOk result (λ learnt. Drew (state_of W.sets W.moves R.rules B.store self.old) (state_of W.sets W.moves R.rules B.store self.new) learnt (λ _. ⊤)) }
+        ensures halt { IfErr result (λ h. IsHalt (state_of W.sets W.moves R.rules B.store self.new) h) }
+    {
+        if !self.may_tell(i) {
+            return Ok(false);
+        }
+        let learnt = self.draw_noted(i)?;
+        Ok(learnt)
     }
 }

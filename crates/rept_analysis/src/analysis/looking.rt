@@ -54,17 +54,16 @@ impl<'a, B: ByteFacts, W: Transfer, R: RowRules> Analysis<'a, B, W, R> {
         self.access_below(self.filled, i, row)
     }
 
-    /// Whether row i may not write the byte, by all facts that are known by now and the sets as they were filled. No is said where
-    /// that isn't sure.
-    pub(super) fn is_spared(&self, i: u32, a: u32) -> bool
+    /// The bytes that row i may write, by all facts that are known by now and the sets as they were filled.
+    pub(super) fn access_now(&self, i: u32, row: &StepRow) -> CallAccess
         requires inside { i < length self.now.rows }
+        requires row { slice_get self.now.rows i ≡ Some row.now }
         requires fitted { IsFitted (state_of W.sets W.moves R.rules B.store self.now) }
-        ensures { result ≡ true → IsSparedNow i a (state_of W.sets W.moves R.rules B.store self.now) }
+        ensures { (a : ℕ) → a < 2 ^ 32 → call_hits result a ≡ false → IsSparedNow i a (state_of W.sets W.moves R.rules B.store self.now) }
     {
         self.held();
-        let row = self.row(i);
-        let access = self.access_below(self.len(), i, &row);
-        !access.may_hit(a)
+        let access = self.access_below(self.len(), i, row);
+        access
     }
 
     /// What is known of the register in an operand's place by the facts at places below the limit.

@@ -5,7 +5,7 @@ ghost use Rattle.rept_reason.specs.Facts.{told};
 ghost use Rattle.rept_report.specs.Conflicts.{IsQuiet};
 ghost use Rattle.rept_report.specs.declared.conflict.ConflictKind.{ConflictKind};
 ghost use Rattle.rept_analysis.specs.State.{setting_of, state_of};
-ghost use Rattle.rept_analysis.specs.Drawing.{IsHalt, IsSettled, IsFitted, SameFacts, Continues, AreWritings, IsUncut};
+ghost use Rattle.rept_analysis.specs.Drawing.{IsHalt, IsSettled, IsFitted, SameFacts, Continues, AreWritings, AreExact, IsUncut};
 ghost use Rattle.rept_analysis.specs.Work.{left};
 ghost use Rattle.rept_report.specs.Log.{oldest};
 ghost use Rattle.rept_analysis.specs.Refined.{IsEnded, Outcome};
@@ -28,6 +28,7 @@ impl<'a, B: ByteFacts, W: Transfer, R: RowRules> Analysis<'a, B, W, R> {
         ensures limit { self.new.filled ≡ limit }
         ensures fitted { result ≡ true → IsFitted (state_of W.sets W.moves R.rules B.store self.new) }
         ensures writings { result ≡ true → AreWritings (state_of W.sets W.moves R.rules B.store self.new) }
+        ensures exact { result ≡ true → AreExact (state_of W.sets W.moves R.rules B.store self.new) }
         ensures quiet { result ≡ true → IsQuiet (setting_of W.sets W.moves R.rules self.old) (told (oldest limit self.old.known.log)) }
         ensures loud { result ≡ false → IsQuiet (setting_of W.sets W.moves R.rules self.old) (told (oldest limit self.old.known.log)) → ⊥ }
     {

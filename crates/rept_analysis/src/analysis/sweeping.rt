@@ -1,9 +1,9 @@
 //! All rules once: rows, last values and bytes, and sets of one value.
 
-ghost use Rattle.std.specs.Prelude.{◌≡◌, ◌+◌, ◌<◌, ◌≤◌, length, false, IfOk, IfErr, Some, None, Ok, Err};
+ghost use Rattle.std.specs.Prelude.{⊤, ◌≡◌, ◌+◌, ◌<◌, ◌≤◌, length, false, IfOk, IfErr, Some, None, Ok, Err};
 ghost use Rattle.rept_dump.specs.Memory.{byte_at};
 ghost use Rattle.rept_analysis.specs.State.{state_of};
-ghost use Rattle.rept_analysis.specs.Drawing.{IsTracked, Grows, Drew, IsHalt, IsFitted, LastKnown, AreWritings, IsUncut, RowsClosed, LastByteKnown, LastBytesKnown, SingleKnown, PointSingles, SinglesKnown, IsDrawnAll, LastKnownBelow};
+ghost use Rattle.rept_analysis.specs.Drawing.{IsTracked, Grows, Drew, IsHalt, IsFitted, LastKnown, AreWritings, AreExact, AllCarried, IsUncut, RowsClosed, LastByteKnown, LastBytesKnown, SingleKnown, PointSingles, SinglesKnown, IsDrawnAll, LastKnownBelow};
 
 use super::{Analysis, register};
 use crate::halt::Halt;
@@ -12,6 +12,9 @@ use rept_partial::Flat;
 use rept_span::Transfer;
 use rept_versions::ByteFacts;
 use rept_view::RowRules;
+
+/// So many times all rows are drawn back and onward again in a round at most.
+const PASSES: u32 = 16;
 
 impl<'a, B: ByteFacts, W: Transfer, R: RowRules> Analysis<'a, B, W, R> {
     /// All rows, from the last to the first.
@@ -26,25 +29,43 @@ impl<'a, B: ByteFacts, W: Transfer, R: RowRules> Analysis<'a, B, W, R> {
         let count = self.count();
         let mut learnt = false;
         for i in (0..count).rev() {
-            let new = self.draw_row(i)?;
+            let new = self.draw_noted(i)?;
             learnt = learnt | new;
         }
         Ok(learnt)
     }
 
-    /// All rows, from the first to the last.
+    /// All rows that may tell something new, from the first to the last.
     fn draw_onward(&mut self) -> Result<bool, Halt>
         requires writings { AreWritings (state_of W.sets W.moves R.rules B.store self.old) }
         requires open { self.old.complete ≡ false }
         requires uncut { IsUncut (state_of W.sets W.moves R.rules B.store self.old) }
         ensures grows { Grows (state_of W.sets W.moves R.rules B.store self.old) (state_of W.sets W.moves R.rules B.store self.new) }
-        ensures drew { IfOk result (λ learnt. Drew (state_of W.sets W.moves R.rules B.store self.old) (state_of W.sets W.moves R.rules B.store self.new) learnt (RowsClosed)) }
+        ensures drew { IfOk result (λ learnt. Drew (state_of W.sets W.moves R.rules B.store self.old) (state_of W.sets W.moves R.rules B.store self.new) learnt (λ _. ⊤)) }
         ensures halt { IfErr result (λ h. IsHalt (state_of W.sets W.moves R.rules B.store self.new) h) }
     {
         let count = self.count();
         let mut learnt = false;
         for i in 0..count {
-            let new = self.draw_row(i)?;
+            let new = self.draw_fresh(i)?;
+            learnt = learnt | new;
+        }
+        Ok(learnt)
+    }
+
+    /// All rows that may tell something new, from the last to the first.
+    fn draw_fresh_back(&mut self) -> Result<bool, Halt>
+        requires writings { AreWritings (state_of W.sets W.moves R.rules B.store self.old) }
+        requires open { self.old.complete ≡ false }
+        requires uncut { IsUncut (state_of W.sets W.moves R.rules B.store self.old) }
+        ensures grows { Grows (state_of W.sets W.moves R.rules B.store self.old) (state_of W.sets W.moves R.rules B.store self.new) }
+        ensures drew { IfOk result (λ learnt. Drew (state_of W.sets W.moves R.rules B.store self.old) (state_of W.sets W.moves R.rules B.store self.new) learnt (λ _. ⊤)) }
+        ensures halt { IfErr result (λ h. IsHalt (state_of W.sets W.moves R.rules B.store self.new) h) }
+    {
+        let count = self.count();
+        let mut learnt = false;
+        for i in (0..count).rev() {
+            let new = self.draw_fresh(i)?;
             learnt = learnt | new;
         }
         Ok(learnt)
@@ -181,38 +202,92 @@ impl<'a, B: ByteFacts, W: Transfer, R: RowRules> Analysis<'a, B, W, R> {
         Ok(learnt)
     }
 
-    /// All rows, back and, where that told something, onward.
+    /// All rows, onward, and back and onward again as long as rows are put in the list anew, but so many times at most.
+    fn draw_on(&mut self, most: u32) -> Result<(), Halt>
+        requires writings { AreWritings (state_of W.sets W.moves R.rules B.store self.old) }
+        requires open { self.old.complete ≡ false }
+        requires uncut { IsUncut (state_of W.sets W.moves R.rules B.store self.old) }
+        ensures grows { Grows (state_of W.sets W.moves R.rules B.store self.old) (state_of W.sets W.moves R.rules B.store self.new) }
+        ensures uncut { IfOk result (λ _. IsUncut (state_of W.sets W.moves R.rules B.store self.new)) }
+        ensures halt { IfErr result (λ h. IsHalt (state_of W.sets W.moves R.rules B.store self.new) h) }
+    {
+        self.note_pass();
+        self.draw_onward()?;
+        if most == 0 || !self.has_put() {
+            return Ok(());
+        }
+        self.draw_fresh_back()?;
+        self.draw_on(most - 1)
+    }
+
+    /// All rows that may tell something new, back and, where that told something, onward.
     fn draw_through(&mut self) -> Result<bool, Halt>
         requires writings { AreWritings (state_of W.sets W.moves R.rules B.store self.old) }
         requires open { self.old.complete ≡ false }
         requires uncut { IsUncut (state_of W.sets W.moves R.rules B.store self.old) }
         ensures grows { Grows (state_of W.sets W.moves R.rules B.store self.old) (state_of W.sets W.moves R.rules B.store self.new) }
-        ensures drew { IfOk result (λ learnt. Drew (state_of W.sets W.moves R.rules B.store self.old) (state_of W.sets W.moves R.rules B.store self.new) learnt (RowsClosed)) }
+        ensures drew { IfOk result (λ learnt. Drew (state_of W.sets W.moves R.rules B.store self.old) (state_of W.sets W.moves R.rules B.store self.new) learnt (λ _. ⊤)) }
         ensures halt { IfErr result (λ h. IsHalt (state_of W.sets W.moves R.rules B.store self.new) h) }
     {
-        let back = self.draw_back()?;
+        let back = self.draw_fresh_back()?;
         if !back {
             return Ok(false);
         }
-        self.draw_onward()?;
+        self.draw_on(PASSES)?;
         Ok(true)
     }
 
-    /// All rules once: last values, carried bytes, last bytes, rows, and sets of one value. Bytes are carried before the dump tells
-    /// its own, so that most of those are known by then and take no place of their own.
+    /// The values of all tracked bytes over all rows, and the bytes of the dump. In the first round, where the rows told news, nothing: then
+    /// the rows of the list may write anything.
+    fn carry_rest(&mut self, has_news: bool) -> Result<bool, Halt>
+        requires writings { AreWritings (state_of W.sets W.moves R.rules B.store self.old) }
+        requires open { self.old.complete ≡ false }
+        ensures grows { Grows (state_of W.sets W.moves R.rules B.store self.old) (state_of W.sets W.moves R.rules B.store self.new) }
+        ensures drew { IfOk result (λ learnt. Drew (state_of W.sets W.moves R.rules B.store self.old) (state_of W.sets W.moves R.rules B.store self.new) learnt (λ s. has_news ≡ false → AllCarried s × LastBytesKnown s)) }
+        ensures halt { IfErr result (λ h. IsHalt (state_of W.sets W.moves R.rules B.store self.new) h) }
+    {
+        if has_news {
+            if self.is_first_round() {
+                return Ok(false);
+            }
+        }
+        let carried = self.carry_tracked()?;
+        let bytes = self.draw_last_bytes()?;
+        Ok(carried | bytes)
+    }
+
+    /// All rules once, with the rows that may tell something new: last values, rows, carried bytes, last bytes, and sets of one value. Bytes
+    /// are carried before the dump tells its own, so that most of those are known by then and take no place of their own.
+    fn sweep_fresh(&mut self) -> Result<bool, Halt>
+        requires writings { AreWritings (state_of W.sets W.moves R.rules B.store self.old) }
+        requires open { self.old.complete ≡ false }
+        requires uncut { IsUncut (state_of W.sets W.moves R.rules B.store self.old) }
+        ensures grows { Grows (state_of W.sets W.moves R.rules B.store self.old) (state_of W.sets W.moves R.rules B.store self.new) }
+        ensures drew { IfOk result (λ learnt. Drew (state_of W.sets W.moves R.rules B.store self.old) (state_of W.sets W.moves R.rules B.store self.new) learnt (λ s. LastKnownBelow 32 s × AllCarried s × LastBytesKnown s × SinglesKnown s)) }
+        ensures halt { IfErr result (λ h. IsHalt (state_of W.sets W.moves R.rules B.store self.new) h) }
+    {
+        let last = self.draw_all_last()?;
+        let rows = self.draw_through()?;
+        let bytes = self.carry_rest(last | rows)?;
+        let singles = self.draw_singles()?;
+        Ok(last | rows | bytes | singles)
+    }
+
+    /// All rules once, and with all rows where those that may tell something new tell nothing.
     pub(super) fn sweep(&mut self) -> Result<bool, Halt>
         requires writings { AreWritings (state_of W.sets W.moves R.rules B.store self.old) }
+        requires exact { AreExact (state_of W.sets W.moves R.rules B.store self.old) }
         requires open { self.old.complete ≡ false }
         requires uncut { IsUncut (state_of W.sets W.moves R.rules B.store self.old) }
         ensures grows { Grows (state_of W.sets W.moves R.rules B.store self.old) (state_of W.sets W.moves R.rules B.store self.new) }
         ensures drew { IfOk result (λ learnt. Drew (state_of W.sets W.moves R.rules B.store self.old) (state_of W.sets W.moves R.rules B.store self.new) learnt (IsDrawnAll)) }
         ensures halt { IfErr result (λ h. IsHalt (state_of W.sets W.moves R.rules B.store self.new) h) }
     {
-        let last = self.draw_all_last()?;
-        let carried = self.carry_tracked()?;
-        let bytes = self.draw_last_bytes()?;
-        let rows = self.draw_through()?;
-        let singles = self.draw_singles()?;
-        Ok(last | carried | bytes | rows | singles)
+        let fresh = self.sweep_fresh()?;
+        if fresh {
+            return Ok(true);
+        }
+        let rows = self.draw_back()?;
+        Ok(fresh | rows)
     }
 }

@@ -36,3 +36,6 @@ returns-clause-drew g c =
 pub returns-then-is_same-clause-drew : goal.returns-then-is_same-clause-drew
 returns-then-is_same-clause-drew g c =
     Drew_same (state_of g.W.Partial.sets g.W.Transfer.moves g.R.RowRules.rules g.B.ByteFacts.store c.args.self.now) (λ s. 0 < c.args.r → written_by c.args.row.now.instr ≢ Some c.args.r → IsKeptAt c.args.i c.args.r s) (λ named kept. kept_equal (state_of g.W.Partial.sets g.W.Transfer.moves g.R.RowRules.rules g.B.ByteFacts.store c.args.self.now) c.args.i c.args.r c.known-before.result c.known-later.result c.known-before.ensures.value c.known-later.ensures.value (c.if-is_same.ensures.0 refl) named)
+
+pub returns-clause-grows : goal.returns-clause-grows
+returns-clause-grows g c = Grows_trans _ _ _ c.in_ok-onward.ensures.grows c.in_ok-back.ensures.grows

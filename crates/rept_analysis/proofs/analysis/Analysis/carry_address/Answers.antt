@@ -1,85 +1,68 @@
-use Rattle.std.proofs.Common.{◌+◌, sym, arith}
-use Rattle.rept_analysis.specs.State.{state_of}
-use Rattle.rept_analysis.specs.Drawing.{IsCarriedFrom, IsCarriedAlong}
-use Rattle.rept_analysis.proofs.Drawn.{Drew_both, Drew_as, Grows_trans}
-use Rattle.rept_analysis.proofs.Spreading.{carried_join}
-use Rattle.rept_analysis.proofs.Listing.{hit_stop, end_reached}
+use Rattle.std.proofs.Common.{◌+◌, ◌<◌, List, Some, None, length, refl, false, ap, arith}
+use Rattle.rept_isa.specs.declared.row.StepRow.{StepRow}
+use Rattle.rept_versions.specs.Facts.{Nexts}
+use Rattle.rept_analysis.specs.State.{State, state_of}
+use Rattle.rept_analysis.specs.Drawing.{IsCarriedBeside, IsCarriedAlong}
+use Rattle.rept_analysis.proofs.Drawn.{Drew_as, Drew_both, Drew_first, Drew_same, Grows_itself, Grows_trans}
+use Rattle.rept_analysis.proofs.Listing.{IsCarriedBelow, below_beside, below_edge, below_free, below_all, nexts_none}
 use Rattle.rept_analysis.proofs.analysis.Analysis.carry_address.Goals as goal
 
-pub carry_segment-requires-clause-spared : goal.carry_segment-requires-clause-spared
-carry_segment-requires-clause-spared g c =
+pub loop-from-init : goal.loop-from-init
+loop-from-init g c = record { grows = Grows_itself _; drew = Drew_same _ _ (λ exact i lt inside. absurd (omega (arith, lt))); rows = c.count-rows.ensures.value; near = omega arith }
+
+pub returns-in_default-clause-drew : goal.returns-in_default-clause-drew
+returns-in_default-clause-drew g c =
     let s = state_of g.W.Partial.sets g.W.Transfer.moves g.R.RowRules.rules g.B.ByteFacts.store c.args.self.now in
-    let t = state_of g.W.Partial.sets g.W.Transfer.moves g.R.RowRules.rules g.B.ByteFacts.store c.loop-self.self in
-    let i = c.loop-self.invariant in
-    let x = end_reached s t i.grows c.requires.writings c.loop-self.from c.args.a c.loop-self.k (omega arith) i.from i.within c.in-None.ensures.next in
-    rw i.rows x.spared
+    let t = state_of g.W.Partial.sets g.W.Transfer.moves g.R.RowRules.rules g.B.ByteFacts.store c.loop-from.self in
+    let a = c.args.a in
+    let from = c.loop-from.from in
+    let Q : State g.row.W.Denot → Type 0 = λ x. Nexts x.known.store.fact a from None in
+    Drew_first s t t c.loop-from.learnt false (IsCarriedBelow a from) Q (IsCarriedAlong a) (Grows_itself t) refl c.loop-from.invariant.drew (Drew_same t Q (nexts_none t.known.store.fact a from c.stretch.result c.in_default.not-Some c.stretch.ensures)) (λ p q. below_free s a from q p)
 
-pub carry_segment-requires-clause-order : goal.carry_segment-requires-clause-order
-carry_segment-requires-clause-order g c =
+pub returns-then-point-rows-clause-drew : goal.returns-then-point-rows-clause-drew
+returns-then-point-rows-clause-drew g c =
     let s = state_of g.W.Partial.sets g.W.Transfer.moves g.R.RowRules.rules g.B.ByteFacts.store c.args.self.now in
-    let t = state_of g.W.Partial.sets g.W.Transfer.moves g.R.RowRules.rules g.B.ByteFacts.store c.loop-self.self in
-    let i = c.loop-self.invariant in
-    let x = end_reached s t i.grows c.requires.writings c.loop-self.from c.args.a c.loop-self.k (omega arith) i.from i.within c.in-None.ensures.next in
-    rw i.rows x.order
+    let t = state_of g.W.Partial.sets g.W.Transfer.moves g.R.RowRules.rules g.B.ByteFacts.store c.loop-from.self in
+    let a = c.args.a in
+    let from = c.loop-from.from in
+    let Q : State g.row.W.Denot → Type 0 = λ x. Nexts x.known.store.fact a from (Some c.in-Some.stretch) in
+    let rows = c.loop-from.invariant.rows in
+    let after = c.if-point-rows.true in
+    let far : length s.path.given.rows < c.edge-point.result = omega (arith, rows, after) in
+    Drew_first s t t c.loop-from.learnt false (IsCarriedBelow a from) Q (IsCarriedAlong a) (Grows_itself t) refl c.loop-from.invariant.drew (Drew_same t Q (rw c.in-Some.is at c.stretch.ensures)) (λ p q. below_edge s a from c.edge-point.result c.in-Some.stretch q c.edge-point.ensures far p)
 
-pub returns-in_err-new-in-None-clause-grows : goal.returns-in_err-new-in-None-clause-grows
-returns-in_err-new-in-None-clause-grows g c = Grows_trans _ _ _ c.loop-self.invariant.grows c.carry_segment.ensures.grows
+pub returns-in_err-beside-clause-grows : goal.returns-in_err-beside-clause-grows
+returns-in_err-beside-clause-grows g c = Grows_trans _ _ _ c.loop-from.invariant.grows c.carry_beside.ensures.grows
 
-pub returns-in-None-clause-drew : goal.returns-in-None-clause-drew
-returns-in-None-clause-drew g c =
+pub loop-from-preserved : goal.loop-from-preserved
+loop-from-preserved g c =
     let s = state_of g.W.Partial.sets g.W.Transfer.moves g.R.RowRules.rules g.B.ByteFacts.store c.args.self.now in
-    let t = state_of g.W.Partial.sets g.W.Transfer.moves g.R.RowRules.rules g.B.ByteFacts.store c.loop-self.self in
-    let u = state_of g.W.Partial.sets g.W.Transfer.moves g.R.RowRules.rules g.B.ByteFacts.store c.carry_segment.new.self in
-    let i = c.loop-self.invariant in
-    let e = c.in_ok-new-in-None.ensures in
-    let from = c.loop-self.from in
-    let n = c.count-rows.result in
-    let whole = Drew_both s t u c.loop-self.learnt c.in_ok-new-in-None.new (IsCarriedFrom c.args.a 0 from) (IsCarriedFrom c.args.a from n) (IsCarriedFrom c.args.a 0 n)
-    i.grows e.grows i.drew e.drew (λ p q. carried_join s c.args.a 0 from n p q) in
-    Drew_as s u _ (IsCarriedFrom c.args.a 0 n) (IsCarriedAlong c.args.a) whole (λ h j low lt. h j low (let value = c.count-rows.ensures.value in omega (arith, lt, value)))
-
-pub carry_segment-requires-in-Some-clause-order : goal.carry_segment-requires-in-Some-clause-order
-carry_segment-requires-in-Some-clause-order g c =
-    let s = state_of g.W.Partial.sets g.W.Transfer.moves g.R.RowRules.rules g.B.ByteFacts.store c.args.self.now in
-    let t = state_of g.W.Partial.sets g.W.Transfer.moves g.R.RowRules.rules g.B.ByteFacts.store c.loop-self.self in
-    let i = c.loop-self.invariant in
-    (hit_stop s t i.grows c.requires.writings c.loop-self.from c.args.a c.loop-self.k (omega arith) i.from c.in-Some.hit c.writing_at-row.result c.in-Some.ensures.next c.writing_at-row.ensures).order
-
-pub carry_segment-requires-in-Some-clause-to : goal.carry_segment-requires-in-Some-clause-to
-carry_segment-requires-in-Some-clause-to g c =
-    let s = state_of g.W.Partial.sets g.W.Transfer.moves g.R.RowRules.rules g.B.ByteFacts.store c.args.self.now in
-    let t = state_of g.W.Partial.sets g.W.Transfer.moves g.R.RowRules.rules g.B.ByteFacts.store c.loop-self.self in
-    let i = c.loop-self.invariant in
-    let rows = i.grows.rows in
-    let inside = (hit_stop s t i.grows c.requires.writings c.loop-self.from c.args.a c.loop-self.k (omega arith) i.from c.in-Some.hit c.writing_at-row.result c.in-Some.ensures.next c.writing_at-row.ensures).inside in
-    rw rows (omega (arith, inside))
-
-pub carry_segment-requires-in-Some-clause-spared : goal.carry_segment-requires-in-Some-clause-spared
-carry_segment-requires-in-Some-clause-spared g c =
-    let s = state_of g.W.Partial.sets g.W.Transfer.moves g.R.RowRules.rules g.B.ByteFacts.store c.args.self.now in
-    let t = state_of g.W.Partial.sets g.W.Transfer.moves g.R.RowRules.rules g.B.ByteFacts.store c.loop-self.self in
-    let i = c.loop-self.invariant in
-    (hit_stop s t i.grows c.requires.writings c.loop-self.from c.args.a c.loop-self.k (omega arith) i.from c.in-Some.hit c.writing_at-row.result c.in-Some.ensures.next c.writing_at-row.ensures).spared
-
-pub returns-in_err-new-in-Some-clause-grows : goal.returns-in_err-new-in-Some-clause-grows
-returns-in_err-new-in-Some-clause-grows g c = Grows_trans _ _ _ c.loop-self.invariant.grows c.carry_segment-in-Some.ensures.grows
-
-pub loop-self-preserved : goal.loop-self-preserved
-loop-self-preserved g c =
-    let s = state_of g.W.Partial.sets g.W.Transfer.moves g.R.RowRules.rules g.B.ByteFacts.store c.args.self.now in
-    let t = state_of g.W.Partial.sets g.W.Transfer.moves g.R.RowRules.rules g.B.ByteFacts.store c.loop-self.self in
-    let u = state_of g.W.Partial.sets g.W.Transfer.moves g.R.RowRules.rules g.B.ByteFacts.store c.carry_segment-in-Some.new.self in
-    let i = c.loop-self.invariant in
-    let e = c.in_ok-new-in-Some.ensures in
-    let from = c.loop-self.from in
-    let row = c.writing_at-row.result.row in
-    let x = hit_stop s t i.grows c.requires.writings c.loop-self.from c.args.a c.loop-self.k (omega arith) i.from c.in-Some.hit c.writing_at-row.result c.in-Some.ensures.next c.writing_at-row.ensures in
-    let within = x.within in
+    let t = state_of g.W.Partial.sets g.W.Transfer.moves g.R.RowRules.rules g.B.ByteFacts.store c.loop-from.self in
+    let u = state_of g.W.Partial.sets g.W.Transfer.moves g.R.RowRules.rules g.B.ByteFacts.store c.carry_beside.new.self in
+    let a = c.args.a in
+    let from = c.loop-from.from in
+    let point = c.edge-point.result in
+    let to = c.in_ok-beside.beside.1 in
+    let i = c.loop-from.invariant in
+    let e = c.in_ok-beside.ensures in
+    let P : State g.row.W.Denot → Type 0 = λ x. Nexts x.known.store.fact a from (Some c.in-Some.stretch) × IsCarriedBeside a point to x in
+    let rows = i.rows in
+    let same = ap (λ (xs : List StepRow). length xs) i.grows.rows in
+    let onward = e.onward.1 in
     record {
       grows = Grows_trans s t u i.grows e.grows;
-      drew = Drew_both s t u c.loop-self.learnt c.in_ok-new-in-Some.new (IsCarriedFrom c.args.a 0 from) (IsCarriedFrom c.args.a from row) (IsCarriedFrom c.args.a 0 (row + 1))
-          i.grows e.grows i.drew e.drew (λ p q. x.passed (carried_join s c.args.a 0 from row p q));
-      from = sym x.next;
-      within = omega (arith, within);
-      rows = i.rows;
+      drew = Drew_both s t u c.loop-from.learnt c.in_ok-beside.beside.0 (IsCarriedBelow a from) P (IsCarriedBelow a (to + 1)) i.grows e.grows i.drew
+          (Drew_as t u c.in_ok-beside.beside.0 (IsCarriedBeside a point to) P e.drew (λ h. (rw c.in-Some.is at c.stretch.ensures, h)))
+          (λ p q. below_beside s a from point c.in-Some.stretch q.0 c.edge-point.ensures to p q.1);
+      rows = rows;
+      near = omega (arith, onward, rows, same);
     }
+
+pub returns-clause-drew : goal.returns-clause-drew
+returns-clause-drew g c =
+    let s = state_of g.W.Partial.sets g.W.Transfer.moves g.R.RowRules.rules g.B.ByteFacts.store c.args.self.now in
+    let t = state_of g.W.Partial.sets g.W.Transfer.moves g.R.RowRules.rules g.B.ByteFacts.store c.loop-from.self in
+    let rows = c.loop-from.invariant.rows in
+    let ended = c.loop-from-test.false in
+    let far : length s.path.given.rows < c.loop-from.from = omega (arith, rows, ended) in
+    Drew_as s t c.loop-from.learnt (IsCarriedBelow c.args.a c.loop-from.from) (IsCarriedAlong c.args.a) c.loop-from.invariant.drew (λ p. below_all s c.args.a c.loop-from.from far p)

@@ -13,6 +13,9 @@ spread-requires-in-Some-clause-known g c = c.in_ok-right-in-Some.ensures.grows.m
 pub returns-in_err-left-in-Some-clause-grows : goal.returns-in_err-left-in-Some-clause-grows
 returns-in_err-left-in-Some-clause-grows g c = Grows_trans _ _ _ c.in_ok-right-in-Some.ensures.grows c.spread-in-Some.ensures.grows
 
+pub returns-in_ok-left-in-Some-clause-grows : goal.returns-in_ok-left-in-Some-clause-grows
+returns-in_ok-left-in-Some-clause-grows g c = Grows_trans _ _ _ c.in_ok-right-in-Some.ensures.grows c.in_ok-left-in-Some.ensures.grows
+
 pub returns-in_ok-left-in-Some-clause-drew : goal.returns-in_ok-left-in-Some-clause-drew
 returns-in_ok-left-in-Some-clause-drew g c =
     let s = state_of g.W.Partial.sets g.W.Transfer.moves g.R.RowRules.rules g.B.ByteFacts.store c.args.self.now in

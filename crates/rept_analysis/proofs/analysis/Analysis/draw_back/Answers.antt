@@ -6,13 +6,13 @@ use Rattle.rept_analysis.proofs.Listing.{writings_after}
 use Rattle.rept_analysis.proofs.analysis.Analysis.draw_back.Goals as goal
 
 pub returns-in_err-new-clause-grows : goal.returns-in_err-new-clause-grows
-returns-in_err-new-clause-grows g c = Grows_trans _ _ _ c.loop-i.invariant.grows c.draw_row.ensures.grows
+returns-in_err-new-clause-grows g c = Grows_trans _ _ _ c.loop-i.invariant.grows c.draw_noted.ensures.grows
 
-pub draw_row-requires-clause-uncut : goal.draw_row-requires-clause-uncut
-draw_row-requires-clause-uncut g c = c.loop-i.invariant.drew.uncut c.requires.uncut
+pub draw_noted-requires-clause-uncut : goal.draw_noted-requires-clause-uncut
+draw_noted-requires-clause-uncut g c = c.loop-i.invariant.drew.uncut c.requires.uncut
 
-pub draw_row-requires-clause-writings : goal.draw_row-requires-clause-writings
-draw_row-requires-clause-writings g c = writings_after (state_of g.W.Partial.sets g.W.Transfer.moves g.R.RowRules.rules g.B.ByteFacts.store c.args.self.now) (state_of g.W.Partial.sets g.W.Transfer.moves g.R.RowRules.rules g.B.ByteFacts.store c.loop-i.self) c.loop-i.invariant.grows c.requires.writings
+pub draw_noted-requires-clause-writings : goal.draw_noted-requires-clause-writings
+draw_noted-requires-clause-writings g c = writings_after (state_of g.W.Partial.sets g.W.Transfer.moves g.R.RowRules.rules g.B.ByteFacts.store c.args.self.now) (state_of g.W.Partial.sets g.W.Transfer.moves g.R.RowRules.rules g.B.ByteFacts.store c.loop-i.self) c.loop-i.invariant.grows c.requires.writings
 
 pub loop-i-preserved : goal.loop-i-preserved
 loop-i-preserved g c = record {

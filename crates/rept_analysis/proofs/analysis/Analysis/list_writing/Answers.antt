@@ -1,7 +1,10 @@
 use Rattle.std.proofs.Common.{◌≡◌, ◌+◌, ℕ, length, ap, sym, subst, arith}
-use Rattle.rept_analysis.specs.State.{State, state_of}
-use Rattle.rept_analysis.specs.Drawing.{AreWritingsBefore, AreWritings}
-use Rattle.rept_analysis.proofs.Listing.{fitted_listed, writings_listed, writings_back, listed_then}
+use Rattle.rept_analysis.specs.State.{State, state_of, all_known}
+use Rattle.rept_report.specs.Conclusions.{HasWords}
+use Rattle.rept_analysis.specs.Drawing.{AreWritingsBefore, AreWritings, AreExact}
+use Rattle.rept_analysis.proofs.Learning.{known_words}
+use Rattle.rept_analysis.proofs.Listing.{fitted_listed, writings_listed, writings_back, listed_then, listed_barriers, listed_exact}
+use Rattle.rept_report.proofs.OneThread.{rows_within, are_points}
 use Rattle.rept_analysis.proofs.analysis.Analysis.list_writing.Goals as goal
 
 pub list_row-requires-clause-before : goal.list_row-requires-clause-before
@@ -21,4 +24,21 @@ returns-clause-listed g c =
     let count = c.loop-i.invariant.count in
     let all : c.loop-i.i ≡ length c.loop-i.self.rows = omega (arith, rows, count) in
     let listed = subst (λ (n : ℕ). AreWritingsBefore n c.loop-i.self.work.writing (state_of g.W.Partial.sets g.W.Transfer.moves g.R.RowRules.rules g.B.ByteFacts.store c.args.self.now)) all c.loop-i.invariant.listed in
-    subst (λ (x : State g.row.W.Denot). AreWritings x) (sym c.index_writing.ensures) (record { fitted = fitted_listed (state_of g.W.Partial.sets g.W.Transfer.moves g.R.RowRules.rules g.B.ByteFacts.store c.args.self.now) (state_of g.W.Partial.sets g.W.Transfer.moves g.R.RowRules.rules g.B.ByteFacts.store c.loop-i.self) _ c.loop-i.invariant.same c.requires.fitted; listed = writings_listed (state_of g.W.Partial.sets g.W.Transfer.moves g.R.RowRules.rules g.B.ByteFacts.store c.args.self.now) (state_of g.W.Partial.sets g.W.Transfer.moves g.R.RowRules.rules g.B.ByteFacts.store c.loop-i.self) _ c.loop-i.invariant.same (length c.loop-i.self.rows) c.loop-i.self.work.writing listed })
+    let s = state_of g.W.Partial.sets g.W.Transfer.moves g.R.RowRules.rules g.B.ByteFacts.store c.args.self.now in
+    let t = state_of g.W.Partial.sets g.W.Transfer.moves g.R.RowRules.rules g.B.ByteFacts.store c.loop-i.self in
+    subst (λ (x : State g.row.W.Denot). AreWritings x) (sym c.index_writing.ensures) (record {
+      laws = record { sets = g.met.W.Partial.lawful; moves = g.met.W.Transfer.covers; rules = g.met.R.RowRules.lawful; legs = rows_within _; moments = are_points _ };
+      words = subst (λ (x : State g.row.W.Denot). HasWords (all_known x)) (sym c.loop-i.invariant.same) (known_words s c.held.ensures);
+      fitted = fitted_listed s t _ c.loop-i.invariant.same c.requires.fitted;
+      barriers = listed_barriers t (writings_listed s t _ c.loop-i.invariant.same (length c.loop-i.self.rows) c.loop-i.self.work.writing listed);
+    })
+
+pub returns-clause-exact : goal.returns-clause-exact
+returns-clause-exact g c =
+    let rows = ap (λ (x : State g.row.W.Denot). length x.path.given.rows) c.loop-i.invariant.same in
+    let count = c.loop-i.invariant.count in
+    let all : c.loop-i.i ≡ length c.loop-i.self.rows = omega (arith, rows, count) in
+    let s = state_of g.W.Partial.sets g.W.Transfer.moves g.R.RowRules.rules g.B.ByteFacts.store c.args.self.now in
+    let t = state_of g.W.Partial.sets g.W.Transfer.moves g.R.RowRules.rules g.B.ByteFacts.store c.loop-i.self in
+    let listed = subst (λ (n : ℕ). AreWritingsBefore n c.loop-i.self.work.writing s) all c.loop-i.invariant.listed in
+    subst (λ (x : State g.row.W.Denot). AreExact x) (sym c.index_writing.ensures) (listed_exact t (writings_listed s t _ c.loop-i.invariant.same (length c.loop-i.self.rows) c.loop-i.self.work.writing listed))

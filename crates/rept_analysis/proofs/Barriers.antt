@@ -1,0 +1,140 @@
+-- The rows by which bytes are carried stay such rows as more is known, and when one of them is put in their list anew.
+use Rattle.std.proofs.Common.{◌≡◌, ℕ, zero, suc, ◌+◌, ◌-◌, ◌<◌, ◌≤◌, ◌^◌, false, List, length, Some, inl, inr, refl, sym, ap, subst, ◌∙◌, arith, get_or, set, slice_get}
+use Rattle.std.proofs.lemmas.Bool.{cases_eq}
+use Rattle.std.proofs.lemmas.List.{length-set}
+use Rattle.std.proofs.lemmas.Option.{slice_get-get_or, slice_get_within}
+use Rattle.rept_alias.specs.Accesses.{call_hits}
+use Rattle.rept_reason.specs.declared.fact.Cell.{Cell}
+use Rattle.rept_reason.specs.declared.fact.Cell.TheVariants.{Register}
+use Rattle.rept_span.proofs.Filling.{set_here, set_elsewhere}
+use Rattle.rept_writing.specs.Hits.{AreInOrder}
+use Rattle.rept_writing.specs.declared.list.Writing.{Writing}
+use Rattle.rept_report.specs.Setting.{HasLaws}
+use Rattle.rept_report.specs.Views.{may_write}
+use Rattle.rept_report.specs.Conclusions.{HasWords}
+use Rattle.rept_report.specs.Conflicts.{IsQuiet}
+use Rattle.rept_report.specs.Log.{oldest}
+use Rattle.rept_report.proofs.Monotony.{quiet_less, spared_more}
+use Rattle.rept_analysis.specs.Work.{row_past}
+use Rattle.rept_analysis.specs.State.{State, all_known, with_writing, Path, along}
+use Rattle.rept_analysis.specs.Drawing.{Knows, IsSilent, IsSpared, IsSparedNow, past, IsBarrier, AreBarriers, AreWritings, Grows, IsUncut}
+
+module _ {W : Type 0} (s t : State W) (laws : HasLaws (along s.path)) (words : HasWords (all_known t)) (setting : t.path ≡ s.path) (older : oldest t.filled t.known.log ≡ oldest s.filled s.known.log) (more : (p : ℕ) (c : Cell) (v : ℕ) → Knows p c v s → Knows p c v t) where
+  -- a row that may not write a byte may not where more is known
+  spared_still : (i a : ℕ) → a < 2 ^ 32 → IsSpared i a s → IsSpared i a t
+  spared_still i a small (inl old) = inl (rw (setting, older) old)
+  spared_still i a small (inr now) = inr (subst (λ (P : Path W). IsQuiet (along P) (all_known t) → may_write (along P) (all_known t) i a ≡ false) (sym setting) (λ quiet.
+      spared_more (along s.path) laws (all_known s) (all_known t) (λ p r v e. more p (Register r) v e) words quiet i a small (now (quiet_less (along s.path) laws (all_known s) (all_known t) (λ p r v e. more p (Register r) v e) quiet))))
+
+  silent_still : (from to : ℕ) → IsSilent from to s → IsSilent from to t
+  silent_still from to h i a le lt small = rw (setting, older) (h i a le lt small)
+
+  pub barriers_still : (list : List Writing) → AreBarriers list s → AreBarriers list t
+  barriers_still list h = record {
+    each = λ k w at. let x = h.each k w at in record { low = x.low; inside = rw setting x.inside; others = λ a small miss. spared_still w.row a small (x.others a small miss); silent = silent_still (past list k) w.row x.silent };
+    low = rw setting h.low;
+    silent = λ i a le lt small. silent_still (past list (length list)) (length s.path.given.rows) h.silent i a le (subst (λ (P : Path W). i < length P.given.rows) setting lt) small;
+  }
+
+pub writings_still : {W : Type 0} (s t : State W) → t.path ≡ s.path → t.spans ≡ s.spans → oldest t.filled t.known.log ≡ oldest s.filled s.known.log → ((p : ℕ) (c : Cell) (v : ℕ) → Knows p c v s → Knows p c v t) → t.work.writing ≡ s.work.writing → (HasWords (all_known s) → HasWords (all_known t)) → AreWritings s → AreWritings t
+writings_still s t setting spans older more same words h = record {
+  laws = subst (λ (P : Path _). HasLaws (along P)) (sym setting) h.laws;
+  words = words h.words;
+  fitted = rw (setting, spans, older) h.fitted;
+  barriers = subst (λ (list : List Writing). AreBarriers list t) (sym same) (barriers_still s t h.laws (words h.words) setting older more s.work.writing h.barriers);
+}
+
+same_writing : {x y : Writing} → Some x ≡ Some y → x ≡ y
+same_writing e = cc
+
+-- the row at an index
+pub past_at : (list : List Writing) (k : ℕ) (w : Writing) → slice_get list k ≡ Some w → past list (k + 1) ≡ w.row + 1
+past_at list k w at = at_suc (k + 1) refl
+  where
+    at_suc : (n : ℕ) → n ≡ k + 1 → past list n ≡ w.row + 1
+    at_suc zero e = absurd (omega (arith, e))
+    at_suc (suc m) e = let same : m ≡ k = omega (arith, e) in rw same (ap row_past at)
+
+-- another row of the same number at an index
+module _ (list : List Writing) (k : ℕ) (w x : Writing) (found : slice_get list k ≡ Some w) (row : x.row ≡ w.row) where
+  there : slice_get (set list k x) k ≡ Some x
+  there = set_here list k x (slice_get_within list k w found)
+
+  past_set : (j : ℕ) → past (set list k x) j ≡ past list j
+  past_set zero = refl
+  past_set (suc j) =
+      elim (cases_eq j k) [
+        | inl e ↦ let same : row_past (slice_get (set list k x) k) ≡ row_past (slice_get list k) = ap row_past there ∙ ap (λ (n : ℕ). n + 1) row ∙ sym (ap row_past found) in rw e same
+        | inr ne ↦ ap row_past (set_elsewhere list k j x ne)
+      ]
+
+  module _ {W : Type 0} (s : State W) (free : (a : ℕ) → a < 2 ^ 32 → call_hits x.access a ≡ false → IsSparedNow w.row a s) (h : AreBarriers list s) where
+    anew_here : IsBarrier (set list k x) k x s
+    anew_here =
+        let old = h.each k w found in
+        record { low = rw (past_set k, row) old.low; inside = rw row old.inside; others = λ a small miss. rw row (inr (free a small miss)); silent = rw (past_set k, row) old.silent }
+
+    anew_each : (j : ℕ) (y : Writing) → slice_get (set list k x) j ≡ Some y → IsBarrier (set list k x) j y s
+    anew_each j y at =
+        elim (cases_eq j k) [
+          | inl e ↦ let same : x ≡ y = same_writing (sym there ∙ subst (λ (n : ℕ). slice_get (set list k x) n ≡ Some y) e at) in rw (e, ← same) anew_here
+          | inr ne ↦
+              let old = h.each j y (sym (set_elsewhere list k j x ne) ∙ at) in
+              record { low = rw (past_set j) old.low; inside = old.inside; others = old.others; silent = rw (past_set j) old.silent }
+        ]
+
+    pub barriers_anew : AreBarriers (set list k x) s
+    barriers_anew = record {
+      each = anew_each;
+      low = rw (length-set list k x, past_set (length list)) h.low;
+      silent = rw (length-set list k x, past_set (length list)) h.silent;
+    }
+
+barriers_listed : {W : Type 0} (s : State W) (rows list : List Writing) → AreBarriers rows s → AreBarriers rows (with_writing s list)
+barriers_listed s rows list h = record {
+  each = λ k w at. let x = h.each k w at in record { low = x.low; inside = x.inside; others = x.others; silent = x.silent };
+  low = h.low;
+  silent = h.silent;
+}
+
+-- a row of the list was put in it anew, with what it may write by all that is known by now
+pub put_writings : {W : Type 0} (s t : State W) (k : ℕ) (w x : Writing) → slice_get s.work.writing k ≡ Some w → x.row ≡ w.row → ((a : ℕ) → a < 2 ^ 32 → call_hits x.access a ≡ false → IsSparedNow w.row a s) → t ≡ with_writing s (set s.work.writing k x) → AreWritings s → AreWritings t
+put_writings s t k w x found row free is h = subst (λ (y : State _). AreWritings y) (sym is) (record {
+  laws = h.laws;
+  words = h.words;
+  fitted = h.fitted;
+  barriers = barriers_listed s (set s.work.writing k x) (set s.work.writing k x) (barriers_anew s.work.writing k w x found row s free h.barriers);
+})
+
+-- only the list differs
+pub put_grows : {W : Type 0} (s t : State W) (list : List Writing) → t ≡ with_writing s list → (AreWritings s → AreWritings t) → Grows s t
+put_grows s t list is keeps = subst (λ (y : State _). (AreWritings s → AreWritings y) → Grows s y) (sym is) (λ f. record { path = refl; rows = refl; spans = refl; filled = refl; shown = refl; complete = refl; conflict = refl; answers = refl; older = refl; more = λ p c v e. e; tracked = λ a h. h; counted = omega arith; writing = f; fewer = omega arith; spent = omega arith; words = λ w. w }) keeps
+
+pub put_uncut : {W : Type 0} (s t : State W) (list : List Writing) → t ≡ with_writing s list → IsUncut s → IsUncut t
+put_uncut s t list is u = subst (λ (y : State _). IsUncut y) (sym is) u
+
+-- a row of the list was put in it anew, and all else stayed
+module _ {W : Type 0} (s t : State W) (k : ℕ) (x : Writing) (within : k < length s.work.writing) (listed : (w : Writing) → slice_get s.work.writing k ≡ Some w → w.row ≡ x.row) (free : (a : ℕ) → a < 2 ^ 32 → call_hits x.access a ≡ false → IsSparedNow x.row a s) (is : t ≡ with_writing s (set s.work.writing k x)) where
+  abbrev before : Writing
+  before = get_or s.work.writing k x
+
+  found : slice_get s.work.writing k ≡ Some before
+  found = slice_get-get_or s.work.writing k x within
+
+  pub anew_grows : Grows s t
+  anew_grows = put_grows s t (set s.work.writing k x) is (put_writings s t k before x found (sym (listed before found)) (λ a small miss. subst (λ (i : ℕ). IsSparedNow i a s) (sym (listed before found)) (free a small miss)) is)
+
+-- the rows of the list stand in the order of their numbers
+pub barriers_ordered : {W : Type 0} (list : List Writing) (s : State W) → AreBarriers list s → AreInOrder list
+barriers_ordered list s h i j d le lt = rising (j - i) j (omega (arith, le)) lt
+  where
+    rising : (m n : ℕ) → n ≡ i + m → n < length list → (get_or list i d).row ≤ (get_or list n d).row
+    rising zero n e inside = let same : i ≡ n = omega (arith, e) in subst (λ (y : ℕ). (get_or list i d).row ≤ (get_or list y d).row) same (omega arith)
+    rising (suc m) n e inside =
+        let k : ℕ = i + m in
+        let same : k + 1 ≡ n = omega (arith, e) in
+        let before = rising m k refl (omega (arith, inside, same)) in
+        let at = slice_get-get_or list k d (omega (arith, inside, same)) in
+        let next = past_at list k (get_or list k d) at in
+        let low = (h.each (k + 1) (get_or list (k + 1) d) (slice_get-get_or list (k + 1) d (omega (arith, inside, same)))).low in
+        subst (λ (y : ℕ). (get_or list i d).row ≤ (get_or list y d).row) same (omega (arith, before, next, low))

@@ -1,0 +1,7 @@
+use Rattle.rept_analysis.specs.State.{State}
+use Rattle.rept_analysis.specs.Drawing.{IsRowClosed}
+use Rattle.rept_analysis.proofs.Drawn.{Drew_as}
+use Rattle.rept_analysis.proofs.analysis.Analysis.draw_fresh.Goals as goal
+
+pub returns-clause-drew : goal.returns-clause-drew
+returns-clause-drew g c = Drew_as _ _ c.in_ok-learnt.learnt (IsRowClosed c.args.i) (λ (x : State g.row.W.Denot). Unit {0}) c.in_ok-learnt.ensures.drew (λ _. tt)
