@@ -1,5 +1,5 @@
 -- What is written of a made run, and how it ends the call.
-use Rattle.std.proofs.Common.{◌≡◌, ℕ, zero, suc, ◌+◌, ◌*◌, ◌<◌, ◌≤◌, eqb, List, [], ◌∷◌, length, map, slice_index, get_or, Option, None, Some, Result, Ok, Err, MatchOption, inl, inr, refl, sym, ap, subst, ◌∙◌, arith}
+use Rattle.std.proofs.Common.{◌≡◌, ℕ, zero, suc, ◌+◌, ◌*◌, ◌<◌, ◌≤◌, eqb, List, [], ◌∷◌, length, map, slice_index, get_or, Option, None, Some, Result, Ok, Err, MatchOption, inl, inr, refl, sym, ap, subst, ◌∙◌, arith, false}
 use Rattle.std.specs.List.{range_with_len}
 use Rattle.std.proofs.lemmas.Bool.{cond-false, ne_eqb}
 use Rattle.std.proofs.lemmas.List.FromFn.{length-range_with_len, get_or-range_with_len}
@@ -11,6 +11,7 @@ use Rattle.rept_dump.specs.declared.fault.CoreFault.{CoreFault}
 use Rattle.rept_isa.specs.declared.row.StepRow.{StepRow}
 use Rattle.rept_machine.specs.State.{State}
 use Rattle.rept_trace.specs.Stream.{plain}
+use Rattle.rept_path.specs.Code.{words}
 use Rattle.rept_path.specs.Traced.{IsTraced}
 use Rattle.rept_path.specs.declared.fault.PathFault.{PathFault}
 use Rattle.rept_path.specs.declared.fault.PathFault.TheVariants as fault
@@ -78,7 +79,7 @@ module _ (seed steps : ℕ) (made : Made) (m : IsMade seed steps made) where
   reads_made = record { exe_accepted = m.exe_read; core_accepted = m.core_read; noted = m.notes }
 
   path_made : IsTracePath crash_made made.trace 0 (path_of m.rows)
-  path_made = (m.rest, m.layout, subst (λ (p : ℕ). IsTraced (record { code = segments made.exe; stream = plain m.rest; from = 0; pc = p }) 0 m.rows) (sym m.last_pc) m.path)
+  path_made = (record { halves = false; bytes = m.rest }, m.layout, subst (λ (p : ℕ). IsTraced (record { code = words (segments made.exe); stream = plain false m.rest; from = 0; pc = p }) 0 m.rows) (sym m.last_pc) m.path)
 
   abbrev run_made : ℕ → State
   run_made = λ i. laid (bytes_of_words m.words) (m.run i)

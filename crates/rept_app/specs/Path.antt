@@ -1,20 +1,33 @@
 -- The path of a trace file (Efficient Trace for RISC-V 2.0) over an executable.
-use Rattle.std.specs.Prelude.{◌≡◌, ◌⊎◌, ℕ, List, ◌++◌}
-use Rattle.rept_trace.specs.Stream.{header, plain, IsHeaderFault}
+use Rattle.std.specs.Prelude.{◌≡◌, ◌⊎◌, ℕ, List, ◌++◌, Bool}
+use Rattle.rept_trace.specs.Header.{one_stream, IsHeaderFault}
+use Rattle.rept_trace.specs.Stream.{header, plain}
 use Rattle.rept_trace.specs.declared.fault.TraceFault.{TraceFault}
-use Rattle.rept_path.specs.Traced.{IsTraced, IsUntraced}
+use Rattle.rept_path.specs.Traced.{RawRun, IsTraced, IsUntraced}
 use Rattle.rept_path.specs.declared.fault.PathFault.{PathFault}
 use Rattle.rept_path.specs.declared.fault.PathFault.TheVariants.{Packet}
 use Rattle.rept_path.specs.declared.rebuilding.Path.{Path}
 use Rattle.rept_found.specs.Crash.{Crash, end_pc}
 
+-- a trace file: whether code may be compressed, and the bytes of its packets
+pub record TraceFile : Type 0 where
+  pub halves : Bool
+  pub bytes : List ℕ
+
+abbrev pub file_bytes : TraceFile → List ℕ
+file_bytes file = header file.halves ++ file.bytes
+
+-- the run that it tells of an executable, from the packet of a number on to the program counter of the register note
+abbrev pub run_of : Crash → TraceFile → ℕ → RawRun
+run_of crash file from = record { code = record { segments = crash.exe; halves = file.halves }; stream = plain file.halves file.bytes; from = from; pc = end_pc crash.note }
+
 -- The file begins with the trace's header, and the packets after it have this path over the executable: from the first packet of
 -- that number or a later one from which a path may begin, to the program counter of the register note.
 abbrev pub IsTracePath : Crash → List ℕ → ℕ → Path → Type 0
-IsTracePath crash trace from path = (bytes : List ℕ) × (trace ≡ header ++ bytes) × IsTraced (record { code = crash.exe; stream = plain bytes; from = from; pc = end_pc crash.note }) path.skipped path.steps
+IsTracePath crash trace from path = (file : TraceFile) × (trace ≡ file_bytes file) × IsTraced (run_of crash file from) path.skipped path.steps
 
 -- The file doesn't begin with the header; or a packet is refused; or the packets have no path to the program counter.
 abbrev pub HasNoPath : Crash → List ℕ → ℕ → PathFault → Type 0
 HasNoPath crash trace from fault =
-    ((refused : TraceFault) × IsHeaderFault trace refused × (fault ≡ Packet refused))
-    ⊎ ((bytes : List ℕ) × (trace ≡ header ++ bytes) × IsUntraced (record { code = crash.exe; stream = plain bytes; from = from; pc = end_pc crash.note }) 0 fault)
+    ((refused : TraceFault) × IsHeaderFault one_stream trace refused × (fault ≡ Packet refused))
+    ⊎ ((file : TraceFile) × (trace ≡ file_bytes file) × IsUntraced (run_of crash file from) 0 fault)

@@ -2,7 +2,7 @@
 use Rattle.std.specs.Prelude.{ℕ, ◌+◌, ◌-◌, List, length, drop, Bool, true, ◌&&◌, not, nat_le, slice_index, Option}
 use Rattle.std.specs.List.{find}
 use Rattle.std.specs.Option.{option_map, option_or}
-use Rattle.rept_elf.specs.Header.{word_at}
+use Rattle.rept_elf.specs.Header.{half_at, word_at}
 use Rattle.rept_elf.specs.Segments.{ElfSegment, is_load, is_writable, is_executable}
 use Rattle.rept_dump.specs.declared.search.Allowed.{Allowed}
 use Rattle.rept_dump.specs.declared.search.Allowed.TheVariants as allowed
@@ -24,6 +24,10 @@ byte_at exe core a = option_map (λ s. slice_index (bytes_from a s) 0) (option_o
 -- bytes
 abbrev pub code_at : List ElfSegment → ℕ → Option ℕ
 code_at exe a = option_map (λ s. word_at (bytes_from a s) 0) (find (λ s. is_executable s && holds a 4 s) exe)
+
+-- the half of code at an address, the low byte first: of the first executable segment of the executable that holds both bytes
+abbrev pub half_code_at : List ElfSegment → ℕ → Option ℕ
+half_code_at exe a = option_map (λ s. half_at (bytes_from a s) 0) (find (λ s. is_executable s && holds a 2 s) exe)
 
 -- the segments among which is looked
 abbrev pub allows : Allowed → ElfSegment → Bool

@@ -31,6 +31,10 @@ AnswersAlike sought stretch = (a : ℕ) → stretch.from ≤ a → a < stretch.t
 abbrev pub sought_code : List ElfSegment → Sought
 sought_code exe = record { allowed = Executable; count = 4; segments = exe }
 
+-- a half of code
+abbrev pub sought_half : List ElfSegment → Sought
+sought_half exe = record { allowed = Executable; count = 2; segments = exe }
+
 -- a byte that a core file saved
 abbrev pub sought_saved : List ElfSegment → Sought
 sought_saved core = record { allowed = All; count = 1; segments = core }

@@ -1,14 +1,14 @@
 //! The code of an executable, looked up by address.
 
 ghost use Rattle.std.specs.Prelude.{◌≡◌, ◌≤◌, ◌<◌, ◌&&◌, Some, None, if◌then◌else◌};
-ghost use Rattle.rept_elf.specs.Header.{word_at};
+ghost use Rattle.rept_elf.specs.Header.{half_at, word_at};
 ghost use Rattle.rept_elf.specs.Image.{segments_of, segment_of};
-ghost use Rattle.rept_dump.specs.Memory.{code_at, allows, holds, bytes_from};
-ghost use Rattle.rept_dump.specs.Stretch.{AnswersAlike, sought_code};
+ghost use Rattle.rept_dump.specs.Memory.{code_at, half_code_at, allows, holds, bytes_from};
+ghost use Rattle.rept_dump.specs.Stretch.{AnswersAlike, sought_code, sought_half};
 
 use crate::search::{Allowed, held_bytes};
 use crate::stretch::{NOWHERE, Stretch, stretch_near};
-use rept_elf::{Image, Segment, word};
+use rept_elf::{Image, Segment, half, word};
 
 /// The word of code at an address, if this segment has all of it.
 fn word_in(segment: &Segment<'_>, a: u32) -> Option<u32>
@@ -18,12 +18,22 @@ fn word_in(segment: &Segment<'_>, a: u32) -> Option<u32>
     Some(word(bytes, 0))
 }
 
-/// The code of an executable, and where it was looked for last.
+/// The half of code at an address, if this segment has both bytes.
+fn half_in(segment: &Segment<'_>, a: u32) -> Option<u16>
+    ensures { result ≡ (if allows Allowed.Executable (segment_of segment.now) && holds a 2 (segment_of segment.now) then Some (half_at (bytes_from a (segment_of segment.now)) 0) else None) }
+{
+    let bytes = held_bytes(segment, Allowed::Executable, a, 2)?;
+    Some(half(bytes, 0))
+}
+
+/// The code of an executable, and where words and halves of it were looked for last.
 #[derive(Clone, Copy)]
 pub struct Code<'a> {
     exe: Image<'a>,
     last: Stretch<'a>,
+    last_half: Stretch<'a>,
     ghost answers: { AnswersAlike (sought_code (segments_of exe)) last },
+    ghost half_answers: { AnswersAlike (sought_half (segments_of exe)) last_half },
 }
 
 impl<'a> Code<'a> {
@@ -40,7 +50,11 @@ impl<'a> Code<'a> {
     pub fn new(exe: Image<'a>) -> Code<'a>
         ensures { code_of result ≡ segments_of exe.entry }
     {
-        Code { exe, last: NOWHERE }
+        Code {
+            exe,
+            last: NOWHERE,
+            last_half: NOWHERE,
+        }
     }
 
     /// The word of code at this address: the four bytes in the first `PT_LOAD` segment with `PF_X` whose bytes in the file have all
@@ -54,6 +68,17 @@ impl<'a> Code<'a> {
         }
     }
 
+    /// The half of code at this address: the two bytes in the first `PT_LOAD` segment with `PF_X` whose bytes in the file have
+    /// both. None exactly where there is none.
+    pub fn half_at(&self, a: u32) -> Option<u16>
+        ensures { result ≡ half_code_at (code_of self.now) a }
+    {
+        match self.half_stretch(a).segment {
+            Some(segment) => half_in(&segment, a),
+            None => None,
+        }
+    }
+
     /// The same code, which finds words near this address without a search among all segments.
     pub fn near(&self, a: u32) -> Code<'a>
         ensures { code_of result ≡ code_of self.now }
@@ -63,11 +88,28 @@ impl<'a> Code<'a> {
         code
     }
 
+    /// The same for halves.
+    pub fn near_half(&self, a: u32) -> Code<'a>
+        ensures { code_of result ≡ code_of self.now }
+    {
+        let mut code = *self;
+        code.last_half = self.half_stretch(a);
+        code
+    }
+
     /// The stretch of code of an address: the last one where it has the address.
     fn stretch(&self, a: u32) -> Stretch<'a>
         ensures within { (result.from ≤ a) × (a < result.to) }
         ensures alike { AnswersAlike (sought_code (code_of self.now)) result }
     {
         stretch_near(self.last, &self.exe, Allowed::Executable, a, 4)
+    }
+
+    /// The same for halves.
+    fn half_stretch(&self, a: u32) -> Stretch<'a>
+        ensures within { (result.from ≤ a) × (a < result.to) }
+        ensures alike { AnswersAlike (sought_half (code_of self.now)) result }
+    {
+        stretch_near(self.last_half, &self.exe, Allowed::Executable, a, 2)
     }
 }

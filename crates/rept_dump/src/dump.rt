@@ -4,7 +4,7 @@ ghost use Rattle.std.specs.Prelude.{◌≡◌, ◌≤◌, ◌<◌, ◌&&◌, ℕ
 ghost use Rattle.rept_elf.specs.Segments.{greatest_end};
 ghost use Rattle.rept_elf.specs.Image.{file_of, segments_of, segment_of};
 ghost use Rattle.rept_dump.specs.Code.{code_of};
-ghost use Rattle.rept_dump.specs.Memory.{byte_at, code_at, allows, holds, bytes_from};
+ghost use Rattle.rept_dump.specs.Memory.{byte_at, code_at, half_code_at, allows, holds, bytes_from};
 ghost use Rattle.rept_dump.specs.Registers.{Says, status_size};
 ghost use Rattle.rept_dump.specs.Stretch.{AnswersAlike, sought_saved, sought_kept};
 
@@ -94,6 +94,14 @@ impl<'a> Dump<'a> {
         self.code.word_at(a)
     }
 
+    /// The half of code at this address: the two bytes in the first `PT_LOAD` segment of the executable with `PF_X` whose
+    /// bytes in the file have both. None exactly where there is none. It may be of another segment than the word there.
+    pub fn half_of_code(&self, a: u32) -> Option<u16>
+        ensures { result ≡ half_code_at (exe_of self.now) a }
+    {
+        self.code.half_at(a)
+    }
+
     /// The end of the executable's image: the greatest `vaddr + memsz` of a `PT_LOAD` segment of it, 0 without one.
     pub fn image_end(&self) -> u64
         ensures { result ≡ greatest_end (exe_of self.now) }
@@ -109,6 +117,17 @@ impl<'a> Dump<'a> {
     {
         let mut dump = *self;
         dump.code = self.code.near(a);
+        dump
+    }
+
+    /// The same dump, which finds halves of code near this address without a search among all segments.
+    pub fn near_half(&self, a: u32) -> Dump<'a>
+        ensures exe { exe_of result ≡ exe_of self.now }
+        ensures core { core_of result ≡ core_of self.now }
+        ensures registers { registers_of result ≡ registers_of self.now }
+    {
+        let mut dump = *self;
+        dump.code = self.code.near_half(a);
         dump
     }
 

@@ -170,11 +170,18 @@ fn saved_core(alloc: Global) -> Result<Vec<u8>, AllocError> {
 #[test]
 fn segments_and_their_flags(rt: HostRuntime) -> Result<(), Fail> {
     let core = saved_core(rt.alloc())?;
-    for (flags, first, last, word) in [
-        (4, Some(0x93), Some(0x13), None),
-        (5, Some(0x93), Some(0x13), Some(0x0070_0293)),
-        (6, None, None, None),
-        (7, None, None, Some(0x0070_0293)),
+    for (flags, first, last, word, half, end) in [
+        (4, Some(0x93), Some(0x13), None, None, None),
+        (
+            5,
+            Some(0x93),
+            Some(0x13),
+            Some(0x0070_0293),
+            Some(0x0293),
+            Some(0x1300),
+        ),
+        (6, None, None, None, None, None),
+        (7, None, None, Some(0x0070_0293), Some(0x0293), Some(0x1300)),
     ] {
         let mut exe = SMALL;
         exe[76] = flags;
@@ -185,6 +192,9 @@ fn segments_and_their_flags(rt: HostRuntime) -> Result<(), Fail> {
         assert_eq!(rt; dump.byte(0x10003), Some(0xbb), "{flags}");
         assert_eq!(rt; dump.byte(0x10004), last, "{flags}");
         assert_eq!(rt; dump.word_of_code(0x10000), word, "{flags}");
+        assert_eq!(rt; dump.half_of_code(0x10000), half, "{flags}");
+        assert_eq!(rt; dump.half_of_code(0x10003), end, "{flags}");
+        assert_eq!(rt; dump.half_of_code(0x10004), None, "{flags}");
     }
     Ok(())
 }

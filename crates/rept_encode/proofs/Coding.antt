@@ -1,7 +1,7 @@
 -- Packets that have led to a row, and what each further packet makes of them.
 use Rattle.std.proofs.Common.{◌≡◌, ℕ, zero, suc, ◌+◌, ◌<◌, ◌≤◌, List, [], ◌∷◌, ◌++◌, length, slice_get, Some, None, Bool, true, false, ◌||◌, Ok, refl, sym, ◌∙◌, ap, subst, arith, length-append, append_assoc}
 use Rattle.std.proofs.lemmas.List.{append-nil}
-use Rattle.rept_elf.specs.Segments.{ElfSegment}
+use Rattle.rept_path.specs.Code.{Code}
 use Rattle.rept_isa.specs.declared.row.StepRow.{StepRow}
 use Rattle.rept_trace.specs.declared.packet.Report.{Report}
 use Rattle.rept_trace.specs.declared.packet.Packet.{Packet}
@@ -12,6 +12,7 @@ use Rattle.rept_path.specs.Packets.{low_bits, bits, bits_of, reported, waits_aft
 use Rattle.rept_path.specs.Moves.{Lead, Place, after, along, bits_fit, course_by}
 use Rattle.rept_path.specs.Legs.{PhaseLeg}
 use Rattle.rept_path.specs.Route.{alone, Phase, lead_of, with_bits, phases_of, Arrival, mark_after, by_waiting, RunningLeg, WaitingLeg, met_by, Leg, place, marked, admits}
+use Rattle.rept_path.specs.Rows.{CarriesCode}
 use Rattle.rept_path.proofs.MoveLemmas.{branch_of}
 use Rattle.rept_encode.specs.Bits.{passed, branch_row, count, bit_list}
 use Rattle.rept_encode.specs.Walkable.{calls, IsStepped}
@@ -20,21 +21,21 @@ use Rattle.rept_encode.proofs.Turns.{length_bits, get_bit, counted, moved_more, 
 use Rattle.rept_encode.proofs.Walks.{Clear, phase_leg, clear_jump, clear_report, clear_map, clear_call, fits_there, stop_there, stop_jump, stop_last, fit_report, fit_map, not_inferred}
 
 -- What stands at a row's address, and where it leads.
-pub record Stepping (code : List ElfSegment) (here next : StepRow) : Type 0 where
-  pub placed : look code here.at ≡ Ok here.instr
-  pub there : look code next.at ≡ Ok next.instr
+pub record Stepping (code : Code) (here next : StepRow) : Type 0 where
+  pub placed : CarriesCode code here
+  pub there : CarriesCode code next
   pub linked : here.next ≡ next.at
   pub step : IsStepped here
 
-rows_along : (code : List ElfSegment) (p : Place) (leg : List StepRow) → (along code p leg).rows ≡ leg ++ p.rows
+rows_along : (code : Code) (p : Place) (leg : List StepRow) → (along code p leg).rows ≡ leg ++ p.rows
 rows_along code p [] = refl
 rows_along code p (r ∷ leg) = ap (λ (rows : List StepRow). r ∷ rows) (rows_along code p leg)
 
 -- the step from a coded row
-moved : (code : List ElfSegment) (all more : List Bool) (p : Place) (here next : StepRow) → Stepping code here next → p.at ≡ here.at → calls (flow_of here.instr) ≡ false → (branch_row here ≡ true → slice_get all p.branches ≡ Some (passed here)) → length p.rows < 65536 → Moved code all p here
-moved code all more p here next s at plain bit room = record { at = at; here = s.placed; goes = next.instr; there = rw s.linked s.there; step = s.step; plain = plain; bit = bit; room = room }
+moved : (code : Code) (all more : List Bool) (p : Place) (here next : StepRow) → Stepping code here next → p.at ≡ here.at → calls (flow_of here.instr) ≡ false → (branch_row here ≡ true → slice_get all p.branches ≡ Some (passed here)) → length p.rows < 65536 → Moved code all p here
+moved code all more p here next s at plain bit room = record { at = at; here = s.placed.instr; short = s.placed.short; goes = next.instr; there = rw s.linked s.there.instr; step = s.step; plain = plain; bit = bit; room = room }
 
-module _ (code : List ElfSegment) (packets : List Packet) (wait : List Bool) (kept : List StepRow) (here : StepRow) (rows : List StepRow) (c : Coded code packets wait kept here rows) where
+module _ (code : Code) (packets : List Packet) (wait : List Bool) (kept : List StepRow) (here : StepRow) (rows : List StepRow) (c : Coded code packets wait kept here rows) where
   abbrev p : Place
   p = place code packets c.legs
 
@@ -53,7 +54,7 @@ module _ (code : List ElfSegment) (packets : List Packet) (wait : List Bool) (ke
 
     branches_next : (after code q here).branches ≡ length all
     branches_next =
-        let k : branches_at code here.at ≡ count here = counted code here s.placed in
+        let k : branches_at code here.at ≡ count here = counted code here s.placed.instr in
         rw k (sym c.size)
 
     -- one row more is kept
@@ -71,18 +72,18 @@ module _ (code : List ElfSegment) (packets : List Packet) (wait : List Bool) (ke
         }
 
 -- What a packet does in a stretch that stands at no inferred stop: it has one phase, and leaves no stop inferred.
-pub record Sends (code : List ElfSegment) (packet : Packet) (before : ℕ) (phase : Phase) : Type 0 where
+pub record Sends (code : Code) (packet : Packet) (before : ℕ) (phase : Phase) : Type 0 where
   pub admitted : admits code packet ≡ Ok 0
   pub phases : phases_of packet false before ≡ phase ∷ []
   pub begun : begins packet false ≡ false
   pub runs : waits_after packet false ≡ false
   pub mark : (x : Arrival) → mark_after code packet false x ≡ false
 
-pub leg_after : (code : List ElfSegment) (packet : Packet) (earlier : List Packet) (legs : List (List StepRow)) (leg : List StepRow) (waits : Bool) → 0 < length earlier → waiting earlier ≡ waits → by_waiting waits (WaitingLeg code packet (met_by code (alone 0) earlier legs) leg) (RunningLeg code packet (met_by code (alone 0) earlier legs) leg) → Leg code packet (record { origin = alone 0; packets = earlier; legs = legs }) leg
+pub leg_after : (code : Code) (packet : Packet) (earlier : List Packet) (legs : List (List StepRow)) (leg : List StepRow) (waits : Bool) → 0 < length earlier → waiting earlier ≡ waits → by_waiting waits (WaitingLeg code packet (met_by code (alone 0) earlier legs) leg) (RunningLeg code packet (met_by code (alone 0) earlier legs) leg) → Leg code packet (record { origin = alone 0; packets = earlier; legs = legs }) leg
 leg_after code packet [] legs leg waits some w h = absurd (omega arith)
 leg_after code packet (last ∷ earlier) legs leg waits some w h = let met = met_by code (alone 0) (last ∷ earlier) legs in subst (λ (b : Bool). by_waiting b (WaitingLeg code packet met leg) (RunningLeg code packet met leg)) (sym w) h
 
-module _ (code : List ElfSegment) (packet : Packet) (packets : List Packet) (legs : List (List StepRow)) (leg : List StepRow) (phase : Phase) (stands : Stands code packets legs) (x : Sends code packet (reported packets) phase) where
+module _ (code : Code) (packet : Packet) (packets : List Packet) (legs : List (List StepRow)) (leg : List StepRow) (phase : Phase) (stands : Stands code packets legs) (x : Sends code packet (reported packets) phase) where
   place_next : place code (packet ∷ packets) (leg ∷ legs) ≡ along code (place code packets legs) leg
   unfolding place
   place_next =
@@ -120,7 +121,7 @@ module _ (code : List ElfSegment) (packet : Packet) (packets : List Packet) (leg
         bit = λ t. rw (e, place_next) (bit t);
       }
 
-pub report_bits : (code : List ElfSegment) (count map : ℕ) (report : Report) → bits_of code (report_packet count map report) ≡ low_bits count map
+pub report_bits : (code : Code) (count map : ℕ) (report : Report) → bits_of code (report_packet count map report) ≡ low_bits count map
 unfolding low_bits
 report_bits code zero map report = refl
 report_bits code (suc count) map report = refl
@@ -130,15 +131,15 @@ unfolding reported
 report_reported zero map report packets = refl
 report_reported (suc count) map report packets = refl
 
-report_sends : (code : List ElfSegment) (n map before : ℕ) (report : Report) → (report.notify || report.updiscon) ≡ true → Sends code (report_packet n map report) before (record { target = Some (sum before report.difference); aim = aims.Report (sum before report.difference) report.notify report.updiscon })
+report_sends : (code : Code) (n map before : ℕ) (report : Report) → (report.notify || report.updiscon) ≡ true → Sends code (report_packet n map report) before (record { target = Some (sum before report.difference); aim = aims.Report (sum before report.difference) report.notify report.updiscon })
 report_sends code zero map before report h = record { admitted = refl; phases = refl; begun = refl; runs = refl; mark = λ x. not_inferred code x.bits x.reported report.notify report.updiscon x.place h }
 report_sends code (suc n) map before report h = record { admitted = refl; phases = refl; begun = refl; runs = refl; mark = λ x. not_inferred code x.bits x.reported report.notify report.updiscon x.place h }
 
-map_sends : (code : List ElfSegment) (map before : ℕ) → Sends code (Map map) before (record { target = None; aim = aims.LastBit })
+map_sends : (code : Code) (map before : ℕ) → Sends code (Map map) before (record { target = None; aim = aims.LastBit })
 map_sends code map before = record { admitted = refl; phases = refl; begun = refl; runs = refl; mark = λ x. refl }
 
 -- The kept rows are walked by a report of the address of the row that they lead to, which is asked for.
-module _ (code : List ElfSegment) (packets : List Packet) (n map : ℕ) (row : StepRow) (kept : List StepRow) (here : StepRow) (rows : List StepRow) (c : Coded code packets (low_bits n map) (row ∷ kept) here rows) (placed : look code here.at ≡ Ok here.instr) where
+module _ (code : Code) (packets : List Packet) (n map : ℕ) (row : StepRow) (kept : List StepRow) (here : StepRow) (rows : List StepRow) (c : Coded code packets (low_bits n map) (row ∷ kept) here rows) (placed : look code here.at ≡ Ok here.instr) where
   abbrev from : Place
   from = place code packets c.legs
 
@@ -187,7 +188,7 @@ module _ (code : List ElfSegment) (packets : List Packet) (n map : ℕ) (row : S
       by_packet code (Map map) packets c.legs (row ∷ kept) _ c.stands (map_sends code map (reported packets)) here rows (subst (λ (xs : List Bool). PhaseLeg code (course_by (record { packet = 0 + length packets; target = None; bits = bits code packets ++ xs; room = 65536 }) aims.LastBit) from (row ∷ kept)) (sym b) taken) c.seen c.at (rw b c.size) (λ t. rw b (c.bit t))
 
 -- A report of the address to which an uninferable jump led.
-module _ (code : List ElfSegment) (packets : List Packet) (wait : List Bool) (kept : List StepRow) (here next : StepRow) (rows : List StepRow) (c : Coded code packets wait kept here rows) (s : Stepping code here next) (plain : calls (flow_of here.instr) ≡ false) (room : length rows < 65536) (n map : ℕ) (wanted : low_bits n map ≡ wait ++ bit_list next) where
+module _ (code : Code) (packets : List Packet) (wait : List Bool) (kept : List StepRow) (here next : StepRow) (rows : List StepRow) (c : Coded code packets wait kept here rows) (s : Stepping code here next) (plain : calls (flow_of here.instr) ≡ false) (room : length rows < 65536) (n map : ℕ) (wanted : low_bits n map ≡ wait ++ bit_list next) where
   abbrev from_there : Place
   from_there = place code packets c.legs
 
@@ -203,7 +204,7 @@ module _ (code : List ElfSegment) (packets : List Packet) (wait : List Bool) (ke
       let x = report_sends code n map (reported packets) (record { difference = difference; notify = false; updiscon = true; irreport = false }) refl in
       let b = report_bits code n map (record { difference = difference; notify = false; updiscon = true; irreport = false }) in
       let how : Lead = record { packet = 0 + length packets; target = Some next.at; bits = all_there; room = 65536 } in
-      let k : branches_at code next.at ≡ count next = counted code next s.there in
+      let k : branches_at code next.at ≡ count next = counted code next s.there.instr in
       let branches = branches_next code packets wait kept here rows c next s plain room in
       let size : length all_there ≡ (along code from_there (here ∷ kept)).branches + count next = rw (all_is, branches) (length-append (bits code packets ++ wait) (bit_list next) ∙ ap (λ (m : ℕ). length (bits code packets ++ wait) + m) (length_bits next)) in
       let at : here.next ≡ next.at = s.linked in

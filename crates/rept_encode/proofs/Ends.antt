@@ -3,7 +3,7 @@ use Rattle.std.proofs.Common.{◌≡◌, ℕ, ◌%◌, ◌<◌, ◌==◌, List, 
 use Rattle.std.proofs.lemmas.List.{append-nil, reverse-append, reverse-reverse}
 use Rattle.std.proofs.lemmas.Bool.Decides.{eqb_tells, nat_tests}
 use Rattle.std.proofs.lemmas.List.Folds.{list_any-append}
-use Rattle.rept_elf.specs.Segments.{ElfSegment}
+use Rattle.rept_path.specs.Code.{Code}
 use Rattle.rept_isa.specs.declared.row.StepRow.{StepRow}
 use Rattle.rept_isa.specs.Numbers.{plus, following}
 use Rattle.rept_trace.specs.declared.packet.Packet.{Packet}
@@ -13,17 +13,18 @@ use Rattle.rept_path.specs.declared.flow.Flow.{Flow}
 use Rattle.rept_path.specs.declared.flow.Flow.TheVariants.{Plain, Branch, Jump, Fixed, Far, Call, Stop}
 use Rattle.rept_path.specs.declared.fault.PathFault.{PathFault}
 use Rattle.rept_path.specs.declared.fault.PathFault.TheVariants.{Gap, End}
-use Rattle.rept_path.specs.Code.{look, flow_of, branches}
+use Rattle.rept_path.specs.Code.{look, is_short, after_instruction, alignment, flow_of, branches}
 use Rattle.rept_path.specs.Packets.{bits, bits_of, reported, waiting}
-use Rattle.rept_path.specs.Moves.{Place, Stand, by_bit, successor, ◌>>=◌, way_by}
+use Rattle.rept_path.specs.Moves.{Place, Stand, by_bit, site, successor, ◌>>=◌, way_by}
 use Rattle.rept_path.specs.Gap.{row, Goal, Edge, by_successor, by_flow, crossing, gap, gap_to_start}
+use Rattle.rept_path.specs.Rows.{CarriesCode}
 use Rattle.rept_path.specs.Route.{alone, Met, stand_of, met_by, place, marked}
 use Rattle.rept_path.specs.Trace.{starts, loses, Window, stand_after, IsPath}
 use Rattle.rept_path.proofs.GapLemmas.{gap_ok}
 use Rattle.rept_path.proofs.MoveLemmas.{branch_of}
 use Rattle.rept_encode.specs.Bits.{passed_by, passed, branch_row, bit_list, start_bit}
 use Rattle.rept_encode.specs.Walkable.{MayLead, calls, IsStepped}
-use Rattle.rept_encode.proofs.Turns.{length_bits, get_bit, position_ok, branch_to}
+use Rattle.rept_encode.proofs.Turns.{length_bits, get_bit, position_ok, branch_to, onward_is, either_onward}
 use Rattle.rept_encode.specs.State.{Coded, start_at, Begun}
 use Rattle.rept_encode.proofs.Coding.{Stepping, leg_after}
 
@@ -31,10 +32,10 @@ if_start : (b x y : Bool) → cond b (cond b x true ∷ []) [] ≡ cond b (x ∷
 if_start true x y = refl
 if_start false x y = refl
 
-start_bits : (code : List ElfSegment) (row : StepRow) (privilege : ℕ) → look code row.at ≡ Ok row.instr → bits_of code (Start (start_bit row) privilege row.at 0 0) ≡ bit_list row
+start_bits : (code : Code) (row : StepRow) (privilege : ℕ) → look code row.at ≡ Ok row.instr → bits_of code (Start (start_bit row) privilege row.at 0 0) ≡ bit_list row
 start_bits code row privilege h = rw (branch_of code row.at row.instr h) (if_start (branch_row row) (passed row) true)
 
-pub starts_at : (code : List ElfSegment) (here : StepRow) → look code here.at ≡ Ok here.instr → Coded code (start_at here ∷ []) [] [] here []
+pub starts_at : (code : Code) (here : StepRow) → look code here.at ≡ Ok here.instr → Coded code (start_at here ∷ []) [] [] here []
 unfolding bits reported waiting marked place
 starts_at code here h =
     let b : bits_of code (start_at here) ≡ bit_list here = start_bits code here 0 h in
@@ -52,37 +53,47 @@ at_there : (a b : ℕ) → a ≡ b → (a == b) ≡ true
 at_there a b h = grind (arith, nat_tests)
 
 -- a row crosses to where it leads
-by_next : (code : List ElfSegment) (e : Edge) (next : Result ℕ PathFault) → next ≡ Ok e.to → (next >>= by_successor code e) ≡ Ok (row e.at e.instr e.to false ∷ [])
+by_next : (code : Code) (e : Edge) (next : Result ℕ PathFault) → next ≡ Ok e.to → (next >>= by_successor code e) ≡ Ok (row e e.to false ∷ [])
 by_next code e next h =
     let f : ℕ → Result (List StepRow) PathFault = by_successor code e in
     let t : (e.to == e.to) ≡ true = at_there e.to e.to refl in
     let one : (next >>= f) ≡ (Ok e.to >>= f) = ap (λ (x : Result ℕ PathFault). x >>= f) h in
     one ∙ rw t refl
 
-pub crosses : (code : List ElfSegment) (n : ℕ) (e : Edge) (bit : Option Bool) (flow : Flow) → MayLead flow e.at e.to → (branches flow ≡ true → bit ≡ Some (passed_by flow e.at e.to)) → by_flow code e (successor n e.at flow (way_by bit None)) flow ≡ Ok (row e.at e.instr e.to (calls flow) ∷ [])
-crosses code n e bit Plain l b = by_next code e (Ok (following e.at)) (ap (λ (x : ℕ). Ok x) (sym l))
-crosses code n e bit (Jump imm) l b = by_next code e (Ok (plus e.at imm)) (ap (λ (x : ℕ). Ok x) (sym l))
-crosses code n e bit (Fixed to) l b = by_next code e (Ok to) (ap (λ (x : ℕ). Ok x) (sym l))
-crosses code n e bit (Branch imm) l b = let h = b refl in by_next code e (by_bit n e.at imm bit) (rw h (branch_to n e.at e.to (plus e.at imm) imm (e.to == plus e.at imm) refl (eqb_tells e.to (plus e.at imm)) l))
-crosses code n e bit Far l b = let t : (e.to % 4 == 0) ≡ true = at_there (e.to % 4) 0 l in rw t refl
-crosses code n e bit Call l b = let t : (e.to == following e.at) ≡ true = at_there e.to (following e.at) l in rw t refl
-crosses code n e bit Stop l b = elim l [ ]
+-- a multiple of 4 is one of 2 too
+aligned_by : (halves : Bool) (a : ℕ) → a % 4 ≡ 0 → a % cond halves 2 4 ≡ 0
+aligned_by true a h = omega arith
+aligned_by false a h = h
+
+pub crosses : (code : Code) (n : ℕ) (e : Edge) (bit : Option Bool) (flow : Flow) → after_instruction code e.at ≡ following e.at → MayLead flow e.at e.to → (branches flow ≡ true → bit ≡ Some (passed_by flow e.at e.to)) → by_flow code e (successor n (site code e.at) flow (way_by bit None)) flow ≡ Ok (row e e.to (calls flow) ∷ [])
+crosses code n e bit Plain on l b = by_next code e (Ok (after_instruction code e.at)) (ap (λ (x : ℕ). Ok x) (on ∙ sym l))
+crosses code n e bit (Jump imm) on l b = by_next code e (Ok (plus e.at imm)) (ap (λ (x : ℕ). Ok x) (sym l))
+crosses code n e bit (Fixed to) on l b = by_next code e (Ok to) (ap (λ (x : ℕ). Ok x) (sym l))
+crosses code n e bit (Branch imm) on l b =
+    let h = b refl in
+    by_next code e (by_bit n (site code e.at) imm bit) (rw h (branch_to n (site code e.at) e.to (plus e.at imm) imm (e.to == plus e.at imm) refl (eqb_tells e.to (plus e.at imm)) (either_onward (site code e.at) e.to (plus e.at imm) on l)))
+crosses code n e bit Far on l b = let t : (e.to % alignment code == 0) ≡ true = at_there (e.to % alignment code) 0 (aligned_by code.halves e.to l) in rw t refl
+crosses code n e bit Call on l b = let t : (e.to == after_instruction code e.at) ≡ true = at_there e.to (after_instruction code e.at) (l ∙ sym on) in rw t refl
+crosses code n e bit Stop on l b = elim l [ ]
 
 -- the gap after a row
-pub gap_row : (code : List ElfSegment) (s : Stand) (otherwise : PathFault) (r : StepRow) → s.place.at ≡ r.at → look code r.at ≡ Ok r.instr → IsStepped r → (branch_row r ≡ true → slice_get s.bits s.place.branches ≡ Some (passed r)) → length s.place.rows < s.room → gap code s (record { address = r.next; otherwise = otherwise }) ≡ Ok (r ∷ [])
+pub gap_row : (code : Code) (s : Stand) (otherwise : PathFault) (r : StepRow) → s.place.at ≡ r.at → CarriesCode code r → IsStepped r → (branch_row r ≡ true → slice_get s.bits s.place.branches ≡ Some (passed r)) → length s.place.rows < s.room → gap code s (record { address = r.next; otherwise = otherwise }) ≡ Ok (r ∷ [])
 gap_row code s otherwise r at here h b lt =
     let p = s.place in
     let called = h.call in
+    let short = here.short in
+    let on : after_instruction code p.at ≡ following p.at = rw at (onward_is code r here.short h.long) in
     let lead : MayLead (flow_of r.instr) p.at r.next = rw at h.lead in
     let bit : branches (flow_of r.instr) ≡ true → slice_get s.bits p.branches ≡ Some (passed_by (flow_of r.instr) p.at r.next) = rw at b in
     let goal : Goal = record { address = r.next; otherwise = otherwise } in
-    let x : crossing code s goal r.instr ≡ Ok (row p.at r.instr r.next (calls (flow_of r.instr)) ∷ []) = crosses code s.packet (record { at = p.at; instr = r.instr; to = r.next; otherwise = otherwise }) (slice_get s.bits p.branches) (flow_of r.instr) lead bit in
-    let same : row p.at r.instr r.next (calls (flow_of r.instr)) ≡ r = rw (at, ← called, ← h.long) refl in
+    let edge : Edge = record { at = p.at; instr = r.instr; short = is_short code p.at; to = r.next; otherwise = otherwise } in
+    let x : crossing code s goal r.instr ≡ Ok (row edge r.next (calls (flow_of r.instr)) ∷ []) = crosses code s.packet edge (slice_get s.bits p.branches) (flow_of r.instr) on lead bit in
+    let same : row edge r.next (calls (flow_of r.instr)) ≡ r = rw (at, ← called, ← short) refl in
     let y : crossing code s goal r.instr ≡ Ok (r ∷ []) = x ∙ ap (λ (w : StepRow). Ok (w ∷ [])) same in
-    gap_ok code s goal r.instr (rw at here) (r ∷ []) y (omega arith)
+    gap_ok code s goal r.instr (rw at here.instr) (r ∷ []) y (omega arith)
 
 -- A call ends the stretch, and the next one begins after it.
-module _ (code : List ElfSegment) (packets : List Packet) (here next : StepRow) (rows : List StepRow) (c : Coded code packets [] [] here rows) (s : Stepping code here next) (call : calls (flow_of here.instr) ≡ true) (room : length rows < 65536) where
+module _ (code : Code) (packets : List Packet) (here next : StepRow) (rows : List StepRow) (c : Coded code packets [] [] here rows) (s : Stepping code here next) (call : calls (flow_of here.instr) ≡ true) (room : length rows < 65536) where
   abbrev pub ended : Packet
   ended = Support false EndedRep
 
@@ -113,12 +124,12 @@ module _ (code : List ElfSegment) (packets : List Packet) (here next : StepRow) 
   pub by_start : Coded code (start_at next ∷ ended ∷ packets) [] [] next (here ∷ rows)
   unfolding bits reported waiting marked place
   by_start =
-      let b : bits_of code (start_at next) ≡ bit_list next = start_bits code next 0 s.there in
+      let b : bits_of code (start_at next) ≡ bit_list next = start_bits code next 0 s.there.instr in
       let e = append-nil (bit_list next) in
       record {
         legs = (here ∷ []) ∷ [] ∷ c.legs;
         stands = record {
-          route = (leg_after code (start_at next) (ended ∷ packets) ([] ∷ c.legs) (here ∷ []) true (omega arith) refl (gap_call, position_ok code next.at next.instr s.there), (leg_after code ended packets c.legs [] false c.stands.some c.stands.runs (record { admitted = (0, refl); legs = refl }), c.stands.route));
+          route = (leg_after code (start_at next) (ended ∷ packets) ([] ∷ c.legs) (here ∷ []) true (omega arith) refl (gap_call, position_ok code next.at next.instr s.there.instr), (leg_after code ended packets c.legs [] false c.stands.some c.stands.runs (record { admitted = (0, refl); legs = refl }), c.stands.route));
           runs = refl;
           plain = refl;
           some = omega arith;
@@ -147,7 +158,7 @@ begun_on packets packet b keeps =
     subst (λ (xs : List Packet). Begun xs) (sym (reverse-cons packet packets)) one
 
 -- A trace that stands at the last row is one of all rows.
-pub ends : (code : List ElfSegment) (packets : List Packet) (here : StepRow) (rows : List StepRow) → Coded code packets [] [] here rows → look code here.at ≡ Ok here.instr → IsStepped here → length rows < 65536 → Begun (reverse packets) → IsPath (record { code = code; packets = reverse packets; from = 0; pc = here.next }) 0 (reverse (here ∷ rows))
+pub ends : (code : Code) (packets : List Packet) (here : StepRow) (rows : List StepRow) → Coded code packets [] [] here rows → CarriesCode code here → IsStepped here → length rows < 65536 → Begun (reverse packets) → IsPath (record { code = code; packets = reverse packets; from = 0; pc = here.next }) 0 (reverse (here ∷ rows))
 ends code packets here rows c h s lt b =
     let back : reverse (reverse packets) ≡ packets = reverse-reverse packets in
     let seen : rows ≡ (place code packets c.legs).rows = c.seen in

@@ -6,7 +6,7 @@ use Rattle.std.proofs.lemmas.List.Elements.{All-get_or}
 use Rattle.std.proofs.lemmas.Option.{slice_get_within, slice_get-get_or, get_or_from_slice_get}
 use Rattle.std.proofs.lemmas.Bool.{cases_eq}
 use Rattle.std.proofs.Math.Seq.{take-length}
-use Rattle.rept_elf.specs.Segments.{ElfSegment}
+use Rattle.rept_path.specs.Code.{Code}
 use Rattle.rept_isa.specs.declared.row.StepRow.{StepRow}
 use Rattle.rept_steps.specs.Linked.{AreLinked, EndBefore}
 use Rattle.rept_trace.specs.declared.packet.Report.{Report}
@@ -16,7 +16,7 @@ use Rattle.rept_trace.specs.declared.packet.Qual.TheVariants.{EndedRep}
 use Rattle.rept_trace.specs.Stream.{header, plain, Hold}
 use Rattle.rept_path.specs.declared.flow.Flow.{Flow}
 use Rattle.rept_path.specs.declared.flow.Flow.TheVariants.{Plain, Branch, Jump, Fixed, Far, Call, Stop}
-use Rattle.rept_path.specs.Code.{look, flow_of, sum, branches, jumps_far}
+use Rattle.rept_path.specs.Code.{words, look, flow_of, sum, branches, jumps_far}
 use Rattle.rept_path.specs.Packets.{low_bits, reported}
 use Rattle.rept_path.specs.Rows.{CarriesCode, CarryCode}
 use Rattle.rept_path.specs.Trace.{loses, IsPath}
@@ -74,12 +74,12 @@ text_on text new packets packet t a =
     let frame : List ℕ = length a.payload ∷ a.payload in
     record {
       rest = t.rest ++ length a.payload ∷ a.payload;
-      layout = a.appended ∙ ap (λ (xs : List ℕ). xs ++ length a.payload ∷ a.payload) t.layout ∙ append_assoc header t.rest (length a.payload ∷ a.payload);
+      layout = a.appended ∙ ap (λ (xs : List ℕ). xs ++ length a.payload ∷ a.payload) t.layout ∙ append_assoc (header false) t.rest (length a.payload ∷ a.payload);
       holds = λ later more h.
-          let one : Hold (plain (t.rest ++ (length a.payload ∷ (a.payload ++ later)))) (reverse packets ++ packet ∷ more) = t.holds (length a.payload ∷ (a.payload ++ later)) (packet ∷ more) (plain later, (a.payload, (a.some, record { zeros = 0; layout = refl }), a.spells, refl), h) in
+          let one : Hold (plain false (t.rest ++ (length a.payload ∷ (a.payload ++ later)))) (reverse packets ++ packet ∷ more) = t.holds (length a.payload ∷ (a.payload ++ later)) (packet ∷ more) (plain false later, (a.payload, (a.some, record { zeros = 0; layout = refl }), a.spells, refl), h) in
           let e : (t.rest ++ length a.payload ∷ a.payload) ++ later ≡ t.rest ++ (length a.payload ∷ (a.payload ++ later)) = append_assoc t.rest (length a.payload ∷ a.payload) later in
           let f : reverse (packet ∷ packets) ++ more ≡ reverse packets ++ packet ∷ more = ap (λ (xs : List Packet). xs ++ more) (reverse-cons packet packets) ∙ append_assoc (reverse packets) (packet ∷ []) more in
-          subst (λ (xs : List ℕ). Hold (plain xs) (reverse (packet ∷ packets) ++ more)) (sym e) (subst (λ (ps : List Packet). Hold (plain (t.rest ++ (length a.payload ∷ (a.payload ++ later)))) ps) (sym f) one);
+          subst (λ (xs : List ℕ). Hold (plain false xs) (reverse (packet ∷ packets) ++ more)) (sym e) (subst (λ (ps : List Packet). Hold (plain false (t.rest ++ (length a.payload ∷ (a.payload ++ later)))) ps) (sym f) one);
     }
 
 pub longer : (text new : List ℕ) (packet : Packet) → Appends text new packet → length new ≤ length text + 11
@@ -137,7 +137,7 @@ unfolding reported
 map_reported map packets = refl
 
 -- A report was added, after which the walk stands.
-reported_stood : (rows : List StepRow) (n most : ℕ) (old new : Sender) (b : Bits) (row : StepRow) (notify : Bool) (packets : List Packet) → IsText old.text packets → length old.text + 11 ≤ most → Begun (reverse packets) → reported packets ≡ old.reported → row.at % 4 ≡ 0 → slice_get rows n ≡ Some row → (r : IsReported old b new row.at notify n) → ((code : List ElfSegment) → CarryCode code rows → sum (reported packets) r.difference ≡ row.at → Coded code (report_packet b.count b.map (said r.difference notify) ∷ packets) [] [] row (reverse (take n rows))) → Stood rows n new most
+reported_stood : (rows : List StepRow) (n most : ℕ) (old new : Sender) (b : Bits) (row : StepRow) (notify : Bool) (packets : List Packet) → IsText old.text packets → length old.text + 11 ≤ most → Begun (reverse packets) → reported packets ≡ old.reported → row.at % 4 ≡ 0 → slice_get rows n ≡ Some row → (r : IsReported old b new row.at notify n) → ((code : Code) → CarryCode code rows → sum (reported packets) r.difference ≡ row.at → Coded code (report_packet b.count b.map (said r.difference notify) ∷ packets) [] [] row (reverse (take n rows))) → Stood rows n new most
 reported_stood rows n most old new b row notify packets text few begun last even get r lead =
     let to : sum (reported packets) r.difference ≡ row.at = rw last r.there in
     let more = longer old.text new.text (report_packet b.count b.map (said r.difference notify)) r.text in
@@ -165,7 +165,7 @@ module _ (rows : List StepRow) (given : AreSendable rows) (i : ℕ) (here next :
   step_next : IsStepped next
   step_next = all_at IsStepped rows (i + 1) next then given.walkable.steps
 
-  stepping : (code : List ElfSegment) → CarryCode code rows → Stepping code here next
+  stepping : (code : Code) → CarryCode code rows → Stepping code here next
   stepping code carry = record { placed = all_at (CarriesCode code) rows i here get carry; there = all_at (CarriesCode code) rows (i + 1) next then carry; linked = linked_at rows i here next given.linked get then; step = step_here }
 
   seen_more : reverse (take (i + 1) rows) ≡ here ∷ reverse (take i rows)
@@ -181,7 +181,7 @@ module _ (rows : List StepRow) (given : AreSendable rows) (i : ℕ) (here next :
       stood_sent rows (i + 1) new (reported_stood rows (i + 1) (30 + 22 * (i + 1)) old new x.b next false s.packets s.text (omega arith) s.begun s.last step_next.aligned then x.report (λ code carry to. rw seen_more (by_jump code s.packets (waiting_bits old.bits) s.kept here next (reverse (take i rows)) (s.lead code here carry get) (stepping code carry) (far_plain (flow_of here.instr) far) room_here x.b.count x.b.map x.list far x.report.difference to)))
 
   -- a row that is kept
-  kept_on : (old : Sender) (s : Sent rows i old) → calls (flow_of here.instr) ≡ false → jumps_far (flow_of here.instr) ≡ false → (n map : ℕ) → low_bits n map ≡ waiting_bits old.bits ++ bit_list next → (code : List ElfSegment) → CarryCode code rows → Coded code s.packets (low_bits n map) (here ∷ s.kept) next (here ∷ reverse (take i rows))
+  kept_on : (old : Sender) (s : Sent rows i old) → calls (flow_of here.instr) ≡ false → jumps_far (flow_of here.instr) ≡ false → (n map : ℕ) → low_bits n map ≡ waiting_bits old.bits ++ bit_list next → (code : Code) → CarryCode code rows → Coded code s.packets (low_bits n map) (here ∷ s.kept) next (here ∷ reverse (take i rows))
   kept_on old s plain near n map list code carry =
       subst (λ (xs : List Bool). Coded code s.packets xs (here ∷ s.kept) next (here ∷ reverse (take i rows))) (sym list) (onward code s.packets (waiting_bits old.bits) s.kept here (reverse (take i rows)) (s.lead code here carry get) next (stepping code carry) plain room_here near)
 
@@ -189,7 +189,7 @@ module _ (rows : List StepRow) (given : AreSendable rows) (i : ℕ) (here next :
   pub sent_call : (old new : Sender) → Sent rows i old → calls (flow_of here.instr) ≡ false → jumps_far (flow_of here.instr) ≡ false → calls (flow_of next.instr) ≡ true → IsSent old new next true (i + 1) → Sent rows (i + 1) new
   sent_call old new s plain near call x =
       let few = s.few in
-      stood_sent rows (i + 1) new (reported_stood rows (i + 1) (30 + 22 * (i + 1)) old new x.b next true s.packets s.text (omega arith) s.begun s.last step_next.aligned then x.report (λ code carry to. rw seen_more (by_call code s.packets x.b.count x.b.map here s.kept next (here ∷ reverse (take i rows)) (kept_on old s plain near x.b.count x.b.map x.list code carry) (stepping code carry).there call x.report.difference to)))
+      stood_sent rows (i + 1) new (reported_stood rows (i + 1) (30 + 22 * (i + 1)) old new x.b next true s.packets s.text (omega arith) s.begun s.last step_next.aligned then x.report (λ code carry to. rw seen_more (by_call code s.packets x.b.count x.b.map here s.kept next (here ∷ reverse (take i rows)) (kept_on old s plain near x.b.count x.b.map x.list code carry) (stepping code carry).there.instr call x.report.difference to)))
 
   -- a single row, from where the walk stands
   pub sent_single : (most : ℕ) (old new : Sender) → Stood rows i old most → calls (flow_of here.instr) ≡ false → jumps_far (flow_of here.instr) ≡ false → IsSent old new next true (i + 1) → Stood rows (i + 1) new (most + 11)
@@ -198,7 +198,7 @@ module _ (rows : List StepRow) (given : AreSendable rows) (i : ℕ) (here next :
       let w : low_bits x.b.count x.b.map ≡ [] ++ bit_list next = x.list ∙ ap (λ (xs : List Bool). xs ++ bit_list next) (nothing_waits old.bits s.count) in
       reported_stood rows (i + 1) (most + 11) old new x.b next true s.packets s.text (omega arith) s.begun s.last step_next.aligned then x.report (λ code carry to.
       let c : Coded code s.packets (low_bits x.b.count x.b.map) (here ∷ []) next (here ∷ reverse (take i rows)) = subst (λ (xs : List Bool). Coded code s.packets xs (here ∷ []) next (here ∷ reverse (take i rows))) (sym w) (onward code s.packets [] [] here (reverse (take i rows)) (s.lead code here carry get) next (stepping code carry) plain room_here near) in
-      rw seen_more (by_report code s.packets x.b.count x.b.map here [] next (here ∷ reverse (take i rows)) c (stepping code carry).there x.report.difference to tt))
+      rw seen_more (by_report code s.packets x.b.count x.b.map here [] next (here ∷ reverse (take i rows)) c (stepping code carry).there.instr x.report.difference to tt))
 
   -- after a call
   pub sent_restart : (old new : Sender) → Sent rows i old → calls (flow_of here.instr) ≡ true → IsRestarted old new next (i + 1) → Sent rows (i + 1) new
@@ -247,7 +247,7 @@ module _ (rows : List StepRow) (given : AreSendable rows) (i : ℕ) (here next :
         base = stands.base;
         lead = λ code to carry there.
             let same : next ≡ to = (let e : ◌≡◌ {A = Option StepRow} (Some next) (Some to) = sym then ∙ there in cc) in
-            subst (λ (y : StepRow). Coded code (Map x.map ∷ s.packets) [] [] y (reverse (take (i + 1) rows))) same (rw seen_more (by_map code s.packets 31 x.map here s.kept next (here ∷ reverse (take i rows)) (kept_on old s plain near 31 x.map x.list code carry) (stepping code carry).there refl x.branch));
+            subst (λ (y : StepRow). Coded code (Map x.map ∷ s.packets) [] [] y (reverse (take (i + 1) rows))) same (rw seen_more (by_map code s.packets 31 x.map here s.kept next (here ∷ reverse (take i rows)) (kept_on old s plain near 31 x.map x.list code carry) (stepping code carry).there.instr refl x.branch));
       })
 
   -- a row that is kept, and whose bit waits
@@ -342,11 +342,11 @@ pub begun_stood : (rows : List StepRow) (s : Sender) (first : StepRow) → slice
 begun_stood rows s first get even x =
     let stands = x.stands in
     let q = quarter first.at even in
-    let empty : IsText header [] = record { rest = []; layout = refl; holds = λ later more h. h } in
-    let more = longer header s.text (start_at first) x.text in
+    let empty : IsText (header false) [] = record { rest = []; layout = refl; holds = λ later more h. h } in
+    let more = longer (header false) s.text (start_at first) x.text in
     record {
       packets = start_at first ∷ [];
-      text = text_on header s.text [] (start_at first) empty x.text;
+      text = text_on (header false) s.text [] (start_at first) empty x.text;
       few = omega arith;
       begun = record { start = refl; whole = refl };
       last = start_reported first [] ∙ sym stands.reported;
@@ -358,7 +358,7 @@ begun_stood rows s first get even x =
       lead = λ code here carry there.
           let e : ◌≡◌ {A = Option StepRow} (Some first) (Some here) = sym get ∙ there in
           let same : first ≡ here = (cc) in
-          subst (λ (y : StepRow). Coded code (start_at first ∷ []) [] [] y []) same (starts_at code first (all_at (CarriesCode code) rows 0 first get carry));
+          subst (λ (y : StepRow). Coded code (start_at first ∷ []) [] [] y []) same (starts_at code first (all_at (CarriesCode code) rows 0 first get carry).instr);
     }
 
 -- The last branch is reported, if the walk hasn't come to it.
@@ -366,9 +366,9 @@ pub sent_base : (rows : List StepRow) (i : ℕ) (old new : Sender) (row : StepRo
 sent_base rows i old new row given s after get x =
     let step = all_at IsStepped rows old.base row get given.walkable.steps in
     let few = s.few in
-    reported_stood rows old.base (41 + 22 * i) old new old.bits row true s.packets s.text (omega arith) s.begun s.last step.aligned get x (λ code carry to. held s.held (let size = s.size in omega arith) code (s.base code row carry get) (all_at (CarriesCode code) rows old.base row get carry) (s.branch row after get) to)
+    reported_stood rows old.base (41 + 22 * i) old new old.bits row true s.packets s.text (omega arith) s.begun s.last step.aligned get x (λ code carry to. held s.held (let size = s.size in omega arith) code (s.base code row carry get) (all_at (CarriesCode code) rows old.base row get carry).instr (s.branch row after get) to)
   where
-    held : (kept : List StepRow) → 0 < length kept → (code : List ElfSegment) → Coded code s.packets (waiting_bits old.bits) kept row (reverse (take old.base rows)) → look code row.at ≡ Ok row.instr → branch_row row ≡ true → sum (reported s.packets) x.difference ≡ row.at → Coded code (report_packet old.bits.count old.bits.map (said x.difference true) ∷ s.packets) [] [] row (reverse (take old.base rows))
+    held : (kept : List StepRow) → 0 < length kept → (code : Code) → Coded code s.packets (waiting_bits old.bits) kept row (reverse (take old.base rows)) → look code row.at ≡ Ok row.instr → branch_row row ≡ true → sum (reported s.packets) x.difference ≡ row.at → Coded code (report_packet old.bits.count old.bits.map (said x.difference true) ∷ s.packets) [] [] row (reverse (take old.base rows))
     held [] some code c placed branch to = absurd (omega arith)
     held (k ∷ kept) some code c placed branch to = by_branch code s.packets old.bits.count old.bits.map k kept row (reverse (take old.base rows)) c placed branch x.difference to
 
@@ -394,7 +394,7 @@ sent_there rows i s t there =
       lead = λ code here carry get. subst (λ (xs : List Bool). Coded code t.packets xs [] here (reverse (take s.base rows))) w (empty t.held (omega arith) code here (t.base code here carry get));
     }
   where
-    empty : (kept : List StepRow) → length kept ≤ 0 → (code : List ElfSegment) (here : StepRow) → Coded code t.packets (waiting_bits s.bits) kept here (reverse (take s.base rows)) → Coded code t.packets (waiting_bits s.bits) [] here (reverse (take s.base rows))
+    empty : (kept : List StepRow) → length kept ≤ 0 → (code : Code) (here : StepRow) → Coded code t.packets (waiting_bits s.bits) kept here (reverse (take s.base rows)) → Coded code t.packets (waiting_bits s.bits) [] here (reverse (take s.base rows))
     empty [] none code here c = c
     empty (k ∷ kept) none code here c = absurd (omega arith)
 
@@ -410,9 +410,10 @@ pub stood_tells : (rows : List StepRow) (n most : ℕ) (s : Sender) (last : Step
 stood_tells rows n most s last given t get size = record {
   rest = t.text.rest;
   layout = t.text.layout;
-  path = λ code pc carry end.
-      let held : Hold (plain (t.text.rest ++ [])) (reverse t.packets ++ []) = t.text.holds [] [] (record { zeros = 0; layout = refl }) in
-      let whole : Hold (plain t.text.rest) (reverse t.packets) = subst (λ (xs : List ℕ). Hold (plain xs) (reverse t.packets)) (append-nil t.text.rest) (subst (λ (ps : List Packet). Hold (plain (t.text.rest ++ [])) ps) (append-nil (reverse t.packets)) held) in
+  path = λ segments pc carry end.
+      let code : Code = words segments in
+      let held : Hold (plain false (t.text.rest ++ [])) (reverse t.packets ++ []) = t.text.holds [] [] (record { zeros = 0; layout = refl }) in
+      let whole : Hold (plain false t.text.rest) (reverse t.packets) = subst (λ (xs : List ℕ). Hold (plain false xs) (reverse t.packets)) (append-nil t.text.rest) (subst (λ (ps : List Packet). Hold (plain false (t.text.rest ++ [])) ps) (append-nil (reverse t.packets)) held) in
       let c = t.lead code last carry get in
       let step = all_at IsStepped rows n last get given.walkable.steps in
       let p = ends code t.packets last (reverse (take n rows)) c (all_at (CarriesCode code) rows n last get carry) step (room_at rows n last get given.few) t.begun in

@@ -10,7 +10,7 @@ use Rattle.rept_trace.specs.declared.packet.Qual.{Qual}
 use Rattle.rept_trace.specs.declared.packet.Qual.TheVariants.{NoChange, EndedRep, TraceLost, EndedNtr}
 use Rattle.rept_trace.specs.declared.packet.Packet.{Packet}
 use Rattle.rept_trace.specs.declared.packet.Packet.TheVariants.{Start, Context, Support, Address, Map, MapAddress}
-use Rattle.rept_trace.specs.Fits.{IsWordAddress, StampFits, FieldsFit}
+use Rattle.rept_trace.specs.Fits.{IsSendable, StampFits, FieldsFit}
 use Rattle.rept_trace.specs.Grammar.{changes, map_width, qual_number, untimed, stamp_of, IsReport, IsStamp, IsPacket}
 use Rattle.rept_encode.specs.Written.{bit, copies, differ, high, notify_bit, updiscon_bit, report_number, number_of, ten_bytes, IsSilent}
 
@@ -111,7 +111,7 @@ change_of : (payload : List ℕ) (i : ℕ) (a b : Bool) → bit_of payload i ≡
 change_of payload i a b x y = rw (x, y) refl
 
 -- the number goes on with a report from bit i on
-reports : (number i : ℕ) (r : Report) → number / 2 ^ i ≡ report_number r → i + 33 ≤ 80 → IsWordAddress r.difference → r.irreport ≡ false → IsReport (ten_bytes number) i r
+reports : (number i : ℕ) (r : Report) → number / 2 ^ i ≡ report_number r → i + 33 ≤ 80 → IsSendable (untimed false) r.difference → r.irreport ≡ false → IsReport (untimed false) (ten_bytes number) i r
 reports number i r part le word silent =
     let d : ℕ = r.difference / 4 in
     let n = notify_bit r in
@@ -132,7 +132,7 @@ reports number i r part le word silent =
     let e32 : i + 32 - 1 ≡ i + 31 = omega arith in
     let value : field (ten_bytes number) i 30 ≡ r.difference / 4 = field_at number i (report_number r) part 30 (omega arith) ∙ omega arith in
     record {
-      address = (let w = word.1 in omega (arith, value));
+      address = (let w : r.difference % 4 ≡ 0 = word.1 in omega (arith, value));
       asked = differ_of r.notify (high (r.difference / 4)) ∙ sym (change_of (ten_bytes number) (i + 30) (notify_bit r) (high (r.difference / 4)) b30 (rw e30 b29));
       discontinuity = differ_of r.updiscon (notify_bit r) ∙ sym (change_of (ten_bytes number) (i + 31) (updiscon_bit r) (notify_bit r) b31 (rw e31 b30));
       returned = silent ∙ same_bits (updiscon_bit r) ∙ sym (change_of (ten_bytes number) (i + 32) (updiscon_bit r) (updiscon_bit r) b32 (rw e32 b31));
@@ -142,7 +142,7 @@ whole_number : (number : ℕ) → number / 2 ^ 0 ≡ number
 whole_number number = let e : number / 1 ≡ number = omega arith in e
 
 -- a trace without times and contexts has them as 0
-no_stamp : (p : List ℕ) (i time context : ℕ) → StampFits untimed time context → IsStamp untimed p i (stamp_of time context)
+no_stamp : (p : List ℕ) (i time context : ℕ) → StampFits (untimed false) time context → IsStamp (untimed false) p i (stamp_of time context)
 no_stamp p i time context fits =
     let t = fits.0 in
     let c = fits.1 in
@@ -150,12 +150,12 @@ no_stamp p i time context fits =
     let context_is : context ≡ 0 = omega arith in
     record { clock = time_is ∙ sym (field_zero p i); process = context_is ∙ sym (field_zero p (i + 0)) }
 
-start_spells : (branch : Bool) (privilege a time context : ℕ) → privilege < 4 → IsWordAddress a → StampFits untimed time context → IsPacket untimed (ten_bytes (number_of (Start branch privilege a time context))) (Start branch privilege a time context)
+start_spells : (branch : Bool) (privilege a time context : ℕ) → privilege < 4 → IsSendable (untimed false) a → StampFits (untimed false) time context → IsPacket (untimed false) (ten_bytes (number_of (Start branch privilege a time context))) (Start branch privilege a time context)
 start_spells branch privilege a time context small word stamped =
     let number : ℕ = number_of (Start branch privilege a time context) in
     let b = bit_small branch in
     let w = word.0 in
-    let even = word.1 in
+    let even : a % 4 ≡ 0 = word.1 in
     let p0 = whole_number (number_of (Start branch privilege a time context)) in
     let p2 : number_of (Start branch privilege a time context) / 2 ^ 2 ≡ 4 * bit branch + 8 * privilege + 32 * (a / 4 + 2 ^ 30 * copies (high (a / 4))) = omega arith in
     let p4 : number_of (Start branch privilege a time context) / 2 ^ 4 ≡ bit branch + 2 * (privilege + 4 * (a / 4 + 2 ^ 30 * copies (high (a / 4)))) = omega arith in
@@ -177,7 +177,7 @@ qual_small EndedRep = omega arith
 qual_small TraceLost = omega arith
 qual_small EndedNtr = omega arith
 
-support_spells : (enabled : Bool) (status : Qual) → IsPacket untimed (ten_bytes (number_of (Support enabled status))) (Support enabled status)
+support_spells : (enabled : Bool) (status : Qual) → IsPacket (untimed false) (ten_bytes (number_of (Support enabled status))) (Support enabled status)
 support_spells enabled status =
     let number : ℕ = number_of (Support enabled status) in
     let b = bit_small enabled in
@@ -197,7 +197,7 @@ support_spells enabled status =
       options = field_at number 8 _ p8 5 (omega arith) ∙ omega arith;
     }
 
-context_spells : (privilege time context : ℕ) → privilege < 4 → StampFits untimed time context → IsPacket untimed (ten_bytes (number_of (Context privilege time context))) (Context privilege time context)
+context_spells : (privilege time context : ℕ) → privilege < 4 → StampFits (untimed false) time context → IsPacket (untimed false) (ten_bytes (number_of (Context privilege time context))) (Context privilege time context)
 context_spells privilege time context small stamped =
     let number : ℕ = number_of (Context privilege time context) in
     let p0 = whole_number (number_of (Context privilege time context)) in
@@ -210,7 +210,7 @@ context_spells privilege time context small stamped =
       stamp = no_stamp (ten_bytes (number_of (Context privilege time context))) 6 time context stamped;
     }
 
-map_spells : (map : ℕ) → map < 2 ^ 31 → IsPacket untimed (ten_bytes (number_of (Map map))) (Map map)
+map_spells : (map : ℕ) → map < 2 ^ 31 → IsPacket (untimed false) (ten_bytes (number_of (Map map))) (Map map)
 map_spells map small =
     let number : ℕ = number_of (Map map) in
     let p0 = whole_number (number_of (Map map)) in
@@ -222,7 +222,7 @@ map_spells map small =
       bits = sym (field_at number 7 _ p7 31 (omega arith) ∙ omega arith);
     }
 
-address_spells : (report : Report) → IsWordAddress report.difference → report.irreport ≡ false → IsPacket untimed (ten_bytes (number_of (Address report))) (Address report)
+address_spells : (report : Report) → IsSendable (untimed false) report.difference → report.irreport ≡ false → IsPacket (untimed false) (ten_bytes (number_of (Address report))) (Address report)
 address_spells report word silent =
     let number : ℕ = number_of (Address report) in
     let p0 = whole_number (number_of (Address report)) in
@@ -235,7 +235,7 @@ address_spells report word silent =
 narrow : (count : ℕ) → map_width count ≤ 31
 narrow count = grind (arith, nat_tests)
 
-map_address_spells : (count map : ℕ) (report : Report) → 0 < count → count ≤ 31 → map < 2 ^ map_width count → IsWordAddress report.difference → report.irreport ≡ false → IsPacket untimed (ten_bytes (number_of (MapAddress count map report))) (MapAddress count map report)
+map_address_spells : (count map : ℕ) (report : Report) → 0 < count → count ≤ 31 → map < 2 ^ map_width count → IsSendable (untimed false) report.difference → report.irreport ≡ false → IsPacket (untimed false) (ten_bytes (number_of (MapAddress count map report))) (MapAddress count map report)
 map_address_spells count map report some few small word silent =
     let number : ℕ = number_of (MapAddress count map report) in
     let w : ℕ = map_width count in
@@ -256,7 +256,7 @@ map_address_spells count map report some few small word silent =
       fields = reports number (7 + map_width count) report pw (omega arith) word silent;
     }
 
-pub spells : (packet : Packet) → FieldsFit untimed packet → IsSilent packet → IsPacket untimed (ten_bytes (number_of packet)) packet
+pub spells : (packet : Packet) → FieldsFit (untimed false) packet → IsSilent packet → IsPacket (untimed false) (ten_bytes (number_of packet)) packet
 spells (Start branch privilege a time context) f s = start_spells branch privilege a time context f.0 f.1 f.2
 spells (Context privilege time context) f s = context_spells privilege time context f.0 f.1
 spells (Support enabled status) f s = support_spells enabled status

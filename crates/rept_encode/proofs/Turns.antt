@@ -1,7 +1,7 @@
 -- The bits of rows, and one move.
 use Rattle.std.proofs.Common.{◌≡◌, ◌≢◌, ℕ, zero, suc, ◌<◌, ◌==◌, nat_le, ℤ, List, [], ◌∷◌, ◌++◌, length, slice_get, Option, Some, Bool, true, false, not, cond, Result, Ok, Err, refl, sym, ◌∙◌, ap, arith, ◌⊎◌, inl, inr}
 use Rattle.std.proofs.lemmas.Bool.Decides.{eqb_tells, leb_tells}
-use Rattle.rept_elf.specs.Segments.{ElfSegment}
+use Rattle.rept_path.specs.Code.{Code}
 use Rattle.rept_isa.specs.declared.instr.Instr.{Instr}
 use Rattle.rept_isa.specs.declared.row.StepRow.{StepRow}
 use Rattle.rept_isa.specs.Numbers.{plus, following}
@@ -9,8 +9,8 @@ use Rattle.rept_path.specs.declared.flow.Flow.{Flow}
 use Rattle.rept_path.specs.declared.flow.Flow.TheVariants.{Plain, Branch, Jump, Fixed, Far, Call, Stop}
 use Rattle.rept_path.specs.declared.fault.PathFault.{PathFault}
 use Rattle.rept_path.specs.declared.fault.PathFault.TheVariants.{TooLong}
-use Rattle.rept_path.specs.Code.{look, flow_of, branches, jumps_far, branches_at}
-use Rattle.rept_path.specs.Moves.{Lead, Place, along, successor, by_bit, position, next_of, IsMove, ◌>>=◌, way_by}
+use Rattle.rept_path.specs.Code.{look, is_short, after_instruction, flow_of, branches, jumps_far, branches_at}
+use Rattle.rept_path.specs.Moves.{Lead, Place, Site, along, site, successor, by_bit, position, next_of, IsMove, ◌>>=◌, way_by}
 use Rattle.rept_path.proofs.MoveLemmas.{branch_of}
 use Rattle.rept_encode.specs.Bits.{passed_by, passed, branch_row, count, bit_list}
 use Rattle.rept_encode.specs.Walkable.{MayLead, calls}
@@ -40,54 +40,62 @@ pub get_bit : (row : StepRow) (xs : List Bool) (n : ℕ) → branch_row row ≡ 
 get_bit row xs n h e = rw e (get_if (branch_row row) (passed row) xs h)
 
 -- what stands at a row's address
-pub counted : (code : List ElfSegment) (row : StepRow) → look code row.at ≡ Ok row.instr → branches_at code row.at ≡ count row
+pub counted : (code : Code) (row : StepRow) → look code row.at ≡ Ok row.instr → branches_at code row.at ≡ count row
 counted code row h = rw (branch_of code row.at row.instr h) refl
 
 -- the successor of a branch is the row's next address
-pub branch_to : (k at next to : ℕ) (imm : ℤ) (b : Bool) → to ≡ plus at imm → ((b ≡ true) × (next ≡ to)) ⊎ ((b ≡ false) × (next ≢ to)) → (next ≡ to) ⊎ (next ≡ following at) → by_bit k at imm (Some (not b)) ≡ Ok next
-branch_to k at next to imm true same t l = elim t [ inl e ↦ ap (λ (n : ℕ). Ok n) (sym same ∙ sym e.1) | inr e ↦ absurd (cc) ]
-branch_to k at next to imm false same t l = elim t [ inl e ↦ absurd (cc) | inr e ↦ elim l [ inl m ↦ absurd (e.1 m) | inr m ↦ ap (λ (n : ℕ). Ok n) (sym m) ] ]
+pub branch_to : (k : ℕ) (p : Site) (next to : ℕ) (imm : ℤ) (b : Bool) → to ≡ plus p.at imm → ((b ≡ true) × (next ≡ to)) ⊎ ((b ≡ false) × (next ≢ to)) → (next ≡ to) ⊎ (next ≡ p.onward) → by_bit k p imm (Some (not b)) ≡ Ok next
+branch_to k p next to imm true same t l = elim t [ inl e ↦ ap (λ (n : ℕ). Ok n) (sym same ∙ sym e.1) | inr e ↦ absurd (cc) ]
+branch_to k p next to imm false same t l = elim t [ inl e ↦ absurd (cc) | inr e ↦ elim l [ inl m ↦ absurd (e.1 m) | inr m ↦ ap (λ (n : ℕ). Ok n) (sym m) ] ]
 
-pub leads : (k at next : ℕ) (flow : Flow) (bit : Option Bool) (target : Option ℕ) → MayLead flow at next → calls flow ≡ false → (branches flow ≡ true → bit ≡ Some (passed_by flow at next)) → (jumps_far flow ≡ true → target ≡ Some next) → successor k at flow (way_by bit target) ≡ Ok next
-leads k at next Plain bit target l c b t = ap (λ (n : ℕ). Ok n) (sym l)
-leads k at next (Jump imm) bit target l c b t = ap (λ (n : ℕ). Ok n) (sym l)
-leads k at next (Fixed to) bit target l c b t = ap (λ (n : ℕ). Ok n) (sym l)
-leads k at next (Branch imm) bit target l c b t = let e = b refl in rw e (branch_to k at next (plus at imm) imm (next == plus at imm) refl (eqb_tells next (plus at imm)) l)
-leads k at next Far bit target l c b t = let e = t refl in rw e refl
-leads k at next Call bit target l c b t = cc
-leads k at next Stop bit target l c b t = elim l [ ]
+-- what follows a row that isn't short
+pub onward_is : (code : Code) (row : StepRow) → row.short ≡ is_short code row.at → row.short ≡ false → after_instruction code row.at ≡ following row.at
+unfolding after_instruction
+onward_is code row short long = rw (← short, long) refl
+
+pub either_onward : (p : Site) (next to : ℕ) → p.onward ≡ following p.at → (next ≡ to) ⊎ (next ≡ following p.at) → (next ≡ to) ⊎ (next ≡ p.onward)
+either_onward p next to on l = elim l [ inl m ↦ inl m | inr m ↦ inr (m ∙ sym on) ]
+
+pub leads : (k : ℕ) (p : Site) (next : ℕ) (flow : Flow) (bit : Option Bool) (target : Option ℕ) → p.onward ≡ following p.at → MayLead flow p.at next → calls flow ≡ false → (branches flow ≡ true → bit ≡ Some (passed_by flow p.at next)) → (jumps_far flow ≡ true → target ≡ Some next) → successor k p flow (way_by bit target) ≡ Ok next
+leads k p next Plain bit target on l c b t = ap (λ (n : ℕ). Ok n) (on ∙ sym l)
+leads k p next (Jump imm) bit target on l c b t = ap (λ (n : ℕ). Ok n) (sym l)
+leads k p next (Fixed to) bit target on l c b t = ap (λ (n : ℕ). Ok n) (sym l)
+leads k p next (Branch imm) bit target on l c b t = let e = b refl in rw e (branch_to k p next (plus p.at imm) imm (next == plus p.at imm) refl (eqb_tells next (plus p.at imm)) (either_onward p next (plus p.at imm) on l))
+leads k p next Far bit target on l c b t = let e = t refl in rw e refl
+leads k p next Call bit target on l c b t = cc
+leads k p next Stop bit target on l c b t = elim l [ ]
 
 pub room : (most n k : ℕ) (r : Result ℕ PathFault) → n < most → cond (nat_le most n) (Err (TooLong k)) r ≡ r
 room most n k r lt = elim (leb_tells most n) [ inl t ↦ absurd (omega arith) | inr t ↦ rw t.0 refl ]
 
-pub position_ok : (code : List ElfSegment) (a : ℕ) (i : Instr) → look code a ≡ Ok i → position code a ≡ Ok a
+pub position_ok : (code : Code) (a : ℕ) (i : Instr) → look code a ≡ Ok i → position code a ≡ Ok a
 position_ok code a i h = rw h refl
 
-next_is : (code : List ElfSegment) (how : Lead) (p : Place) (i j : Instr) (next : ℕ) → look code p.at ≡ Ok i → look code next ≡ Ok j → successor how.packet p.at (flow_of i) (way_by (slice_get how.bits p.branches) how.target) ≡ Ok next → length p.rows < how.room → next_of code how p ≡ Ok next
+next_is : (code : Code) (how : Lead) (p : Place) (i j : Instr) (next : ℕ) → look code p.at ≡ Ok i → look code next ≡ Ok j → successor how.packet (site code p.at) (flow_of i) (way_by (slice_get how.bits p.branches) how.target) ≡ Ok next → length p.rows < how.room → next_of code how p ≡ Ok next
 unfolding next_of
 next_is code how p i j next here there leads lt =
     let f : ℕ → Result ℕ PathFault = λ a. cond (nat_le how.room (length p.rows)) (Err (TooLong how.packet)) (position code a) in
-    let g : Instr → Result ℕ PathFault = λ i. successor how.packet p.at (flow_of i) (way_by (slice_get how.bits p.branches) how.target) >>= f in
+    let g : Instr → Result ℕ PathFault = λ i. successor how.packet (site code p.at) (flow_of i) (way_by (slice_get how.bits p.branches) how.target) >>= f in
     let one : next_of code how p ≡ (Ok i >>= g) = ap (λ (r : Result Instr PathFault). r >>= g) here in
     let two : (Ok i >>= g) ≡ (Ok next >>= f) = ap (λ (r : Result ℕ PathFault). r >>= f) leads in
     one ∙ two ∙ room how.room (length p.rows) how.packet (position code next) lt ∙ position_ok code next j there
 
-pub moved_more : (code : List ElfSegment) (all more : List Bool) (p : Place) (row : StepRow) → Moved code all p row → Moved code (all ++ more) p row
-moved_more code all more p row m = record { at = m.at; here = m.here; goes = m.goes; there = m.there; step = m.step; plain = m.plain; bit = λ t. get_front all more p.branches (passed row) (m.bit t); room = m.room }
+pub moved_more : (code : Code) (all more : List Bool) (p : Place) (row : StepRow) → Moved code all p row → Moved code (all ++ more) p row
+moved_more code all more p row m = record { at = m.at; here = m.here; short = m.short; goes = m.goes; there = m.there; step = m.step; plain = m.plain; bit = λ t. get_front all more p.branches (passed row) (m.bit t); room = m.room }
 
-pub move_is : (code : List ElfSegment) (how : Lead) (p : Place) (row : StepRow) → how.room ≡ 65536 → Moved code how.bits p row → (jumps_far (flow_of row.instr) ≡ true → how.target ≡ Some row.next) → IsMove code how p row
+pub move_is : (code : Code) (how : Lead) (p : Place) (row : StepRow) → how.room ≡ 65536 → Moved code how.bits p row → (jumps_far (flow_of row.instr) ≡ true → how.target ≡ Some row.next) → IsMove code how p row
 move_is code how p row limit m t =
     let lead = m.step.lead in
     let here : look code p.at ≡ Ok row.instr = rw m.at m.here in
-    let s : successor how.packet p.at (flow_of row.instr) (way_by (slice_get how.bits p.branches) how.target) ≡ Ok row.next = rw m.at (leads how.packet row.at row.next (flow_of row.instr) (slice_get how.bits p.branches) how.target lead m.plain m.bit t) in
+    let s : successor how.packet (site code p.at) (flow_of row.instr) (way_by (slice_get how.bits p.branches) how.target) ≡ Ok row.next = rw m.at (leads how.packet (site code row.at) row.next (flow_of row.instr) (slice_get how.bits p.branches) how.target (onward_is code row m.short m.step.long) lead m.plain m.bit t) in
     record {
       next = next_is code how p row.instr m.goes row.next here m.there s (rw limit m.room);
       at = sym m.at;
       instr = here;
       call = m.step.call ∙ m.plain;
-      long = m.step.long;
+      short = m.short ∙ ap (is_short code) (sym m.at);
     }
 
-pub moves_more : (code : List ElfSegment) (all more : List Bool) (past : Place) (leg : List StepRow) → Moves code all past leg → Moves code (all ++ more) past leg
+pub moves_more : (code : Code) (all more : List Bool) (past : Place) (leg : List StepRow) → Moves code all past leg → Moves code (all ++ more) past leg
 moves_more code all more past [] m = tt
 moves_more code all more past (row ∷ leg) m = (moves_more code all more past leg m.0, moved_more code all more (along code past leg) row m.1, m.2)

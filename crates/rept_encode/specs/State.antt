@@ -1,7 +1,7 @@
 -- What the writer keeps: packets that lead to a row, and how they stand in the text. These definitions speak of the code's own values.
 use Rattle.std.specs.Prelude.{◌≡◌, ℕ, zero, suc, ◌+◌, ◌*◌, ◌^◌, ◌<◌, ◌≤◌, List, [], ◌∷◌, ◌++◌, length, reverse, take, slice_get, Some, Ok, Bool, true, false, not, if◌then◌else◌}
 use Rattle.std.specs.List.{list_any}
-use Rattle.rept_elf.specs.Segments.{ElfSegment}
+use Rattle.rept_path.specs.Code.{Code}
 use Rattle.rept_isa.specs.declared.instr.Instr.{Instr}
 use Rattle.rept_isa.specs.declared.row.StepRow.{StepRow}
 use Rattle.rept_trace.specs.declared.packet.Report.{Report}
@@ -10,7 +10,7 @@ use Rattle.rept_trace.specs.declared.packet.Packet.TheVariants.{Start, Support, 
 use Rattle.rept_trace.specs.declared.packet.Qual.TheVariants.{EndedRep}
 use Rattle.rept_trace.specs.Stream.{header, plain, Hold}
 use Rattle.rept_steps.specs.Linked.{AreLinked}
-use Rattle.rept_path.specs.Code.{look, flow_of, sum, jumps_far}
+use Rattle.rept_path.specs.Code.{look, is_short, flow_of, sum, jumps_far}
 use Rattle.rept_path.specs.Packets.{low_bits, bits, reported, waiting}
 use Rattle.rept_path.specs.Moves.{Place, along}
 use Rattle.rept_path.specs.Route.{alone, Route, place, marked}
@@ -23,9 +23,10 @@ use Rattle.rept_encode.specs.Walkable.{calls, IsStepped, IsWalkable, IsJumpEnd}
 use Rattle.rept_encode.specs.Written.{Appends}
 
 -- The row is the step from a place, where so many bits are known.
-pub record Moved (code : List ElfSegment) (all : List Bool) (p : Place) (row : StepRow) : Type 0 where
+pub record Moved (code : Code) (all : List Bool) (p : Place) (row : StepRow) : Type 0 where
   pub at : p.at ≡ row.at
   pub here : look code row.at ≡ Ok row.instr
+  pub short : row.short ≡ is_short code row.at
   pub goes : Instr
   pub there : look code row.next ≡ Ok goes
   pub step : IsStepped row
@@ -34,12 +35,12 @@ pub record Moved (code : List ElfSegment) (all : List Bool) (p : Place) (row : S
   pub room : length p.rows < 65536
 
 -- Each row is the step from the place after those before it, and none is an uninferable jump. Newest first.
-abbrev pub Moves : List ElfSegment → List Bool → Place → List StepRow → Type 0
+abbrev pub Moves : Code → List Bool → Place → List StepRow → Type 0
 Moves code all past [] = Unit {0}
 Moves code all past (row ∷ leg) = Moves code all past leg × Moved code all (along code past leg) row × (jumps_far (flow_of row.instr) ≡ false)
 
 -- The packets, newest first, have this route, after which the trace runs and no stop is inferred.
-pub record Stands (code : List ElfSegment) (packets : List Packet) (legs : List (List StepRow)) : Type 0 where
+pub record Stands (code : Code) (packets : List Packet) (legs : List (List StepRow)) : Type 0 where
   pub route : Route code (alone 0) packets legs
   pub runs : waiting packets ≡ false
   pub plain : marked code packets legs ≡ false
@@ -47,7 +48,7 @@ pub record Stands (code : List ElfSegment) (packets : List Packet) (legs : List 
 
 -- The packets lead to the place of a row, or so many rows before it: those rows are kept, and wait for further bits. The rows are all
 -- that were executed before it. All lists are newest first, but for the bits.
-pub record Coded (code : List ElfSegment) (packets : List Packet) (wait : List Bool) (kept : List StepRow) (here : StepRow) (rows : List StepRow) : Type 0 where
+pub record Coded (code : Code) (packets : List Packet) (wait : List Bool) (kept : List StepRow) (here : StepRow) (rows : List StepRow) : Type 0 where
   pub legs : List (List StepRow)
   pub stands : Stands code packets legs
   pub seen : rows ≡ kept ++ (place code packets legs).rows
@@ -85,12 +86,12 @@ waiting_bits b = low_bits b.count b.map
 -- The text is a header and these packets, newest first, and nothing more.
 pub record IsText (text : List ℕ) (packets : List Packet) : Type 0 where
   pub rest : List ℕ
-  pub layout : text ≡ header ++ rest
-  pub holds : (later : List ℕ) (more : List Packet) → Hold (plain later) more → Hold (plain (rest ++ later)) (reverse packets ++ more)
+  pub layout : text ≡ header false ++ rest
+  pub holds : (later : List ℕ) (more : List Packet) → Hold (plain false later) more → Hold (plain false (rest ++ later)) (reverse packets ++ more)
 
 -- The packets lead to row i, and from so many rows before it, in each code that has the rows' instructions.
 abbrev pub LeadTo : List StepRow → List Packet → Bits → List StepRow → ℕ → Type 0
-LeadTo rows packets b kept i = (code : List ElfSegment) (here : StepRow) → CarryCode code rows → slice_get rows i ≡ Some here → Coded code packets (waiting_bits b) kept here (reverse (take i rows))
+LeadTo rows packets b kept i = (code : Code) (here : StepRow) → CarryCode code rows → slice_get rows i ≡ Some here → Coded code packets (waiting_bits b) kept here (reverse (take i rows))
 
 -- What was sent where row i comes next. The walk that reads it stands at row `walked`. Row `base` is the last one up to row i that is a
 -- branch, or that at which the walk stands; from there on no row is a call or an uninferable jump.
@@ -124,7 +125,7 @@ pub record StandsAt (s : Sender) (a n : ℕ) : Type 0 where
 
 -- The text has the header and the start packet of a row.
 pub record IsBegun (s : Sender) (first : StepRow) : Type 0 where
-  pub text : Appends header s.text (start_at first)
+  pub text : Appends (header false) s.text (start_at first)
   pub stands : StandsAt s first.at 0
 
 -- The report of an address was added, with these bits, after so much text and so an address.
@@ -180,7 +181,7 @@ pub record Stood (rows : List StepRow) (n : ℕ) (s : Sender) (most : ℕ) : Typ
   pub map : s.bits.map ≡ 0
   pub walked : s.walked ≡ n
   pub base : s.base ≡ n
-  pub lead : (code : List ElfSegment) (here : StepRow) → CarryCode code rows → slice_get rows n ≡ Some here → Coded code packets [] [] here (reverse (take n rows))
+  pub lead : (code : Code) (here : StepRow) → CarryCode code rows → slice_get rows n ≡ Some here → Coded code packets [] [] here (reverse (take n rows))
 
 -- Rows that are sent: steps that are linked, of which no call directly follows an uninferable jump.
 pub record AreSendable (rows : List StepRow) : Type 0 where

@@ -59,7 +59,7 @@ pub record Appends (old new : List ℕ) (packet : Packet) : Type 0 where
   pub appended : new ≡ old ++ length payload ∷ payload
   pub some : 0 < length payload
   pub few : length payload ≤ 10
-  pub spells : IsPacket untimed payload packet
+  pub spells : IsPacket (untimed false) payload packet
   pub cut : IsCut payload
 
 -- A report of the packet says nothing by irreport.

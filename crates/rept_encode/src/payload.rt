@@ -70,7 +70,7 @@ fn joined(count: u8, map: u32, report: u128) -> u128
 
 /// The number that is a packet's payload. No report says `irreport`.
 fn number_of(packet: &Packet) -> u128
-    requires { FieldsFit untimed packet.now }
+    requires { FieldsFit (untimed false) packet.now }
     ensures { result ≡ number_of packet.now }
 {
     match *packet {
@@ -109,7 +109,7 @@ fn cut(payload: &[u8]) -> &[u8]
     requires { 0 < length payload.now }
     ensures some { 0 < length result.now }
     ensures few { length result.now ≤ length payload.now }
-    ensures spells { (packet : Packet) → IsPacket untimed payload.now packet → IsPacket untimed result.now packet }
+    ensures spells { (packet : Packet) → IsPacket (untimed false) payload.now packet → IsPacket (untimed false) result.now packet }
     ensures cut { IsCut result.now }
 {
     let mut size = payload.len();
@@ -121,7 +121,7 @@ fn cut(payload: &[u8]) -> &[u8]
 
 /// Adds a packet: its length, and its payload, cut as short as may be.
 pub fn push_packet(out: &mut Text, packet: &Packet) -> Result<(), OutOfMemory>
-    requires fits { FieldsFit untimed packet.now }
+    requires fits { FieldsFit (untimed false) packet.now }
     requires silent { IsSilent packet.now }
     ensures ok { OnOk result (Appends out.old out.new packet.now) }
 {

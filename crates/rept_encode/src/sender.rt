@@ -38,7 +38,7 @@ fn report_packet(bits: Bits, difference: u32, notify: bool) -> Packet
     requires bits { AreBits bits 31 }
     requires even { difference % 4 ≡ 0 }
     ensures packet { result ≡ report_packet bits.count bits.map (said difference notify) }
-    ensures fits { FieldsFit untimed result }
+    ensures fits { FieldsFit (untimed false) result }
     ensures silent { IsSilent result }
 {
     let report = Report {
@@ -61,7 +61,7 @@ fn report_packet(bits: Bits, difference: u32, notify: bool) -> Packet
 fn start_packet(branch: bool, address: u32) -> Packet
     requires { address % 4 ≡ 0 }
     ensures packet { result ≡ Packet.Start branch 0 address 0 0 }
-    ensures fits { FieldsFit untimed result }
+    ensures fits { FieldsFit (untimed false) result }
     ensures silent { IsSilent result }
 {
     Packet::Start {

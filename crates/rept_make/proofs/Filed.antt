@@ -15,7 +15,7 @@ use Rattle.rept_isa.specs.declared.instr.Instr.{Instr}
 use Rattle.rept_isa.specs.Words.{IsWord}
 use Rattle.rept_isa.proofs.WordLemmas.{reads}
 use Rattle.rept_dump.specs.Memory.{bytes_from, byte_at, code_at}
-use Rattle.rept_path.specs.Code.{instruction, look}
+use Rattle.rept_path.specs.Code.{instruction, words as words_of, look}
 use Rattle.rept_make.specs.Laid.{laid_byte}
 use Rattle.rept_make.proofs.Laying.{off_code}
 use Rattle.rept_make.specs.Files.{bytes_of_words, exe_header, executable, note_start, core_file}
@@ -166,7 +166,7 @@ module _ (words : List ℕ) (size : length words ≡ 256) (small : (i : ℕ) →
       let w : word_at (bytes_of_words words) (4 * j) ≡ get_or words j 0 = subst (λ (xs : List ℕ). word_at xs (4 * j) ≡ get_or words j 0) (append-nil (bytes_of_words words)) (word_there words [] j (omega arith) small) in
       rw (t, u, d) (ap (λ (x : ℕ). Some x) w)
 
-  pub look_there : (a j : ℕ) (i : Instr) → j < 256 → a ≡ 65536 + 4 * j → IsWord (get_or words j 0) i → look (code_of words ∷ []) a ≡ Ok i
+  pub look_there : (a j : ℕ) (i : Instr) → j < 256 → a ≡ 65536 + 4 * j → IsWord (get_or words j 0) i → look (words_of (code_of words ∷ [])) a ≡ Ok i
   unfolding look
   look_there a j i lt e spelled =
       let even : (a % 4 == 0) ≡ true = (let m : a % 4 ≡ 0 = omega arith in rw m refl) in

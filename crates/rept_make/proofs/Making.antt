@@ -18,7 +18,9 @@ use Rattle.rept_machine.specs.Step.{HasEffect}
 use Rattle.rept_machine.specs.declared.machine.Machine.{Machine}
 use Rattle.rept_machine.specs.Machine.{state_of, pc_of}
 use Rattle.rept_machine.specs.Execution.{Execution}
+use Rattle.rept_path.specs.Code.{words as words_of}
 use Rattle.rept_path.specs.Rows.{CarriesCode, CarryCode}
+use Rattle.rept_path.proofs.LongRows.{never_short}
 use Rattle.rept_trace.specs.Stream.{plain}
 use Rattle.rept_path.specs.Traced.{IsTraced}
 use Rattle.rept_encode.specs.Encoded.{Tells}
@@ -57,12 +59,15 @@ module _ (seed : ℕ) (words : List ℕ) (code : IsCode seed words) (rows : List
       let e : i + 1 ≡ suc i = omega arith in
       subst (λ (k : ℕ). Near (run k)) e next.0
 
-  carries : ((i : ℕ) → get_or words i 0 < 2 ^ 32) → CarryCode (code_of words ∷ []) rows
-  carries small = All-from_get_or (CarriesCode (code_of words ∷ [])) rows no_row (λ i lt.
+  carries : ((i : ℕ) → get_or words i 0 < 2 ^ 32) → CarryCode (words_of (code_of words ∷ [])) rows
+  carries small = All-from_get_or (CarriesCode (words_of (code_of words ∷ []))) rows no_row (λ i lt.
       let get : slice_get rows i ≡ Some (get_or rows i no_row) = slice_get-get_or rows i no_row lt in
       let m = made.steps i (get_or rows i no_row) get in
       let p = spelled_at i (get_or rows i no_row) get in
-      look_there words code.size small (get_or rows i no_row).at m.slot (get_or rows i no_row).instr m.below m.at p.spelled)
+      record {
+        instr = look_there words code.size small (get_or rows i no_row).at m.slot (get_or rows i no_row).instr m.below m.at p.spelled;
+        short = m.long ∙ sym (never_short (code_of words ∷ []) (get_or rows i no_row).at);
+      })
 
 byte_small : (words : List ℕ) (i : ℕ) → get_or (bytes_of_words words) i 0 < 256
 byte_small [] i = omega arith
@@ -134,7 +139,7 @@ made_is seed words m rows code small ran exe core trace registers bytes exe_is c
       rest = tells.rest;
       layout = tells.layout;
       few = few;
-      path = subst (λ (ss : List ElfSegment). IsTraced (record { code = ss; stream = plain tells.rest; from = 0; pc = pc_of m }) 0 rows) (sym exe_segs) (tells.path (code_of words ∷ []) (pc_of m) (carries seed words code rows ran.run ran.made small) ran.ends);
+      path = subst (λ (ss : List ElfSegment). IsTraced (record { code = words_of ss; stream = plain false tells.rest; from = 0; pc = pc_of m }) 0 rows) (sym exe_segs) (tells.path (code_of words ∷ []) (pc_of m) (carries seed words code rows ran.run ran.made small) ran.ends);
       execution = λ last count_last same.
           let e = executes seed (greatest_end (segments exe)) words registers bytes last code rows ran.run ran.made (pc_of m) saved count_last (λ r some lt. same r some lt ∙ status_word registers bytes count size fit r lt) in
           subst (λ (ss : List ElfSegment). Execution (greatest_end (segments exe)) rows last (byte_at ss (segments core)) (λ i. laid (bytes_of_words words) (ran.run i))) (sym exe_segs) (subst (λ (cs : List ElfSegment). Execution (greatest_end (segments exe)) rows last (byte_at (code_of words ∷ []) cs) (λ i. laid (bytes_of_words words) (ran.run i))) (sym core_segs) e);

@@ -1,5 +1,5 @@
 -- What a made crash is: its files, and the run that they come from.
-use Rattle.std.specs.Prelude.{◌≡◌, ℕ, ◌+◌, ◌*◌, ◌^◌, ◌<◌, List, ◌++◌, length, slice_index, Ok, None}
+use Rattle.std.specs.Prelude.{◌≡◌, ℕ, ◌+◌, ◌*◌, ◌^◌, ◌<◌, List, ◌++◌, length, slice_index, Ok, None, false}
 use Rattle.rept_isa.specs.declared.row.StepRow.{StepRow}
 use Rattle.rept_steps.specs.Linked.{EndBefore}
 use Rattle.rept_elf.specs.Header.{word_at}
@@ -11,6 +11,7 @@ use Rattle.rept_dump.specs.Registers.{Says}
 use Rattle.rept_machine.specs.State.{State}
 use Rattle.rept_machine.specs.Execution.{Execution}
 use Rattle.rept_trace.specs.Stream.{header, plain}
+use Rattle.rept_path.specs.Code.{words as words_of}
 use Rattle.rept_path.specs.Traced.{IsTraced}
 use Rattle.rept_make.specs.declared.made.Made.{Made}
 use Rattle.rept_make.specs.Files.{bytes_of_words, executable, core_file}
@@ -48,7 +49,7 @@ pub record IsMade (seed steps : ℕ) (made : Made) : Type 0 where
   pub notes : Says (length made.core) (segments made.core) (Ok status)
   pub last_pc : word_at status 72 ≡ pc
   pub rest : List ℕ
-  pub layout : made.trace ≡ header ++ rest
+  pub layout : made.trace ≡ header false ++ rest
   pub few : length made.trace < 2 ^ 32
-  pub path : IsTraced (record { code = segments made.exe; stream = plain rest; from = 0; pc = pc }) 0 rows
+  pub path : IsTraced (record { code = words_of (segments made.exe); stream = plain false rest; from = 0; pc = pc }) 0 rows
   pub execution : (last : List ℕ) → length last ≡ 32 → ((r : ℕ) → 0 < r → r < 32 → slice_index last r ≡ word_at status (72 + 4 * r)) → Execution (greatest_end (segments made.exe)) rows last (byte_at (segments made.exe) (segments made.core)) (λ i. laid (bytes_of_words words) (run i))

@@ -2,11 +2,10 @@
 use Rattle.std.proofs.Common.{◌≡◌, ℕ, zero, suc, ◌+◌, ◌<◌, ◌≤◌, List, [], ◌∷◌, ◌++◌, length, reverse, drop, slice_get, Bool, true, false, Option, Some, None, Result, Ok, Err, refl, sym, ◌∙◌, ap, subst, arith, ◌⊎◌, inl, inr, append_assoc, append-nil}
 use Rattle.std.proofs.lemmas.Bool.{cases_order}
 use Rattle.std.proofs.lemmas.List.{reverse-append, reverse-reverse}
-use Rattle.rept_elf.specs.Segments.{ElfSegment}
+use Rattle.rept_path.specs.Code.{Code}
 use Rattle.rept_isa.specs.declared.instr.Instr.{Instr}
 use Rattle.rept_isa.specs.declared.row.StepRow.{StepRow}
 use Rattle.rept_dump.specs.declared.dump.Dump.{Dump}
-use Rattle.rept_dump.specs.Dump.{exe_of}
 use Rattle.rept_trace.specs.declared.packet.Packet.{Packet}
 use Rattle.rept_trace.specs.declared.packet.Packet.TheVariants.{Start, Context, Support, Address, Map, MapAddress}
 use Rattle.rept_trace.specs.declared.packets.Packets.{Packets}
@@ -17,14 +16,14 @@ use Rattle.rept_path.specs.declared.aim.Aim.{Aim}
 use Rattle.rept_path.specs.declared.fault.PathFault.{PathFault}
 use Rattle.rept_path.specs.declared.fault.PathFault.TheVariants.{BranchesLeft, NoStart}
 use Rattle.rept_path.specs.declared.fault.PathFault.TheVariants as faults
-use Rattle.rept_path.specs.Code.{look}
+use Rattle.rept_path.specs.Code.{look, is_short}
 use Rattle.rept_path.specs.Packets.{waiting}
 use Rattle.rept_path.specs.Gap.{gap_to_start, gap_to_end}
 use Rattle.rept_path.specs.Moves.{Lead, Place, Stand, along, next_of, IsMove, stops, misfits, unused, position, ◌>>=◌, course_by}
 use Rattle.rept_path.specs.Legs.{Passes, Reaches, PhaseLeg, PhaseFault}
 use Rattle.rept_path.specs.Route.{Phase, PhaseLegs, PhasesFault, lead_of, further, with_bits, phases_of, admits, Met, met_by, stand_of, RunningLeg, RunningFault, WaitingLeg, WaitingFault, FirstLeg, FirstFault, Leg, Fault, Origin, alone, Route}
 use Rattle.rept_path.specs.Trace.{starts, loses, IsWindow, stand_after, IsPath, StopsAt, IsRefused}
-use Rattle.rept_path.specs.Traced.{pc_of, IsTraced, IsRefusedBy, raw_of}
+use Rattle.rept_path.specs.Traced.{code_over, pc_of, IsTraced, IsRefusedBy, raw_of}
 use Rattle.rept_path.proofs.MoveLemmas.{made, few_before}
 use Rattle.rept_path.proofs.Whole.{get_drop}
 use Rattle.rept_path.proofs.Windows.{starts_within, lost, found, still, still_none, passed}
@@ -38,19 +37,19 @@ bool_of : (b : Bool) → (b ≡ true) ⊎ (b ≡ false)
 bool_of true = inl refl
 bool_of false = inr refl
 
-position_of : (code : List ElfSegment) (a : ℕ) → (position code a ≡ Ok a) ⊎ ((e : PathFault) × (position code a ≡ Err e))
+position_of : (code : Code) (a : ℕ) → (position code a ≡ Ok a) ⊎ ((e : PathFault) × (position code a ≡ Err e))
 position_of code a = go (look code a) where
   go : (r : Result Instr PathFault) → ((r >>= (λ i. Ok a)) ≡ Ok a) ⊎ ((e : PathFault) × ((r >>= (λ (i : Instr). Ok a)) ≡ Err e))
   go (Ok i) = inl refl
   go (Err e) = inr (e, refl)
 
-module _ (code : List ElfSegment) (lead : Lead) (aim : Aim) (past : Place) where
+module _ (code : Code) (lead : Lead) (aim : Aim) (past : Place) where
   abbrev Ends : Type 0
   Ends = ((leg : List StepRow) × Reaches code (course_by lead aim) past leg) ⊎ ((e : PathFault) × (leg : List StepRow) × Passes code (course_by lead aim) past leg × (next_of code lead (along code past leg) ≡ Err e))
 
   -- what a move gives
   row_of : (p : Place) (a : ℕ) → next_of code lead p ≡ Ok a → (row : StepRow) × IsMove code lead p row
-  row_of p a h = let m = made code lead p a h in (record { at = p.at; instr = m.0; next = a; call = false; short = false }, record { next = h; at = refl; instr = m.1; call = refl; long = refl })
+  row_of p a h = let m = made code lead p a h in (record { at = p.at; instr = m.0; next = a; call = false; short = is_short code p.at }, record { next = h; at = refl; instr = m.1; call = refl; short = refl })
 
   -- a leg without a stop ends after one row more, or goes on
   moves : (leg : List StepRow) → Passes code (course_by lead aim) past leg → ((row : StepRow) → length (along code past leg).rows < lead.room → Passes code (course_by lead aim) past (row ∷ leg) → Ends) → Ends
@@ -78,7 +77,7 @@ module _ (code : List ElfSegment) (lead : Lead) (aim : Aim) (past : Place) where
     | inr b ↦ inr (b.0, inl (record { leg = b.1; passes = b.2; blocked = b.3 }))
   ]
 
-module _ (code : List ElfSegment) where
+module _ (code : Code) where
   all_phases : (s : Stand) (phases : List Phase) → ((leg : List StepRow) × PhaseLegs code s phases leg) ⊎ ((e : PathFault) × PhasesFault code s phases e)
   all_phases s [] = inl ([], refl)
   all_phases s (phase ∷ phases) = elim (one_phase code (lead_of s phase) phase.aim s.place) [
@@ -167,7 +166,7 @@ module _ (from : ℕ) where
   window_of : (packets : List Packet) → (begin : Option ℕ) × IsWindow packets from begin
   window_of packets = let w = turned (reverse packets) in (w.0, subst (λ (xs : List Packet). IsWindow xs from w.0) (reverse-reverse packets) w.1)
 
-module _ (code : List ElfSegment) (packets : List Packet) (from pc : ℕ) where
+module _ (code : Code) (packets : List Packet) (from pc : ℕ) where
   abbrev IsDecided : Type 0
   IsDecided = ((skipped : ℕ) × (rows : List StepRow) × IsPath (record { code = code; packets = packets; from = from; pc = pc }) skipped rows) ⊎ ((e : PathFault) × IsRefused (record { code = code; packets = packets; from = from; pc = pc }) e)
 
@@ -193,7 +192,7 @@ IsWhole packets = ((list : List Packet) × Hold (rest_of packets) list) ⊎ ((li
 
 pub decided : (packets : Packets) (dump : Dump) (from : ℕ) → IsWhole packets → ((skipped : ℕ) × (rows : List StepRow) × IsTraced (raw_of packets dump from) skipped rows) ⊎ ((fault : PathFault) × IsRefusedBy packets dump from fault)
 decided packets dump from whole = elim whole [
-  | inl h ↦ elim (is_decided (exe_of dump) h.0 from (pc_of dump)) [
+  | inl h ↦ elim (is_decided (code_over packets dump) h.0 from (pc_of dump)) [
     | inl p ↦ inl (p.0, p.1, (h.0, h.1, p.2))
     | inr f ↦ inr (f.0, inr (h.0, h.1, f.1))
   ]

@@ -4,7 +4,7 @@ use Rattle.std.proofs.lemmas.Bool.{cases_order}
 use Rattle.std.proofs.lemmas.List.{reverse-append, reverse-reverse, take-append-le}
 use Rattle.std.proofs.lemmas.Option.{slice_get_within}
 use Rattle.std.proofs.Math.Seq.{take-length}
-use Rattle.rept_elf.specs.Segments.{ElfSegment}
+use Rattle.rept_path.specs.Code.{Code}
 use Rattle.rept_isa.specs.declared.row.StepRow.{StepRow}
 use Rattle.rept_path.specs.declared.aim.Aim.{Aim}
 use Rattle.rept_path.specs.Moves.{Lead, Place, along, IsMove, stops, course_by}
@@ -26,7 +26,7 @@ turned r leg = reverse-append (r ∷ []) leg
 longer : (r : StepRow) (rows : List StepRow) → length (rows ++ r ∷ []) ≡ length rows + 1
 longer r rows = length-append rows (r ∷ [])
 
-module _ (code : List ElfSegment) (lead : Lead) (aim : Aim) (past : Place) where
+module _ (code : Code) (lead : Lead) (aim : Aim) (past : Place) where
   -- one row more at the end
   index_front : (rows : List StepRow) (r : StepRow) (i : ℕ) → i ≤ length rows → at_index code past (rows ++ r ∷ []) i ≡ at_index code past rows i
   index_front rows r i le = ap (λ (xs : List StepRow). along code past (reverse xs)) (take-append-le i rows (r ∷ []) le)

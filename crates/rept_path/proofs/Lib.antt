@@ -18,3 +18,5 @@ pub mod Unique
 pub mod Waiting
 pub mod Windows
 pub mod Whole
+pub mod LongRows
+pub mod Expanding

@@ -1,7 +1,7 @@
 -- What the loop over moves keeps.
 use Rattle.std.proofs.lemmas.List.{length-reverse}
 use Rattle.std.proofs.Common.{◌≡◌, ℕ, suc, ◌+◌, ◌-◌, ◌<◌, ◌≤◌, reverse, ◌==◌, refl, ◌&&◌, ◌||◌, not, cond, length, arith, List, [], ◌∷◌, Bool, true, false, Option, Err, ◌∙◌, ap, subst, ◌⊎◌, inl, inr}
-use Rattle.rept_elf.specs.Segments.{ElfSegment}
+use Rattle.rept_path.specs.Code.{Code}
 use Rattle.std.proofs.lemmas.Bool.Decides.{nat_tests}
 use Rattle.rept_path.specs.declared.aim.Aim.{Aim}
 use Rattle.rept_path.specs.declared.aim.Aim.TheVariants.{Jumped, Start, Report, LastBit}
@@ -15,7 +15,7 @@ use Rattle.rept_path.specs.Legs.{Passes, Reaches, PhaseFault}
 use Rattle.rept_path.specs.State.{here, Counts, Keeps, lead, Moved, Walked, ends_fit}
 
 -- The walk stands after a leg whose rows but the last lead to no stop.
-pub record Coming (code : List ElfSegment) (how : Lead) (aim : Aim) (old new : Walk) : Type 0 where
+pub record Coming (code : Code) (how : Lead) (aim : Aim) (old new : Walk) : Type 0 where
   pub row : StepRow
   pub leg : List StepRow
   pub passes : Passes code (course_by how aim) (here old) leg
@@ -28,10 +28,10 @@ pub record Coming (code : List ElfSegment) (how : Lead) (aim : Aim) (old new : W
 pub Keeps-twice : (a b c : Walk) → Keeps a b → Keeps b c → Keeps a c
 Keeps-twice a b c x y = record { bits = y.bits ∙ x.bits; reported = y.reported ∙ x.reported; inferred = y.inferred ∙ x.inferred; waiting = y.waiting ∙ x.waiting; room = y.room ∙ x.room }
 
-pub came_first : (code : List ElfSegment) (how : Lead) (aim : Aim) (old new : Walk) → Moved code how old new → Coming code how aim old new
+pub came_first : (code : Code) (how : Lead) (aim : Aim) (old new : Walk) → Moved code how old new → Coming code how aim old new
 came_first code how aim old new m = record { row = m.row; leg = []; passes = tt; move = m.move; seen = m.seen; counts = m.counts; kept = m.kept; grows = m.grows }
 
-module _ (code : List ElfSegment) (packet : ℕ) (target : Option ℕ) (aim : Aim) (old mid : Walk) (came : Coming code (lead old packet target) aim old mid) where
+module _ (code : Code) (packet : ℕ) (target : Option ℕ) (aim : Aim) (old mid : Walk) (came : Coming code (lead old packet target) aim old mid) where
   same_lead : lead mid packet target ≡ lead old packet target
   same_lead = let a = came.kept.bits in let b = came.kept.room in cc
 
@@ -79,19 +79,19 @@ module _ (code : List ElfSegment) (packet : ℕ) (target : Option ℕ) (aim : Ai
   blocked_or e stays h = elim h [ inl m ↦ inl m | inr b ↦ inr (is_blocked e stays b) ]
 
 -- The same where the facts of a step speak of code that is the same, as that of a dump near a position.
-module _ (code near : List ElfSegment) (same : near ≡ code) (packet : ℕ) (target : Option ℕ) (aim : Aim) (old mid : Walk) where
+module _ (code near : Code) (same : near ≡ code) (packet : ℕ) (target : Option ℕ) (aim : Aim) (old mid : Walk) where
   pub came_first_near : Moved near (lead old packet target) old mid → Coming code (lead old packet target) aim old mid
-  came_first_near m = came_first code (lead old packet target) aim old mid (subst (λ (c : List ElfSegment). Moved c (lead old packet target) old mid) same m)
+  came_first_near m = came_first code (lead old packet target) aim old mid (subst (λ (c : Code). Moved c (lead old packet target) old mid) same m)
 
   module _ (came : Coming code (lead old packet target) aim old mid) where
     stops_there : (b : Bool) → stops near mid.bits.items aim (here mid) ≡ b → stops code mid.bits.items aim (here mid) ≡ b
-    stops_there b h = subst (λ (c : List ElfSegment). stops c mid.bits.items aim (here mid) ≡ b) same h
+    stops_there b h = subst (λ (c : Code). stops c mid.bits.items aim (here mid) ≡ b) same h
 
     misfits_there : (b : Bool) → misfits near mid.bits.items aim (here mid) ≡ b → misfits code mid.bits.items aim (here mid) ≡ b
-    misfits_there b h = subst (λ (c : List ElfSegment). misfits c mid.bits.items aim (here mid) ≡ b) same h
+    misfits_there b h = subst (λ (c : Code). misfits c mid.bits.items aim (here mid) ≡ b) same h
 
     pub goes_on_near : (new : Walk) → stops near mid.bits.items aim (here mid) ≡ false → Moved near (lead mid packet target) mid new → Coming code (lead old packet target) aim old new
-    goes_on_near new stays m = goes_on code packet target aim old mid came new (stops_there false stays) (subst (λ (c : List ElfSegment). Moved c (lead mid packet target) mid new) same m)
+    goes_on_near new stays m = goes_on code packet target aim old mid came new (stops_there false stays) (subst (λ (c : Code). Moved c (lead mid packet target) mid new) same m)
 
     pub arrives_near : stops near mid.bits.items aim (here mid) ≡ true → misfits near mid.bits.items aim (here mid) ≡ false → Walked code (course_by (lead old packet target) aim) old mid
     arrives_near stopped fits = arrives code packet target aim old mid came (stops_there true stopped) (misfits_there false fits)
@@ -100,10 +100,10 @@ module _ (code near : List ElfSegment) (same : near ≡ code) (packet : ℕ) (ta
     has_left_near n stopped left is = has_left code packet target aim old mid came n (stops_there true stopped) (misfits_there true left) is
 
     pub blocked_near : (e : PathFault) → stops near mid.bits.items aim (here mid) ≡ false → (e ≡ OutOfMemory) ⊎ (next_of near (lead mid packet target) (here mid) ≡ Err e) → (e ≡ OutOfMemory) ⊎ PhaseFault code (course_by (lead old packet target) aim) (here old) e
-    blocked_near e stays h = blocked_or code packet target aim old mid came e (stops_there false stays) (subst (λ (c : List ElfSegment). (e ≡ OutOfMemory) ⊎ (next_of c (lead mid packet target) (here mid) ≡ Err e)) same h)
+    blocked_near e stays h = blocked_or code packet target aim old mid came e (stops_there false stays) (subst (λ (c : Code). (e ≡ OutOfMemory) ⊎ (next_of c (lead mid packet target) (here mid) ≡ Err e)) same h)
 
 -- Where the bits fit, one is left at most.
-fit_few : (code : List ElfSegment) (bits : List Bool) (p : Place) → bits_fit code bits p ≡ true → length bits ≤ p.branches + 1
+fit_few : (code : Code) (bits : List Bool) (p : Place) → bits_fit code bits p ≡ true → length bits ≤ p.branches + 1
 unfolding bits_fit
 fit_few code bits p h = go (is_branch code p.at) h where
   go : (b : Bool) → (unused bits p == cond b 1 0) ≡ true → length bits ≤ p.branches + 1
@@ -127,7 +127,7 @@ second : (b f : Bool) → (b && f) ≡ true → f ≡ true
 second true f h = h
 second false f h = cc
 
-pub rests_at : (code : List ElfSegment) (aim : Aim) (w : Walk) → stops code w.bits.items aim (here w) ≡ true → misfits code w.bits.items aim (here w) ≡ false → ends_fit aim ≡ true → length w.bits.items ≤ w.used + 1
+pub rests_at : (code : Code) (aim : Aim) (w : Walk) → stops code w.bits.items aim (here w) ≡ true → misfits code w.bits.items aim (here w) ≡ false → ends_fit aim ≡ true → length w.bits.items ≤ w.used + 1
 unfolding stops misfits
 rests_at code Jumped w s m f = cc
 rests_at code (Start a) w s m f = fit_few code w.bits.items (here w) (jump_fits (by_jump (here w).rows) (w.at == a) (bits_fit code w.bits.items (here w)) s m)
@@ -135,7 +135,7 @@ rests_at code (Report a notify updiscon) w s m f = fit_few code w.bits.items (he
 rests_at code LastBit w s m f = fit_few code w.bits.items (here w) (second (is_branch code w.at) (bits_fit code w.bits.items (here w)) s)
 
 -- After a move fewer steps are left.
-pub one_step_less : (code : List ElfSegment) (how : Lead) (old new : Walk) → Moved code how old new → new.room - length new.steps < old.room - length old.steps
+pub one_step_less : (code : Code) (how : Lead) (old new : Walk) → Moved code how old new → new.room - length new.steps < old.room - length old.steps
 one_step_less code how old new m =
     let e : length (reverse new.steps) ≡ suc (length (reverse old.steps)) = ap (λ (p : Place). length p.rows) m.seen in
     let few = m.counts.few in

@@ -1,12 +1,9 @@
 -- The definitions refuse no path where memory runs out.
 use Rattle.std.proofs.Common.{◌≡◌, ◌≢◌, ℕ, ◌+◌, ◌%◌, ◌==◌, nat_le, List, [], ◌∷◌, length, reverse, drop, slice_get, Bool, true, false, cond, ◌&&◌, Option, Some, None, Result, Ok, Err, refl, subst, inl, inr}
-use Rattle.rept_elf.specs.Segments.{ElfSegment}
+use Rattle.rept_path.specs.Code.{Code}
 use Rattle.rept_isa.specs.declared.row.StepRow.{StepRow}
 use Rattle.rept_isa.specs.declared.instr.Instr.{Instr}
-use Rattle.rept_isa.specs.declared.instr.Instr.TheVariants.{Ecall}
-use Rattle.rept_isa.specs.Numbers.{following}
 use Rattle.rept_dump.specs.declared.dump.Dump.{Dump}
-use Rattle.rept_dump.specs.Dump.{exe_of}
 use Rattle.rept_dump.specs.Memory.{code_at}
 use Rattle.rept_trace.specs.declared.packet.Packet.{Packet}
 use Rattle.rept_trace.specs.declared.packet.Packet.TheVariants.{Start, Context, Support, Address, Map, MapAddress}
@@ -16,14 +13,14 @@ use Rattle.rept_path.specs.declared.flow.Flow.{Flow}
 use Rattle.rept_path.specs.declared.flow.Flow.TheVariants.{Plain, Branch, Jump, Fixed, Far, Call, Stop}
 use Rattle.rept_path.specs.declared.fault.PathFault.{PathFault}
 use Rattle.rept_path.specs.declared.fault.PathFault.TheVariants.{TooLong, Gap, End, Unaligned, OutOfMemory}
-use Rattle.rept_path.specs.Code.{instruction, by_instruction, by_word, look, flow_of, is_call}
-use Rattle.rept_path.specs.Gap.{row, Goal, Edge, by_successor, by_flow, crossing, gap}
+use Rattle.rept_path.specs.Code.{instruction, expansion, short_half, is_short, alignment, after_instruction, by_instruction, by_word, by_code, look, flow_of, is_call}
+use Rattle.rept_path.specs.Gap.{row, call_row, Goal, Edge, by_successor, by_flow, crossing, gap}
 use Rattle.rept_path.specs.Legs.{PhaseFault}
-use Rattle.rept_path.specs.Moves.{Lead, Place, Stand, along, successor, position, next_of, ◌>>=◌, course_by, way_by}
+use Rattle.rept_path.specs.Moves.{Lead, Place, Stand, Site, along, site, successor, position, next_of, ◌>>=◌, course_by, way_by}
 use Rattle.rept_path.specs.Packets.{waiting}
 use Rattle.rept_path.specs.Route.{Phase, PhasesFault, lead_of, further, with_bits, phases_of, Met, met_by, stand_of, admits, FirstFault, WaitingFault, RunningFault, Fault, Origin, alone}
 use Rattle.rept_path.specs.Trace.{IsRefused, stand_after}
-use Rattle.rept_path.specs.Traced.{pc_of, IsRefusedBy}
+use Rattle.rept_path.specs.Traced.{code_over, pc_of, IsRefusedBy}
 use Rattle.rept_path.proofs.Waiting.{FaultIn}
 
 -- each fault of a result is another
@@ -49,10 +46,14 @@ others_word : (a : ℕ) (w : Option ℕ) → Others (by_word a w)
 others_word a None e h = λ m. cc
 others_word a (Some spelled) e h = others_instruction a spelled (instruction spelled) e h
 
+others_code : (a : ℕ) (half w : Option ℕ) → Others (by_code a half w)
+others_code a (Some half) w e h = others_instruction a half (expansion half) e h
+others_code a None w e h = others_word a w e h
+
 others_unaligned : (a : ℕ) → Others {A = Instr} (Err (Unaligned a))
 others_unaligned a e h = λ m. cc
 
-others_bit : (k p : ℕ) (bit : Option Bool) (target : Option ℕ) (flow : Flow) → Others (successor k p flow (way_by bit target))
+others_bit : (k : ℕ) (p : Site) (bit : Option Bool) (target : Option ℕ) (flow : Flow) → Others (successor k p flow (way_by bit target))
 others_bit k p bit target Plain e h = λ m. cc
 others_bit k p bit target (Jump imm) e h = λ m. cc
 others_bit k p bit target (Fixed to) e h = λ m. cc
@@ -70,10 +71,10 @@ others_long k e h = λ m. cc
 others_err : {A : Type 0} (d : PathFault) → d ≢ OutOfMemory → Others {A = A} (Err d)
 others_err d other e h = let same : d ≡ e = cc in subst (λ (x : PathFault). x ≢ OutOfMemory) same other
 
-module _ (code : List ElfSegment) where
+module _ (code : Code) where
   others_look : (a : ℕ) → Others (look code a)
   unfolding look
-  others_look a = others_cond (a % 4 == 0) (by_word a (code_at code a)) (Err (Unaligned a)) (others_word a (code_at code a)) (others_unaligned a)
+  others_look a = others_cond (a % alignment code == 0) (by_code a (short_half code a) (code_at code.segments a)) (Err (Unaligned a)) (others_code a (short_half code a) (code_at code.segments a)) (others_unaligned a)
 
   others_position : (a : ℕ) → Others (position code a)
   others_position a = others_bind (look code a) (λ _. Ok a) (others_look a) (λ _. others_ok a)
@@ -82,20 +83,20 @@ module _ (code : List ElfSegment) where
   unfolding next_of
   others_next how p =
       let onward : ℕ → Result ℕ PathFault = λ a. cond (nat_le how.room (length p.rows)) (Err (TooLong how.packet)) (position code a) in
-      let from : Instr → Result ℕ PathFault = λ i. successor how.packet p.at (flow_of i) (way_by (slice_get how.bits p.branches) how.target) in
+      let from : Instr → Result ℕ PathFault = λ i. successor how.packet (site code p.at) (flow_of i) (way_by (slice_get how.bits p.branches) how.target) in
       others_bind (look code p.at) (λ i. from i >>= onward) (others_look p.at)
-      (λ i. others_bind (from i) onward (others_bit how.packet p.at (slice_get how.bits p.branches) how.target (flow_of i))
+      (λ i. others_bind (from i) onward (others_bit how.packet (site code p.at) (slice_get how.bits p.branches) how.target (flow_of i))
       (λ a. others_cond (nat_le how.room (length p.rows)) (Err (TooLong how.packet)) (position code a) (others_long how.packet) (others_position a)))
 
   module _ (edge : Edge) (other : edge.otherwise ≢ OutOfMemory) where
     others_successor : (n : ℕ) → Others (by_successor code edge n)
     others_successor n =
-        others_cond (n == edge.to) _ _ (others_ok (row edge.at edge.instr n false ∷ []))
-        (others_cond (is_call (look code n) && edge.to == following n) _ _ (others_ok (row n Ecall edge.to true ∷ row edge.at edge.instr n false ∷ [])) (others_err edge.otherwise other))
+        others_cond (n == edge.to) _ _ (others_ok (row edge n false ∷ []))
+        (others_cond (is_call (look code n) && edge.to == after_instruction code n) _ _ (others_ok (call_row code n edge.to ∷ row edge n false ∷ [])) (others_err edge.otherwise other))
 
     others_flow : (next : Result ℕ PathFault) → Others next → (flow : Flow) → Others (by_flow code edge next flow)
-    others_flow next h Call = others_cond (edge.to == following edge.at) _ _ (others_ok (row edge.at edge.instr edge.to true ∷ [])) (others_err edge.otherwise other)
-    others_flow next h Far = others_cond (edge.to % 4 == 0) _ _ (others_ok (row edge.at edge.instr edge.to false ∷ [])) (others_err edge.otherwise other)
+    others_flow next h Call = others_cond (edge.to == after_instruction code edge.at) _ _ (others_ok (row edge edge.to true ∷ [])) (others_err edge.otherwise other)
+    others_flow next h Far = others_cond (edge.to % alignment code == 0) _ _ (others_ok (row edge edge.to false ∷ [])) (others_err edge.otherwise other)
     others_flow next h Stop = others_err edge.otherwise other
     others_flow next h Plain = others_bind next (by_successor code edge) h others_successor
     others_flow next h (Jump imm) = others_bind next (by_successor code edge) h others_successor
@@ -110,7 +111,7 @@ module _ (code : List ElfSegment) where
       let bit = slice_get s.bits p.branches in
       let cross : Instr → Result (List StepRow) PathFault = λ i. crossing code s goal i in
       others_bind (look code p.at) (λ i. cross i >>= room) (others_look p.at)
-      (λ i. others_bind (cross i) room (others_flow (record { at = p.at; instr = i; to = goal.address; otherwise = goal.otherwise }) other (successor s.packet p.at (flow_of i) (way_by bit None)) (others_bit s.packet p.at bit None (flow_of i)) (flow_of i))
+      (λ i. others_bind (cross i) room (others_flow (record { at = p.at; instr = i; short = is_short code p.at; to = goal.address; otherwise = goal.otherwise }) other (successor s.packet (site code p.at) (flow_of i) (way_by bit None)) (others_bit s.packet (site code p.at) bit None (flow_of i)) (flow_of i))
       (λ rows. others_cond (nat_le (length p.rows + length rows) s.room) (Ok rows) (Err (TooLong s.packet)) (others_ok rows) (others_long s.packet)))
 
   phase_other : (how : Lead) (aim : Aim) (past : Place) (e : PathFault) → PhaseFault code (course_by how aim) past e → e ≢ OutOfMemory
@@ -171,4 +172,4 @@ module _ (code : List ElfSegment) where
 
 pub refused_otherwise : (packets : Packets) (dump : Dump) (from : ℕ) (e : PathFault) → IsRefusedBy packets dump from e → e ≢ OutOfMemory
 refused_otherwise packets dump from e (inl (list, refused, fails, is)) = λ m. cc
-refused_otherwise packets dump from e (inr (list, hold, f)) = refused_other (exe_of dump) list from (pc_of dump) e f
+refused_otherwise packets dump from e (inr (list, hold, f)) = refused_other (code_over packets dump) list from (pc_of dump) e f

@@ -1,7 +1,7 @@
 -- A list of packets has one route at most, or one refusal.
 use Rattle.std.proofs.Common.{◌≡◌, ℕ, ◌≤◌, List, [], ◌∷◌, ◌++◌, length, reverse, drop, Bool, true, false, Result, Ok, Err, refl, sym, ◌∙◌, ap, subst, arith, ◌⊎◌, inl, inr, append_assoc}
 use Rattle.std.proofs.lemmas.List.{reverse-append, reverse-reverse}
-use Rattle.rept_elf.specs.Segments.{ElfSegment}
+use Rattle.rept_path.specs.Code.{Code}
 use Rattle.rept_isa.specs.declared.row.StepRow.{StepRow}
 use Rattle.rept_path.specs.declared.fault.PathFault.{PathFault}
 use Rattle.rept_trace.specs.declared.packet.Packet.{Packet}
@@ -23,7 +23,7 @@ same_err h g = cc
 not_both : {A : Type 0} {r : Result A PathFault} {x : A} {y : PathFault} → r ≡ Ok x → r ≡ Err y → ⊥
 not_both h g = cc
 
-one_first : (code : List ElfSegment) (packet : Packet) (a b : List StepRow) → FirstLeg code packet a → FirstLeg code packet b → a ≡ b
+one_first : (code : Code) (packet : Packet) (a b : List StepRow) → FirstLeg code packet a → FirstLeg code packet b → a ≡ b
 one_first code (Start branch privilege p time context) a b x y = x.1 ∙ sym y.1
 one_first code (Address report) a b x y = elim x [ ]
 one_first code (MapAddress count map report) a b x y = elim x [ ]
@@ -31,7 +31,7 @@ one_first code (Map map) a b x y = elim x [ ]
 one_first code (Context privilege time context) a b x y = elim x [ ]
 one_first code (Support enabled status) a b x y = elim x [ ]
 
-first_or_fault : (code : List ElfSegment) (packet : Packet) (a : List StepRow) (e : PathFault) → FirstLeg code packet a → FirstFault code packet e → ⊥
+first_or_fault : (code : Code) (packet : Packet) (a : List StepRow) (e : PathFault) → FirstLeg code packet a → FirstFault code packet e → ⊥
 first_or_fault code (Start branch privilege p time context) a e x y = not_both x.0 y
 first_or_fault code (Address report) a e x y = x
 first_or_fault code (MapAddress count map report) a e x y = x
@@ -39,7 +39,7 @@ first_or_fault code (Map map) a e x y = x
 first_or_fault code (Context privilege time context) a e x y = x
 first_or_fault code (Support enabled status) a e x y = x
 
-one_first_fault : (code : List ElfSegment) (packet : Packet) (d e : PathFault) → FirstFault code packet d → FirstFault code packet e → d ≡ e
+one_first_fault : (code : Code) (packet : Packet) (d e : PathFault) → FirstFault code packet d → FirstFault code packet e → d ≡ e
 one_first_fault code (Start branch privilege p time context) d e x y = same_err x y
 one_first_fault code (Address report) d e x y = elim x [ ]
 one_first_fault code (MapAddress count map report) d e x y = elim x [ ]
@@ -47,7 +47,7 @@ one_first_fault code (Map map) d e x y = elim x [ ]
 one_first_fault code (Context privilege time context) d e x y = elim x [ ]
 one_first_fault code (Support enabled status) d e x y = elim x [ ]
 
-one_waiting : (code : List ElfSegment) (packet : Packet) (met : Met) (a b : List StepRow) → WaitingLeg code packet met a → WaitingLeg code packet met b → a ≡ b
+one_waiting : (code : Code) (packet : Packet) (met : Met) (a b : List StepRow) → WaitingLeg code packet met a → WaitingLeg code packet met b → a ≡ b
 one_waiting code (Start branch privilege p time context) met a b x y = same_ok x.0 y.0
 one_waiting code (Address report) met a b x y = elim x [ ]
 one_waiting code (MapAddress count map report) met a b x y = elim x [ ]
@@ -55,7 +55,7 @@ one_waiting code (Map map) met a b x y = elim x [ ]
 one_waiting code (Context privilege time context) met a b x y = x ∙ sym y
 one_waiting code (Support enabled status) met a b x y = x ∙ sym y
 
-waiting_or_fault : (code : List ElfSegment) (packet : Packet) (met : Met) (a : List StepRow) (e : PathFault) → WaitingLeg code packet met a → WaitingFault code packet met e → ⊥
+waiting_or_fault : (code : Code) (packet : Packet) (met : Met) (a : List StepRow) (e : PathFault) → WaitingLeg code packet met a → WaitingFault code packet met e → ⊥
 waiting_or_fault code (Start branch privilege p time context) met a e x y = elim y [ inl f ↦ not_both x.0 f | inr f ↦ not_both x.1 f.1 ]
 waiting_or_fault code (Address report) met a e x y = x
 waiting_or_fault code (MapAddress count map report) met a e x y = x
@@ -63,7 +63,7 @@ waiting_or_fault code (Map map) met a e x y = x
 waiting_or_fault code (Context privilege time context) met a e x y = y
 waiting_or_fault code (Support enabled status) met a e x y = y
 
-one_waiting_fault : (code : List ElfSegment) (packet : Packet) (met : Met) (d e : PathFault) → WaitingFault code packet met d → WaitingFault code packet met e → d ≡ e
+one_waiting_fault : (code : Code) (packet : Packet) (met : Met) (d e : PathFault) → WaitingFault code packet met d → WaitingFault code packet met e → d ≡ e
 one_waiting_fault code (Start branch privilege p time context) met d e x y = elim x [
   | inl f ↦ elim y [ inl g ↦ same_err f g | inr g ↦ absurd (not_both g.0.1 f) ]
   | inr f ↦ elim y [ inl g ↦ absurd (not_both f.0.1 g) | inr g ↦ same_err f.1 g.1 ]
@@ -74,18 +74,18 @@ one_waiting_fault code (Map map) met d e x y = x ∙ sym y
 one_waiting_fault code (Context privilege time context) met d e x y = elim x [ ]
 one_waiting_fault code (Support enabled status) met d e x y = elim x [ ]
 
-one_by : (code : List ElfSegment) (packet : Packet) (waits : Bool) (met : Met) (a b : List StepRow) → LegIn code packet waits met a → LegIn code packet waits met b → a ≡ b
+one_by : (code : Code) (packet : Packet) (waits : Bool) (met : Met) (a b : List StepRow) → LegIn code packet waits met a → LegIn code packet waits met b → a ≡ b
 one_by code packet true met a b x y = one_waiting code packet met a b x y
 one_by code packet false met a b x y = one_legs code (phases_of packet met.marked met.reported) (with_bits code packet met) a b x.legs y.legs
 
-by_or_fault : (code : List ElfSegment) (packet : Packet) (waits : Bool) (met : Met) (a : List StepRow) (e : PathFault) → LegIn code packet waits met a → FaultIn code packet waits met e → ⊥
+by_or_fault : (code : Code) (packet : Packet) (waits : Bool) (met : Met) (a : List StepRow) (e : PathFault) → LegIn code packet waits met a → FaultIn code packet waits met e → ⊥
 by_or_fault code packet true met a e x y = waiting_or_fault code packet met a e x y
 by_or_fault code packet false met a e x y = elim y [
   | inl h ↦ not_both x.admitted.1 h
   | inr h ↦ legs_or_fault code (phases_of packet met.marked met.reported) (with_bits code packet met) a e x.legs h.1
 ]
 
-one_fault_by : (code : List ElfSegment) (packet : Packet) (waits : Bool) (met : Met) (d e : PathFault) → FaultIn code packet waits met d → FaultIn code packet waits met e → d ≡ e
+one_fault_by : (code : Code) (packet : Packet) (waits : Bool) (met : Met) (d e : PathFault) → FaultIn code packet waits met d → FaultIn code packet waits met e → d ≡ e
 one_fault_by code packet true met d e x y = one_waiting_fault code packet met d e x y
 one_fault_by code packet false met d e x y = elim x [
   | inl f ↦ elim y [ inl g ↦ same_err f g | inr g ↦ absurd (not_both g.0.1 f) ]
@@ -95,7 +95,7 @@ one_fault_by code packet false met d e x y = elim x [
   ]
 ]
 
-module _ (code : List ElfSegment) (origin : Origin) where
+module _ (code : Code) (origin : Origin) where
   one_leg : (packet : Packet) (earlier : List Packet) (legs : List (List StepRow)) (a b : List StepRow) → Leg code packet (record { origin = origin; packets = earlier; legs = legs }) a → Leg code packet (record { origin = origin; packets = earlier; legs = legs }) b → a ≡ b
   one_leg packet [] legs a b x y = one_first code packet a b x y
   one_leg packet (last ∷ earlier) legs a b x y = one_by code packet (waiting (last ∷ earlier)) (met_by code origin (last ∷ earlier) legs) a b x y
@@ -176,7 +176,7 @@ module _ (code : List ElfSegment) (origin : Origin) where
 pub one_window : (packets : List Packet) (from a b : ℕ) → Window packets from a → Window packets from b → a ≡ b
 one_window packets from a b x y = let p : a ≤ b = x.first b y.may in let q : b ≤ a = y.first a x.may in omega arith
 
-module _ (code : List ElfSegment) (packets : List Packet) (from pc : ℕ) where
+module _ (code : Code) (packets : List Packet) (from pc : ℕ) where
   abbrev run : Run
   run = record { code = code; packets = packets; from = from; pc = pc }
 

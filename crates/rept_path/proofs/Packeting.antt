@@ -7,7 +7,7 @@ use Rattle.rept_trace.specs.Stream.{Stream, Hold, Answers}
 use Rattle.rept_trace.proofs.Frames.{one_answer, one_packet}
 use Rattle.rept_trace.proofs.Going.{not_both}
 use Rattle.rept_path.proofs.Followed.{same_position}
-use Rattle.rept_elf.specs.Segments.{ElfSegment}
+use Rattle.rept_path.specs.Code.{Code}
 use Rattle.rept_path.specs.declared.fault.PathFault.{PathFault}
 use Rattle.rept_path.specs.declared.fault.PathFault.TheVariants.{OutOfMemory}
 use Rattle.rept_isa.specs.declared.row.StepRow.{StepRow}
@@ -21,7 +21,7 @@ use Rattle.rept_path.specs.State.{here, met, Followed, Stands, from_to}
 use Rattle.rept_path.specs.Trace.{StopsAt}
 
 -- a walk that stands at the address of a start packet
-pub begun : (code : List ElfSegment) (origin : Origin) (branch : Bool) (privilege a time context at : ℕ) (w : Walk) → position code a ≡ Ok at → w.at ≡ a → w.steps ≡ [] → w.bits.items ≡ bits_of code (Start branch privilege a time context) → length w.bits.items ≤ 1 → w.used ≡ 0 → w.reported ≡ a → w.inferred ≡ false → w.waiting ≡ false → w.room ≡ origin.room
+pub begun : (code : Code) (origin : Origin) (branch : Bool) (privilege a time context at : ℕ) (w : Walk) → position code a ≡ Ok at → w.at ≡ a → w.steps ≡ [] → w.bits.items ≡ bits_of code (Start branch privilege a time context) → length w.bits.items ≤ 1 → w.used ≡ 0 → w.reported ≡ a → w.inferred ≡ false → w.waiting ≡ false → w.room ≡ origin.room
     → Stands code (earlier_by origin (Start branch privilege a time context ∷ []) ([] ∷ [])) w
 unfolding bits reported marked waiting place
 begun code origin branch privilege a time context at w admitted stands none all size used report plain runs room =
@@ -39,15 +39,15 @@ begun code origin branch privilege a time context at w admitted stands none all 
     }
 
 -- a packet that is not the first has its leg
-pub leg_after : (code : List ElfSegment) (origin : Origin) (packet : Packet) (earlier : List Packet) (legs : List (List StepRow)) (leg : List StepRow) → 0 < length earlier → LegBy code packet (met_by code origin earlier legs) leg → Leg code packet (record { origin = origin; packets = earlier; legs = legs }) leg
+pub leg_after : (code : Code) (origin : Origin) (packet : Packet) (earlier : List Packet) (legs : List (List StepRow)) (leg : List StepRow) → 0 < length earlier → LegBy code packet (met_by code origin earlier legs) leg → Leg code packet (record { origin = origin; packets = earlier; legs = legs }) leg
 leg_after code origin packet [] legs leg some h = absurd (omega arith)
 leg_after code origin packet (last ∷ earlier) legs leg some h = h
 
-fault_after : (code : List ElfSegment) (origin : Origin) (packet : Packet) (earlier : List Packet) (legs : List (List StepRow)) (e : PathFault) → 0 < length earlier → FaultBy code packet (met_by code origin earlier legs) e → Fault code packet (record { origin = origin; packets = earlier; legs = legs }) e
+fault_after : (code : Code) (origin : Origin) (packet : Packet) (earlier : List Packet) (legs : List (List StepRow)) (e : PathFault) → 0 < length earlier → FaultBy code packet (met_by code origin earlier legs) e → Fault code packet (record { origin = origin; packets = earlier; legs = legs }) e
 fault_after code origin packet [] legs e some h = absurd (omega arith)
 fault_after code origin packet (last ∷ earlier) legs e some h = h
 
-module _ (code : List ElfSegment) (origin : Origin) (k : ℕ) (packet : Packet) (earlier : List Packet) (legs : List (List StepRow)) (old : Walk) (some : 0 < length earlier) (number : k ≡ origin.number + length earlier) (s : Stands code (earlier_by origin earlier legs) old) where
+module _ (code : Code) (origin : Origin) (k : ℕ) (packet : Packet) (earlier : List Packet) (legs : List (List StepRow)) (old : Walk) (some : 0 < length earlier) (number : k ≡ origin.number + length earlier) (s : Stands code (earlier_by origin earlier legs) old) where
   same_met : met k old ≡ met_by code origin earlier legs
   same_met = let a = s.seen in let b = s.bits in let c = s.reported in let d = s.marked in let w = s.waiting in let r = s.room in cc
 
@@ -74,7 +74,7 @@ module _ (code : List ElfSegment) (origin : Origin) (k : ℕ) (packet : Packet) 
   faults e f = fault_after code origin packet earlier legs e some (subst (λ (m : Met). FaultBy code packet m e) same_met f)
 
 -- A walk over the packets of a window: those that it went over, newest first, and those that the bytes still hold.
-pub record Going (code : List ElfSegment) (origin : Origin) (window : List Packet) (number : ℕ) (rest : Stream) (w : Walk) : Type 0 where
+pub record Going (code : Code) (origin : Origin) (window : List Packet) (number : ℕ) (rest : Stream) (w : Walk) : Type 0 where
   pub done : List Packet
   pub more : List Packet
   pub legs : List (List StepRow)
@@ -84,7 +84,7 @@ pub record Going (code : List ElfSegment) (origin : Origin) (window : List Packe
   pub numbered : number ≡ origin.number + length done
   pub some : 0 < length done
 
-pub goes_first : (code : List ElfSegment) (origin : Origin) (first : Packet) (later : List Packet) (rest : Stream) (w : Walk) (legs : List (List StepRow)) → Hold rest later → Stands code (earlier_by origin (first ∷ []) legs) w → Going code origin (first ∷ later) (origin.number + 1) rest w
+pub goes_first : (code : Code) (origin : Origin) (first : Packet) (later : List Packet) (rest : Stream) (w : Walk) (legs : List (List StepRow)) → Hold rest later → Stands code (earlier_by origin (first ∷ []) legs) w → Going code origin (first ∷ later) (origin.number + 1) rest w
 goes_first code origin first later rest w legs h s = record { done = first ∷ []; more = later; legs = legs; hold = h; whole = refl; stands = s; numbered = refl; some = omega arith }
 
 -- what is left begins with the packet that is read
@@ -109,7 +109,7 @@ pub none_of : (k n : ℕ) (rest after : Stream) (next : Option Packet) → Answe
 none_of k n rest after None a = a
 none_of k n rest after (Some packet) a = tt
 
-module _ (code : List ElfSegment) (origin : Origin) (window : List Packet) (number : ℕ) (rest : Stream) (w : Walk) (g : Going code origin window number rest w) where
+module _ (code : Code) (origin : Origin) (window : List Packet) (number : ℕ) (rest : Stream) (w : Walk) (g : Going code origin window number rest w) where
   pub goes_on : (k n : ℕ) (after : Stream) (packet : Packet) (new : Walk) → Answers k rest (Ok (Some packet)) n after → Followed code packet (from_to number w new) → Going code origin window (number + 1) after new
   goes_on k n after packet new a f =
       let t = taken k n rest after packet g.more g.hold a in
@@ -155,7 +155,7 @@ module _ (code : List ElfSegment) (origin : Origin) (window : List Packet) (numb
       (g.legs, subst (λ (xs : List Packet). Stands code (earlier_by origin xs g.legs) w) (sym e) g.stands)
 
 -- the first packet
-pub first_or : (code : List ElfSegment) (origin : Origin) (first : Packet) (later : List Packet) (e : PathFault) → (e ≡ OutOfMemory) ⊎ FirstFault code first e → (e ≡ OutOfMemory) ⊎ StopsAt code origin (first ∷ later) e
+pub first_or : (code : Code) (origin : Origin) (first : Packet) (later : List Packet) (e : PathFault) → (e ≡ OutOfMemory) ⊎ FirstFault code first e → (e ≡ OutOfMemory) ⊎ StopsAt code origin (first ∷ later) e
 first_or code origin first later e h = elim h [
   | inl m ↦ inl m
   | inr f ↦ inr (record { earlier = []; packet = first; later = later; cut = refl; legs = []; route = tt; fault = f })

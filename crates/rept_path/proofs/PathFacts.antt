@@ -3,14 +3,13 @@ use Rattle.std.proofs.Common.{◌≡◌, ℕ, ◌+◌, ◌<◌, ◌==◌, nat_le
 use Rattle.std.proofs.lemmas.Bool.{eqb-true}
 use Rattle.std.proofs.lemmas.List.{reverse-append, length-reverse}
 use Rattle.std.proofs.lemmas.List.Elements.{All-nil, All-cons, All-head, All-tail, All-append, All-push, All-same}
-use Rattle.rept_elf.specs.Segments.{ElfSegment}
+use Rattle.rept_path.specs.Code.{Code}
 use Rattle.rept_isa.specs.declared.row.StepRow.{StepRow}
 use Rattle.rept_isa.specs.declared.instr.Instr.{Instr}
 use Rattle.rept_isa.specs.declared.instr.Instr.TheVariants as instrs
-use Rattle.rept_isa.specs.Numbers.{following}
 use Rattle.rept_steps.specs.Linked.{AreLinked, EndBefore}
-use Rattle.rept_dump.specs.declared.dump.Dump.{Dump}
-use Rattle.rept_dump.specs.Dump.{exe_of}
+use Rattle.rept_path.specs.declared.program.Program.{Program}
+use Rattle.rept_path.specs.Program.{code_of}
 use Rattle.rept_trace.specs.declared.packet.Packet.{Packet}
 use Rattle.rept_trace.specs.declared.packet.Packet.TheVariants.{Start, Context, Support, Address, Map, MapAddress}
 use Rattle.rept_trace.specs.declared.packets.Packets.{Packets}
@@ -19,25 +18,25 @@ use Rattle.rept_path.specs.declared.flow.Flow.{Flow}
 use Rattle.rept_path.specs.declared.flow.Flow.TheVariants.{Plain, Branch, Jump, Fixed, Far, Call, Stop}
 use Rattle.rept_path.specs.declared.fault.PathFault.{PathFault}
 use Rattle.rept_path.specs.declared.fault.PathFault.TheVariants.{TooLong, Gap, End}
-use Rattle.rept_path.specs.Code.{look, flow_of, is_call}
-use Rattle.rept_path.specs.Gap.{row, Goal, Edge, by_successor, by_flow, crossing, gap}
+use Rattle.rept_path.specs.Code.{look, after_instruction, is_short, flow_of, is_call}
+use Rattle.rept_path.specs.Gap.{row, call_row, Goal, Edge, by_successor, by_flow, crossing, gap}
 use Rattle.rept_path.specs.Legs.{Passes, Reaches}
-use Rattle.rept_path.specs.Moves.{Lead, Place, Stand, along, successor, IsMove, ◌>>=◌, course_by, way_by}
+use Rattle.rept_path.specs.Moves.{Lead, Place, Stand, along, site, successor, IsMove, ◌>>=◌, course_by, way_by}
 use Rattle.rept_path.specs.Packets.{reported_after, begins, waiting}
 use Rattle.rept_path.specs.Route.{Phase, PhaseLegs, lead_of, further, with_bits, phases_of, Met, met_by, stand_of, FirstLeg, WaitingLeg, Leg, Origin, alone, Route, place, place_after, meets}
 use Rattle.rept_path.specs.Rows.{CarriesCode, CarryCode}
 use Rattle.rept_path.specs.Trace.{IsPath, stand_after}
-use Rattle.rept_path.specs.Traced.{pc_of, IsTraced, raw_of}
+use Rattle.rept_path.specs.Traced.{pc_of, IsTraced, raw_by}
 use Rattle.rept_path.proofs.MoveLemmas.{bind_ok}
 use Rattle.rept_path.proofs.Phases.{along-append}
 use Rattle.rept_path.proofs.Waiting.{LegIn}
 
 -- the rows after a leg
-pub rows_along : (code : List ElfSegment) (p : Place) (leg : List StepRow) → (along code p leg).rows ≡ leg ++ p.rows
+pub rows_along : (code : Code) (p : Place) (leg : List StepRow) → (along code p leg).rows ≡ leg ++ p.rows
 rows_along code p [] = refl
 rows_along code p (r ∷ leg) = ap (λ (rows : List StepRow). r ∷ rows) (rows_along code p leg)
 
-pub rows_after : (code : List ElfSegment) (packet : Packet) (waits : Bool) (p : Place) (leg : List StepRow) → (place_after code packet (meets waits p) leg).rows ≡ leg ++ p.rows
+pub rows_after : (code : Code) (packet : Packet) (waits : Bool) (p : Place) (leg : List StepRow) → (place_after code packet (meets waits p) leg).rows ≡ leg ++ p.rows
 rows_after code packet waits p leg = go (begins packet waits)
   where
     go : (b : Bool) → (cond b (record { at = reported_after packet 0; rows = leg ++ p.rows; branches = 0 }) (along code p leg)).rows ≡ leg ++ p.rows
@@ -83,7 +82,7 @@ linked_from (r ∷ rows) a x =
     let end : EndBefore (reverse rows ++ r ∷ []) a = rw (← x.0) (end_more (reverse rows) r) in
     rw (reverse-append (r ∷ []) rows) (linked_more (reverse rows) r before.0 before.1, end)
 
-module _ (code : List ElfSegment) where
+module _ (code : Code) where
   -- rows that a gap from an address to another may have
   record Crosses (p a : ℕ) (rows : List StepRow) : Type 0 where
     some : 0 < length rows
@@ -107,15 +106,23 @@ module _ (code : List ElfSegment) where
   one_or_two false true false p a r s e rows h at next more mid end is = absurd (cc)
   one_or_two false false d p a r s e rows h at next more mid end is = absurd (cc)
 
-  successor_rows : (e : Edge) (n : ℕ) (rows : List StepRow) → look code e.at ≡ Ok e.instr → by_successor code e n ≡ Ok rows → Crosses e.at e.to rows
-  successor_rows e n rows there is = one_or_two (n == e.to) (is_call (look code n)) (e.to == following n) e.at e.to (row e.at e.instr n false) (row n instrs.Ecall e.to true) e.otherwise rows there refl (eqb-true n e.to) (called (look code n)) refl refl is
+  -- what stands at the last position
+  record Standing (e : Edge) : Type 0 where
+    instr : look code e.at ≡ Ok e.instr
+    short : e.short ≡ is_short code e.at
 
-  next_rows : (e : Edge) (next : Result ℕ PathFault) (rows : List StepRow) → look code e.at ≡ Ok e.instr → (next >>= by_successor code e) ≡ Ok rows → Crosses e.at e.to rows
+  stands : (e : Edge) (n : ℕ) (call : Bool) → Standing e → CarriesCode code (row e n call)
+  stands e n call there = record { instr = there.instr; short = there.short }
+
+  successor_rows : (e : Edge) (n : ℕ) (rows : List StepRow) → Standing e → by_successor code e n ≡ Ok rows → Crosses e.at e.to rows
+  successor_rows e n rows there is = one_or_two (n == e.to) (is_call (look code n)) (e.to == after_instruction code n) e.at e.to (row e n false) (call_row code n e.to) e.otherwise rows (stands e n false there) refl (eqb-true n e.to) (λ call. record { instr = called (look code n) call; short = refl }) refl refl is
+
+  next_rows : (e : Edge) (next : Result ℕ PathFault) (rows : List StepRow) → Standing e → (next >>= by_successor code e) ≡ Ok rows → Crosses e.at e.to rows
   next_rows e next rows there is = let b = bind_ok next (by_successor code e) rows is in successor_rows e b.0 rows there b.2
 
-  flow_rows : (e : Edge) (next : Result ℕ PathFault) (flow : Flow) (rows : List StepRow) → look code e.at ≡ Ok e.instr → by_flow code e next flow ≡ Ok rows → Crosses e.at e.to rows
-  flow_rows e next Call rows there is = one_row _ e.at e.to (row e.at e.instr e.to true) e.otherwise rows there refl (λ _. refl) is
-  flow_rows e next Far rows there is = one_row _ e.at e.to (row e.at e.instr e.to false) e.otherwise rows there refl (λ _. refl) is
+  flow_rows : (e : Edge) (next : Result ℕ PathFault) (flow : Flow) (rows : List StepRow) → Standing e → by_flow code e next flow ≡ Ok rows → Crosses e.at e.to rows
+  flow_rows e next Call rows there is = one_row _ e.at e.to (row e e.to true) e.otherwise rows (stands e e.to true there) refl (λ _. refl) is
+  flow_rows e next Far rows there is = one_row _ e.at e.to (row e e.to false) e.otherwise rows (stands e e.to false there) refl (λ _. refl) is
   flow_rows e next Stop rows there is = absurd (cc)
   flow_rows e next Plain rows there is = next_rows e next rows there is
   flow_rows e next (Jump imm) rows there is = next_rows e next rows there is
@@ -136,12 +143,12 @@ module _ (code : List ElfSegment) where
         let g : Instr → Result (List StepRow) PathFault = λ i. cross i >>= f in
         let b = bind_ok (look code p.at) g rows is in
         let c = bind_ok (cross b.0) f rows b.2 in
-        let edge : Edge = record { at = p.at; instr = b.0; to = goal.address; otherwise = goal.otherwise } in
-        let rows_there = flow_rows edge (successor s.packet p.at (flow_of b.0) (way_by (slice_get s.bits p.branches) None)) (flow_of b.0) c.0 b.1 c.1 in
+        let edge : Edge = record { at = p.at; instr = b.0; short = is_short code p.at; to = goal.address; otherwise = goal.otherwise } in
+        let rows_there = flow_rows edge (successor s.packet (site code p.at) (flow_of b.0) (way_by (slice_get s.bits p.branches) None)) (flow_of b.0) c.0 (record { instr = b.1; short = refl }) c.1 in
         kept (nat_le (length p.rows + length c.0) s.room) s.packet p.at goal.address c.0 rows rows_there c.2
 
   moved : (lead : Lead) (p : Place) (r : StepRow) → IsMove code lead p r → CarriesCode code r
-  moved lead p r m = rw m.at m.instr
+  moved lead p r m = record { instr = rw m.at m.instr; short = m.short ∙ ap (is_short code) (sym m.at) }
 
   passed : (lead : Lead) (aim : Aim) (past : Place) (leg : List StepRow) → Passes code (course_by lead aim) past leg → CarryCode code leg
   passed lead aim past [] x = All-nil (CarriesCode code)
@@ -278,15 +285,15 @@ module _ (code : List ElfSegment) where
         rw is.order (linked_from (is.last ++ before.rows) pc (crossed.leads before.rows (route_on_chain (alone skipped) (reverse (drop skipped packets)) is.legs is.route)))
 
 -- The same of the path of a trace file over a dump.
-module _ (packets : Packets) (dump : Dump) (from skipped : ℕ) (path : List StepRow) (is : IsTraced (raw_of packets dump from) skipped path) where
+module _ (packets : Packets) (program : Program) (from skipped : ℕ) (path : List StepRow) (is : IsTraced (raw_by packets program from) skipped path) where
   pub some_steps : 0 < length path
-  some_steps = path_some (exe_of dump) is.0 from (pc_of dump) skipped path is.2
+  some_steps = path_some (code_of program) is.0 from (pc_of program.dump) skipped path is.2
 
-  pub carry_code : CarryCode (exe_of dump) path
-  carry_code = path_carries (exe_of dump) is.0 from (pc_of dump) skipped path is.2
+  pub carry_code : CarryCode (code_of program) path
+  carry_code = path_carries (code_of program) is.0 from (pc_of program.dump) skipped path is.2
 
   pub linked_steps : AreLinked path
-  linked_steps = let h = path_linked (exe_of dump) is.0 from (pc_of dump) skipped path is.2 in h.0
+  linked_steps = let h = path_linked (code_of program) is.0 from (pc_of program.dump) skipped path is.2 in h.0
 
-  pub steps_end : EndBefore path (pc_of dump)
-  steps_end = let h = path_linked (exe_of dump) is.0 from (pc_of dump) skipped path is.2 in h.1
+  pub steps_end : EndBefore path (pc_of program.dump)
+  steps_end = let h = path_linked (code_of program) is.0 from (pc_of program.dump) skipped path is.2 in h.1

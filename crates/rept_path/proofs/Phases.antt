@@ -1,6 +1,6 @@
 -- From legs of phases to legs of packets.
 use Rattle.std.proofs.Common.{◌≡◌, ℕ, arith, List, [], ◌∷◌, ◌++◌, Bool, true, false, Option, Some, refl, sym, ◌∙◌, ap, subst}
-use Rattle.rept_elf.specs.Segments.{ElfSegment}
+use Rattle.rept_path.specs.Code.{Code}
 use Rattle.rept_path.specs.declared.aim.Aim.{Aim}
 use Rattle.rept_path.specs.declared.aim.Aim.TheVariants as aims
 use Rattle.rept_isa.specs.declared.row.StepRow.{StepRow}
@@ -11,18 +11,18 @@ use Rattle.rept_path.specs.Route.{first_phase}
 use Rattle.rept_path.specs.State.{here, lead, Walked, WalkedAll, from_to}
 use Rattle.rept_path.proofs.Loop.{Keeps-twice}
 
-pub along-append : (code : List ElfSegment) (p : Place) (rest first : List StepRow) → along code p (rest ++ first) ≡ along code (along code p first) rest
+pub along-append : (code : Code) (p : Place) (rest first : List StepRow) → along code p (rest ++ first) ≡ along code (along code p first) rest
 along-append code p [] first = refl
 along-append code p (row ∷ rest) first = ap (λ (q : Place). after code q row) (along-append code p rest first)
 
 -- one phase
-pub one_phase : (code : List ElfSegment) (k before : ℕ) (target : Option ℕ) (aim : Aim) (old new : Walk) → old.inferred ≡ false → Walked code (course_by (lead old k target) aim) old new
+pub one_phase : (code : Code) (k before : ℕ) (target : Option ℕ) (aim : Aim) (old new : Walk) → old.inferred ≡ false → Walked code (course_by (lead old k target) aim) old new
     → WalkedAll code (first_phase old.inferred before ++ record { target = target; aim = aim } ∷ []) (from_to k old new)
 one_phase code k before target aim old new unmarked w =
     subst (λ (b : Bool). WalkedAll code (first_phase b before ++ record { target = target; aim = aim } ∷ []) (from_to k old new)) (sym unmarked) (record { leg = w.leg; goes = (w.leg, [], refl, w.goes, refl); seen = w.seen; counts = w.counts; kept = w.kept; grows = w.grows })
 
 -- the first phase, and another
-pub two_phases : (code : List ElfSegment) (k before : ℕ) (target : Option ℕ) (aim : Aim) (old mid new : Walk) → old.inferred ≡ true → Walked code (course_by (lead old k (Some before)) aims.Jumped) old mid → Walked code (course_by (lead mid k target) aim) mid new
+pub two_phases : (code : Code) (k before : ℕ) (target : Option ℕ) (aim : Aim) (old mid new : Walk) → old.inferred ≡ true → Walked code (course_by (lead old k (Some before)) aims.Jumped) old mid → Walked code (course_by (lead mid k target) aim) mid new
     → WalkedAll code (first_phase old.inferred before ++ record { target = target; aim = aim } ∷ []) (from_to k old new)
 two_phases code k before target aim old mid new is_marked w v =
     let second : PhaseLeg code (course_by (lead old k target) aim) (along code (here old) w.leg) v.leg = rw (← w.kept.bits, ← w.kept.room, ← w.seen) v.goes in

@@ -5,7 +5,7 @@ use Rattle.std.proofs.lemmas.List.{reverse-append, reverse-reverse, length-rever
 use Rattle.std.proofs.lemmas.List.Edits.{between_none}
 use Rattle.std.proofs.lemmas.Slice.{between_from_start}
 use Rattle.std.proofs.Math.Seq.{take-add}
-use Rattle.rept_elf.specs.Segments.{ElfSegment}
+use Rattle.rept_path.specs.Code.{Code}
 use Rattle.rept_isa.specs.declared.row.StepRow.{StepRow}
 use Rattle.rept_trace.specs.declared.packet.Packet.{Packet}
 use Rattle.rept_trace.specs.declared.packet.Packet.TheVariants.{Start, Context, Support, Address, Map, MapAddress}
@@ -42,7 +42,7 @@ turned_parts path i m j low high = ap reverse (joined path i m j low high) ∙ r
 front_more : (path : List StepRow) (i j : ℕ) → i ≤ j → take j path ≡ take i path ++ between i j path
 front_more path i j le = sym (between_from_start path j) ∙ joined path 0 i j (omega arith) le ∙ ap (λ (xs : List StepRow). xs ++ between i j path) (between_from_start path i)
 
-module _ (code : List ElfSegment) where
+module _ (code : Code) where
   module _ (path : List StepRow) where
     phase_stops : (s : Stand) (phases : List Phase) (leg before more : List StepRow) (i j : ℕ) → path ≡ before ++ (reverse leg ++ more) → i ≡ length before → j ≡ i + length leg → PhaseLegs code s phases leg → PhaseStops code s phases (record { path = path; from = i; to = j })
     phase_stops s [] leg before more i j is start end x = let n = ap (length {A = StepRow}) x in omega (arith, n)
@@ -218,7 +218,7 @@ begins : (xs : List Packet) → starts (slice_get xs 0) ≡ true → Begins xs
 begins [] h = absurd (cc)
 begins (x ∷ xs) h = (x, xs, refl)
 
-module _ (code : List ElfSegment) (packets : List Packet) (from pc skipped : ℕ) (path : List StepRow) where
+module _ (code : Code) (packets : List Packet) (from pc skipped : ℕ) (path : List StepRow) where
   abbrev run : Run
   run = record { code = code; packets = packets; from = from; pc = pc }
 

@@ -1,7 +1,7 @@
 -- There is one leg at most, or one fault.
 use Rattle.std.proofs.Common.{◌≡◌, ℕ, ◌<◌, List, [], ◌∷◌, length, Bool, true, false, Ok, Err, refl, sym, ◌∙◌, ap, arith, inl, inr}
 use Rattle.std.proofs.lemmas.Bool.{cases_order}
-use Rattle.rept_elf.specs.Segments.{ElfSegment}
+use Rattle.rept_path.specs.Code.{Code}
 use Rattle.rept_path.specs.declared.aim.Aim.{Aim}
 use Rattle.rept_isa.specs.declared.row.StepRow.{StepRow}
 use Rattle.rept_path.specs.declared.fault.PathFault.{PathFault}
@@ -12,14 +12,14 @@ use Rattle.rept_path.specs.Moves.{Lead, Place, Stand, along, next_of, IsMove, st
 use Rattle.rept_path.specs.Legs.{Passes, Reaches, PhaseLeg, PhaseFault}
 use Rattle.rept_path.specs.Route.{Phase, PhaseLegs, PhasesFault, lead_of, further}
 
-one_move : (code : List ElfSegment) (lead : Lead) (p : Place) (r s : StepRow) → IsMove code lead p r → IsMove code lead p s → r ≡ s
+one_move : (code : Code) (lead : Lead) (p : Place) (r s : StepRow) → IsMove code lead p r → IsMove code lead p s → r ≡ s
 one_move code lead p r s x y =
     let a : next_of code lead p ≡ Ok r.next = x.next in
     let b : next_of code lead p ≡ Ok s.next = y.next in
     let n : r.next ≡ s.next = cc in
     let at : r.at ≡ s.at = x.at ∙ sym y.at in
     let c : r.call ≡ s.call = x.call ∙ sym y.call in
-    let d : r.short ≡ s.short = x.long ∙ sym y.long in
+    let d : r.short ≡ s.short = x.short ∙ sym y.short in
     let u : look code p.at ≡ Ok r.instr = x.instr in
     let v : look code p.at ≡ Ok s.instr = y.instr in
     let i : r.instr ≡ s.instr = cc in
@@ -27,7 +27,7 @@ one_move code lead p r s x y =
     let one : f r.at r.instr r.next r.call r.short ≡ f s.at s.instr s.next s.call s.short = cc in
     one
 
-module _ (code : List ElfSegment) (lead : Lead) (aim : Aim) (past : Place) where
+module _ (code : Code) (lead : Lead) (aim : Aim) (past : Place) where
   -- no move follows the leg, which has no stop
   abbrev Blocked : List StepRow → PathFault → Type 0
   Blocked leg e = Passes code (course_by lead aim) past leg × (next_of code lead (along code past leg) ≡ Err e)
@@ -130,7 +130,7 @@ module _ (code : List ElfSegment) (lead : Lead) (aim : Aim) (past : Place) where
     ]
   ]
 
-module _ (code : List ElfSegment) where
+module _ (code : Code) where
   pub one_legs : (phases : List Phase) (s : Stand) (a b : List StepRow) → PhaseLegs code s phases a → PhaseLegs code s phases b → a ≡ b
   one_legs [] s a b x y = x ∙ sym y
   one_legs (phase ∷ phases) s a b (f, r, x, p, xs) (g, u, y, q, ys) =

@@ -2,11 +2,11 @@
 use Rattle.std.proofs.Common.{◌≡◌, ◌⊎◌, inl, inr, ℕ, zero, suc, ◌+◌, ◌<◌, ◌^◌, List, [], ◌∷◌, ◌++◌, length, reverse, drop, slice_get, Option, Some, Err, true, refl, sym, ◌∙◌, ap, subst, arith}
 use Rattle.std.proofs.lemmas.List.{reverse-reverse}
 use Rattle.rept_isa.specs.declared.row.StepRow.{StepRow}
-use Rattle.rept_dump.specs.declared.dump.Dump.{Dump}
-use Rattle.rept_dump.specs.Dump.{exe_of}
+use Rattle.rept_path.specs.declared.program.Program.{Program}
+use Rattle.rept_path.specs.Program.{code_of}
 use Rattle.rept_trace.specs.declared.packet.Packet.{Packet}
 use Rattle.rept_trace.specs.declared.packets.Packets.{Packets}
-use Rattle.rept_trace.specs.Packets.{rest_of}
+use Rattle.rept_trace.specs.Packets.{rest_of, number_of}
 use Rattle.rept_trace.specs.Stream.{Hold}
 use Rattle.rept_path.specs.declared.fault.PathFault.{PathFault}
 use Rattle.rept_path.specs.declared.fault.PathFault.TheVariants.{OutOfMemory, End}
@@ -18,7 +18,7 @@ use Rattle.rept_path.specs.Route.{place, alone, earlier_by}
 use Rattle.rept_path.specs.State.{here, standing, Stands, Crossed, from_to}
 use Rattle.rept_path.specs.Trace.{starts, Window, IsWindow, StopsAt}
 use Rattle.rept_path.specs.Survey.{number_in, IsThere, Surveys}
-use Rattle.rept_path.specs.Traced.{pc_of, IsTraced, IsRefusedBy, raw_of}
+use Rattle.rept_path.specs.Traced.{IsUntraced, pc_of, IsTraced, IsRefusedBy, raw_by}
 
 pub get_drop : (xs : List Packet) (n : ℕ) → slice_get (drop n xs) 0 ≡ slice_get xs n
 get_drop [] zero = refl
@@ -47,18 +47,18 @@ module _ (packets : Packets) (from : ℕ) (list : List Packet) (s : Survey) (b :
   pub room : (later : List Packet) × Hold (rest_of b.later) later × (b.number + 1 + length later < 2 ^ 32)
   room = let n = size list b.number b.first there.0 there.2 in let few = found.few in (there.0, there.1, omega (arith, n, few))
 
-  module _ (dump : Dump) where
-    pub walk_refusal : (e : PathFault) → ((later : List Packet) → Hold (rest_of b.later) later → (e ≡ OutOfMemory) ⊎ StopsAt (exe_of dump) (alone b.number) (b.first ∷ later) e) → (e ≡ OutOfMemory) ⊎ IsRefusedBy packets dump from e
+  module _ (program : Program) where
+    pub walk_refusal : (e : PathFault) → ((later : List Packet) → Hold (rest_of b.later) later → (e ≡ OutOfMemory) ⊎ StopsAt (code_of program) (alone b.number) (b.first ∷ later) e) → (e ≡ OutOfMemory) ⊎ IsUntraced (raw_by packets program from) (number_of packets) e
     walk_refusal e h = elim (h there.0 there.1) [
       | inl m ↦ inl m
-      | inr f ↦ inr (inr (list, found.hold, inr (b.number, window, inl (subst (λ (xs : List Packet). StopsAt (exe_of dump) (alone b.number) xs e) (sym there.2) f))))
+      | inr f ↦ inr (inr (list, found.hold, inr (b.number, window, inl (subst (λ (xs : List Packet). StopsAt (code_of program) (alone b.number) xs e) (sym there.2) f))))
     ]
 
-    module _ (w : Walk) (stood : (later : List Packet) → Hold (rest_of b.later) later → (legs : List (List StepRow)) × Stands (exe_of dump) (earlier_by (alone b.number) (reverse (b.first ∷ later)) legs) w) where
-      stands : (legs : List (List StepRow)) × Stands (exe_of dump) (earlier_by (alone b.number) (reverse (drop b.number list)) legs) w
-      stands = subst (λ (xs : List Packet). (legs : List (List StepRow)) × Stands (exe_of dump) (earlier_by (alone b.number) (reverse xs) legs) w) (sym there.2) (stood there.0 there.1)
+    module _ (w : Walk) (stood : (later : List Packet) → Hold (rest_of b.later) later → (legs : List (List StepRow)) × Stands (code_of program) (earlier_by (alone b.number) (reverse (b.first ∷ later)) legs) w) where
+      stands : (legs : List (List StepRow)) × Stands (code_of program) (earlier_by (alone b.number) (reverse (drop b.number list)) legs) w
+      stands = subst (λ (xs : List Packet). (legs : List (List StepRow)) × Stands (code_of program) (earlier_by (alone b.number) (reverse xs) legs) w) (sym there.2) (stood there.0 there.1)
 
-      pub join_refusal : (e : PathFault) → (e ≡ OutOfMemory) ⊎ (gap_to_end (exe_of dump) (standing s.count w) (pc_of dump) ≡ Err e) → (e ≡ OutOfMemory) ⊎ IsRefusedBy packets dump from e
+      pub join_refusal : (e : PathFault) → (e ≡ OutOfMemory) ⊎ (gap_to_end (code_of program) (standing s.count w) (pc_of program.dump) ≡ Err e) → (e ≡ OutOfMemory) ⊎ IsUntraced (raw_by packets program from) (number_of packets) e
       join_refusal e h = elim h [
         | inl m ↦ inl m
         | inr f ↦
@@ -66,10 +66,10 @@ module _ (packets : Packets) (from : ℕ) (list : List Packet) (s : Survey) (b :
             inr (inr (list, found.hold, inr (b.number, window, inr (record { legs = st.0; route = st.1.route; end = (let g = rw st.1.room at f in rw (← st.1.seen, ← st.1.bits, ← found.count) g) }))))
       ]
 
-      pub joined : (new : Walk) → Crossed (exe_of dump) (record { address = pc_of dump; otherwise = End w.at (pc_of dump) }) (from_to s.count w new) → IsTraced (raw_of packets dump from) b.number new.steps
+      pub joined : (new : Walk) → Crossed (code_of program) (record { address = pc_of program.dump; otherwise = End w.at (pc_of program.dump) }) (from_to s.count w new) → IsTraced (raw_by packets program from) b.number new.steps
       joined new x =
           let st = stands in
-          let rows : (here w).rows ≡ (place (exe_of dump) (reverse (drop b.number list)) st.0).rows = ap (λ p. p.rows) st.1.seen in (
+          let rows : (here w).rows ≡ (place (code_of program) (reverse (drop b.number list)) st.0).rows = ap (λ p. p.rows) st.1.seen in (
             list,
             found.hold,
             record {

@@ -1,18 +1,30 @@
--- What stands at an address of a program, and where a hart goes from there (RISC-V unprivileged manual 20191213, chapters 2.2,
--- 2.5 and 2.8). An instruction whose next address its word alone doesn't tell is an uninferable jump in the terms of Efficient
+-- What stands at an address of a program, and where a hart goes from there (RISC-V unprivileged manual 20191213, chapters 1.5, 2.2,
+-- 2.5, 2.8 and 16). An instruction whose next address its word alone doesn't tell is an uninferable jump in the terms of Efficient
 -- Trace for RISC-V 2.0: JALR from any register but x0.
-use Rattle.std.specs.Prelude.{ℕ, ◌+◌, ◌-◌, ◌%◌, ◌^◌, ◌==◌, List, Option, Some, None, Result, Ok, Err, Bool, true, false, if◌then◌else◌}
+use Rattle.std.specs.Prelude.{ℕ, ◌+◌, ◌-◌, ◌%◌, ◌^◌, ◌==◌, List, Option, Some, None, is_some, Result, Ok, Err, Bool, true, false, if◌then◌else◌}
 use Rattle.rept_elf.specs.Segments.{ElfSegment}
-use Rattle.rept_dump.specs.Memory.{code_at}
+use Rattle.rept_dump.specs.Memory.{code_at, half_code_at}
 use Rattle.rept_isa.specs.declared.instr.Instr.{Instr}
 use Rattle.rept_isa.specs.declared.instr.Instr.TheVariants as instrs
-use Rattle.rept_isa.specs.Numbers.{word}
+use Rattle.rept_isa.specs.Numbers.{word, following}
+use Rattle.rept_isa.specs.Rows.{from_at}
 use Rattle.rept_isa.specs.Words.{opcode}
 use Rattle.rept_isa.specs.Reading.{read_by}
+use Rattle.rept_rvc.specs.Halves.{quadrant, function}
+use Rattle.rept_rvc.specs.Reading as halves
 use Rattle.rept_path.specs.declared.flow.Flow.{Flow}
 use Rattle.rept_path.specs.declared.flow.Flow.TheVariants.{Plain, Branch, Jump, Fixed, Far, Call, Stop}
 use Rattle.rept_path.specs.declared.fault.PathFault.{PathFault}
 use Rattle.rept_path.specs.declared.fault.PathFault.TheVariants.{NotCode, NotRv32im, Unaligned}
+
+-- the code of a program: the segments of its executable, and whether it may be compressed
+pub record Code : Type 0 where
+  pub segments : List ElfSegment
+  pub halves : Bool
+
+-- code of words alone
+abbrev pub words : List ElfSegment → Code
+words segments = record { segments = segments; halves = false }
 
 -- a sum of addresses
 abbrev pub sum : ℕ → ℕ → ℕ
@@ -30,10 +42,43 @@ abbrev pub by_word : ℕ → Option ℕ → Result Instr PathFault
 by_word a None = Err (NotCode a)
 by_word a (Some spelled) = by_instruction a spelled (instruction spelled)
 
--- the instruction at an address, or why the path can't come there: it is no multiple of 4, holds no code, or the word spells
--- no instruction
-unfoldable pub look : List ElfSegment → ℕ → Result Instr PathFault
-look code a = if a % 4 == 0 then by_word a (code_at code a) else Err (Unaligned a)
+-- the instruction that a half stands for, if it stands for one
+abbrev pub expansion : ℕ → Option Instr
+expansion half = halves.read_by (quadrant half) (function half) half
+
+-- an instruction of four bytes has 3 in the lowest two bits of its first half, and a compressed one hasn't (chapter 1.5)
+abbrev pub if_short : ℕ → Option ℕ
+if_short half = if half % 4 == 3 then None else Some half
+
+abbrev pub short_by : Option ℕ → Option ℕ
+short_by None = None
+short_by (Some half) = if_short half
+
+-- the half at an address, where it is one of a compressed instruction
+abbrev pub short_half : Code → ℕ → Option ℕ
+short_half code a = if code.halves then short_by (half_code_at code.segments a) else None
+
+-- whether the instruction at an address takes two bytes
+unfoldable pub is_short : Code → ℕ → Bool
+is_short code a = is_some (short_half code a)
+
+abbrev pub by_code : ℕ → Option ℕ → Option ℕ → Result Instr PathFault
+by_code a (Some half) spelled = by_instruction a half (expansion half)
+by_code a None spelled = by_word a spelled
+
+-- positions are multiples of this
+abbrev pub alignment : Code → ℕ
+alignment code = if code.halves then 2 else 4
+
+-- the instruction at an address, or why the path can't come there: it is no multiple of 4, or of 2 where code may be compressed; it holds
+-- no code; or the half of a compressed instruction, or else the word, stands for no instruction. The half may be of another segment than
+-- the word.
+unfoldable pub look : Code → ℕ → Result Instr PathFault
+look code a = if a % alignment code == 0 then by_code a (short_half code a) (code_at code.segments a) else Err (Unaligned a)
+
+-- the address of the instruction that follows the one at an address
+unfoldable pub after_instruction : Code → ℕ → ℕ
+after_instruction code a = following (from_at a (is_short code a))
 
 -- the even address at or below an address
 abbrev pub even : ℕ → ℕ
@@ -72,9 +117,9 @@ is_call (Ok instrs.Ecall) = true
 is_call _ = false
 
 -- whether a branch stands there
-unfoldable pub is_branch : List ElfSegment → ℕ → Bool
+unfoldable pub is_branch : Code → ℕ → Bool
 is_branch code a = branches_there (look code a)
 
 -- 1 for a branch
-abbrev pub branches_at : List ElfSegment → ℕ → ℕ
+abbrev pub branches_at : Code → ℕ → ℕ
 branches_at code a = if is_branch code a then 1 else 0

@@ -1,39 +1,39 @@
 -- The rows that the moves of a packet add: what `follow_execution_path` reports in the reference decoder of Efficient Trace for
 -- RISC-V 2.0. Lists of rows are newest first.
 use Rattle.std.specs.Prelude.{◌≡◌, List, [], ◌∷◌, Err, true, false, ◌⊎◌}
-use Rattle.rept_elf.specs.Segments.{ElfSegment}
+use Rattle.rept_path.specs.Code.{Code}
 use Rattle.rept_path.specs.declared.fault.PathFault.{PathFault}
 use Rattle.rept_path.specs.declared.fault.PathFault.TheVariants.{BranchesLeft}
 use Rattle.rept_isa.specs.declared.row.StepRow.{StepRow}
 use Rattle.rept_path.specs.Moves.{Course, Place, along, next_of, IsMove, stops, misfits, unused}
 
 -- Each row of the leg is that of a move, and none leads to a stop.
-abbrev pub Passes : List ElfSegment → Course → Place → List StepRow → Type 0
+abbrev pub Passes : Code → Course → Place → List StepRow → Type 0
 Passes code course past [] = Unit {0}
 Passes code course past (row ∷ leg) = Passes code course past leg × IsMove code course.lead (along code past leg) row × (stops code course.lead.bits course.aim (along code past (row ∷ leg)) ≡ false)
 
 -- The leg ends at its first stop.
-abbrev pub Reaches : List ElfSegment → Course → Place → List StepRow → Type 0
+abbrev pub Reaches : Code → Course → Place → List StepRow → Type 0
 Reaches code course past [] = ⊥
 Reaches code course past (row ∷ leg) = Passes code course past leg × IsMove code course.lead (along code past leg) row × (stops code course.lead.bits course.aim (along code past (row ∷ leg)) ≡ true)
 
 -- The leg is that of one phase of a packet.
-pub record PhaseLeg (code : List ElfSegment) (course : Course) (past : Place) (leg : List StepRow) : Type 0 where
+pub record PhaseLeg (code : Code) (course : Course) (past : Place) (leg : List StepRow) : Type 0 where
   pub reaches : Reaches code course past leg
   pub fits : misfits code course.lead.bits course.aim (along code past leg) ≡ false
 
 -- The phase has no leg, since no move follows one that has no stop. This is why.
-pub record BlockedPhase (code : List ElfSegment) (course : Course) (past : Place) (e : PathFault) : Type 0 where
+pub record BlockedPhase (code : Code) (course : Course) (past : Place) (e : PathFault) : Type 0 where
   pub leg : List StepRow
   pub passes : Passes code course past leg
   pub blocked : next_of code course.lead (along code past leg) ≡ Err e
 
 -- It has none, since bits are left at its stop.
-pub record MisfitPhase (code : List ElfSegment) (course : Course) (past : Place) (e : PathFault) : Type 0 where
+pub record MisfitPhase (code : Code) (course : Course) (past : Place) (e : PathFault) : Type 0 where
   pub leg : List StepRow
   pub reaches : Reaches code course past leg
   pub left : misfits code course.lead.bits course.aim (along code past leg) ≡ true
   pub fault : e ≡ BranchesLeft course.lead.packet (unused course.lead.bits (along code past leg))
 
-abbrev pub PhaseFault : List ElfSegment → Course → Place → PathFault → Type 0
+abbrev pub PhaseFault : Code → Course → Place → PathFault → Type 0
 PhaseFault code course past e = BlockedPhase code course past e ⊎ MisfitPhase code course past e

@@ -1,4 +1,5 @@
 pub mod Code
+pub mod Program
 pub mod Crossed
 pub mod Gap
 pub mod Index

@@ -1,7 +1,7 @@
 -- What the packets say, taken together (Efficient Trace for RISC-V 2.0: the fields branch, branch_map, address and qual_status).
 -- Lists of packets are newest first.
 use Rattle.std.specs.Prelude.{ℕ, zero, suc, ◌%◌, ◌/◌, ◌==◌, List, [], ◌∷◌, ◌++◌, Bool, true, false, if◌then◌else◌}
-use Rattle.rept_elf.specs.Segments.{ElfSegment}
+use Rattle.rept_path.specs.Code.{Code}
 use Rattle.rept_trace.specs.declared.packet.Qual.TheVariants.{NoChange, EndedRep, TraceLost, EndedNtr}
 use Rattle.rept_trace.specs.declared.packet.Packet.{Packet}
 use Rattle.rept_trace.specs.declared.packet.Packet.TheVariants.{Start, Context, Support, Address, Map, MapAddress}
@@ -13,7 +13,7 @@ low_bits zero map = []
 low_bits (suc count) map = (map % 2 == 1) ∷ low_bits count (map / 2)
 
 -- the branch bits of a packet, oldest first
-abbrev pub bits_of : List ElfSegment → Packet → List Bool
+abbrev pub bits_of : Code → Packet → List Bool
 bits_of code (Start branch privilege a time context) = if is_branch code a then branch ∷ [] else []
 bits_of code (Address report) = []
 bits_of code (MapAddress count map report) = low_bits count map
@@ -50,7 +50,7 @@ begins (Support enabled status) before = false
 abbrev pub bits_before : Packet → Bool → List Bool → List Bool
 bits_before packet waits all = if begins packet waits then [] else all
 
-unfoldable pub bits : List ElfSegment → List Packet → List Bool
+unfoldable pub bits : Code → List Packet → List Bool
 bits code [] = []
 bits code (packet ∷ earlier) = bits_before packet (waiting earlier) (bits code earlier) ++ bits_of code packet
 

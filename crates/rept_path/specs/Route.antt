@@ -1,7 +1,7 @@
 -- The legs of all packets: what `process_te_inst` and `process_support` make of them in the reference decoder of Efficient Trace for
 -- RISC-V 2.0. Lists of packets, legs and rows are newest first.
 use Rattle.std.specs.Prelude.{◌≡◌, ℕ, ◌+◌, List, [], ◌∷◌, ◌++◌, length, Option, Some, None, Result, Ok, Err, Bool, true, false, ◌⊎◌, if◌then◌else◌}
-use Rattle.rept_elf.specs.Segments.{ElfSegment}
+use Rattle.rept_path.specs.Code.{Code}
 use Rattle.rept_path.specs.declared.fault.PathFault.{PathFault}
 use Rattle.rept_path.specs.declared.fault.PathFault.TheVariants.{NoStart}
 use Rattle.rept_path.specs.declared.aim.Aim.{Aim}
@@ -30,16 +30,16 @@ abbrev pub course_of : Stand → Phase → Course
 course_of s phase = course_by (lead_of s phase) phase.aim
 
 -- the same packet and bits, after a leg
-abbrev pub further : List ElfSegment → Stand → List StepRow → Stand
+abbrev pub further : Code → Stand → List StepRow → Stand
 further code s leg = record { packet = s.packet; bits = s.bits; place = along code s.place leg; room = s.room }
 
 -- The leg is made of those of the phases, each from where the one before it stopped.
-abbrev pub PhaseLegs : List ElfSegment → Stand → List Phase → List StepRow → Type 0
+abbrev pub PhaseLegs : Code → Stand → List Phase → List StepRow → Type 0
 PhaseLegs code s [] leg = leg ≡ []
 PhaseLegs code s (phase ∷ phases) leg = (first : List StepRow) × (rest : List StepRow) × (leg ≡ rest ++ first) × PhaseLeg code (course_of s phase) s.place first × PhaseLegs code (further code s first) phases rest
 
 -- One of the phases has no leg, and this is why.
-abbrev pub PhasesFault : List ElfSegment → Stand → List Phase → PathFault → Type 0
+abbrev pub PhasesFault : Code → Stand → List Phase → PathFault → Type 0
 PhasesFault code s [] e = ⊥
 PhasesFault code s (phase ∷ phases) e = PhaseFault code (course_of s phase) s.place e ⊎ ((first : List StepRow) × PhaseLeg code (course_of s phase) s.place first × PhasesFault code (further code s first) phases e)
 
@@ -67,7 +67,7 @@ pub record Arrival : Type 0 where
   pub place : Place
 
 -- the mark after a packet, from the one before it
-abbrev pub mark_after : List ElfSegment → Packet → Bool → Arrival → Bool
+abbrev pub mark_after : Code → Packet → Bool → Arrival → Bool
 mark_after code (Start branch privilege a time context) marked x = false
 mark_after code (Address report) marked x = is_inferred code x.bits (aims.Report x.reported report.notify report.updiscon) x.place
 mark_after code (MapAddress count map report) marked x = is_inferred code x.bits (aims.Report x.reported report.notify report.updiscon) x.place
@@ -84,16 +84,16 @@ abbrev pub meets : Bool → Place → Meeting
 meets waits place = record { waits = waits; place = place }
 
 -- the place after a packet and its leg
-abbrev pub place_after : List ElfSegment → Packet → Meeting → List StepRow → Place
+abbrev pub place_after : Code → Packet → Meeting → List StepRow → Place
 place_after code packet meeting leg = if begins packet meeting.waits then record { at = reported_after packet 0; rows = leg ++ meeting.place.rows; branches = 0 } else along code meeting.place leg
 
-unfoldable pub place : List ElfSegment → List Packet → List (List StepRow) → Place
+unfoldable pub place : Code → List Packet → List (List StepRow) → Place
 place code [] legs = record { at = 0; rows = []; branches = 0 }
 place code (packet ∷ earlier) [] = record { at = 0; rows = []; branches = 0 }
 place code (packet ∷ earlier) (leg ∷ legs) = place_after code packet (meets (waiting earlier) (place code earlier legs)) leg
 
 -- whether the walk stands at an inferred stop
-unfoldable pub marked : List ElfSegment → List Packet → List (List StepRow) → Bool
+unfoldable pub marked : Code → List Packet → List (List StepRow) → Bool
 marked code [] legs = false
 marked code (packet ∷ earlier) [] = false
 marked code (packet ∷ earlier) (leg ∷ legs) = mark_after code packet (marked code earlier legs) (record { bits = bits code (packet ∷ earlier); reported = reported (packet ∷ earlier); place = place code (packet ∷ earlier) (leg ∷ legs) })
@@ -113,11 +113,11 @@ pub record Met : Type 0 where
 abbrev pub stand_of : Met → Stand
 stand_of met = record { packet = met.number; bits = met.bits; place = met.place; room = met.room }
 
-abbrev pub with_bits : List ElfSegment → Packet → Met → Stand
+abbrev pub with_bits : Code → Packet → Met → Stand
 with_bits code packet met = record { packet = met.number; bits = met.bits ++ bits_of code packet; place = met.place; room = met.room }
 
 -- the address of a start packet must be a position
-abbrev pub admits : List ElfSegment → Packet → Result ℕ PathFault
+abbrev pub admits : Code → Packet → Result ℕ PathFault
 admits code (Start branch privilege a time context) = position code a
 admits code (Address report) = Ok 0
 admits code (MapAddress count map report) = Ok 0
@@ -126,15 +126,15 @@ admits code (Context privilege time context) = Ok 0
 admits code (Support enabled status) = Ok 0
 
 -- A packet while the trace runs has this leg.
-pub record RunningLeg (code : List ElfSegment) (packet : Packet) (met : Met) (leg : List StepRow) : Type 0 where
+pub record RunningLeg (code : Code) (packet : Packet) (met : Met) (leg : List StepRow) : Type 0 where
   pub admitted : (a : ℕ) × (admits code packet ≡ Ok a)
   pub legs : PhaseLegs code (with_bits code packet met) (phases_of packet met.marked met.reported) leg
 
-abbrev pub RunningFault : List ElfSegment → Packet → Met → PathFault → Type 0
+abbrev pub RunningFault : Code → Packet → Met → PathFault → Type 0
 RunningFault code packet met e = (admits code packet ≡ Err e) ⊎ (((a : ℕ) × (admits code packet ≡ Ok a)) × PhasesFault code (with_bits code packet met) (phases_of packet met.marked met.reported) e)
 
 -- A packet while the trace waits has this leg: a start packet that of the gap, the others none.
-abbrev pub WaitingLeg : List ElfSegment → Packet → Met → List StepRow → Type 0
+abbrev pub WaitingLeg : Code → Packet → Met → List StepRow → Type 0
 WaitingLeg code (Start branch privilege a time context) met leg = (gap_to_start code (stand_of met) a ≡ Ok leg) × (position code a ≡ Ok a)
 WaitingLeg code (Address report) met leg = ⊥
 WaitingLeg code (MapAddress count map report) met leg = ⊥
@@ -142,7 +142,7 @@ WaitingLeg code (Map map) met leg = ⊥
 WaitingLeg code (Context privilege time context) met leg = leg ≡ []
 WaitingLeg code (Support enabled status) met leg = leg ≡ []
 
-abbrev pub WaitingFault : List ElfSegment → Packet → Met → PathFault → Type 0
+abbrev pub WaitingFault : Code → Packet → Met → PathFault → Type 0
 WaitingFault code (Start branch privilege a time context) met e = (gap_to_start code (stand_of met) a ≡ Err e) ⊎ (((rows : List StepRow) × (gap_to_start code (stand_of met) a ≡ Ok rows)) × (position code a ≡ Err e))
 WaitingFault code (Address report) met e = e ≡ NoStart met.number
 WaitingFault code (MapAddress count map report) met e = e ≡ NoStart met.number
@@ -151,7 +151,7 @@ WaitingFault code (Context privilege time context) met e = ⊥
 WaitingFault code (Support enabled status) met e = ⊥
 
 -- The first packet is a start packet, and adds no row.
-abbrev pub FirstLeg : List ElfSegment → Packet → List StepRow → Type 0
+abbrev pub FirstLeg : Code → Packet → List StepRow → Type 0
 FirstLeg code (Start branch privilege a time context) leg = (position code a ≡ Ok a) × (leg ≡ [])
 FirstLeg code (Address report) leg = ⊥
 FirstLeg code (MapAddress count map report) leg = ⊥
@@ -159,7 +159,7 @@ FirstLeg code (Map map) leg = ⊥
 FirstLeg code (Context privilege time context) leg = ⊥
 FirstLeg code (Support enabled status) leg = ⊥
 
-abbrev pub FirstFault : List ElfSegment → Packet → PathFault → Type 0
+abbrev pub FirstFault : Code → Packet → PathFault → Type 0
 FirstFault code (Start branch privilege a time context) e = position code a ≡ Err e
 FirstFault code (Address report) e = ⊥
 FirstFault code (MapAddress count map report) e = ⊥
@@ -172,10 +172,10 @@ abbrev pub by_waiting : Bool → Type 0 → Type 0 → Type 0
 by_waiting true A B = A
 by_waiting false A B = B
 
-abbrev pub LegBy : List ElfSegment → Packet → Met → List StepRow → Type 0
+abbrev pub LegBy : Code → Packet → Met → List StepRow → Type 0
 LegBy code packet met leg = by_waiting met.waits (WaitingLeg code packet met leg) (RunningLeg code packet met leg)
 
-abbrev pub FaultBy : List ElfSegment → Packet → Met → PathFault → Type 0
+abbrev pub FaultBy : Code → Packet → Met → PathFault → Type 0
 FaultBy code packet met e = by_waiting met.waits (WaitingFault code packet met e) (RunningFault code packet met e)
 
 -- where a route begins: the number of its first packet, and how many rows it may have
@@ -188,7 +188,7 @@ abbrev pub alone : ℕ → Origin
 alone skipped = record { number = skipped; room = 65536 }
 
 -- what packets of a route and their legs leave
-abbrev pub met_by : List ElfSegment → Origin → List Packet → List (List StepRow) → Met
+abbrev pub met_by : Code → Origin → List Packet → List (List StepRow) → Met
 met_by code origin packets legs = record { number = origin.number + length packets; bits = bits code packets; reported = reported packets; marked = marked code packets legs; waits = waiting packets; place = place code packets legs; room = origin.room }
 
 -- the packets of a route before a packet, and their legs
@@ -200,7 +200,7 @@ pub record Earlier : Type 0 where
 abbrev pub earlier_by : Origin → List Packet → List (List StepRow) → Earlier
 earlier_by origin packets legs = record { origin = origin; packets = packets; legs = legs }
 
-abbrev pub met_after : List ElfSegment → Earlier → Met
+abbrev pub met_after : Code → Earlier → Met
 met_after code before = met_by code before.origin before.packets before.legs
 
 -- the first where no packet is earlier, and else the second
@@ -209,15 +209,15 @@ by_first [] A B = A
 by_first (last ∷ earlier) A B = B
 
 -- The packet has this leg, after these packets and their legs.
-abbrev pub Leg : List ElfSegment → Packet → Earlier → List StepRow → Type 0
+abbrev pub Leg : Code → Packet → Earlier → List StepRow → Type 0
 Leg code packet before leg = by_first before.packets (FirstLeg code packet leg) (LegBy code packet (met_after code before) leg)
 
 -- The packet has no leg, and this is why.
-abbrev pub Fault : List ElfSegment → Packet → Earlier → PathFault → Type 0
+abbrev pub Fault : Code → Packet → Earlier → PathFault → Type 0
 Fault code packet before e = by_first before.packets (FirstFault code packet e) (FaultBy code packet (met_after code before) e)
 
 -- Each packet has its leg.
-abbrev pub Route : List ElfSegment → Origin → List Packet → List (List StepRow) → Type 0
+abbrev pub Route : Code → Origin → List Packet → List (List StepRow) → Type 0
 Route code origin [] [] = Unit {0}
 Route code origin [] (leg ∷ legs) = ⊥
 Route code origin (packet ∷ earlier) [] = ⊥

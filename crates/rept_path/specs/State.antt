@@ -1,6 +1,6 @@
 -- What a walk has done so far.
 use Rattle.std.specs.Prelude.{◌≡◌, ℕ, ◌+◌, ◌≤◌, List, [], ◌∷◌, ◌++◌, length, reverse, Option, Ok, Bool, true, false}
-use Rattle.rept_elf.specs.Segments.{ElfSegment}
+use Rattle.rept_path.specs.Code.{Code}
 use Rattle.rept_path.specs.declared.aim.Aim.{Aim}
 use Rattle.rept_path.specs.declared.aim.Aim.TheVariants.{Jumped, Start, Report, LastBit}
 use Rattle.rept_steps.specs.Linked.{EndBefore}
@@ -41,7 +41,7 @@ abbrev pub lead : Walk → ℕ → Option ℕ → Lead
 lead w packet target = record { packet = packet; target = target; bits = w.bits.items; room = w.room }
 
 -- one move was made
-pub record Moved (code : List ElfSegment) (how : Lead) (old new : Walk) : Type 0 where
+pub record Moved (code : Code) (how : Lead) (old new : Walk) : Type 0 where
   pub row : StepRow
   pub move : IsMove code how (here old) row
   pub seen : here new ≡ along code (here old) (row ∷ [])
@@ -50,7 +50,7 @@ pub record Moved (code : List ElfSegment) (how : Lead) (old new : Walk) : Type 0
   pub grows : old.used ≤ new.used
 
 -- a phase was walked
-pub record Walked (code : List ElfSegment) (course : Course) (old new : Walk) : Type 0 where
+pub record Walked (code : Code) (course : Course) (old new : Walk) : Type 0 where
   pub leg : List StepRow
   pub goes : PhaseLeg code course (here old) leg
   pub seen : here new ≡ along code (here old) leg
@@ -68,7 +68,7 @@ abbrev pub from_to : ℕ → Walk → Walk → Change
 from_to k old new = record { packet = k; old = old; new = new }
 
 -- phases were walked
-pub record WalkedAll (code : List ElfSegment) (phases : List Phase) (change : Change) : Type 0 where
+pub record WalkedAll (code : Code) (phases : List Phase) (change : Change) : Type 0 where
   pub leg : List StepRow
   pub goes : PhaseLegs code (standing change.packet change.old) phases leg
   pub seen : here change.new ≡ along code (here change.old) leg
@@ -85,7 +85,7 @@ abbrev pub arrival : Walk → Arrival
 arrival w = record { bits = w.bits.items; reported = w.reported; place = here w }
 
 -- a packet was followed
-pub record Followed (code : List ElfSegment) (packet : Packet) (change : Change) : Type 0 where
+pub record Followed (code : Code) (packet : Packet) (change : Change) : Type 0 where
   pub leg : List StepRow
   pub goes : LegBy code packet (met change.packet change.old) leg
   pub seen : here change.new ≡ place_after code packet (meets change.old.waiting (here change.old)) leg
@@ -98,7 +98,7 @@ pub record Followed (code : List ElfSegment) (packet : Packet) (change : Change)
   pub room : change.new.room ≡ change.old.room
 
 -- the walk stands at the end of a route
-pub record Stands (code : List ElfSegment) (passed : Earlier) (w : Walk) : Type 0 where
+pub record Stands (code : Code) (passed : Earlier) (w : Walk) : Type 0 where
   pub route : Route code passed.origin passed.packets passed.legs
   pub seen : here w ≡ place code passed.packets passed.legs
   pub counts : Counts w
@@ -110,7 +110,7 @@ pub record Stands (code : List ElfSegment) (passed : Earlier) (w : Walk) : Type 
   pub room : w.room ≡ passed.origin.room
 
 -- the rows of a gap were added
-pub record Crossed (code : List ElfSegment) (goal : Goal) (change : Change) : Type 0 where
+pub record Crossed (code : Code) (goal : Goal) (change : Change) : Type 0 where
   pub rows : List StepRow
   pub crosses : gap code (standing change.packet change.old) goal ≡ Ok rows
   pub seen : reverse change.new.steps ≡ rows ++ reverse change.old.steps

@@ -2,7 +2,7 @@
 -- rows are oldest first here.
 use Rattle.std.specs.Prelude.{◌≡◌, ℕ, ◌+◌, ◌<◌, ◌≤◌, List, [], ◌∷◌, ◌++◌, length, reverse, drop, Ok, true, false}
 use Rattle.std.specs.List.{between}
-use Rattle.rept_elf.specs.Segments.{ElfSegment}
+use Rattle.rept_path.specs.Code.{Code}
 use Rattle.rept_isa.specs.declared.row.StepRow.{StepRow}
 use Rattle.rept_trace.specs.declared.packet.Packet.{Packet}
 use Rattle.rept_trace.specs.Stream.{Hold}
@@ -31,24 +31,24 @@ abbrev pub beyond : Section → ℕ → Section
 beyond part stop = record { path = part.path; from = stop; to = part.to }
 
 -- where the walk stands at the end of a section, from where it stands at its beginning
-abbrev pub onward : List ElfSegment → Stand → Section → Stand
+abbrev pub onward : Code → Stand → Section → Stand
 onward code s part = further code s (reverse (rows_in part))
 
 -- Each phase goes on to its least stop, and the last one's stop is the end of the section.
-abbrev pub PhaseStops : List ElfSegment → Stand → List Phase → Section → Type 0
+abbrev pub PhaseStops : Code → Stand → List Phase → Section → Type 0
 PhaseStops code s [] part = part.from ≡ part.to
 PhaseStops code s (phase ∷ phases) part =
     (stop : ℕ) × (part.from < stop) × (stop ≤ part.to) × LeastStop code (course_of s phase) s.place (rows_in (up_to part stop))
     × (misfits code s.bits phase.aim (onward code s (up_to part stop)).place ≡ false) × PhaseStops code (onward code s (up_to part stop)) phases (beyond part stop)
 
 -- A packet's section: its phases end there, while the trace runs, and else its rows are those of the gap.
-abbrev pub PacketStops : List ElfSegment → Packet → Met → Section → Type 0
+abbrev pub PacketStops : Code → Packet → Met → Section → Type 0
 PacketStops code packet met part =
     by_waiting met.waits (WaitingLeg code packet met (reverse (rows_in part)))
     (((a : ℕ) × (admits code packet ≡ Ok a)) × PhaseStops code (with_bits code packet met) (phases_of packet met.marked met.reported) part)
 
 -- what a packet and its rows leave to the one after it
-abbrev pub left_by : List ElfSegment → Packet → Met → List StepRow → Met
+abbrev pub left_by : Code → Packet → Met → List StepRow → Met
 left_by code packet met rows =
     let all = bits_before packet met.waits met.bits ++ bits_of code packet in
     let r = reported_after packet met.reported in
@@ -69,7 +69,7 @@ pub record Spot : Type 0 where
 abbrev pub section_to : Spot → ℕ → Section
 section_to spot j = record { path = spot.path; from = spot.index; to = j }
 
-abbrev pub spot_after : List ElfSegment → Packet → Spot → ℕ → Spot
+abbrev pub spot_after : Code → Packet → Spot → ℕ → Spot
 spot_after code packet spot j = record { path = spot.path; index = j; met = left_by code packet spot.met (rows_in (section_to spot j)) }
 
 -- Each packet has one stop, at or after that of the packet before it. The rows from the last stop on lead to the end.

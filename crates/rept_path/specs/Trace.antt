@@ -1,7 +1,7 @@
 -- The path of a list of packets, oldest first, and why there is none.
 use Rattle.std.specs.Prelude.{◌≡◌, ◌≤◌, ℕ, Bool, true, false, List, ◌∷◌, ◌++◌, length, reverse, drop, slice_get, Option, Some, None, Ok, Err, ◌⊎◌}
 use Rattle.std.specs.List.{list_any}
-use Rattle.rept_elf.specs.Segments.{ElfSegment}
+use Rattle.rept_path.specs.Code.{Code}
 use Rattle.rept_path.specs.declared.fault.PathFault.{PathFault}
 use Rattle.rept_path.specs.declared.fault.PathFault.TheVariants.{NoStart}
 use Rattle.rept_isa.specs.declared.row.StepRow.{StepRow}
@@ -38,12 +38,12 @@ IsWindow packets from None = (i : ℕ) → MayBegin packets from i → ⊥
 IsWindow packets from (Some skipped) = Window packets from skipped
 
 -- where packets and their legs leave the walk of a path of its own, before what has this number
-abbrev pub stand_after : List ElfSegment → ℕ → List Packet → List (List StepRow) → Stand
+abbrev pub stand_after : Code → ℕ → List Packet → List (List StepRow) → Stand
 stand_after code count packets legs = record { packet = count; bits = bits code packets; place = place code packets legs; room = 65536 }
 
 -- a traced run: the program, the packets, the number from which on the window may begin, and the program counter at the end
 pub record Run : Type 0 where
-  pub code : List ElfSegment
+  pub code : Code
   pub packets : List Packet
   pub from : ℕ
   pub pc : ℕ
@@ -66,7 +66,7 @@ pub record IsPath (run : Run) (skipped : ℕ) (path : List StepRow) : Type 0 whe
   pub order : path ≡ reverse (last ++ (place run.code (newest_first run skipped) legs).rows)
 
 -- Up to a packet of the window there is a route. The packet has no leg, by this fault.
-pub record StopsAt (code : List ElfSegment) (origin : Origin) (window : List Packet) (e : PathFault) : Type 0 where
+pub record StopsAt (code : Code) (origin : Origin) (window : List Packet) (e : PathFault) : Type 0 where
   pub earlier : List Packet
   pub packet : Packet
   pub later : List Packet

@@ -1,9 +1,11 @@
 -- The path of a trace file over a dump, and why there is none.
 use Rattle.std.specs.Prelude.{◌≡◌, ◌⊎◌, ℕ, List}
-use Rattle.rept_elf.specs.Segments.{ElfSegment}
+use Rattle.rept_path.specs.Code.{Code}
 use Rattle.rept_isa.specs.declared.row.StepRow.{StepRow}
 use Rattle.rept_elf.specs.Header.{word_at}
 use Rattle.rept_dump.specs.declared.dump.Dump.{Dump}
+use Rattle.rept_path.specs.declared.program.Program.{Program}
+use Rattle.rept_path.specs.Program.{code_of}
 use Rattle.rept_dump.specs.Dump.{exe_of, registers_of}
 use Rattle.rept_trace.specs.declared.packet.Packet.{Packet}
 use Rattle.rept_trace.specs.declared.packets.Packets.{Packets}
@@ -21,7 +23,7 @@ pc_of dump = word_at (registers_of dump) 72
 -- a traced run whose packets are a stream of bytes: the program, the stream, the number from which on the window may begin, and the program
 -- counter at the end
 pub record RawRun : Type 0 where
-  pub code : List ElfSegment
+  pub code : Code
   pub stream : Stream
   pub from : ℕ
   pub pc : ℕ
@@ -40,9 +42,17 @@ IsUntraced raw number e =
     ((list : List Packet) × (refused : TraceFault) × FailsAfter number raw.stream list refused × (e ≡ fault.Packet refused))
     ⊎ ((list : List Packet) × Hold raw.stream list × IsRefused (with_packets raw list) e)
 
+-- the code of a dump's program, which may be compressed where the packets say so
+abbrev pub code_over : Packets → Dump → Code
+code_over packets dump = record { segments = exe_of dump; halves = (rest_of packets).widths.halves }
+
 -- the run of the packets that are left, over the program of a dump to its program counter
 abbrev pub raw_of : Packets → Dump → ℕ → RawRun
-raw_of packets dump from = record { code = exe_of dump; stream = rest_of packets; from = from; pc = pc_of dump }
+raw_of packets dump from = record { code = code_over packets dump; stream = rest_of packets; from = from; pc = pc_of dump }
+
+-- the same of a program as the walk has it
+abbrev pub raw_by : Packets → Program → ℕ → RawRun
+raw_by packets program from = record { code = code_of program; stream = rest_of packets; from = from; pc = pc_of program.dump }
 
 -- The packets that are left are no path of it, and this is why.
 abbrev pub IsRefusedBy : Packets → Dump → ℕ → PathFault → Type 0

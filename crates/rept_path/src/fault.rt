@@ -14,10 +14,10 @@ pub enum PathFault {
     /// No code is at this address.
     #[error("no code at {0:#010x}")]
     NotCode(u32),
-    /// The word at this address, the second number, spells no instruction.
+    /// The word at this address, the second number, spells no instruction; or the half there, which is one of a compressed instruction.
     #[error("no instruction at {0:#010x}: {1:#010x}")]
     NotRv32im(u32, u32),
-    /// The address is no multiple of 4.
+    /// The address is no multiple of 4. It doesn't come where code may be compressed.
     #[error("a path to {0:#010x}, which is no multiple of 4")]
     Unaligned(u32),
     /// On the way of this packet there is no bit for the branch at this address.

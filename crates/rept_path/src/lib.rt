@@ -7,6 +7,7 @@ pub mod fault;
 pub mod flow;
 pub mod laws;
 mod look;
+pub mod program;
 mod rebuilding;
 pub mod walk;
 pub mod window;

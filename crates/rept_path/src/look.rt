@@ -1,15 +1,16 @@
 //! The instruction at an address.
 
 ghost use Rattle.std.specs.Prelude.{◌≡◌, ◌%◌, ◌==◌, Err, if◌then◌else◌};
-ghost use Rattle.rept_dump.specs.Dump.{exe_of};
-ghost use Rattle.rept_path.specs.Code.{instruction, by_word, look, is_branch, is_call};
+ghost use Rattle.rept_path.specs.Code.{instruction, expansion, by_instruction, by_word, look, is_branch, is_call};
+ghost use Rattle.rept_path.specs.Program.{code_of};
 ghost use Rattle.rept_path.specs.Moves.{position};
 ghost use Rattle.rept_path.specs.declared.fault.PathFault.{PathFault};
 
 use crate::fault::PathFault;
 use crate::flow::branches;
-use rept_dump::Dump;
+use crate::program::Program;
 use rept_isa::{Instr, decode};
+use rept_rvc::expand;
 
 /// The instruction that the word spells.
 fn instruction(spelled: u32) -> Option<Instr>
@@ -18,14 +19,17 @@ fn instruction(spelled: u32) -> Option<Instr>
     decode(spelled)
 }
 
-/// The instruction at an address at which this word of code stands, if one does; or why none can have run there: the address is no
-/// multiple of 4, there is no code, or the word spells no instruction of RV32IM.
-pub fn instruction_at(address: u32, word: Option<u32>) -> Result<Instr, PathFault>
-    ensures { result ≡ (if address % 4 == 0 then by_word address word else Err (PathFault.Unaligned address)) }
+/// The instruction that the half stands for.
+fn expansion(half: u16) -> Option<Instr>
+    ensures { result ≡ expansion half }
 {
-    if address % 4 != 0 {
-        return Err(PathFault::Unaligned(address));
-    }
+    expand(half)
+}
+
+/// The instruction of a word of code at an address, or why none can have run there.
+fn by_word(address: u32, word: Option<u32>) -> Result<Instr, PathFault>
+    ensures { result ≡ by_word address word }
+{
     let Some(spelled) = word else {
         return Err(PathFault::NotCode(address));
     };
@@ -35,19 +39,46 @@ pub fn instruction_at(address: u32, word: Option<u32>) -> Result<Instr, PathFaul
     Ok(instr)
 }
 
+/// The instruction that the half of a compressed one at an address stands for, or that it stands for none.
+fn by_half(address: u32, half: u16) -> Result<Instr, PathFault>
+    ensures { result ≡ by_instruction address half (expansion half) }
+{
+    let Some(instr) = expansion(half) else {
+        return Err(PathFault::NotRv32im(address, u32::from(half)));
+    };
+    Ok(instr)
+}
+
+/// The instruction at an address of code that isn't compressed, at which this word stands, if one does; or why none can have run there: the address
+/// is no multiple of 4, there is no code, or the word spells no instruction of RV32IM.
+pub fn instruction_at(address: u32, word: Option<u32>) -> Result<Instr, PathFault>
+    ensures { result ≡ (if address % 4 == 0 then by_word address word else Err (PathFault.Unaligned address)) }
+{
+    if address % 4 != 0 {
+        return Err(PathFault::Unaligned(address));
+    }
+    by_word(address, word)
+}
+
 /// The instruction at an address of the path.
 #[tactic(auto, unfolding(crate::specs::Code::look))]
-pub fn look(dump: &Dump<'_>, address: u32) -> Result<Instr, PathFault>
-    ensures { result ≡ look (exe_of dump.now) address }
+pub fn look(program: &Program<'_>, address: u32) -> Result<Instr, PathFault>
+    ensures { result ≡ look (code_of program.now) address }
 {
-    instruction_at(address, dump.word_of_code(address))
+    if address % program.alignment() != 0 {
+        return Err(PathFault::Unaligned(address));
+    }
+    match program.short_half(address) {
+        Some(half) => by_half(address, half),
+        None => by_word(address, program.dump.word_of_code(address)),
+    }
 }
 
 /// The address, which the path must be able to come to.
-pub fn position_of(dump: &Dump<'_>, address: u32) -> Result<u32, PathFault>
-    ensures { result ≡ position (exe_of dump.now) address }
+pub fn position_of(program: &Program<'_>, address: u32) -> Result<u32, PathFault>
+    ensures { result ≡ position (code_of program.now) address }
 {
-    match look(dump, address) {
+    match look(program, address) {
         Ok(_) => Ok(address),
         Err(fault) => Err(fault),
     }
@@ -55,18 +86,18 @@ pub fn position_of(dump: &Dump<'_>, address: u32) -> Result<u32, PathFault>
 
 /// Whether a branch stands there.
 #[tactic(auto, unfolding(crate::specs::Code::is_branch))]
-pub fn holds_branch(dump: &Dump<'_>, address: u32) -> bool
-    ensures { result ≡ is_branch (exe_of dump.now) address }
+pub fn holds_branch(program: &Program<'_>, address: u32) -> bool
+    ensures { result ≡ is_branch (code_of program.now) address }
 {
-    match look(dump, address) {
+    match look(program, address) {
         Ok(instr) => branches(&instr),
         Err(_) => false,
     }
 }
 
 /// Whether a call stands there.
-pub fn holds_call(dump: &Dump<'_>, address: u32) -> bool
-    ensures { result ≡ is_call (look (exe_of dump.now) address) }
+pub fn holds_call(program: &Program<'_>, address: u32) -> bool
+    ensures { result ≡ is_call (look (code_of program.now) address) }
 {
-    matches!(look(dump, address), Ok(Instr::Ecall))
+    matches!(look(program, address), Ok(Instr::Ecall))
 }

@@ -1,15 +1,15 @@
 //! The moves of a path, packet by packet.
 
 ghost use Rattle.std.specs.Prelude.{◌≡◌, ◌⊎◌, ◌+◌, ◌≤◌, ◌<◌, ◌++◌, ◌∷◌, [], List, ℕ, Bool, length, slice_get, OnOk, IfOk, IfErr, MatchResult, Some, None, Ok, Err, true, false};
-ghost use Rattle.rept_dump.specs.Dump.{exe_of};
 ghost use Rattle.rept_path.specs.declared.fault.PathFault.TheVariants.{OutOfMemory};
-ghost use Rattle.rept_path.specs.Code.{look, flow_of};
-ghost use Rattle.rept_path.specs.Moves.{successor, next_of, by_jump, unused, bits_fit, stops, misfits, is_inferred, course_by, way_by};
+ghost use Rattle.rept_path.specs.Code.{look, is_short, flow_of};
+ghost use Rattle.rept_path.specs.Moves.{site, successor, next_of, by_jump, unused, bits_fit, stops, misfits, is_inferred, course_by, way_by};
 ghost use Rattle.rept_path.specs.Legs.{PhaseFault};
 ghost use Rattle.rept_path.specs.Gap.{by_successor, by_flow, gap};
 ghost use Rattle.rept_isa.specs.declared.row.StepRow.{StepRow};
 ghost use Rattle.rept_path.specs.Route.{first_phase, PhasesFault, RunningFault, WaitingFault, FaultBy, FirstFault, earlier_by};
 ghost use Rattle.rept_path.specs.Trace.{starts};
+ghost use Rattle.rept_path.specs.Program.{code_of};
 ghost use Rattle.rept_path.specs.State.{here, standing, Counts, lead, met, Moved, Walked, WalkedAll, Followed, Stands, Crossed, ends_fit, from_to};
 ghost use Rattle.rept_path.specs.Crossed.{rows_of, LeadAcross};
 
@@ -18,8 +18,8 @@ use crate::bits::{push_bits, push_branch};
 use crate::fault::PathFault;
 use crate::flow::{Flow, branches, flow_of, jumps_far};
 use crate::look::{holds_branch, holds_call, look, position_of};
-use rept_dump::Dump;
-use rept_isa::number::{following, plus};
+use crate::program::Program;
+use rept_isa::number::plus;
 use rept_isa::{Instr, StepRow};
 use rept_steps::Steps;
 use rept_trace::{Packet, Qual, Report};
@@ -49,20 +49,21 @@ pub struct Walk {
 fn successor_of(
     packet: u32,
     at: u32,
+    onward: u32,
     flow: Flow,
     bit: Option<bool>,
     target: Option<u32>,
 ) -> Result<u32, PathFault>
-    ensures { result ≡ successor packet at flow (way_by bit target) }
+    ensures { result ≡ successor packet (record { at = at; onward = onward }) flow (way_by bit target) }
 {
     match flow {
-        Flow::Plain => Ok(following(at)),
+        Flow::Plain => Ok(onward),
         Flow::Jump(imm) => Ok(plus(at, imm)),
         Flow::Fixed(to) => Ok(to),
         Flow::Branch(imm) => match bit {
             None => Err(PathFault::NoBranchBit(packet, at)),
             Some(false) => Ok(plus(at, imm)),
-            Some(true) => Ok(following(at)),
+            Some(true) => Ok(onward),
         },
         Flow::Far => match target {
             None => Err(PathFault::JumpInMap(packet, at)),
@@ -74,14 +75,14 @@ fn successor_of(
 
 /// The rows of a gap by the successor of its first address.
 fn rows_by_successor(
-    dump: &Dump<'_>,
+    program: &Program<'_>,
     at: u32,
     instr: Instr,
     to: u32,
     otherwise: PathFault,
     next: u32,
 ) -> Result<(StepRow, Option<StepRow>), PathFault>
-    ensures rows { MatchResult result (λ x. by_successor (exe_of dump.now) (record { at = at; instr = instr; to = to; otherwise = otherwise }) next ≡ Ok (rows_of x.0 x.1)) (λ e. by_successor (exe_of dump.now) (record { at = at; instr = instr; to = to; otherwise = otherwise }) next ≡ Err e) }
+    ensures rows { MatchResult result (λ x. by_successor (code_of program.now) (record { at = at; instr = instr; short = is_short (code_of program.now) at; to = to; otherwise = otherwise }) next ≡ Ok (rows_of x.0 x.1)) (λ e. by_successor (code_of program.now) (record { at = at; instr = instr; short = is_short (code_of program.now) at; to = to; otherwise = otherwise }) next ≡ Err e) }
     ensures across { IfOk result (λ x. LeadAcross at to x.0 x.1) }
 {
     let first = StepRow {
@@ -89,19 +90,19 @@ fn rows_by_successor(
         instr,
         next,
         call: false,
-        short: false,
+        short: program.is_short(at),
     };
     if next == to {
         return Ok((first, None));
     }
-    if holds_call(dump, next) && to == following(next) {
+    if holds_call(program, next) && to == program.after_instruction(next) {
         let instr = Instr::Ecall;
         let second = StepRow {
             at: next,
             instr,
             next: to,
             call: true,
-            short: false,
+            short: program.is_short(next),
         };
         return Ok((first, Some(second)));
     }
@@ -110,7 +111,7 @@ fn rows_by_successor(
 
 /// The rows of a gap.
 fn rows_across(
-    dump: &Dump<'_>,
+    program: &Program<'_>,
     packet: u32,
     at: u32,
     instr: Instr,
@@ -118,17 +119,18 @@ fn rows_across(
     otherwise: PathFault,
     bit: Option<bool>,
 ) -> Result<(StepRow, Option<StepRow>), PathFault>
-    ensures rows { MatchResult result (λ x. by_flow (exe_of dump.now) (record { at = at; instr = instr; to = to; otherwise = otherwise }) (successor packet at (flow_of instr) (way_by bit None)) (flow_of instr) ≡ Ok (rows_of x.0 x.1)) (λ e. by_flow (exe_of dump.now) (record { at = at; instr = instr; to = to; otherwise = otherwise }) (successor packet at (flow_of instr) (way_by bit None)) (flow_of instr) ≡ Err e) }
+    ensures rows { MatchResult result (λ x. by_flow (code_of program.now) (record { at = at; instr = instr; short = is_short (code_of program.now) at; to = to; otherwise = otherwise }) (successor packet (site (code_of program.now) at) (flow_of instr) (way_by bit None)) (flow_of instr) ≡ Ok (rows_of x.0 x.1)) (λ e. by_flow (code_of program.now) (record { at = at; instr = instr; short = is_short (code_of program.now) at; to = to; otherwise = otherwise }) (successor packet (site (code_of program.now) at) (flow_of instr) (way_by bit None)) (flow_of instr) ≡ Err e) }
     ensures across { IfOk result (λ x. LeadAcross at to x.0 x.1) }
 {
     let flow = flow_of(&instr);
     let (may, call) = match flow {
-        Flow::Call => (to == following(at), true),
-        Flow::Far => (to % 4 == 0, false),
+        Flow::Call => (to == program.after_instruction(at), true),
+        Flow::Far => (to % program.alignment() == 0, false),
         Flow::Stop => (false, false),
         Flow::Plain | Flow::Jump(_) | Flow::Fixed(_) | Flow::Branch(_) => {
-            let next = successor_of(packet, at, flow, bit, None)?;
-            return rows_by_successor(dump, at, instr, to, otherwise, next);
+            let onward = program.after_instruction(at);
+            let next = successor_of(packet, at, onward, flow, bit, None)?;
+            return rows_by_successor(program, at, instr, to, otherwise, next);
         }
     };
     if !may {
@@ -140,7 +142,7 @@ fn rows_across(
             instr,
             next: to,
             call,
-            short: false,
+            short: program.is_short(at),
         },
         None,
     ))
@@ -150,14 +152,14 @@ impl Walk {
     /// A walk that stands at the address of a start packet, the one of this number, and may have so many steps.
     pub fn begin(
         alloc: Global,
-        dump: &Dump<'_>,
+        program: &Program<'_>,
         number: u32,
         room: usize,
         packet: Packet,
     ) -> Result<Walk, PathFault>
         requires { starts (Some packet) ≡ true }
-        ensures ok { IfOk result (λ w. (legs : List (List StepRow)) × Stands (exe_of dump.now) (earlier_by (record { number = number; room = room }) (packet ∷ []) legs) w) }
-        ensures err { IfErr result (λ e. (e ≡ OutOfMemory) ⊎ FirstFault (exe_of dump.now) packet e) }
+        ensures ok { IfOk result (λ w. (legs : List (List StepRow)) × Stands (code_of program.now) (earlier_by (record { number = number; room = room }) (packet ∷ []) legs) w) }
+        ensures err { IfErr result (λ e. (e ≡ OutOfMemory) ⊎ FirstFault (code_of program.now) packet e) }
     {
         match packet {
             Packet::Start {
@@ -165,9 +167,9 @@ impl Walk {
                 address,
                 ..
             } => {
-                position_of(dump, address)?;
+                position_of(program, address)?;
                 let mut bits = Vec::new(alloc);
-                push_branch(&mut bits, dump, address, branch)?;
+                push_branch(&mut bits, program, address, branch)?;
                 Ok(Walk {
                     at: address,
                     steps: Steps::new(alloc),
@@ -194,20 +196,21 @@ impl Walk {
     #[tactic(auto, unfolding(crate::specs::Moves::next_of))]
     fn next(
         &self,
-        dump: &Dump<'_>,
+        program: &Program<'_>,
         packet: u32,
         target: Option<u32>,
         instr: &Instr,
     ) -> Result<u32, PathFault>
-        requires { look (exe_of dump.now) self.now.at ≡ Ok instr.now }
-        ensures { result ≡ next_of (exe_of dump.now) (lead self.now packet target) (here self.now) }
+        requires { look (code_of program.now) self.now.at ≡ Ok instr.now }
+        ensures { result ≡ next_of (code_of program.now) (lead self.now packet target) (here self.now) }
     {
         let bit = self.bit();
-        let next = successor_of(packet, self.at, flow_of(instr), bit, target)?;
+        let onward = program.after_instruction(self.at);
+        let next = successor_of(packet, self.at, onward, flow_of(instr), bit, target)?;
         if self.steps.len() as usize >= self.room {
             return Err(PathFault::TooLong(packet));
         }
-        position_of(dump, next)
+        position_of(program, next)
     }
 
     /// Whether an uninferable jump led here.
@@ -232,24 +235,24 @@ impl Walk {
 
     /// Whether the unused bits fit.
     #[tactic(auto, unfolding(crate::specs::Moves::bits_fit))]
-    fn fits(&self, dump: &Dump<'_>) -> bool
+    fn fits(&self, program: &Program<'_>) -> bool
         requires { Counts self.now }
-        ensures { result ≡ bits_fit (exe_of dump.now) self.now.bits.items (here self.now) }
+        ensures { result ≡ bits_fit (code_of program.now) self.now.bits.items (here self.now) }
     {
-        let wanted = if holds_branch(dump, self.at) { 1 } else { 0 };
+        let wanted = if holds_branch(program, self.at) { 1 } else { 0 };
         self.unused() == wanted
     }
 
     /// Whether the moves stop here.
     #[tactic(auto, unfolding(crate::specs::Moves::stops))]
-    fn stops(&self, dump: &Dump<'_>, aim: Aim) -> bool
+    fn stops(&self, program: &Program<'_>, aim: Aim) -> bool
         requires { Counts self.now }
-        ensures { result ≡ stops (exe_of dump.now) self.now.bits.items aim (here self.now) }
+        ensures { result ≡ stops (code_of program.now) self.now.bits.items aim (here self.now) }
     {
         match aim {
             Aim::Jumped => self.came_by_jump(),
             Aim::Start { address } => {
-                self.came_by_jump() || (self.at == address && self.fits(dump))
+                self.came_by_jump() || (self.at == address && self.fits(program))
             }
             Aim::Report {
                 address,
@@ -257,33 +260,33 @@ impl Walk {
                 updiscon,
             } => {
                 self.came_by_jump()
-                    || (self.at == address && self.fits(dump) && (notify || !updiscon))
+                    || (self.at == address && self.fits(program) && (notify || !updiscon))
             }
-            Aim::LastBit => holds_branch(dump, self.at) && self.fits(dump),
+            Aim::LastBit => holds_branch(program, self.at) && self.fits(program),
         }
     }
 
     /// Whether bits are left at a stop where none may be.
     #[tactic(auto, unfolding(crate::specs::Moves::misfits))]
-    fn misfits(&self, dump: &Dump<'_>, aim: Aim) -> bool
+    fn misfits(&self, program: &Program<'_>, aim: Aim) -> bool
         requires { Counts self.now }
-        ensures { result ≡ misfits (exe_of dump.now) self.now.bits.items aim (here self.now) }
+        ensures { result ≡ misfits (code_of program.now) self.now.bits.items aim (here self.now) }
     {
         let wants_fit = match aim {
             Aim::Jumped | Aim::LastBit => false,
             Aim::Start { .. } | Aim::Report { .. } => true,
         };
-        wants_fit && self.came_by_jump() && !self.fits(dump)
+        wants_fit && self.came_by_jump() && !self.fits(program)
     }
 
     /// Whether the reported address alone is why the walk stops here.
     #[tactic(auto, unfolding(crate::specs::Moves::is_inferred))]
-    fn infers(&self, dump: &Dump<'_>, report: Report) -> bool
+    fn infers(&self, program: &Program<'_>, report: Report) -> bool
         requires { Counts self.now }
-        ensures { result ≡ is_inferred (exe_of dump.now) self.now.bits.items (Aim.Report self.now.reported report.notify report.updiscon) (here self.now) }
+        ensures { result ≡ is_inferred (code_of program.now) self.now.bits.items (Aim.Report self.now.reported report.notify report.updiscon) (here self.now) }
     {
         self.at == self.reported
-            && self.fits(dump)
+            && self.fits(program)
             && !report.updiscon
             && !report.notify
             && !self.came_by_jump()
@@ -292,26 +295,26 @@ impl Walk {
     /// One move. An `Err` ends the walk.
     fn move_on(
         &mut self,
-        dump: &Dump<'_>,
+        program: &Program<'_>,
         packet: u32,
         target: Option<u32>,
     ) -> Result<(), PathFault>
         requires { Counts self.old }
-        ensures ok { OnOk result (Moved (exe_of dump.now) (lead self.old packet target) self.old self.new) }
-        ensures err { IfErr result (λ e. (e ≡ OutOfMemory) ⊎ (next_of (exe_of dump.now) (lead self.old packet target) (here self.old) ≡ Err e)) }
+        ensures ok { OnOk result (Moved (code_of program.now) (lead self.old packet target) self.old self.new) }
+        ensures err { IfErr result (λ e. (e ≡ OutOfMemory) ⊎ (next_of (code_of program.now) (lead self.old packet target) (here self.old) ≡ Err e)) }
     {
-        let instr = match look(dump, self.at) {
+        let instr = match look(program, self.at) {
             Ok(instr) => instr,
             Err(fault) => return Err(fault),
         };
-        let next = self.next(dump, packet, target, &instr)?;
+        let next = self.next(program, packet, target, &instr)?;
         let taken = if branches(&instr) { 1 } else { 0 };
         let row = StepRow {
             at: self.at,
             instr,
             next,
             call: false,
-            short: false,
+            short: program.is_short(self.at),
         };
         if let Err(_) = self.steps.push(row) {
             return Err(PathFault::OutOfMemory);
@@ -321,37 +324,37 @@ impl Walk {
         Ok(())
     }
 
-    /// One move, after which the dump is near the last position. An `Err` ends the walk.
+    /// One move, after which the program is near the last position. An `Err` ends the walk.
     fn step(
         &mut self,
-        near: &mut Dump<'_>,
+        near: &mut Program<'_>,
         packet: u32,
         target: Option<u32>,
     ) -> Result<(), PathFault>
         requires { Counts self.old }
-        ensures same { exe_of near.new ≡ exe_of near.old }
-        ensures ok { OnOk result (Moved (exe_of near.old) (lead self.old packet target) self.old self.new) }
-        ensures err { IfErr result (λ e. (e ≡ OutOfMemory) ⊎ (next_of (exe_of near.old) (lead self.old packet target) (here self.old) ≡ Err e)) }
+        ensures same { code_of near.new ≡ code_of near.old }
+        ensures ok { OnOk result (Moved (code_of near.old) (lead self.old packet target) self.old self.new) }
+        ensures err { IfErr result (λ e. (e ≡ OutOfMemory) ⊎ (next_of (code_of near.old) (lead self.old packet target) (here self.old) ≡ Err e)) }
     {
         self.move_on(near, packet, target)?;
-        *near = near.near_code(self.at);
+        *near = near.near(self.at);
         Ok(())
     }
 
     /// Moves to the first stop. An `Err` ends the walk.
     fn go(
         &mut self,
-        dump: &Dump<'_>,
+        program: &Program<'_>,
         packet: u32,
         target: Option<u32>,
         aim: Aim,
     ) -> Result<(), PathFault>
         requires { Counts self.old }
-        ensures ok { OnOk result (Walked (exe_of dump.now) (course_by (lead self.old packet target) aim) self.old self.new) }
-        ensures err { IfErr result (λ e. (e ≡ OutOfMemory) ⊎ PhaseFault (exe_of dump.now) (course_by (lead self.old packet target) aim) (here self.old) e) }
+        ensures ok { OnOk result (Walked (code_of program.now) (course_by (lead self.old packet target) aim) self.old self.new) }
+        ensures err { IfErr result (λ e. (e ≡ OutOfMemory) ⊎ PhaseFault (code_of program.now) (course_by (lead self.old packet target) aim) (here self.old) e) }
         ensures rests { OnOk result (ends_fit aim ≡ true → length self.new.bits.items ≤ self.new.used + 1) }
     {
-        let mut near = dump.near_code(self.at);
+        let mut near = program.near(self.at);
         self.step(&mut near, packet, target)?;
         while !self.stops(&near, aim) {
             self.step(&mut near, packet, target)?;
@@ -366,42 +369,44 @@ impl Walk {
     /// `before`; then to the first stop.
     fn through(
         &mut self,
-        dump: &Dump<'_>,
+        program: &Program<'_>,
         packet: u32,
         before: u32,
         target: Option<u32>,
         aim: Aim,
     ) -> Result<(), PathFault>
         requires { Counts self.old }
-        ensures ok { OnOk result (WalkedAll (exe_of dump.now) (first_phase self.old.inferred before ++ record { target = target; aim = aim } ∷ []) (from_to packet self.old self.new)) }
-        ensures err { IfErr result (λ e. (e ≡ OutOfMemory) ⊎ PhasesFault (exe_of dump.now) (standing packet self.old) (first_phase self.old.inferred before ++ record { target = target; aim = aim } ∷ []) e) }
+        ensures ok { OnOk result (WalkedAll (code_of program.now) (first_phase self.old.inferred before ++ record { target = target; aim = aim } ∷ []) (from_to packet self.old self.new)) }
+        ensures err { IfErr result (λ e. (e ≡ OutOfMemory) ⊎ PhasesFault (code_of program.now) (standing packet self.old) (first_phase self.old.inferred before ++ record { target = target; aim = aim } ∷ []) e) }
         ensures rests { OnOk result (ends_fit aim ≡ true → length self.new.bits.items ≤ self.new.used + 1) }
     {
         if self.inferred {
-            self.go(dump, packet, Some(before), Aim::Jumped)?;
+            self.go(program, packet, Some(before), Aim::Jumped)?;
         }
-        self.go(dump, packet, target, aim)
+        self.go(program, packet, target, aim)
     }
 
     /// Adds the rows that lead to an address.
     pub fn join(
         &mut self,
-        dump: &Dump<'_>,
+        program: &Program<'_>,
         packet: u32,
         to: u32,
         otherwise: PathFault,
     ) -> Result<(), PathFault>
         requires { Counts self.old }
-        ensures ok { OnOk result (Crossed (exe_of dump.now) (record { address = to; otherwise = otherwise }) (from_to packet self.old self.new)) }
+        ensures ok { OnOk result (Crossed (code_of program.now) (record { address = to; otherwise = otherwise }) (from_to packet self.old self.new)) }
         ensures rest { self.new ≡ record self.old { steps = self.new.steps } }
-        ensures err { IfErr result (λ e. (e ≡ OutOfMemory) ⊎ (gap (exe_of dump.now) (standing packet self.old) (record { address = to; otherwise = otherwise }) ≡ Err e)) }
+        ensures err { IfErr result (λ e. (e ≡ OutOfMemory) ⊎ (gap (code_of program.now) (standing packet self.old) (record { address = to; otherwise = otherwise }) ≡ Err e)) }
     {
-        let instr = match look(dump, self.at) {
+        let instr = match look(program, self.at) {
             Ok(instr) => instr,
             Err(fault) => return Err(fault),
         };
         let bit = self.bit();
-        let (first, second) = match rows_across(dump, packet, self.at, instr, to, otherwise, bit) {
+        let (first, second) = match rows_across(
+            program, packet, self.at, instr, to, otherwise, bit,
+        ) {
             Ok(rows) => rows,
             Err(fault) => return Err(fault),
         };
@@ -430,11 +435,16 @@ impl Walk {
     }
 
     /// Goes over the leg of a packet. An `Err` ends the walk.
-    pub fn follow(&mut self, dump: &Dump<'_>, number: u32, packet: Packet) -> Result<(), PathFault>
+    pub fn follow(
+        &mut self,
+        program: &Program<'_>,
+        number: u32,
+        packet: Packet,
+    ) -> Result<(), PathFault>
         requires counts { Counts self.old }
         requires rests { length self.old.bits.items ≤ self.old.used + 1 }
-        ensures ok { OnOk result (Followed (exe_of dump.now) packet (from_to number self.old self.new)) }
-        ensures err { IfErr result (λ e. (e ≡ OutOfMemory) ⊎ FaultBy (exe_of dump.now) packet (met number self.old) e) }
+        ensures ok { OnOk result (Followed (code_of program.now) packet (from_to number self.old self.new)) }
+        ensures err { IfErr result (λ e. (e ≡ OutOfMemory) ⊎ FaultBy (code_of program.now) packet (met number self.old) e) }
     {
         match packet {
             Packet::Start {
@@ -443,30 +453,30 @@ impl Walk {
                 ..
             } => {
                 if self.waiting {
-                    self.start(dump, number, branch, address)
+                    self.start(program, number, branch, address)
                 } else {
-                    self.restart(dump, number, branch, address)
+                    self.restart(program, number, branch, address)
                 }
             }
             Packet::Context { .. } => Ok(()),
-            Packet::Support { status, .. } => self.support(dump, number, status),
+            Packet::Support { status, .. } => self.support(program, number, status),
             Packet::Address { report } => {
                 if self.waiting {
                     return Err(PathFault::NoStart(number));
                 }
-                self.report(dump, number, 0, 0, report)
+                self.report(program, number, 0, 0, report)
             }
             Packet::Map { map } => {
                 if self.waiting {
                     return Err(PathFault::NoStart(number));
                 }
-                self.map(dump, number, map)
+                self.map(program, number, map)
             }
             Packet::MapAddress { count, map, report } => {
                 if self.waiting {
                     return Err(PathFault::NoStart(number));
                 }
-                self.report(dump, number, count, map, report)
+                self.report(program, number, count, map, report)
             }
         }
     }
@@ -474,21 +484,21 @@ impl Walk {
     /// Begins a stretch.
     fn start(
         &mut self,
-        dump: &Dump<'_>,
+        program: &Program<'_>,
         number: u32,
         branch: bool,
         address: u32,
     ) -> Result<(), PathFault>
         requires counts { Counts self.old }
         requires waits { self.old.waiting ≡ true }
-        ensures ok { OnOk result ((privilege time context : ℕ) → Followed (exe_of dump.now) (Packet.Start branch privilege address time context) (from_to number self.old self.new)) }
-        ensures err { IfErr result (λ e. (privilege time context : ℕ) → (e ≡ OutOfMemory) ⊎ WaitingFault (exe_of dump.now) (Packet.Start branch privilege address time context) (met number self.old) e) }
+        ensures ok { OnOk result ((privilege time context : ℕ) → Followed (code_of program.now) (Packet.Start branch privilege address time context) (from_to number self.old self.new)) }
+        ensures err { IfErr result (λ e. (privilege time context : ℕ) → (e ≡ OutOfMemory) ⊎ WaitingFault (code_of program.now) (Packet.Start branch privilege address time context) (met number self.old) e) }
     {
         let otherwise = PathFault::Gap(number, self.at, address);
-        self.join(dump, number, address, otherwise)?;
-        let at = position_of(dump, address)?;
+        self.join(program, number, address, otherwise)?;
+        let at = position_of(program, address)?;
         self.bits.clear();
-        push_branch(&mut self.bits, dump, at, branch)?;
+        push_branch(&mut self.bits, program, at, branch)?;
         self.at = at;
         self.used = 0;
         self.reported = at;
@@ -500,7 +510,7 @@ impl Walk {
     /// Takes a start packet in a stretch.
     fn restart(
         &mut self,
-        dump: &Dump<'_>,
+        program: &Program<'_>,
         number: u32,
         branch: bool,
         address: u32,
@@ -508,21 +518,21 @@ impl Walk {
         requires counts { Counts self.old }
         requires rests { length self.old.bits.items ≤ self.old.used + 1 }
         requires runs { self.old.waiting ≡ false }
-        ensures ok { OnOk result ((privilege time context : ℕ) → Followed (exe_of dump.now) (Packet.Start branch privilege address time context) (from_to number self.old self.new)) }
-        ensures err { IfErr result (λ e. (privilege time context : ℕ) → (e ≡ OutOfMemory) ⊎ RunningFault (exe_of dump.now) (Packet.Start branch privilege address time context) (met number self.old) e) }
+        ensures ok { OnOk result ((privilege time context : ℕ) → Followed (code_of program.now) (Packet.Start branch privilege address time context) (from_to number self.old self.new)) }
+        ensures err { IfErr result (λ e. (privilege time context : ℕ) → (e ≡ OutOfMemory) ⊎ RunningFault (code_of program.now) (Packet.Start branch privilege address time context) (met number self.old) e) }
     {
-        position_of(dump, address)?;
-        push_branch(&mut self.bits, dump, address, branch)?;
+        position_of(program, address)?;
+        push_branch(&mut self.bits, program, address, branch)?;
         self.reported = address;
         self.inferred = false;
-        self.go(dump, number, Some(address), Aim::Start { address })?;
+        self.go(program, number, Some(address), Aim::Start { address })?;
         Ok(())
     }
 
     /// Takes a reported address, and so many bits of a map before it.
     fn report(
         &mut self,
-        dump: &Dump<'_>,
+        program: &Program<'_>,
         number: u32,
         count: u8,
         map: u32,
@@ -531,10 +541,10 @@ impl Walk {
         requires counts { Counts self.old }
         requires rests { length self.old.bits.items ≤ self.old.used + 1 }
         requires runs { self.old.waiting ≡ false }
-        ensures ok { OnOk result (Followed (exe_of dump.now) (Packet.MapAddress count map report) (from_to number self.old self.new)) }
-        ensures err { IfErr result (λ e. (e ≡ OutOfMemory) ⊎ RunningFault (exe_of dump.now) (Packet.MapAddress count map report) (met number self.old) e) }
-        ensures ok_alone { count ≡ 0 → OnOk result (Followed (exe_of dump.now) (Packet.Address report) (from_to number self.old self.new)) }
-        ensures err_alone { count ≡ 0 → IfErr result (λ e. (e ≡ OutOfMemory) ⊎ RunningFault (exe_of dump.now) (Packet.Address report) (met number self.old) e) }
+        ensures ok { OnOk result (Followed (code_of program.now) (Packet.MapAddress count map report) (from_to number self.old self.new)) }
+        ensures err { IfErr result (λ e. (e ≡ OutOfMemory) ⊎ RunningFault (code_of program.now) (Packet.MapAddress count map report) (met number self.old) e) }
+        ensures ok_alone { count ≡ 0 → OnOk result (Followed (code_of program.now) (Packet.Address report) (from_to number self.old self.new)) }
+        ensures err_alone { count ≡ 0 → IfErr result (λ e. (e ≡ OutOfMemory) ⊎ RunningFault (code_of program.now) (Packet.Address report) (met number self.old) e) }
     {
         let before = self.reported;
         let address = before.wrapping_add(report.difference);
@@ -545,31 +555,31 @@ impl Walk {
             notify: report.notify,
             updiscon: report.updiscon,
         };
-        self.through(dump, number, before, Some(address), aim)?;
-        self.inferred = self.infers(dump, report);
+        self.through(program, number, before, Some(address), aim)?;
+        self.inferred = self.infers(program, report);
         Ok(())
     }
 
     /// Takes the bits of a map.
-    fn map(&mut self, dump: &Dump<'_>, number: u32, map: u32) -> Result<(), PathFault>
+    fn map(&mut self, program: &Program<'_>, number: u32, map: u32) -> Result<(), PathFault>
         requires counts { Counts self.old }
         requires rests { length self.old.bits.items ≤ self.old.used + 1 }
         requires runs { self.old.waiting ≡ false }
-        ensures ok { OnOk result (Followed (exe_of dump.now) (Packet.Map map) (from_to number self.old self.new)) }
-        ensures err { IfErr result (λ e. (e ≡ OutOfMemory) ⊎ RunningFault (exe_of dump.now) (Packet.Map map) (met number self.old) e) }
+        ensures ok { OnOk result (Followed (code_of program.now) (Packet.Map map) (from_to number self.old self.new)) }
+        ensures err { IfErr result (λ e. (e ≡ OutOfMemory) ⊎ RunningFault (code_of program.now) (Packet.Map map) (met number self.old) e) }
     {
         push_bits(&mut self.bits, 31, map)?;
-        self.through(dump, number, self.reported, None, Aim::LastBit)?;
+        self.through(program, number, self.reported, None, Aim::LastBit)?;
         self.inferred = false;
         Ok(())
     }
 
     /// Takes what became of the trace.
-    fn support(&mut self, dump: &Dump<'_>, number: u32, status: Qual) -> Result<(), PathFault>
+    fn support(&mut self, program: &Program<'_>, number: u32, status: Qual) -> Result<(), PathFault>
         requires counts { Counts self.old }
         requires rests { length self.old.bits.items ≤ self.old.used + 1 }
-        ensures ok { OnOk result ((enabled : Bool) → Followed (exe_of dump.now) (Packet.Support enabled status) (from_to number self.old self.new)) }
-        ensures err { IfErr result (λ e. (enabled : Bool) → (e ≡ OutOfMemory) ⊎ FaultBy (exe_of dump.now) (Packet.Support enabled status) (met number self.old) e) }
+        ensures ok { OnOk result ((enabled : Bool) → Followed (code_of program.now) (Packet.Support enabled status) (from_to number self.old self.new)) }
+        ensures err { IfErr result (λ e. (enabled : Bool) → (e ≡ OutOfMemory) ⊎ FaultBy (code_of program.now) (Packet.Support enabled status) (met number self.old) e) }
     {
         match status {
             Qual::NoChange => Ok(()),
@@ -582,7 +592,7 @@ impl Walk {
                 if self.waiting {
                     return Ok(());
                 }
-                self.finish(dump, number)?;
+                self.finish(program, number)?;
                 self.waiting = true;
                 Ok(())
             }
@@ -590,14 +600,14 @@ impl Walk {
     }
 
     /// The first phase alone.
-    fn finish(&mut self, dump: &Dump<'_>, number: u32) -> Result<(), PathFault>
+    fn finish(&mut self, program: &Program<'_>, number: u32) -> Result<(), PathFault>
         requires { Counts self.old }
-        ensures ok { OnOk result (WalkedAll (exe_of dump.now) (first_phase self.old.inferred self.old.reported) (from_to number self.old self.new)) }
-        ensures err { IfErr result (λ e. (e ≡ OutOfMemory) ⊎ PhasesFault (exe_of dump.now) (standing number self.old) (first_phase self.old.inferred self.old.reported) e) }
+        ensures ok { OnOk result (WalkedAll (code_of program.now) (first_phase self.old.inferred self.old.reported) (from_to number self.old self.new)) }
+        ensures err { IfErr result (λ e. (e ≡ OutOfMemory) ⊎ PhasesFault (code_of program.now) (standing number self.old) (first_phase self.old.inferred self.old.reported) e) }
     {
         if !self.inferred {
             return Ok(());
         }
-        self.go(dump, number, Some(self.reported), Aim::Jumped)
+        self.go(program, number, Some(self.reported), Aim::Jumped)
     }
 }

@@ -1,12 +1,14 @@
 //! Traces that were worked out by hand.
 
 mod cases;
+mod compressed;
 mod refusals;
 mod sent;
 mod stops;
 mod stretches;
 
 use cases::{Case, LOOP, LongCase, THREE, Wanted, Window};
+use compressed::{NOTHING, Row, SHARED, SHARED_HEAD, SHORT};
 use refusals::{LONG, REFUSALS, WINDOWS};
 use rept_dump::Dump;
 use rept_elf::{Image, Want};
@@ -134,6 +136,80 @@ fn traces_tell_paths(rt: HostRuntime) -> Result<(), Fail> {
     check_cases(&rt, alloc, JOINS)?;
     check_cases(&rt, alloc, WAITING)?;
     check_cases(&rt, alloc, REFUSALS)?;
+    Ok(())
+}
+
+/// A path of these rows, with no packet skipped.
+fn rows_of(alloc: Global, rows: &[Row]) -> Result<Outcome, Fail> {
+    let mut steps = Vec::new(alloc);
+    for (at, word, short, next) in rows {
+        let Some(instr) = decode(*word) else {
+            continue;
+        };
+        steps.push(StepRow {
+            at: *at,
+            instr,
+            next: *next,
+            call: instr == Instr::Ecall,
+            short: *short,
+        })?;
+    }
+    Ok(Ok((0, steps)))
+}
+
+/// A trace of these packets over compressed code.
+fn short_trace(alloc: Global, packets: &[u8]) -> Result<Vec<u8>, AllocError> {
+    let mut trace = Vec::from_slice(alloc, b"RTR1\x01\x01\0\0")?;
+    trace.extend_from_slice(packets)?;
+    Ok(trace)
+}
+
+#[test]
+fn compressed_code_is_walked(rt: HostRuntime) -> Result<(), Fail> {
+    let alloc = rt.alloc();
+    for case in SHORT {
+        let exe = executable(alloc, case.base, case.code)?;
+        let trace = short_trace(alloc, case.trace)?;
+        let got = outcome(alloc, exe.as_slice(), trace.as_slice(), case.pc, 0)?;
+        let wanted = match case.wanted {
+            Ok(rows) => rows_of(alloc, rows)?,
+            Err(fault) => Err(fault),
+        };
+        assert_eq!(rt; got, wanted, "{}", case.name);
+    }
+    Ok(())
+}
+
+/// A start packet at a half that stands for nothing.
+#[test]
+fn halves_that_are_none(rt: HostRuntime) -> Result<(), Fail> {
+    let alloc = rt.alloc();
+    let trace = short_trace(alloc, b"\x03\x13\x00\x40")?;
+    for half in NOTHING {
+        let exe = executable(alloc, 0x10000, &[u32::from(*half)])?;
+        let got = outcome(alloc, exe.as_slice(), trace.as_slice(), 0x10002, 0)?;
+        let fault = PathFault::NotRv32im(0x10000, u32::from(*half));
+        assert_eq!(rt; got, Err(fault), "{half:#x}");
+    }
+    Ok(())
+}
+
+/// A start packet at 0x10002, where the half is of another segment than the word: one of a compressed instruction counts, and else the word.
+#[test]
+fn halves_of_another_segment(rt: HostRuntime) -> Result<(), Fail> {
+    let alloc = rt.alloc();
+    let trace = short_trace(alloc, b"\x03\x93\x00\x40")?;
+    for (half, pc, row) in [
+        (0x0001u16, 0x10004, (0x10002, 0x0000_0013, true, 0x10004)),
+        (0x0003, 0x10006, (0x10002, 0x0032_8293, false, 0x10006)),
+    ] {
+        let mut exe = Vec::from_slice(alloc, &SHARED_HEAD)?;
+        exe.extend_from_slice(&half.to_le_bytes())?;
+        exe.extend_from_slice(&SHARED)?;
+        let got = outcome(alloc, exe.as_slice(), trace.as_slice(), pc, 0)?;
+        let wanted = rows_of(alloc, &[row])?;
+        assert_eq!(rt; got, wanted, "{half:#x}");
+    }
     Ok(())
 }
 

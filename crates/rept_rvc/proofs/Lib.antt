@@ -1,3 +1,3 @@
-mod HalfLemmas
-mod ReadLemmas
+pub mod HalfLemmas
+pub mod ReadLemmas
 mod RangeLemmas

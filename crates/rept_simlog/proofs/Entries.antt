@@ -7,7 +7,9 @@ use Rattle.rept_isa.specs.declared.instr.Instr.TheVariants.{Fence}
 use Rattle.rept_isa.specs.declared.row.StepRow.{StepRow}
 use Rattle.rept_elf.specs.Segments.{ElfSegment}
 use Rattle.rept_steps.specs.Linked.{EndBefore}
+use Rattle.rept_path.specs.Code.{words}
 use Rattle.rept_path.specs.Rows.{CarriesCode, CarryCode}
+use Rattle.rept_path.proofs.LongRows.{never_short}
 use Rattle.rept_encode.specs.Walkable.{IsFirstJumpEnd}
 use Rattle.rept_encode.specs.Encoded.{Tells}
 use Rattle.rept_simlog.specs.declared.log.Entry.{Entry}
@@ -101,14 +103,14 @@ records_is code entries rows trace g t = record {
   path = λ last get. t.path code last.address carry (g.ends last get);
 }
   where
-    carry : CarryCode code rows
-    carry = All-from_get_or (CarriesCode code) rows no_row (λ i lt.
+    carry : CarryCode (words code) rows
+    carry = All-from_get_or (CarriesCode (words code)) rows no_row (λ i lt.
         let count = g.count in
         let row : slice_get rows i ≡ Some (get_or rows i no_row) = slice_get-get_or rows i no_row lt in
         let from : slice_get entries i ≡ Some (get_or entries i no_entry) = slice_get-get_or entries i no_entry (omega arith) in
         let to : slice_get entries (i + 1) ≡ Some (get_or entries (i + 1) no_entry) = slice_get-get_or entries (i + 1) no_entry (omega arith) in
         let s = g.along i (get_or rows i no_row) (get_or entries i no_entry) (get_or entries (i + 1) no_entry) row from to in
-        s.instr)
+        record { instr = s.instr; short = s.long ∙ sym (never_short code (get_or rows i no_row).at) })
 
 pub within_entries : (code : List ElfSegment) (entries : List Entry) (rows : List StepRow) (i : ℕ) → GoAlong code entries rows → IsFirstJumpEnd rows i → i < length entries
 within_entries code entries rows i g f =

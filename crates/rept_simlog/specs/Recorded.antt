@@ -1,7 +1,7 @@
 -- What is recorded of a log, and why it isn't.
 use Rattle.std.specs.Prelude.{◌≡◌, ℕ, ◌%◌, ◌<◌, List, length, None, Some, Ok, Err}
 use Rattle.rept_isa.specs.declared.instr.Instr.{Instr}
-use Rattle.rept_path.specs.Code.{look, flow_of}
+use Rattle.rept_path.specs.Code.{words, look, flow_of}
 use Rattle.rept_encode.specs.Walkable.{MayLead}
 use Rattle.rept_elf.specs.Segments.{ElfSegment, segments}
 use Rattle.rept_elf.specs.Checks.{checks, first_failure}
@@ -24,8 +24,8 @@ IsLogFault log NoSteps = ⊥
 
 -- why no step is added between two entries
 abbrev pub IsStepRefused : List ElfSegment → Entry → Entry → Refusal → Type 0
-IsStepRefused code from to (NoInstruction k fault) = (from.line ≡ k) × (look code from.address ≡ Err fault)
-IsStepRefused code from to (NoStep k) = (to.line ≡ k) × ((instr : Instr) × (look code from.address ≡ Ok instr) × (MayLead (flow_of instr) from.address to.address → from.address % 4 ≡ 0 → ⊥))
+IsStepRefused code from to (NoInstruction k fault) = (from.line ≡ k) × (look (words code) from.address ≡ Err fault)
+IsStepRefused code from to (NoStep k) = (to.line ≡ k) × ((instr : Instr) × (look (words code) from.address ≡ Ok instr) × (MayLead (flow_of instr) from.address to.address → from.address % 4 ≡ 0 → ⊥))
 IsStepRefused code from to OutOfMemory = Unit {0}
 IsStepRefused code from to (JumpEnds k) = ⊥
 IsStepRefused code from to NoSteps = ⊥

@@ -1,12 +1,12 @@
 -- The steps that entries of a log tell over a program.
-use Rattle.std.specs.Prelude.{◌≡◌, ℕ, ◌+◌, ◌%◌, ◌<◌, List, [], ◌∷◌, ◌++◌, length, slice_get, Some, Ok, Err}
+use Rattle.std.specs.Prelude.{◌≡◌, ℕ, ◌+◌, ◌%◌, ◌<◌, List, [], ◌∷◌, ◌++◌, length, slice_get, false, Some, Ok, Err}
 use Rattle.rept_isa.specs.declared.instr.Instr.{Instr}
 use Rattle.rept_isa.specs.declared.row.StepRow.{StepRow}
 use Rattle.rept_steps.specs.Linked.{EndBefore}
 use Rattle.rept_elf.specs.Segments.{ElfSegment}
 use Rattle.rept_trace.specs.Stream.{header, plain}
 use Rattle.rept_path.specs.declared.fault.PathFault.{PathFault}
-use Rattle.rept_path.specs.Code.{look, flow_of}
+use Rattle.rept_path.specs.Code.{words, look, flow_of}
 use Rattle.rept_path.specs.Traced.{IsTraced}
 use Rattle.rept_encode.specs.Walkable.{MayLead, IsFirstJumpEnd}
 use Rattle.rept_simlog.specs.declared.log.Entry.{Entry}
@@ -15,7 +15,8 @@ use Rattle.rept_simlog.specs.declared.log.Entry.{Entry}
 pub record IsStepBetween (code : List ElfSegment) (from to : Entry) (row : StepRow) : Type 0 where
   pub at : row.at ≡ from.address
   pub next : row.next ≡ to.address
-  pub instr : look code row.at ≡ Ok row.instr
+  pub instr : look (words code) row.at ≡ Ok row.instr
+  pub long : row.short ≡ false
 
 -- One row was added, the step between two entries.
 pub record AddsRow (code : List ElfSegment) (old new : List StepRow) (from to : Entry) : Type 0 where
@@ -36,7 +37,7 @@ pub record GoAlong (code : List ElfSegment) (entries : List Entry) (rows : List 
 -- An instruction stands at the first entry's address, and may lead to the second one's.
 pub record MayStep (code : List ElfSegment) (from to : Entry) : Type 0 where
   pub instr : Instr
-  pub looked : look code from.address ≡ Ok instr
+  pub looked : look (words code) from.address ≡ Ok instr
   pub leads : MayLead (flow_of instr) from.address to.address
   pub aligned : from.address % 4 ≡ 0
 
@@ -53,7 +54,7 @@ pub record LacksInstruction (code : List ElfSegment) (entries : List Entry) (num
   pub early : i + 1 < length entries
   pub first : MayGo code entries i
   pub line : entry.line ≡ number
-  pub looked : look code entry.address ≡ Err fault
+  pub looked : look (words code) entry.address ≡ Err fault
 
 -- The entry of this line number is the first one to which the code can't come from the one before it.
 pub record LacksStep (code : List ElfSegment) (entries : List Entry) (number : ℕ) : Type 0 where
@@ -65,7 +66,7 @@ pub record LacksStep (code : List ElfSegment) (entries : List Entry) (number : �
   pub next : slice_get entries (i + 1) ≡ Some to
   pub first : MayGo code entries i
   pub line : to.line ≡ number
-  pub looked : look code from.address ≡ Ok instr
+  pub looked : look (words code) from.address ≡ Ok instr
   pub none : MayLead (flow_of instr) from.address to.address → from.address % 4 ≡ 0 → ⊥
 
 -- The entry of this line number is the first call that directly follows an uninferable jump.
@@ -83,5 +84,5 @@ pub record Records (code : List ElfSegment) (entries : List Entry) (trace : List
   pub rows : List StepRow
   pub along : GoAlong code entries rows
   pub rest : List ℕ
-  pub layout : trace ≡ header ++ rest
-  pub path : (last : Entry) → slice_get entries (length rows) ≡ Some last → IsTraced (record { code = code; stream = plain rest; from = 0; pc = last.address }) 0 rows
+  pub layout : trace ≡ header false ++ rest
+  pub path : (last : Entry) → slice_get entries (length rows) ≡ Some last → IsTraced (record { code = words code; stream = plain false rest; from = 0; pc = last.address }) 0 rows

@@ -12,7 +12,7 @@ use Rattle.rept_trace.specs.declared.packet.Packet.TheVariants.{Start, Context, 
 use Rattle.rept_trace.specs.declared.fault.TraceFault.{TraceFault}
 use Rattle.rept_trace.specs.declared.fault.TraceFault.TheVariants.{BadMagic, BadHeader, Truncated, Optional, Trap, BadSupport, StreamPastEnd, Rest}
 use Rattle.rept_trace.specs.declared.parameters.Parameters.{Parameters}
-use Rattle.rept_trace.specs.Grammar.{Stamp, changes, map_width, after_stamp, stamp_of, IsReport, IsStamp, IsPacket, Spells}
+use Rattle.rept_trace.specs.Grammar.{Stamp, changes, address_lsb, address_width, map_width, after_stamp, stamp_of, IsReport, IsStamp, IsPacket, Spells}
 use Rattle.rept_trace.specs.Shortened.{filler, IsShortened}
 
 -- the bit at a place that stands in the payload
@@ -85,12 +85,12 @@ module _ (a b : List ℕ) (same : (i : ℕ) → bit_of a i ≡ bit_of b i) where
   same_change : (i : ℕ) → changes a i ≡ changes b i
   same_change i = rw (same i, same (i - 1)) refl
 
-  same_report : (i : ℕ) (r : Report) → IsReport a i r → IsReport b i r
-  same_report i r s = record {
-    address = s.address ∙ ap (λ n. 4 * n) (same_field i 30);
-    asked = s.asked ∙ same_change (i + 30);
-    discontinuity = s.discontinuity ∙ same_change (i + 31);
-    returned = s.returned ∙ same_change (i + 32);
+  same_report : (w : Parameters) (i : ℕ) (r : Report) → IsReport w a i r → IsReport w b i r
+  same_report w i r s = record {
+    address = s.address ∙ ap (λ n. 2 ^ address_lsb w * n) (same_field i (address_width w));
+    asked = s.asked ∙ same_change (i + address_width w);
+    discontinuity = s.discontinuity ∙ same_change (i + (address_width w + 1));
+    returned = s.returned ∙ same_change (i + (address_width w + 2));
   }
 
   moved : (i n v : ℕ) → field a i n ≡ v → field b i n ≡ v
@@ -107,13 +107,13 @@ module _ (a b : List ℕ) (same : (i : ℕ) → bit_of a i ≡ bit_of b i) where
         branch_bit = s.branch_bit ∙ same 4;
         level = s.level ∙ same_field 5 2;
         stamp = same_stamp w 7 (stamp_of time context) s.stamp;
-        place = s.place ∙ ap (λ n. 4 * n) (same_field (after_stamp w 7) 30);
+        place = s.place ∙ ap (λ n. 2 ^ address_lsb w * n) (same_field (after_stamp w 7) (address_width w));
       }
   same_packet w (Context privilege time context) s = record { format = moved 0 2 3 s.format; subformat = moved 2 2 2 s.subformat; level = s.level ∙ same_field 4 2; stamp = same_stamp w 6 (stamp_of time context) s.stamp }
   same_packet w (Support enabled status) s = record { format = moved 0 2 3 s.format; subformat = moved 2 2 3 s.subformat; enable = s.enable ∙ same 4; mode = moved 5 1 0 s.mode; number = moved 6 2 _ s.number; options = moved 8 5 0 s.options }
-  same_packet w (Address report) s = record { format = moved 0 2 2 s.format; fields = same_report 2 report s.fields }
+  same_packet w (Address report) s = record { format = moved 0 2 2 s.format; fields = same_report w 2 report s.fields }
   same_packet w (Map map) s = record { format = moved 0 2 1 s.format; count = moved 2 5 0 s.count; bits = s.bits ∙ same_field 7 31 }
-  same_packet w (MapAddress count map report) s = record { format = moved 0 2 1 s.format; some = s.some; number = s.number ∙ same_field 2 5; bits = s.bits ∙ same_field 7 (map_width count); fields = same_report (7 + map_width count) report s.fields }
+  same_packet w (MapAddress count map report) s = record { format = moved 0 2 1 s.format; some = s.some; number = s.number ∙ same_field 2 5; bits = s.bits ∙ same_field 7 (map_width count); fields = same_report w (7 + map_width count) report s.fields }
 
   same_spelling : (w : Parameters) (k : ℕ) (x : Result Packet TraceFault) → Spells w k a x → Spells w k b x
   same_spelling w k (Ok packet) s = same_packet w packet s

@@ -1,9 +1,9 @@
 -- Which packet the bits of a payload spell: Efficient Trace for RISC-V 2.0, the chapter on the encoder's output
 -- packets, its tables of formats 3 (start, context, support), 2 (address) and 1 (branch map). The widths of time and context
--- are parameters, and the other parameters are fixed: addresses of 32 bits whose lowest two are left out, privilege of 2 bits, an
--- encoder mode of 1 bit and 5 bits of options, and no return stack, call counter, jump cache, branch prediction or sequentially
--- inferred jump. Fields are numbered by their first bit.
-use Rattle.std.specs.Prelude.{◌≡◌, ◌≢◌, ℕ, ◌+◌, ◌-◌, ◌*◌, ◌<◌, nat_lt, List, Bool, not, Result, Ok, Err, if◌then◌else◌, ◌⊎◌}
+-- and the lowest bits that addresses leave out are parameters, and the other parameters are fixed: addresses of 32 bits, privilege of
+-- 2 bits, an encoder mode of 1 bit and 5 bits of options, and no return stack, call counter, jump cache, branch prediction or
+-- sequentially inferred jump. Fields are numbered by their first bit.
+use Rattle.std.specs.Prelude.{◌≡◌, ◌≢◌, ℕ, ◌+◌, ◌-◌, ◌*◌, ◌^◌, ◌<◌, nat_lt, List, Bool, not, Result, Ok, Err, if◌then◌else◌, ◌⊎◌}
 use Rattle.rept_trace.specs.declared.parameters.Parameters.{Parameters}
 use Rattle.rept_trace.specs.declared.packet.Report.{Report}
 use Rattle.rept_trace.specs.declared.packet.Qual.{Qual}
@@ -41,20 +41,32 @@ pub record StartFields : Type 0 where
   pub stamp : Stamp
   pub address : ℕ
 
--- From bit i on: 30 bits of address difference, notify, updiscon, irreport.
-pub record IsReport (payload : List ℕ) (i : ℕ) (report : Report) : Type 0 where
-  pub address : report.difference ≡ 4 * field payload i 30
-  pub asked : report.notify ≡ changes payload (i + 30)
-  pub discontinuity : report.updiscon ≡ changes payload (i + 31)
-  pub returned : report.irreport ≡ changes payload (i + 32)
+-- the lowest bits of an address that aren't sent, since they are 0 (`iaddress_lsb_p`): with compressed code one, else two
+abbrev pub address_lsb : Parameters → ℕ
+address_lsb widths = if widths.halves then 1 else 2
+
+-- the bits of an address that are sent
+abbrev pub address_width : Parameters → ℕ
+address_width widths = 32 - address_lsb widths
+
+-- the address, or the difference of addresses, that is sent from bit i on
+abbrev pub sent_address : Parameters → List ℕ → ℕ → ℕ
+sent_address widths payload i = 2 ^ address_lsb widths * field payload i (address_width widths)
+
+-- From bit i on: a difference of addresses, notify, updiscon, irreport.
+pub record IsReport (widths : Parameters) (payload : List ℕ) (i : ℕ) (report : Report) : Type 0 where
+  pub address : report.difference ≡ sent_address widths payload i
+  pub asked : report.notify ≡ changes payload (i + address_width widths)
+  pub discontinuity : report.updiscon ≡ changes payload (i + (address_width widths + 1))
+  pub returned : report.irreport ≡ changes payload (i + (address_width widths + 2))
 
 -- no field of time or context is sent
-abbrev pub untimed : Parameters
-untimed = record { time_width = 0; context_width = 0 }
+abbrev pub untimed : Bool → Parameters
+untimed halves = record { time_width = 0; context_width = 0; halves = halves }
 
 -- times of 64 bits, contexts of 32 bits
-abbrev pub timed : Parameters
-timed = record { time_width = 64; context_width = 32 }
+abbrev pub timed : Bool → Parameters
+timed halves = record { time_width = 64; context_width = 32; halves = halves }
 
 -- From bit i on: the time and then the context, each of its width. A field of no bits is 0.
 pub record IsStamp (widths : Parameters) (payload : List ℕ) (i : ℕ) (stamp : Stamp) : Type 0 where
@@ -72,7 +84,7 @@ pub record IsStart (widths : Parameters) (payload : List ℕ) (start : StartFiel
   pub branch_bit : start.branch ≡ bit_of payload 4
   pub level : start.privilege ≡ field payload 5 2
   pub stamp : IsStamp widths payload 7 start.stamp
-  pub place : start.address ≡ 4 * field payload (after_stamp widths 7) 30
+  pub place : start.address ≡ sent_address widths payload (after_stamp widths 7)
 
 -- format 3, subformat 2
 pub record IsContext (widths : Parameters) (payload : List ℕ) (privilege : ℕ) (sent : Stamp) : Type 0 where
@@ -91,9 +103,9 @@ pub record IsSupport (payload : List ℕ) (enabled : Bool) (status : Qual) : Typ
   pub options : field payload 8 5 ≡ 0
 
 -- format 2
-pub record IsAddress (payload : List ℕ) (report : Report) : Type 0 where
+pub record IsAddress (widths : Parameters) (payload : List ℕ) (report : Report) : Type 0 where
   pub format : field payload 0 2 ≡ 2
-  pub fields : IsReport payload 2 report
+  pub fields : IsReport widths payload 2 report
 
 -- format 1 with a branch count of 0
 pub record IsMap (payload : List ℕ) (map : ℕ) : Type 0 where
@@ -101,13 +113,19 @@ pub record IsMap (payload : List ℕ) (map : ℕ) : Type 0 where
   pub count : field payload 2 5 ≡ 0
   pub bits : map ≡ field payload 7 31
 
+-- the fields of a map with an address after its format
+pub record MapFields : Type 0 where
+  pub count : ℕ
+  pub map : ℕ
+  pub report : Report
+
 -- format 1 with a branch count above 0
-pub record IsMapAddress (payload : List ℕ) (count map : ℕ) (report : Report) : Type 0 where
+pub record IsMapAddress (widths : Parameters) (payload : List ℕ) (sent : MapFields) : Type 0 where
   pub format : field payload 0 2 ≡ 1
-  pub some : 0 < count
-  pub number : count ≡ field payload 2 5
-  pub bits : map ≡ field payload 7 (map_width count)
-  pub fields : IsReport payload (7 + map_width count) report
+  pub some : 0 < sent.count
+  pub number : sent.count ≡ field payload 2 5
+  pub bits : sent.map ≡ field payload 7 (map_width sent.count)
+  pub fields : IsReport widths payload (7 + map_width sent.count) sent.report
 
 abbrev pub stamp_of : ℕ → ℕ → Stamp
 stamp_of time context = record { time = time; context = context }
@@ -118,9 +136,9 @@ IsPacket widths payload (Start branch privilege address time context) =
     IsStart widths payload (record { branch = branch; privilege = privilege; stamp = stamp_of time context; address = address })
 IsPacket widths payload (Context privilege time context) = IsContext widths payload privilege (stamp_of time context)
 IsPacket widths payload (Support enabled status) = IsSupport payload enabled status
-IsPacket widths payload (Address report) = IsAddress payload report
+IsPacket widths payload (Address report) = IsAddress widths payload report
 IsPacket widths payload (Map map) = IsMap payload map
-IsPacket widths payload (MapAddress count map report) = IsMapAddress payload count map report
+IsPacket widths payload (MapAddress count map report) = IsMapAddress widths payload (record { count = count; map = map; report = report })
 
 -- format 3, subformat 3, with an encoder mode or an option
 pub record IsBadSupport (payload : List ℕ) : Type 0 where

@@ -1,5 +1,6 @@
 pub mod Fits
 pub mod Grammar
+pub mod Header
 pub mod Opened
 pub mod Packets
 pub mod Shortened

@@ -1,12 +1,13 @@
 -- A trace file of one stream: a header of eight bytes, and then for each packet a length byte and so many bytes of payload. A
--- length of 0 is skipped and is no packet. The header and the lengths are this project's own; what a payload spells
+-- length of 0 is skipped and is no packet. The lengths are this project's own; what a payload spells
 -- is Efficient Trace's, in Grammar.
-use Rattle.std.specs.Prelude.{◌≡◌, ◌≢◌, ℕ, ◌+◌, ◌<◌, ◌≤◌, List, [], ◌∷◌, ◌++◌, length, replicate, slice_index, Option, Some, None, Result, Ok, Err, ◌⊎◌}
+use Rattle.std.specs.Prelude.{◌≡◌, ℕ, ◌+◌, ◌<◌, List, [], ◌∷◌, ◌++◌, length, replicate, Bool, Option, Some, None, Result, Ok, Err}
 use Rattle.rept_trace.specs.declared.packet.Packet.{Packet}
 use Rattle.rept_trace.specs.declared.fault.TraceFault.{TraceFault}
 use Rattle.rept_trace.specs.declared.fault.TraceFault.TheVariants.{BadMagic, BadHeader, Truncated, Optional, Trap, BadSupport, StreamPastEnd, Rest}
 use Rattle.rept_trace.specs.declared.parameters.Parameters.{Parameters}
 use Rattle.rept_trace.specs.Grammar.{untimed, IsPacket, IsRefused}
+use Rattle.rept_trace.specs.Header.{one_stream, heading_of, header_bytes}
 
 -- bytes of packets, by an encoder that sends fields of these widths
 pub record Stream : Type 0 where
@@ -14,35 +15,12 @@ pub record Stream : Type 0 where
   pub bytes : List ℕ
 
 -- without times and contexts
-abbrev pub plain : List ℕ → Stream
-plain bytes = record { widths = untimed; bytes = bytes }
+abbrev pub plain : Bool → List ℕ → Stream
+plain halves bytes = record { widths = untimed halves; bytes = bytes }
 
--- the text RTR1, one stream, and three zero bytes
-abbrev pub header : List ℕ
-header = 82 ∷ 84 ∷ 82 ∷ 49 ∷ 1 ∷ 0 ∷ 0 ∷ 0 ∷ []
-
--- the bytes are too few, or one of the first four differs
-abbrev pub IsBadMagic : List ℕ → Type 0
-IsBadMagic bytes = (length bytes < 8) ⊎ ((i : ℕ) × (i < 4) × (slice_index bytes i ≢ slice_index header i))
-
--- byte i, of the last four of the header, is the first that differs
-pub record IsBadByte (bytes : List ℕ) (i : ℕ) : Type 0 where
-  pub whole : 8 ≤ length bytes
-  pub from : 4 ≤ i
-  pub below : i < 8
-  pub differs : slice_index bytes i ≢ slice_index header i
-  pub first : (j : ℕ) → j < i → slice_index bytes j ≡ slice_index header j
-
--- The bytes don't begin with the header.
-abbrev pub IsHeaderFault : List ℕ → TraceFault → Type 0
-IsHeaderFault bytes BadMagic = IsBadMagic bytes
-IsHeaderFault bytes (BadHeader i) = IsBadByte bytes i
-IsHeaderFault bytes (Truncated k) = ⊥
-IsHeaderFault bytes (Optional k) = ⊥
-IsHeaderFault bytes (Trap k) = ⊥
-IsHeaderFault bytes (BadSupport k) = ⊥
-IsHeaderFault bytes (StreamPastEnd s) = ⊥
-IsHeaderFault bytes (Rest offset) = ⊥
+-- the header of a file of one stream: the text RTR1, the count 1, whether code may be compressed, and two zero bytes
+abbrev pub header : Bool → List ℕ
+header halves = header_bytes one_stream (heading_of 1 halves)
 
 -- The bytes are some lengths of 0 and then these.
 pub record AreAfterZeros (bytes rest : List ℕ) : Type 0 where

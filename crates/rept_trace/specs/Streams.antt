@@ -1,30 +1,16 @@
--- A trace file of several streams of packets, one of each hart: the text RTR2, the count of the streams, 1 to 64, and three zero bytes; then
--- for each stream its length in 32 bits, the low byte first, and so many bytes. This project's own.
-use Rattle.std.specs.Prelude.{◌≡◌, ℕ, ◌+◌, ◌<◌, ◌≤◌, ◌==◌, ◌&&◌, nat_lt, nat_le, List, [], ◌∷◌, ◌++◌, length, drop, slice_index, Bool, true, false, if◌then◌else◌, Result, Ok, Err, ◌⊎◌}
+-- A trace file of several streams of packets, one of each hart: a header of eight bytes; then for each stream its length in 32 bits, the low byte first,
+-- and so many bytes. This project's own.
+use Rattle.std.specs.Prelude.{◌≡◌, ℕ, ◌+◌, ◌<◌, ◌≤◌, List, [], ◌∷◌, ◌++◌, length, drop, Bool, Result, Ok, Err, ◌⊎◌}
 use Rattle.byteorder.specs.Endian.{little_number}
 use Rattle.rept_trace.specs.declared.fault.TraceFault.{TraceFault}
 use Rattle.rept_trace.specs.declared.fault.TraceFault.TheVariants.{BadMagic, BadHeader, Truncated, Optional, Trap, BadSupport, StreamPastEnd, Rest}
+use Rattle.rept_trace.specs.declared.header.Heading.{Heading}
+use Rattle.rept_trace.specs.Header.{several_streams, heading_of, HasHeader, IsHeaderFault}
 
--- the text RTR2, so many streams, and three zero bytes
-abbrev pub streams_header : ℕ → List ℕ
-streams_header count = 82 ∷ 84 ∷ 82 ∷ 50 ∷ count ∷ 0 ∷ 0 ∷ 0 ∷ []
-
--- whether this may be byte i of the header
-abbrev pub is_header_byte : ℕ → ℕ → Bool
-is_header_byte i byte = if i == 4 then nat_lt 0 byte && nat_le byte 64 else byte == slice_index (streams_header 0) i
-
--- byte i is the first of the header that is wrong
-pub record IsWrongByte (bytes : List ℕ) (i : ℕ) : Type 0 where
-  pub whole : 8 ≤ length bytes
-  pub below : i < 8
-  pub wrong : is_header_byte i (slice_index bytes i) ≡ false
-  pub first : (j : ℕ) → j < i → is_header_byte j (slice_index bytes j) ≡ true
-
--- the bytes are the header of so many streams, and then the rest
-pub record HasHeader (bytes : List ℕ) (count : ℕ) (rest : List ℕ) : Type 0 where
-  pub some : 0 < count
-  pub few : count ≤ 64
-  pub layout : bytes ≡ streams_header count ++ rest
+-- the streams, each as its bytes, and whether code may be compressed
+pub record StreamFile : Type 0 where
+  pub halves : Bool
+  pub streams : List (List ℕ)
 
 -- the bytes are the length of a stream, its bytes, and then the rest
 pub record IsStreamThen (bytes stream rest : List ℕ) : Type 0 where
@@ -51,22 +37,23 @@ pub record IsCutAfter (bytes : List ℕ) (count : ℕ) : Type 0 where
 
 -- the header counts more streams than this one, and it is cut short
 abbrev pub IsCutStream : List ℕ → ℕ → Type 0
-IsCutStream bytes s = (count : ℕ) × (rest : List ℕ) × HasHeader bytes count rest × (s < count) × IsCutAfter rest s
+IsCutStream bytes s = (said : Heading) × (rest : List ℕ) × HasHeader several_streams bytes said rest × (s < said.count) × IsCutAfter rest s
 
 -- all streams are whole, and bytes follow the last one from this offset on
 pub record GoesOn (bytes : List ℕ) (offset : ℕ) : Type 0 where
   pub streams : List (List ℕ)
   pub rest : List ℕ
   pub after : List ℕ
-  pub header : HasHeader bytes (length streams) rest
+  pub halves : Bool
+  pub header : HasHeader several_streams bytes (heading_of (length streams) halves) rest
   pub whole : AreStreamsThen rest streams after
   pub some : 0 < length after
   pub place : offset + length after ≡ length bytes
 
 -- The bytes are no file of streams, and this is the first reason.
 abbrev pub AreNoStreams : List ℕ → TraceFault → Type 0
-AreNoStreams bytes BadMagic = (length bytes < 8) ⊎ ((i : ℕ) × (i < 4) × IsWrongByte bytes i)
-AreNoStreams bytes (BadHeader i) = (4 ≤ i) × IsWrongByte bytes i
+AreNoStreams bytes BadMagic = IsHeaderFault several_streams bytes BadMagic
+AreNoStreams bytes (BadHeader i) = IsHeaderFault several_streams bytes (BadHeader i)
 AreNoStreams bytes (Truncated k) = ⊥
 AreNoStreams bytes (Optional k) = ⊥
 AreNoStreams bytes (Trap k) = ⊥
@@ -75,10 +62,10 @@ AreNoStreams bytes (StreamPastEnd s) = IsCutStream bytes s
 AreNoStreams bytes (Rest offset) = GoesOn bytes offset
 
 -- The bytes are the file of these streams.
-abbrev pub AreStreams : List ℕ → List (List ℕ) → Type 0
-AreStreams bytes streams = (rest : List ℕ) × HasHeader bytes (length streams) rest × AreStreamsThen rest streams []
+abbrev pub AreStreams : List ℕ → StreamFile → Type 0
+AreStreams bytes file = (rest : List ℕ) × HasHeader several_streams bytes (heading_of (length file.streams) file.halves) rest × AreStreamsThen rest file.streams []
 
 -- what the bytes are
-abbrev pub Opens : List ℕ → Result (List (List ℕ)) TraceFault → Type 0
-Opens bytes (Ok streams) = AreStreams bytes streams
+abbrev pub Opens : List ℕ → Result StreamFile TraceFault → Type 0
+Opens bytes (Ok file) = AreStreams bytes file
 Opens bytes (Err fault) = AreNoStreams bytes fault

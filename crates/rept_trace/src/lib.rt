@@ -2,6 +2,7 @@
 #![tactic(auto)]
 
 pub mod fault;
+pub mod header;
 pub mod packet;
 pub mod packets;
 pub mod parameters;

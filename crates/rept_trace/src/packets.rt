@@ -1,15 +1,13 @@
 //! The packets of a trace file, one after the other.
 
-ghost use Rattle.std.specs.Prelude.{◌≡◌, ◌⊎◌, ◌<◌, ◌≤◌, ◌+◌, ◌^◌, List, ◌∷◌, ℕ, length, nat_lt, if◌then◌else◌};
+ghost use Rattle.std.specs.Prelude.{◌≡◌, ◌⊎◌, ◌<◌, ◌≤◌, ◌+◌, ◌^◌, List, ◌∷◌, ℕ, length};
 ghost use Rattle.rept_trace.specs.Stream.{AreAfterZeros};
 
 use crate::fault::TraceFault;
+use crate::header::{ONE, read_header};
 use crate::packet::Packet;
-use crate::parameters::{Parameters, TIMED, UNTIMED};
+use crate::parameters::{Parameters, timed, untimed};
 use crate::read::packet_of;
-
-/// The first bytes of a trace file: the text `RTR1`, one stream, and three zero bytes.
-const HEADER: [u8; 8] = [0x52, 0x54, 0x52, 0x31, 1, 0, 0, 0];
 
 /// The packets of a trace that are left to read. It is `Copy`, so a trace may be read again from any place.
 #[derive(Clone, Copy)]
@@ -22,48 +20,49 @@ pub struct Packets<'a> {
 }
 
 impl<'a> Packets<'a> {
-    ghost use Rattle.std.specs.Prelude.{◌≡◌, ◌++◌, ◌↔◌, ℕ, List, length, IfOk, IfErr, OnErr, Result, Option};
+    ghost use Rattle.std.specs.Prelude.{◌≡◌, ◌++◌, ◌↔◌, ℕ, Bool, List, length, IfOk, IfErr, OnErr, Result, Option};
     ghost use Rattle.rept_trace.specs.declared.packet.Packet.{Packet};
     ghost use Rattle.rept_trace.specs.declared.fault.TraceFault.{TraceFault};
     ghost use Rattle.rept_trace.specs.Fits.{FieldsFit};
     ghost use Rattle.rept_trace.specs.Grammar.{timed, IsPacket, Spells};
     ghost use Rattle.rept_trace.specs.Packets.{rest_of, number_of};
     ghost use Rattle.rept_trace.specs.Shortened.{IsShortened};
-    ghost use Rattle.rept_trace.specs.Stream.{header, plain, IsHeaderFault, Answers, Hold, FailsAfter, Stream};
+    ghost use Rattle.rept_trace.specs.Header.{one_stream, IsHeaderFault};
+    ghost use Rattle.rept_trace.specs.Stream.{header, plain, Answers, Hold, FailsAfter, Stream};
 
-    /// The packets of a trace file, from its first on. The file begins with `RTR1`, the count 1 of its streams and three zero
-    /// bytes, and then has, for each packet, a length byte and so many bytes of payload. `BadMagic` and `BadHeader` are the
-    /// only refusals.
+    /// The packets of a trace file, from its first on. The file begins with `RTR1`, the count 1 of its streams, 1 where code may
+    /// be compressed or else 0, and two zero bytes, and then has, for each packet, a length byte and so many bytes of payload.
+    /// `BadMagic` and `BadHeader` are the only refusals.
     pub fn open(bytes: &'a [u8]) -> Result<Packets<'a>, TraceFault>
-        ensures ok { IfOk result (λ packets.
-            (bytes.now ≡ header ++ (rest_of packets).bytes) × (rest_of packets ≡ plain (rest_of packets).bytes) × (number_of packets ≡ 0)) }
-        ensures err { IfErr result (λ fault. IsHeaderFault bytes.now fault) }
+        ensures ok { IfOk result (λ packets. (halves : Bool) ×
+            (bytes.now ≡ header halves ++ (rest_of packets).bytes) × (rest_of packets ≡ plain halves (rest_of packets).bytes) × (number_of packets ≡ 0)) }
+        ensures err { IfErr result (λ fault. IsHeaderFault one_stream bytes.now fault) }
         ensures every_fault { (fault : TraceFault) →
-            IsHeaderFault bytes.now fault → result ≡ Err fault }
+            IsHeaderFault one_stream bytes.now fault → result ≡ Err fault }
     {
-        if bytes.len() < HEADER.len() {
-            return Err(TraceFault::BadMagic);
-        }
-        for i in 0..HEADER.len() {
-            if bytes[i] != HEADER[i] {
-                return Err(header_fault(i));
-            }
-        }
+        let (heading, rest) = read_header(ONE, bytes)?;
         Ok(Packets {
-            rest: &bytes[HEADER.len()..],
-            widths: UNTIMED,
+            rest,
+            widths: untimed(heading.halves),
             number: 0,
         })
     }
 
+    /// Whether byte 5 of the header is 1: code may be compressed, and addresses are multiples of 2. Else they are multiples of 4.
+    pub fn halves(&self) -> bool
+        ensures { result ≡ (rest_of self.now).widths.halves }
+    {
+        self.widths.halves
+    }
+
     /// The packets of one stream of several, from its first on.
-    pub(crate) fn timed(bytes: &'a [u8]) -> Packets<'a>
-        ensures rest { rest_of result ≡ record { widths = timed; bytes = bytes.now } }
+    pub(crate) fn timed(bytes: &'a [u8], halves: bool) -> Packets<'a>
+        ensures rest { rest_of result ≡ record { widths = timed halves; bytes = bytes.now } }
         ensures first { number_of result ≡ 0 }
     {
         Packets {
             rest: bytes,
-            widths: TIMED,
+            widths: timed(halves),
             number: 0,
         }
     }
@@ -146,18 +145,6 @@ impl<'a> Packets<'a> {
         self.rest = rest;
         self.number += 1;
         Ok(Some(packet))
-    }
-}
-
-/// The fault of a header whose first wrong byte is this one.
-pub(crate) fn header_fault(i: usize) -> TraceFault
-    requires { i < 8 }
-    ensures { result ≡ (if nat_lt i 4 then TraceFault.BadMagic else TraceFault.BadHeader i) }
-{
-    if i < 4 {
-        TraceFault::BadMagic
-    } else {
-        TraceFault::BadHeader(i as u32)
     }
 }
 

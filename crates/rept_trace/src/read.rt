@@ -4,7 +4,7 @@ ghost use Rattle.std.specs.Prelude.{◌≡◌, ◌+◌, ◌<◌, ◌≤◌, ℕ,
 ghost use Rattle.rept_word.specs.Bits.{field};
 ghost use Rattle.rept_word.specs.Cursor.{IsAt};
 ghost use Rattle.rept_trace.specs.declared.parameters.Parameters.{Parameters as Widths};
-ghost use Rattle.rept_trace.specs.Grammar.{map_width, qual_number, after_stamp, stamp_of, IsReport, IsStamp, IsPacket, Spells};
+ghost use Rattle.rept_trace.specs.Grammar.{address_width, sent_address, map_width, qual_number, after_stamp, stamp_of, IsReport, IsStamp, IsPacket, Spells};
 
 use crate::fault::TraceFault;
 use crate::packet::{Packet, Qual, Report};
@@ -20,18 +20,18 @@ pub fn packet_of(payload: &[u8], widths: Parameters, number: u64) -> Result<Pack
     let mut cursor = BitCursor::new(payload);
     match cursor.take(2) {
         0 => Err(TraceFault::Optional(number)),
-        1 => Ok(branches(&mut cursor)),
+        1 => Ok(branches(&mut cursor, widths)),
         2 => Ok(Packet::Address {
-            report: report(&mut cursor),
+            report: report(&mut cursor, widths),
         }),
         _ => synchronisation(&mut cursor, widths, number),
     }
 }
 
 /// The rest of a packet of format 1.
-fn branches(cursor: &mut BitCursor<'_>) -> Packet
+fn branches(cursor: &mut BitCursor<'_>, widths: Parameters) -> Packet
     ensures { (payload : List ℕ) →
-        IsAt cursor.old payload 2 → field payload 0 2 ≡ 1 → (widths : Widths) → IsPacket widths payload result }
+        IsAt cursor.old payload 2 → field payload 0 2 ≡ 1 → IsPacket widths payload result }
 {
     let count = cursor.take(5) as u8;
     if count == 0 {
@@ -39,7 +39,7 @@ fn branches(cursor: &mut BitCursor<'_>) -> Packet
         return Packet::Map { map };
     }
     let map = cursor.take(width_of(count)) as u32;
-    let report = report(cursor);
+    let report = report(cursor, widths);
     Packet::MapAddress { count, map, report }
 }
 
@@ -79,7 +79,7 @@ fn start(cursor: &mut BitCursor<'_>, widths: Parameters) -> Packet
     let branch = cursor.take(1) == 1;
     let privilege = cursor.take(2) as u8;
     let (time, context) = stamp(cursor, widths);
-    let address = cursor.take(30) as u32 * 4;
+    let address = address(cursor, widths);
     Packet::Start {
         branch,
         privilege,
@@ -119,17 +119,30 @@ fn support(cursor: &mut BitCursor<'_>, number: u64) -> Result<Packet, TraceFault
     }
 }
 
-/// A difference with its three flags, each of which says something where it differs from the bit before it.
-fn report(cursor: &mut BitCursor<'_>) -> Report
-    ensures { (payload : List ℕ) (i : ℕ) → IsAt cursor.old payload i → IsReport payload i result }
+/// An address, or a difference of addresses, whose lowest bits aren't sent.
+fn address(cursor: &mut BitCursor<'_>, widths: Parameters) -> u32
+    ensures value { (payload : List ℕ) (i : ℕ) →
+        IsAt cursor.old payload i → result ≡ sent_address widths payload i }
+    ensures at { (payload : List ℕ) (i : ℕ) →
+        IsAt cursor.old payload i → IsAt cursor.new payload (i + address_width widths) }
 {
-    let difference = cursor.take(30);
+    if widths.halves {
+        return cursor.take(31) as u32 * 2;
+    }
+    cursor.take(30) as u32 * 4
+}
+
+/// A difference with its three flags, each of which says something where it differs from the bit before it.
+fn report(cursor: &mut BitCursor<'_>, widths: Parameters) -> Report
+    ensures { (payload : List ℕ) (i : ℕ) → IsAt cursor.old payload i → IsReport widths payload i result }
+{
+    let difference = address(cursor, widths);
     let notify = cursor.take(1);
     let updiscon = cursor.take(1);
     let irreport = cursor.take(1);
     Report {
-        difference: difference as u32 * 4,
-        notify: notify != difference >> 29,
+        difference,
+        notify: notify != u64::from(difference >> 31),
         updiscon: updiscon != notify,
         irreport: irreport != updiscon,
     }

@@ -1,121 +1,91 @@
 //! A trace file of several streams.
 
 ghost use Rattle.std.specs.Prelude.{◌≡◌, ◌<◌, List, ℕ, length, slice_get, IfOk, IfErr, IfSome, IfNone, MatchOption, Some};
-ghost use Rattle.rept_trace.specs.Streams.{is_header_byte, HasHeader, AreNoStreams, IsStreamThen, AreStreamsThen, IsStreamCut, IsCutAfter, Opens};
+ghost use Rattle.rept_trace.specs.Streams.{IsStreamThen, AreStreamsThen, IsStreamCut, IsCutAfter, Opens};
 
 use crate::fault::TraceFault;
-use crate::packets::{Packets, header_fault};
+use crate::header::{SEVERAL, read_header};
+use crate::packets::Packets;
 use byteorder::{ByteOrder, LittleEndian};
 use std::marker::Model;
 
-/// The text that begins the file.
-const MAGIC: [u8; 4] = [0x52, 0x54, 0x52, 0x32];
-
-/// The bytes of the header, and those of a stream's length.
-const HEADER: usize = 8;
-
+/// The bytes of a stream's length.
 const LENGTH: usize = 4;
 
-/// The most streams of a file.
-const MOST: u8 = 64;
-
-/// A trace file of several streams of packets, one of each hart, that are all in the file whole. Streams are numbered from 0. Contracts see the list of the streams, each as its bytes.
+/// A trace file of several streams of packets, one of each hart, that are all in the file whole. Streams are numbered from 0. Contracts see the list of the streams, each as its bytes,
+/// and whether code may be compressed.
 #[derive(Drop)]
 pub struct Streams<'a> {
     count: u32,
+    halves: bool,
     rest: &'a [u8],
 }
 
 impl<'a> Model for Streams<'a> {
-    ghost use Rattle.std.specs.Prelude.{List, ℕ, []};
+    ghost use Rattle.std.specs.Prelude.{[]};
     ghost use Rattle.rept_trace.specs.Opened.{streams_in};
-    ghost use Rattle.rept_trace.specs.Streams.{AreStreamsThen};
+    ghost use Rattle.rept_trace.specs.Streams.{StreamFile, AreStreamsThen};
 
-    ghost Value = { List (List ℕ) };
+    ghost Value = { StreamFile };
 
-    ghost view = { λ s. streams_in s.count s.rest.now };
+    ghost view = { λ s. record { halves = s.halves; streams = streams_in s.count s.rest.now } };
 
     ghost invariant = { λ s. AreStreamsThen s.rest.now (streams_in s.count s.rest.now) [] };
 }
 
 impl<'a> Streams<'a> {
-    ghost use Rattle.std.specs.Prelude.{◌≡◌, ◌<◌, List, ℕ, length, slice_get, Some, Result};
+    ghost use Rattle.std.specs.Prelude.{◌≡◌, ◌<◌, length, slice_get, Some, Result};
     ghost use Rattle.rept_trace.specs.declared.fault.TraceFault.{TraceFault};
     ghost use Rattle.rept_trace.specs.Grammar.{timed};
     ghost use Rattle.rept_trace.specs.Packets.{rest_of, number_of};
-    ghost use Rattle.rept_trace.specs.Streams.{Opens};
+    ghost use Rattle.rept_trace.specs.Streams.{StreamFile, Opens};
 
-    /// The streams of a trace file. The file begins with `RTR2`, the count of its streams, 1 to 64, and three zero bytes, and then has, for each stream, its
+    /// The streams of a trace file. The file begins with `RTR2`, the count of its streams, 1 to 64, 1 where code may be compressed or else 0, and two zero bytes, and then has, for each stream, its
     /// length in 32 bits and so many bytes of packets. The refusals are, in this order, `BadMagic`, `BadHeader`, `StreamPastEnd` of the first
     /// stream that isn't whole, and `Rest`. The packets aren't looked at: a stream of no bytes is a stream. No memory is taken.
     pub fn open(bytes: &'a [u8]) -> Result<Streams<'a>, TraceFault>
         ensures opens { Opens bytes.now result }
 
         // The bytes are nothing else.
-        ensures only { (found : Result (List (List ℕ)) TraceFault) → Opens bytes.now found → result ≡ found }
+        ensures only { (found : Result StreamFile TraceFault) → Opens bytes.now found → result ≡ found }
     {
         find_streams(bytes)
     }
 
     /// How many streams there are, 1 to 64.
     pub fn count(&self) -> u32
-        ensures { result ≡ length self.now }
+        ensures { result ≡ length self.now.streams }
     {
         self.count
     }
 
-    /// The packets of the stream of this number, from its first on, with their times and contexts.
+    /// The packets of the stream of this number, from its first on, with their times and contexts. `halves` of each answers the same: whether byte 5 of the header is 1.
     pub fn packets(&self, s: u32) -> Packets<'a>
-        requires { s < length self.now }
-        ensures bytes { slice_get self.now s ≡ Some (rest_of result).bytes }
-        ensures widths { (rest_of result).widths ≡ timed }
+        requires { s < length self.now.streams }
+        ensures bytes { slice_get self.now.streams s ≡ Some (rest_of result).bytes }
+        ensures widths { (rest_of result).widths ≡ timed self.now.halves }
         ensures first { number_of result ≡ 0 }
     {
         match stream_at(self.rest, s) {
-            Some(stream) => Packets::timed(stream),
+            Some(stream) => Packets::timed(stream, self.halves),
             None => unreachable!(),
         }
     }
-}
-
-/// Whether this may be a byte of the header.
-fn is_header_byte(i: usize, byte: u8) -> bool
-    requires { i < 8 }
-    ensures { result ≡ is_header_byte i byte }
-{
-    if i < 4 {
-        byte == MAGIC[i]
-    } else if i == 4 {
-        0 < byte && byte <= MOST
-    } else {
-        byte == 0
-    }
-}
-
-/// The count of streams that the header tells, and the bytes after it.
-fn read_header(bytes: &[u8]) -> Result<(u32, &[u8]), TraceFault>
-    ensures ok { IfOk result (λ header. HasHeader bytes.now header.0 header.1.now) }
-    ensures err { IfErr result (λ fault. AreNoStreams bytes.now fault) }
-{
-    if bytes.len() < HEADER {
-        return Err(TraceFault::BadMagic);
-    }
-    for i in 0..HEADER {
-        if !is_header_byte(i, bytes[i]) {
-            return Err(header_fault(i));
-        }
-    }
-    Ok((u32::from(bytes[4]), &bytes[HEADER..]))
 }
 
 /// The streams of a trace file.
 fn find_streams(bytes: &[u8]) -> Result<Streams<'_>, TraceFault>
     ensures { Opens bytes.now result }
 {
-    let (count, rest) = read_header(bytes)?;
+    let (heading, rest) = read_header(SEVERAL, bytes)?;
+    let count = heading.count;
     let end = after_streams(rest, count)?;
     if end.is_empty() {
-        return Ok(Streams { count, rest });
+        return Ok(Streams {
+            count,
+            halves: heading.halves,
+            rest,
+        });
     }
     Err(TraceFault::Rest((bytes.len() - end.len()) as u64))
 }

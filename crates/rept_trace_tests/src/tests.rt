@@ -235,12 +235,39 @@ fn refuses_headers(rt: HostRuntime) {
         (b"rTR1\x01\x00\x00\x00", TraceFault::BadMagic),
         (b"RTR2\x00\x00\x00\x00\x00", TraceFault::BadMagic),
         (b"RTR1\x02\x00\x00\x00", TraceFault::BadHeader(4)),
-        (b"RTR1\x01\x01\x01\x00", TraceFault::BadHeader(5)),
+        (b"RTR1\x00\x00\x00\x00", TraceFault::BadHeader(4)),
+        (b"RTR1\x01\x02\x01\x00", TraceFault::BadHeader(5)),
+        (b"RTR1\x01\x01\x01\x00", TraceFault::BadHeader(6)),
         (b"RTR1\x01\x00\x09\x00", TraceFault::BadHeader(6)),
         (b"RTR1\x01\x00\x00\x01\x00", TraceFault::BadHeader(7)),
     ] {
         assert_eq!(rt; Packets::open(bytes).err(), Some(fault));
     }
+}
+
+// Packed by hand: with compressed code an address has 31 bits, and the flags stand one bit later. A start packet for 0x10000; the difference 6; the
+// greatest difference, after which notify differs; a map of one branch and the difference 2, after which notify differs.
+#[test]
+fn reads_addresses_of_compressed_code(rt: HostRuntime) -> Result<(), Fail> {
+    let mut packets = Packets::open(
+        b"RTR1\x01\x01\x00\x00\
+        \x03\x13\x00\x40\
+        \x01\x0e\
+        \x05\xfe\xff\xff\xff\x01\
+        \x05\x85\x01\x00\x00\x80",
+    )?;
+    assert!(rt; packets.halves());
+    for packet in [
+        start!(true, 0, 0x10000, 0, 0),
+        address!(6, false, false, false),
+        address!(0xffff_fffe, true, false, false),
+        branches!(1, 1, 2, true, false, false),
+    ] {
+        assert_eq!(rt; next(&mut packets), Ok(Some(packet)));
+    }
+    assert_eq!(rt; next(&mut packets), Ok(None));
+    assert!(rt; !Packets::open(&HEADER)?.halves());
+    Ok(())
 }
 
 #[test]

@@ -75,6 +75,25 @@ fn reads_times_and_contexts(rt: HostRuntime) -> Result<(), Fail> {
     Ok(())
 }
 
+// A start packet of process 1 at the time 1 for 0x10002, whose address has 31 bits from bit 103 on.
+#[test]
+fn reads_streams_of_compressed_code(rt: HostRuntime) -> Result<(), Fail> {
+    let streams = Streams::open(
+        b"RTR2\x01\x01\x00\x00\x10\x00\x00\x00\
+        \x0f\x93\x00\x00\x00\x00\x00\x00\x00\x80\x00\x00\x00\x80\x00\x40",
+    )?;
+    assert_eq!(rt; streams.count(), 1);
+    if streams.count() == 1 {
+        let mut packets = streams.packets(0);
+        assert!(rt; packets.halves());
+        assert_eq!(rt;
+            next(&mut packets),
+            Ok(Some(start!(true, 0, 0x10002, 1, 1)))
+        );
+    }
+    Ok(())
+}
+
 #[test]
 fn refuses_files(rt: HostRuntime) {
     for (bytes, fault) in [
@@ -88,6 +107,7 @@ fn refuses_files(rt: HostRuntime) {
         (b"RTR2\x00\x01\x00\x00", TraceFault::BadHeader(4)),
         (b"RTR2\x41\x00\x00\x00", TraceFault::BadHeader(4)),
         (b"RTR2\x01\x02\x01\x00", TraceFault::BadHeader(5)),
+        (b"RTR2\x01\x01\x01\x00", TraceFault::BadHeader(6)),
         (b"RTR2\x01\x00\x09\x01", TraceFault::BadHeader(6)),
         (b"RTR2\x40\x00\x00\x01", TraceFault::BadHeader(7)),
         (b"RTR2\x01\x00\x00\x00", TraceFault::StreamPastEnd(0)),

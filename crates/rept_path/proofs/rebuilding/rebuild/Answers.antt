@@ -3,9 +3,8 @@ use Rattle.std.proofs.lemmas.Result.{MatchResult-from_both, IfOk-weaker, IfErr-w
 use Rattle.rept_path.specs.declared.fault.PathFault.TheVariants.{OutOfMemory}
 use Rattle.rept_path.specs.Traced.{IsTraced, IsRefusedBy, raw_of}
 use Rattle.rept_path.proofs.OneTrace.{one_path_of, path_or_refusal_of, one_refusal_of}
-use Rattle.rept_dump.specs.Dump.{exe_of}
 use Rattle.rept_path.specs.Stops.{HaveStops}
-use Rattle.rept_path.specs.Traced.{pc_of}
+use Rattle.rept_path.specs.Traced.{pc_of, code_over}
 use Rattle.rept_path.proofs.Decided.{decided}
 use Rattle.rept_path.proofs.NoMemory.{refused_otherwise}
 use Rattle.rept_path.proofs.StopLemmas.{stops_of}
@@ -34,7 +33,7 @@ returns-clause-stops c =
     let packets = c.args.packets in
     let dump = c.args.dump.now in
     IfOk-weaker c.rebuild_once.result (λ path. IsTraced (raw_of packets dump c.args.from) path.skipped path.steps) (λ path. HaveStops (raw_of packets dump c.args.from) path.skipped path.steps)
-    (λ path is. let s = stops_of (exe_of dump) is.0 c.args.from (pc_of dump) path.skipped path.steps is.2 in (is.0, s.0, is.1, s.1)) c.rebuild_once.ensures.path
+    (λ path is. let s = stops_of (code_over packets dump) is.0 c.args.from (pc_of dump) path.skipped path.steps is.2 in (is.0, s.0, is.1, s.1)) c.rebuild_once.ensures.path
 
 pub returns-clause-other : goal.returns-clause-other
 returns-clause-other c = λ fault h. refused_otherwise c.args.packets c.args.dump.now c.args.from fault h

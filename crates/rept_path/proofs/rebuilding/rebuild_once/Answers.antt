@@ -1,44 +1,35 @@
-use Rattle.std.proofs.lemmas.Result.{err_from_is_err_and}
-use Rattle.rept_path.proofs.Whole.{begins, room, walk_refusal, join_refusal, joined}
-use Rattle.rept_path.proofs.PathFacts.{some_steps, carry_code, linked_steps}
+use Rattle.std.proofs.Common.{◌≡◌, ◌⊎◌, ℕ, Bool, refl, subst}
+use Rattle.std.specs.Prelude.{IfOk, IfErr}
+use Rattle.rept_steps.specs.Linked.{EndBefore}
+use Rattle.rept_dump.specs.declared.dump.Dump.{Dump}
+use Rattle.rept_trace.specs.declared.packets.Packets.{Packets}
+use Rattle.rept_trace.specs.Packets.{rest_of, number_of}
+use Rattle.rept_path.specs.declared.program.Program.{Program}
+use Rattle.rept_path.specs.declared.fault.PathFault.TheVariants.{OutOfMemory}
+use Rattle.rept_path.specs.Rows.{CarryCode}
+use Rattle.rept_path.specs.Traced.{RawRun, IsTraced, IsUntraced, raw_of, raw_by}
 use Rattle.rept_path.proofs.rebuilding.rebuild_once.Goals as goal
 
-pub walk_over-requires-clause-starts : goal.walk_over-requires-clause-starts
-walk_over-requires-clause-starts c = let f = c.in-Ok.ensures.ok in begins c.args.packets c.args.from f.0 c.in-Ok.survey c.in-Some.begin f.1 c.in-Some.is
-
-pub walk_over-requires-clause-few : goal.walk_over-requires-clause-few
-walk_over-requires-clause-few c = let f = c.in-Ok.ensures.ok in room c.args.packets c.args.from f.0 c.in-Ok.survey c.in-Some.begin f.1 c.in-Some.is
-
-pub returns-in_err-walk-clause-refusal : goal.returns-in_err-walk-clause-refusal
-returns-in_err-walk-clause-refusal c =
-    let f = c.in-Ok.ensures.ok in
-    let p = err_from_is_err_and c.from_residual.result c.from_residual.ensures.1 in
-    rw (p.1, p.2) (walk_refusal c.args.packets c.args.from f.0 c.in-Ok.survey c.in-Some.begin f.1 c.in-Some.is c.args.dump.now c.in_err-walk.field-0.0 c.in_err-walk.ensures.err)
-
-pub returns-in_err-join-clause-refusal : goal.returns-in_err-join-clause-refusal
-returns-in_err-join-clause-refusal c =
-    let f = c.in-Ok.ensures.ok in
-    let pc = c.status-pc.ensures.pc in
-    let p = err_from_is_err_and c.from_residual-in_err-join.result c.from_residual-in_err-join.ensures.1 in
-    rw (p.1, p.2) (join_refusal c.args.packets c.args.from f.0 c.in-Ok.survey c.in-Some.begin f.1 c.in-Some.is c.args.dump.now c.in_ok-walk.walk c.in_ok-walk.ensures.ok c.in_err-join.field-0.0 (rw pc at c.in_err-join.ensures.err))
+-- the run of the dump's program
+same_run : (packets : Packets) (dump : Dump) (program : Program) (halves : Bool) (from : ℕ) → program ≡ record { dump = dump; halves = halves } → halves ≡ (rest_of packets).widths.halves → raw_by packets program from ≡ raw_of packets dump from
+same_run packets dump program halves from e h = rw (e, h) refl
 
 pub returns-clause-path : goal.returns-clause-path
 returns-clause-path c =
-    let f = c.in-Ok.ensures.ok in
-    let pc = c.status-pc.ensures.pc in
-    joined c.args.packets c.args.from f.0 c.in-Ok.survey c.in-Some.begin f.1 c.in-Some.is c.args.dump.now c.in_ok-walk.walk c.in_ok-walk.ensures.ok c.join.new.self (rw pc at c.in_ok-join.ensures.ok)
+    let same = same_run c.args.packets c.args.dump.now c.new-program.result c.halves.result c.args.from c.new-program.ensures c.halves.ensures in
+    subst (λ (raw : RawRun). IfOk c.rebuild_program.result (λ path. IsTraced raw path.skipped path.steps)) same c.rebuild_program.ensures.path
 
 pub returns-clause-ends : goal.returns-clause-ends
 returns-clause-ends c =
-    let pc = c.status-pc.ensures.pc in
-    let x = rw pc at c.in_ok-join.ensures.ok in
-    x.linked
-
-pub returns-clause-some : goal.returns-clause-some
-returns-clause-some c = some_steps c.args.packets c.args.dump.now c.args.from c.in-Some.begin.number c.join.new.self.steps (returns-clause-path c)
+    let same = same_run c.args.packets c.args.dump.now c.new-program.result c.halves.result c.args.from c.new-program.ensures c.halves.ensures in
+    subst (λ (raw : RawRun). IfOk c.rebuild_program.result (λ path. EndBefore path.steps raw.pc)) same c.rebuild_program.ensures.ends
 
 pub returns-clause-instructions : goal.returns-clause-instructions
-returns-clause-instructions c = carry_code c.args.packets c.args.dump.now c.args.from c.in-Some.begin.number c.join.new.self.steps (returns-clause-path c)
+returns-clause-instructions c =
+    let same = same_run c.args.packets c.args.dump.now c.new-program.result c.halves.result c.args.from c.new-program.ensures c.halves.ensures in
+    subst (λ (raw : RawRun). IfOk c.rebuild_program.result (λ path. CarryCode raw.code path.steps)) same c.rebuild_program.ensures.instructions
 
-pub returns-clause-linked : goal.returns-clause-linked
-returns-clause-linked c = linked_steps c.args.packets c.args.dump.now c.args.from c.in-Some.begin.number c.join.new.self.steps (returns-clause-path c)
+pub returns-clause-refusal : goal.returns-clause-refusal
+returns-clause-refusal c =
+    let same = same_run c.args.packets c.args.dump.now c.new-program.result c.halves.result c.args.from c.new-program.ensures c.halves.ensures in
+    subst (λ (raw : RawRun). IfErr c.rebuild_program.result (λ e. (e ≡ OutOfMemory) ⊎ IsUntraced raw (number_of c.args.packets) e)) same c.rebuild_program.ensures.refusal

@@ -1,5 +1,5 @@
 use Rattle.std.proofs.Common.{List, ◌∷◌, ◌++◌, [], refl, sym, ◌∙◌, false, subst, ap, arith, length, Bool}
-use Rattle.rept_dump.specs.Dump.{exe_of}
+use Rattle.rept_path.specs.Program.{code_of}
 use Rattle.rept_isa.specs.declared.row.StepRow.{StepRow}
 use Rattle.rept_trace.specs.declared.packet.Packet.{Packet}
 use Rattle.rept_trace.specs.declared.packet.Packet.TheVariants.{Start}
@@ -12,7 +12,7 @@ use Rattle.rept_path.specs.Route.{earlier_by}
 
 pub returns-clause-ok : goal.returns-clause-ok
 returns-clause-ok c =
-    let code = exe_of c.args.dump.now in
+    let code = code_of c.args.program.now in
     let a = c.in-Start.address in
     let w : Walk = record { at = a; steps = c.new.result; bits = c.push_branch.new.bits; used = 0; reported = a; inferred = false; waiting = false; room = c.args.room } in
     let none = c.new-bits.ensures.items in

@@ -1,5 +1,5 @@
 use Rattle.std.proofs.Common.{refl}
-use Rattle.rept_dump.specs.Dump.{exe_of}
+use Rattle.rept_path.specs.Program.{code_of}
 use Rattle.rept_trace.specs.declared.packet.Packet.TheVariants.{MapAddress}
 use Rattle.rept_path.proofs.Followed.{walked}
 use Rattle.rept_path.proofs.walk.Walk.report.Goals as goal
@@ -8,4 +8,4 @@ pub returns-clause-ok : goal.returns-clause-ok
 returns-clause-ok c =
     let w = c.in_ok-through.ensures.ok in
     let all = c.in_ok-push_bits.ensures.bits in
-    walked (exe_of c.args.dump.now) c.args.number (MapAddress c.args.count c.args.map c.args.report) c.args.self.now _ c.through.new.self _ c.requires.runs (0, refl) refl all refl refl refl w refl refl refl refl refl (record { enough = w.counts.enough; few = w.counts.few; spare = w.counts.spare; linked = w.counts.linked }) c.infers-self.ensures (c.in_ok-through.ensures.rests refl) refl (λ _. refl) (λ _. refl)
+    walked (code_of c.args.program.now) c.args.number (MapAddress c.args.count c.args.map c.args.report) c.args.self.now _ c.through.new.self _ c.requires.runs (0, refl) refl all refl refl refl w refl refl refl refl refl (record { enough = w.counts.enough; few = w.counts.few; spare = w.counts.spare; linked = w.counts.linked }) c.infers-self.ensures (c.in_ok-through.ensures.rests refl) refl (λ _. refl) (λ _. refl)

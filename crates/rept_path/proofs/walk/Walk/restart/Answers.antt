@@ -1,6 +1,6 @@
 use Rattle.std.proofs.Common.{refl, sym, arith, Some, false}
 use Rattle.std.proofs.lemmas.Result.{err_from_is_err_and}
-use Rattle.rept_dump.specs.Dump.{exe_of}
+use Rattle.rept_path.specs.Program.{code_of}
 use Rattle.rept_trace.specs.declared.packet.Packet.TheVariants.{Start}
 use Rattle.rept_path.specs.declared.aim.Aim.TheVariants as aims
 use Rattle.rept_path.specs.declared.walk.Walk.{Walk}
@@ -13,7 +13,7 @@ returns-clause-ok c = λ privilege time context.
     let old = c.args.self.now in
     let a = c.args.address in
     let mid : Walk = record { at = old.at; steps = old.steps; bits = c.push_branch.new.bits; used = old.used; reported = a; inferred = false; waiting = old.waiting; room = old.room } in
-    walked (exe_of c.args.dump.now) c.args.number (Start c.args.branch privilege a time context) old mid c.go.new.self c.go.new.self c.requires.runs (_, sym c.in_ok-position_of.ensures) refl (c.in_ok-push_branch.ensures.bits privilege time context) refl refl refl (alone (exe_of c.args.dump.now) c.args.number (Some a) (aims.Start a) mid c.go.new.self w) refl refl refl refl refl w.counts w.kept.inferred (c.in_ok-go.ensures.rests refl) refl (λ _. refl) (λ _. refl)
+    walked (code_of c.args.program.now) c.args.number (Start c.args.branch privilege a time context) old mid c.go.new.self c.go.new.self c.requires.runs (_, sym c.in_ok-position_of.ensures) refl (c.in_ok-push_branch.ensures.bits privilege time context) refl refl refl (alone (code_of c.args.program.now) c.args.number (Some a) (aims.Start a) mid c.go.new.self w) refl refl refl refl refl w.counts w.kept.inferred (c.in_ok-go.ensures.rests refl) refl (λ _. refl) (λ _. refl)
 
 pub go-requires : goal.go-requires
 go-requires c =
@@ -26,4 +26,4 @@ go-requires c =
 pub returns-in_err-go-clause-err : goal.returns-in_err-go-clause-err
 returns-in_err-go-clause-err c =
     let p = err_from_is_err_and c.from_residual-in_err-go.result c.from_residual-in_err-go.ensures.1 in
-    rw (p.1, p.2) (λ privilege time context. restart_fault (exe_of c.args.dump.now) c.args.number c.args.branch privilege c.args.address time context c.args.self.now c.push_branch.new.bits.items c.in_err-go.field-0.0 (_, sym c.in_ok-position_of.ensures) (c.in_ok-push_branch.ensures.bits privilege time context) c.in_err-go.ensures.err)
+    rw (p.1, p.2) (λ privilege time context. restart_fault (code_of c.args.program.now) c.args.number c.args.branch privilege c.args.address time context c.args.self.now c.push_branch.new.bits.items c.in_err-go.field-0.0 (_, sym c.in_ok-position_of.ensures) (c.in_ok-push_branch.ensures.bits privilege time context) c.in_err-go.ensures.err)

@@ -1,5 +1,5 @@
 use Rattle.std.proofs.lemmas.Result.{on_ok_weaker}
-use Rattle.rept_dump.specs.Dump.{exe_of}
+use Rattle.rept_path.specs.Program.{code_of}
 use Rattle.rept_path.proofs.Phases.{one_phase, two_phases}
 use Rattle.rept_path.proofs.walk.Walk.through.Goals as goal
 use Rattle.rept_path.proofs.walk.Walk.through.Goals.{then-self+in_ok-go, else-self}
@@ -8,11 +8,11 @@ pub returns-clause-ok : goal.returns-clause-ok
 returns-clause-ok c = elim c.if-self.branch [
   | then-self+in_ok-go w ↦
       on_ok_weaker c.go-2.result
-      (two_phases (exe_of c.args.dump.now) c.args.packet c.args.before c.args.target c.args.aim c.args.self.now w.go.new.self c.go-2.new.self w.if-self.true w.in_ok-go.ensures.ok)
+      (two_phases (code_of c.args.program.now) c.args.packet c.args.before c.args.target c.args.aim c.args.self.now w.go.new.self c.go-2.new.self w.if-self.true w.in_ok-go.ensures.ok)
       (rw w.self-is at c.go-2.ensures.ok)
   | else-self w ↦
       on_ok_weaker c.go-2.result
-      (one_phase (exe_of c.args.dump.now) c.args.packet c.args.before c.args.target c.args.aim c.args.self.now c.go-2.new.self w.if-self.false)
+      (one_phase (code_of c.args.program.now) c.args.packet c.args.before c.args.target c.args.aim c.args.self.now c.go-2.new.self w.if-self.false)
       (rw w.self-is at c.go-2.ensures.ok)
 ]
 

@@ -1,6 +1,0 @@
-use Rattle.std.proofs.Common.{◌≡◌, ◌<◌, ℕ, slice_index, true}
-use Rattle.rept_trace.specs.Streams.{is_header_byte}
-use Rattle.rept_trace.proofs.streams.read_header.Given as goal
-
-abbrev pub invariant-loop-i : goal.invariant-loop-i
-invariant-loop-i l = (j : ℕ) → j < l.i → is_header_byte j (slice_index l.bytes j) ≡ true
