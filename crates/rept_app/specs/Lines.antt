@@ -65,6 +65,8 @@ core_fault_text notes.NoStatus = codes "core 1"
 core_fault_text (notes.ShortStatus size) = codes "core 2 " ++ decimal size
 core_fault_text (notes.NotePastEnd offset) = codes "core 3 " ++ decimal offset
 core_fault_text (notes.SeveralThreads count) = codes "core 4 " ++ decimal count
+core_fault_text (notes.SameThread pid) = codes "core 5 " ++ decimal pid
+core_fault_text (notes.TooManyThreads count) = codes "core 6 " ++ decimal count
 
 -- The number of a fault of the trace's bytes, and what it holds: the number of the byte of the header, of the packet or of the stream, or an
 -- offset. The packets are those of Efficient Trace for RISC-V 2.0.

@@ -142,6 +142,8 @@ fn push_core_fault(text: &mut Text, fault: &CoreFault) -> Result<(), OutOfMemory
         CoreFault::ShortStatus(size) => push_numbered(text, b"core 2 ", *size),
         CoreFault::NotePastEnd(offset) => push_numbered(text, b"core 3 ", *offset),
         CoreFault::SeveralThreads(count) => push_numbered(text, b"core 4 ", *count),
+        CoreFault::SameThread(pid) => push_numbered(text, b"core 5 ", u64::from(*pid)),
+        CoreFault::TooManyThreads(count) => push_numbered(text, b"core 6 ", *count),
     }
 }
 

@@ -9,16 +9,21 @@ use Rattle.rept_elf.specs.Header.{word_at}
 use Rattle.rept_elf.specs.Segments.{ElfSegment, part_of}
 use Rattle.rept_dump.specs.Notes.{Note, HoldsNote, AreNotesThen, first_note, after_note, desc_offset, desc_size, padded}
 use Rattle.rept_dump.specs.Found.{AreFound, Adds}
-use Rattle.rept_dump.specs.Registers.{is_status}
+use Rattle.rept_dump.specs.Registers.{first_of, is_status}
 use Rattle.rept_dump.specs.Ahead.{IsAhead, AreLeaps, AreAhead}
 use Rattle.rept_dump.specs.declared.ahead.Ahead.{Ahead}
 use Rattle.rept_dump.specs.declared.note.Found.{Found}
-use Rattle.rept_dump.proofs.NoteLemmas.{SoFar, one_more, at_most_one, shrinks, AreFound-then}
+use Rattle.rept_dump.proofs.NoteLemmas.{SoFar, Adds-nothing, one_more, at_most_one, shrinks, AreFound-then}
 
 -- what was found, and what was found after
-pub joined : (found more : Found) → more.count ≢ 0 → (statuses : List Note) → AreFound more statuses → Adds found (record { count = found.count + more.count; desc = more.desc }) statuses
-joined found more some [] a = absurd (some (omega (arith, a.counted)))
-joined found more some (note ∷ notes) a = record { counted = omega (arith, a.counted); last = a.last }
+pub joined : (found more : Found) (short : Option ℕ) → more.count ≢ 0 → short ≡ first_of found.short more.short → (statuses : List Note) → AreFound more statuses → Adds found (record { count = found.count + more.count; desc = more.desc; short = short }) statuses
+joined found more short some first [] a = absurd (some (omega (arith, a.counted)))
+joined found more short some first (note ∷ notes) a = record { counted = omega (arith, a.counted); last = a.last; short = first ∙ ap (first_of found.short) a.short }
+
+-- where there is none, nothing is added
+pub not_joined : (found more : Found) → more.count ≡ 0 → (statuses : List Note) → AreFound more statuses → Adds found found statuses
+not_joined found more none [] a = Adds-nothing found
+not_joined found more none (note ∷ notes) a = absurd (omega (arith, none, a.counted))
 
 pub one_more_ahead : (bytes : List ℕ) (ahead ahead' : Ahead) (note : Note) → IsAhead bytes ahead → HoldsNote ahead.rest.now → first_note ahead.rest.now ≡ note → ahead'.rest.now ≡ after_note ahead.rest.now
     → Adds ahead.found ahead'.found (filter is_status (note ∷ [])) → IsAhead bytes ahead'

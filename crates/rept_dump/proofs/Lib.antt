@@ -2,3 +2,4 @@ pub mod Leaping
 pub mod NoteLemmas
 pub mod SearchLemmas
 pub mod Stretches
+pub mod ThreadLemmas

@@ -2,13 +2,13 @@
 use Rattle.std.proofs.Common.{◌≡◌, ℕ, ◌+◌, ◌<◌, ◌≤◌, inl, inr, List, [], ◌∷◌, ◌++◌, length, drop, Bool, true, false, cond, arith, refl, sym, ◌∙◌, ap, subst, append_assoc, length-append, length-drop}
 use Rattle.std.proofs.lemmas.List.{append-nil, at_drop_all}
 use Rattle.std.proofs.lemmas.List.Elements.{filter-append}
-use Rattle.std.specs.Prelude.{Result, Err, Some, slice_get, MatchBool}
+use Rattle.std.specs.Prelude.{Option, Result, Err, Some, None, slice_get, MatchBool}
 use Rattle.std.specs.List.{filter}
 use Rattle.rept_elf.specs.Segments.{ElfSegment, is_note}
 use Rattle.rept_elf.proofs.SegmentLemmas.{drop-slice_get}
 use Rattle.rept_dump.specs.Notes.{Note, HoldsNote, AreNotesThen, AreNotes, CutsNote, HaveNotes, AreCutAt, IsCutAt, IsInFile, first_note, after_note, note_header}
 use Rattle.rept_dump.specs.Found.{AreFound, Adds, last_desc, PassesSegment, CutsSegment}
-use Rattle.rept_dump.specs.Registers.{Says, only_registers, is_status, note_segments}
+use Rattle.rept_dump.specs.Registers.{Says, SaysOfAll, HaveThreads, all_registers, descs_of, first_of, first_short, short_size, only_registers, is_status, note_segments}
 use Rattle.rept_dump.specs.declared.note.Found.{Found}
 use Rattle.rept_dump.specs.declared.fault.CoreFault.{CoreFault}
 use Rattle.rept_dump.specs.declared.fault.CoreFault.TheVariants as fault
@@ -21,19 +21,35 @@ pub last_desc-append : (desc : List ℕ) (front after : List Note) → last_desc
 last_desc-append desc [] after = refl
 last_desc-append desc (note ∷ front) after = last_desc-append note.desc front after
 
+first_of-none : (a : Option ℕ) → first_of a None ≡ a
+first_of-none None = refl
+first_of-none (Some size) = refl
+
+first_of-assoc : (a b c : Option ℕ) → first_of (first_of a b) c ≡ first_of a (first_of b c)
+first_of-assoc None b c = refl
+first_of-assoc (Some size) b c = refl
+
+pub first_short-append : (a b : List Note) → first_short (a ++ b) ≡ first_of (first_short a) (first_short b)
+first_short-append [] b = refl
+first_short-append (note ∷ a) b = ap (first_of (short_size note.desc)) (first_short-append a b) ∙ sym (first_of-assoc (short_size note.desc) (first_short a) (first_short b))
+
 pub Adds-nothing : (found : Found) → Adds found found []
-Adds-nothing found = record { counted = omega arith; last = refl }
+Adds-nothing found = record { counted = omega arith; last = refl; short = sym (first_of-none found.short) }
 
 pub Adds-then : (a b c : Found) (front after : List Note) → Adds a b (filter is_status front) → Adds b c (filter is_status after) → Adds a c (filter is_status (front ++ after))
 Adds-then a b c front after p q = rw filter-append (record {
   counted = omega (arith, p.counted, q.counted, length-append (filter is_status front) (filter is_status after));
   last = q.last ∙ ap (λ d. last_desc d (filter is_status after)) p.last ∙ sym (last_desc-append a.desc.now (filter is_status front) (filter is_status after));
+  short =
+      q.short ∙ ap (λ o. first_of o (first_short (filter is_status after))) p.short ∙ first_of-assoc a.short (first_short (filter is_status front)) (first_short (filter is_status after))
+      ∙ ap (first_of a.short) (sym (first_short-append (filter is_status front) (filter is_status after)));
 })
 
 pub AreFound-then : (a b : Found) (front after : List Note) → AreFound a (filter is_status front) → Adds a b (filter is_status after) → AreFound b (filter is_status (front ++ after))
 AreFound-then a b front after p q = rw filter-append (record {
   counted = omega (arith, p.counted, q.counted, length-append (filter is_status front) (filter is_status after));
   last = q.last ∙ ap (λ d. last_desc d (filter is_status after)) p.last ∙ sym (last_desc-append [] (filter is_status front) (filter is_status after));
+  short = q.short ∙ ap (λ o. first_of o (first_short (filter is_status after))) p.short ∙ sym (first_short-append (filter is_status front) (filter is_status after));
 })
 
 -- the notes of a segment so far
@@ -165,3 +181,14 @@ said_once size ss said said' (inl a) (inr b) = absurd (whole_or_cuts size (note_
 said_once size ss said said' (inr a) (inl b) = absurd (whole_or_cuts size (note_segments ss) a.0 b.0 a.1 b.1)
 said_once size ss said said' (inr a) (inr b) =
     a.2 ∙ ap (λ ns. only_registers (filter is_status ns)) (same_all size (note_segments ss) a.0 b.0 a.1 b.1) ∙ sym b.2
+
+pub all_said_once : (size : ℕ) (ss : List ElfSegment) (said said' : Result (List (List ℕ)) CoreFault) → SaysOfAll size ss said → SaysOfAll size ss said' → said ≡ said'
+all_said_once size ss said said' (inl a) (inl b) =
+    a.2 ∙ ap (λ o. Err (fault.NotePastEnd o)) (same_cuts size (note_segments ss) a.0 b.0 a.1 b.1) ∙ sym b.2
+all_said_once size ss said said' (inl a) (inr b) = absurd (whole_or_cuts size (note_segments ss) b.0 a.0 b.1 a.1)
+all_said_once size ss said said' (inr a) (inl b) = absurd (whole_or_cuts size (note_segments ss) a.0 b.0 a.1 b.1)
+all_said_once size ss said said' (inr a) (inr b) =
+    a.2 ∙ ap (λ ns. all_registers (filter is_status ns)) (same_all size (note_segments ss) a.0 b.0 a.1 b.1) ∙ sym b.2
+
+pub same_threads : (size : ℕ) (ss : List ElfSegment) (descs descs' : List (List ℕ)) → HaveThreads size ss descs → HaveThreads size ss descs' → descs ≡ descs'
+same_threads size ss descs descs' a b = a.2 ∙ ap (λ ns. descs_of (filter is_status ns)) (same_all size (note_segments ss) a.0 b.0 a.1 b.1) ∙ sym b.2

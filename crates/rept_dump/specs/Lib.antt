@@ -7,3 +7,4 @@ pub mod Notes
 pub mod Registers
 pub mod Status
 pub mod Stretch
+pub mod Threads

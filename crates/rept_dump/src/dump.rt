@@ -7,6 +7,7 @@ ghost use Rattle.rept_dump.specs.Code.{code_of};
 ghost use Rattle.rept_dump.specs.Memory.{byte_at, code_at, half_code_at, allows, holds, bytes_from};
 ghost use Rattle.rept_dump.specs.Registers.{Says, status_size};
 ghost use Rattle.rept_dump.specs.Stretch.{AnswersAlike, sought_saved, sought_kept};
+ghost use Rattle.rept_dump.specs.Threads.{AreThreads};
 
 use crate::code::Code;
 use crate::fault::CoreFault;
@@ -14,15 +15,18 @@ use crate::notes::find_registers;
 use crate::search::{Allowed, held_bytes};
 use crate::status::{Status, read_status};
 use crate::stretch::{NOWHERE, Stretch, stretch_near};
+use crate::threads::{find_threads, search_core};
 use rept_elf::{Image, Segment};
 
-/// An executable and the core file of its crash, whose notes are whole and have the registers of one thread.
+/// An executable and the core file of its crash, whose notes are whole and have the registers of one thread, or of several. Threads are
+/// numbered from 0, in the order of their notes.
 #[derive(Clone, Copy)]
 pub struct Dump<'a> {
     code: Code<'a>,
     core: Image<'a>,
     registers: &'a [u8],
     image_end: u64,
+    threads: u32,
     // Where saved bytes and bytes of the executable were looked for last.
     saved: Stretch<'a>,
     kept: Stretch<'a>,
@@ -30,6 +34,7 @@ pub struct Dump<'a> {
     ghost ends: { image_end ≡ greatest_end (code_of code) },
     ghost saved_answers: { AnswersAlike (sought_saved (segments_of core)) saved },
     ghost kept_answers: { AnswersAlike (sought_kept (code_of code)) kept },
+    ghost are_threads: { ∥ AreThreads (length (file_of core)) (segments_of core) registers.now threads ∥₁ },
 }
 
 /// The byte at an address, if this segment has it.
@@ -41,7 +46,9 @@ fn byte_in(segment: &Segment<'_>, allowed: Allowed, a: u32) -> Option<u8>
 }
 
 impl<'a> Dump<'a> {
-    ghost use Rattle.rept_dump.specs.Dump.{exe_of, core_of, registers_of, said_of};
+    ghost use Rattle.std.specs.Prelude.{Ok, Err, IfErr, slice_get};
+    ghost use Rattle.rept_dump.specs.Dump.{exe_of, core_of, registers_of, said_of, threads_of, HasThreads};
+    ghost use Rattle.rept_dump.specs.Registers.{SaysOfAll};
     ghost use Rattle.rept_dump.specs.declared.fault.CoreFault.{CoreFault};
     ghost use Rattle.rept_dump.specs.Status.{IsStatus};
 
@@ -59,16 +66,63 @@ impl<'a> Dump<'a> {
             core,
             registers,
             image_end,
+            threads: 1,
             saved: NOWHERE,
             kept: NOWHERE,
         })
     }
 
-    /// The process, the signal and the registers.
+    /// The two files together, with one register note of each thread. A fault comes exactly where the core file's notes have it first: a note that isn't whole, no register note, a
+    /// short one, more than 1,024, and two of one process. No memory is taken.
+    pub fn read_many(exe: Image<'a>, core: Image<'a>) -> Result<Dump<'a>, CoreFault>
+        ensures ok { IfOk result (λ dump. (descs : List (List ℕ)) × SaysOfAll (length (file_of core.entry)) (segments_of core.entry) (Ok descs) × HasThreads dump descs × (slice_get descs 0 ≡ Some (registers_of dump)) × (threads_of dump ≡ length descs)) }
+        ensures err { IfErr result (λ fault. SaysOfAll (length (file_of core.entry)) (segments_of core.entry) (Err fault)) }
+
+        // The notes say nothing else.
+        ensures only_ok { (descs : List (List ℕ)) → SaysOfAll (length (file_of core.entry)) (segments_of core.entry) (Ok descs) → IfErr result (λ _. ⊥) }
+        ensures only_err { (fault : CoreFault) → SaysOfAll (length (file_of core.entry)) (segments_of core.entry) (Err fault) → result ≡ Err fault }
+        ensures exe { IfOk result (λ dump. exe_of dump ≡ segments_of exe.entry) }
+        ensures core { IfOk result (λ dump. core_of dump ≡ segments_of core.entry) }
+    {
+        let (registers, threads) = find_threads(&core)?;
+        let image_end = exe.image_end();
+        Ok(Dump {
+            code: Code::new(exe),
+            core,
+            registers,
+            image_end,
+            threads,
+            saved: NOWHERE,
+            kept: NOWHERE,
+        })
+    }
+
+    /// How many threads there are: 1 of a dump that `read` gave.
+    pub fn threads(&self) -> u32
+        ensures { result ≡ threads_of self.now }
+    {
+        self.threads
+    }
+
+    /// The process, the signal and the registers of the first thread.
     pub fn status(&self) -> Status
         ensures { IsStatus (registers_of self.now) result }
     {
         read_status(self.registers)
+    }
+
+    /// Those of the thread of this number. The note of any but the first thread is looked for among all notes, at each call.
+    pub fn status_of(&self, t: u32) -> Status
+        requires { t < threads_of self.now }
+        ensures { (descs : List (List ℕ)) → HasThreads self.now descs → (desc : List ℕ) × (slice_get descs t ≡ Some desc) × IsStatus desc result }
+    {
+        if t == 0 {
+            return self.status();
+        }
+        match search_core(&self.core, t) {
+            Some(desc) => read_status(desc),
+            None => unreachable!(),
+        }
     }
 
     /// The byte that memory had at this address when the core file was written: from the first `PT_LOAD` segment of the

@@ -11,6 +11,7 @@ mod notes;
 mod search;
 mod status;
 mod stretch;
+mod threads;
 
 pub use code::Code;
 pub use dump::Dump;

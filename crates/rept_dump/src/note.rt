@@ -4,12 +4,15 @@ ghost use Rattle.std.specs.Prelude.{◌≡◌, ◌≤◌, ◌<◌, ◌+◌, ◌^
 ghost use Rattle.std.specs.List.{filter, list_all};
 ghost use Rattle.rept_dump.specs.Found.{AreFound, Adds};
 ghost use Rattle.rept_dump.specs.Notes.{Note as NoteOf, HoldsNote, first_note as note_of, after_note, desc_offset, desc_size, note_header, padded as padded_size};
-ghost use Rattle.rept_dump.specs.Registers.{is_core_name, is_status};
+ghost use Rattle.rept_dump.specs.Registers.{first_of, is_core_name, is_status, short_size};
 
 use rept_elf::{part, word};
 
 /// The bytes of the sizes and the type of a note.
 pub const NOTE_HEADER: usize = 12;
+
+/// The bytes of a register note's descriptor.
+pub const STATUS_SIZE: usize = 204;
 
 /// The type of a note of registers.
 const NT_PRSTATUS: u32 = 1;
@@ -82,12 +85,15 @@ pub struct Found<'a> {
     pub count: u64,
     /// The descriptor of the last.
     pub desc: &'a [u8],
+    /// The size of the first descriptor that doesn't have all registers, if there is one.
+    pub short: Option<u64>,
 }
 
 /// No register note.
 pub const NOTHING: Found<'static> = Found {
     count: 0,
     desc: &[],
+    short: None,
 };
 
 /// What was found, and this note if it is one of registers.
@@ -95,14 +101,43 @@ pub fn add_note<'a>(found: Found<'a>, note: &Note<'a>) -> Found<'a>
     requires { found.count + 1 < 2 ^ 64 }
     ensures { Adds found.entry result (filter is_status (record { kind = note.now.kind; name = note.now.name.now; desc = note.now.desc.now } ∷ [])) }
 {
-    if note.kind == NT_PRSTATUS && is_core(note.name) {
+    if is_register_note(note) {
         Found {
             count: found.count + 1,
             desc: note.desc,
+            short: first_of(found.short, short_size(note.desc)),
         }
     } else {
         found
     }
+}
+
+/// The size of a descriptor that doesn't have all registers.
+fn short_size(desc: &[u8]) -> Option<u64>
+    ensures { result ≡ short_size desc.now }
+{
+    if desc.len() < STATUS_SIZE {
+        Some(desc.len() as u64)
+    } else {
+        None
+    }
+}
+
+/// The first of two sizes, if there is one.
+fn first_of(first: Option<u64>, second: Option<u64>) -> Option<u64>
+    ensures { result ≡ first_of first second }
+{
+    match first {
+        Some(size) => Some(size),
+        None => second,
+    }
+}
+
+/// Whether a note is one of registers.
+pub fn is_register_note(note: &Note<'_>) -> bool
+    ensures { result ≡ is_status (record { kind = note.now.kind; name = note.now.name.now; desc = note.now.desc.now }) }
+{
+    note.kind == NT_PRSTATUS && is_core(note.name)
 }
 
 /// What was found, and what was found in the notes after.
@@ -116,5 +151,6 @@ pub fn join<'a>(found: Found<'a>, more: Found<'a>) -> Found<'a>
     Found {
         count: found.count + more.count,
         desc: more.desc,
+        short: first_of(found.short, more.short),
     }
 }

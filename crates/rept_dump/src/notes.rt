@@ -11,11 +11,8 @@ ghost use Rattle.rept_dump.specs.Registers.{Says, status_size, is_status, note_s
 
 use crate::ahead::{Ahead, ahead_of, go_ahead};
 use crate::fault::CoreFault;
-use crate::note::{Found, NOTE_HEADER, NOTHING, add_note, first_note, join};
+use crate::note::{Found, NOTE_HEADER, NOTHING, STATUS_SIZE, add_note, first_note, join};
 use rept_elf::{Image, PT_NOTE, Segment};
-
-/// The bytes of a register note's descriptor.
-const STATUS_SIZE: usize = 204;
 
 /// The most segments of a file.
 const MOST_SEGMENTS: usize = 4096;
@@ -74,7 +71,7 @@ fn read_segment<'a>(
 }
 
 /// The register notes of a core file.
-fn read_core<'a>(core: &Image<'a>) -> Result<Found<'a>, CoreFault>
+pub fn read_core<'a>(core: &Image<'a>) -> Result<Found<'a>, CoreFault>
     ensures ok { IfOk result (λ found. (notes : List NoteOf) × HaveNotes (length (file_of core.now)) (note_segments (segments_of core.now)) notes × AreFound found (filter is_status notes)) }
     ensures cut { IfErr result (λ fault. (offset : ℕ) × AreCutAt (length (file_of core.now)) (note_segments (segments_of core.now)) offset × (fault ≡ CoreFault.NotePastEnd offset)) }
 {

@@ -70,6 +70,87 @@ fn faults(rt: HostRuntime) -> Result<(), Fail> {
     Ok(())
 }
 
+/// A core file whose notes, in one segment, are of these processes, with descriptors of these sizes.
+fn threads_core(alloc: Global, notes: &[(u16, u8)]) -> Result<Vec<u8>, AllocError> {
+    let mut file = Vec::from_slice(alloc, SMALL_CORE.as_slice())?;
+    for (pid, size) in notes {
+        file.extend_from_slice(&NOTE)?;
+        let header = file.len() - 16;
+        if let Some(at) = file.get_mut(header) {
+            *at = *size;
+        }
+        file.extend_from_slice(&[0; 24])?;
+        file.extend_from_slice(&pid.to_le_bytes())?;
+        for _ in 26..*size {
+            file.push(0)?;
+        }
+    }
+    let size = file.len().saturating_sub(84) as u64;
+    for (place, byte) in size.to_le_bytes().iter().take(4).enumerate() {
+        if let Some(at) = file.get_mut(68 + place) {
+            *at = *byte;
+        }
+    }
+    Ok(file)
+}
+
+// The processes of the notes and the sizes of their descriptors, with the fault, in the order in which faults are looked for.
+#[test]
+fn faults_of_several_threads(rt: HostRuntime) -> Result<(), Fail> {
+    let exe = Image::read(SMALL.as_slice(), Want::Exec)?;
+    let cases: [(&[(u16, u8)], Option<CoreFault>); 7] = [
+        (&[], Some(CoreFault::NoStatus)),
+        (&[(1, 204)], None),
+        (&[(2, 204), (1, 208), (7, 204)], None),
+        (
+            &[(1, 204), (1, 200), (3, 60)],
+            Some(CoreFault::ShortStatus(200)),
+        ),
+        (
+            &[(1, 204), (2, 204), (2, 204), (1, 204)],
+            Some(CoreFault::SameThread(1)),
+        ),
+        (
+            &[(1, 204), (2, 204), (2, 204)],
+            Some(CoreFault::SameThread(2)),
+        ),
+        (&[(1, 60), (1, 204)], Some(CoreFault::ShortStatus(60))),
+    ];
+    for (i, (notes, wanted)) in cases.iter().enumerate() {
+        let file = threads_core(rt.alloc(), notes)?;
+        match Dump::read_many(exe, Image::read(file.as_slice(), Want::Core)?) {
+            Ok(dump) => {
+                assert_eq!(rt; None, *wanted, "case {i}");
+                assert_eq!(rt; dump.threads() as usize, notes.len(), "case {i}");
+                for (t, (pid, _)) in notes.iter().enumerate() {
+                    if (t as u32) < dump.threads() {
+                        assert_eq!(rt; dump.status_of(t as u32).pid, u32::from(*pid), "case {i}");
+                    }
+                }
+            }
+            Err(fault) => assert_eq!(rt; Some(fault), *wanted, "case {i}"),
+        }
+    }
+    Ok(())
+}
+
+// 1,024 threads, then one more, and then one more of a process that is there already.
+#[test]
+fn threads_are_limited(rt: HostRuntime) -> Result<(), Fail> {
+    let exe = Image::read(SMALL.as_slice(), Want::Exec)?;
+    let mut notes = Vec::new(rt.alloc());
+    for pid in 0..1023u16 {
+        notes.push((pid, 204))?;
+    }
+    for (pid, wanted) in [(1023, None), (5, Some(CoreFault::TooManyThreads(1025)))] {
+        notes.push((pid, 204))?;
+        let file = threads_core(rt.alloc(), notes.as_slice())?;
+        let found = Dump::read_many(exe, Image::read(file.as_slice(), Want::Core)?);
+        assert_eq!(rt; found.err(), wanted);
+    }
+    Ok(())
+}
+
 // A name is the bytes that its size counts, and must be `CORE` with nothing but zeros after it. The size of the name, and the byte
 // that stands fifth: with a size of 4 it belongs to the descriptor.
 #[test]

@@ -2,6 +2,7 @@ use Rattle.std.proofs.Common.{length}
 use Rattle.std.proofs.lemmas.Result.{err_from_is_err_and}
 use Rattle.rept_elf.specs.Image.{file_of, segments_of}
 use Rattle.rept_dump.proofs.NoteLemmas.{said_once}
+use Rattle.rept_dump.proofs.ThreadLemmas.{one_thread}
 use Rattle.rept_dump.proofs.dump.Dump.read.Goals as goal
 
 pub returns-in_err-registers-clause-only : goal.returns-in_err-registers-clause-only
@@ -11,3 +12,6 @@ returns-in_err-registers-clause-only c = λ said h.
 
 pub returns-clause-only : goal.returns-clause-only
 returns-clause-only c = λ said h. said_once (length (file_of c.args.core)) (segments_of c.args.core) said _ h c.in_ok-registers.ensures.said
+
+pub invariant_of-result-clause-are_threads : goal.invariant_of-result-clause-are_threads
+invariant_of-result-clause-are_threads c = ∣ one_thread (length (file_of c.args.core)) (segments_of c.args.core) c.in_ok-registers.registers.now c.in_ok-registers.ensures.said c.in_ok-registers.ensures.enough ∣₁

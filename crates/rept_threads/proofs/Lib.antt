@@ -1,0 +1,17 @@
+pub mod Begun
+pub mod Going
+pub mod KeepLemmas
+pub mod Sound
+pub mod StrangerLemmas
+pub mod SurveyLemmas
+pub mod Plain
+pub mod Calm
+pub mod InTime
+pub mod Only
+pub mod Whether
+pub mod Backs
+pub mod Checking
+pub mod ReadLemmas
+pub mod Scanning
+pub mod TellLemmas
+pub mod WindowLemmas

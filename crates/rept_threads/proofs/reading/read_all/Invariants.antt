@@ -1,0 +1,5 @@
+use Rattle.rept_threads.proofs.ReadLemmas.{Read}
+use Rattle.rept_threads.proofs.reading.read_all.Given as goal
+
+abbrev pub invariant-loop-s : goal.invariant-loop-s
+invariant-loop-s l = Read l.from l.streams l.s l.number l.windows.items

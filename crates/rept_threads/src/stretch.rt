@@ -1,0 +1,74 @@
+//! The walk of a stretch.
+
+ghost use Rattle.std.specs.Prelude.{◌≡◌, ◌⊎◌, ◌<◌, ◌+◌, ◌^◌, ◌∷◌, [], List, ℕ, length, reverse, IfOk, IfErr, IfSome, IfNone, Ok, Some, None, true, false};
+ghost use Rattle.rept_isa.specs.declared.row.StepRow.{StepRow};
+ghost use Rattle.rept_dump.specs.Dump.{exe_of};
+ghost use Rattle.rept_trace.specs.declared.packet.Packet.{Packet};
+ghost use Rattle.rept_trace.specs.Packets.{rest_of, number_of};
+ghost use Rattle.rept_trace.specs.Stream.{Hold, Answers};
+ghost use Rattle.rept_path.specs.declared.fault.PathFault.TheVariants.{OutOfMemory};
+ghost use Rattle.rept_path.specs.Packets.{begins};
+ghost use Rattle.rept_path.specs.Route.{earlier_by};
+ghost use Rattle.rept_path.specs.State.{Stands};
+ghost use Rattle.rept_path.specs.Trace.{starts, StopsAt};
+ghost use Rattle.rept_threads.specs.Stretches.{same_stretch};
+
+use rept_dump::Dump;
+use rept_path::PathFault;
+use rept_path::walk::Walk;
+use rept_path::window::{Begin, next_packet};
+use rept_trace::{Packet, Packets};
+use std::alloc::Global;
+
+/// Whether the packet begins a stretch, where the trace waits or not before it.
+fn begins(packet: Packet, waits: bool) -> bool
+    ensures { result ≡ begins packet waits }
+{
+    match packet {
+        Packet::Start { .. } => waits,
+        _ => false,
+    }
+}
+
+/// The next packet of bytes that hold whole packets alone, if it is one of the same stretch.
+fn next_of_stretch(rest: &mut Packets<'_>, waits: bool) -> Option<Packet>
+    requires { (more : List Packet) × Hold (rest_of rest.old) more }
+    ensures some { IfSome result (λ packet. Answers (number_of rest.old) (rest_of rest.old) (Ok (Some packet)) (number_of rest.new) (rest_of rest.new)) }
+    ensures same { IfSome result (λ packet. begins packet waits ≡ false) }
+    ensures none { IfNone result ((more : List Packet) → Hold (rest_of rest.old) more → same_stretch waits more ≡ []) }
+{
+    let mut after = *rest;
+    let packet = match next_packet(&mut after) {
+        None => return None,
+        Some(packet) => packet,
+    };
+    if begins(packet, waits) {
+        return None;
+    }
+    *rest = after;
+    Some(packet)
+}
+
+/// A walk over the packets of a stretch, from its first packet on, which may make so many steps.
+pub fn walk_stretch(
+    alloc: Global,
+    dump: &Dump<'_>,
+    room: usize,
+    head: Begin<'_>,
+) -> Result<Walk, PathFault>
+    requires starts { starts (Some head.first) ≡ true }
+    requires few { (later : List Packet) × Hold (rest_of head.later) later × (head.number + 1 + length later < 2 ^ 32) }
+    ensures ok { (later : List Packet) → Hold (rest_of head.entry.later) later → IfOk result (λ w. (legs : List (List StepRow)) × Stands (exe_of dump.now) (earlier_by (record { number = head.entry.number; room = room }) (reverse (head.entry.first ∷ same_stretch false later)) legs) w) }
+    ensures err { (later : List Packet) → Hold (rest_of head.entry.later) later → IfErr result (λ e. (e ≡ OutOfMemory) ⊎ StopsAt (exe_of dump.now) (record { number = head.entry.number; room = room }) (head.entry.first ∷ same_stretch false later) e) }
+{
+    let mut walk = Walk::begin(alloc, dump, head.number, room, head.first)?;
+    let mut rest = head.later;
+    let mut number = head.number + 1;
+    let mut near = *dump;
+    while let Some(packet) = next_of_stretch(&mut rest, walk.waiting) {
+        near = near.near_code(walk.at);
+        walk.follow(&near, number, packet)?;
+        number += 1;
+    }
+    Ok(walk)
+}

@@ -1,0 +1,76 @@
+//! What several streams tell before a row is walked.
+
+ghost use Rattle.std.specs.Prelude.{◌≡◌, ◌⊎◌, ◌<◌, ◌^◌, ℕ, List, length, map, Some, None, IfOk, IfErr};
+ghost use Rattle.std.specs.List.{sum_by};
+ghost use Rattle.rept_trace.specs.declared.packet.Packet.{Packet};
+ghost use Rattle.rept_trace.specs.declared.fault.TraceFault.{TraceFault};
+ghost use Rattle.rept_path.specs.declared.fault.PathFault.TheVariants.{OutOfMemory, Packet as PacketFault};
+ghost use Rattle.rept_threads.specs.Checks.{check};
+ghost use Rattle.rept_threads.specs.Entries.{AreTold};
+ghost use Rattle.rept_threads.specs.Lefts.{AreLeft};
+ghost use Rattle.rept_threads.specs.Parts.{Left, told};
+ghost use Rattle.rept_threads.specs.Raw.{HoldEach, FailsIn};
+ghost use Rattle.rept_threads.specs.Skipping.{windows as all_windows, full_from, from_time, kept};
+
+use crate::checks::refused_before;
+use crate::keeping::{full_from, keep_from};
+use crate::reading::{Window, read_all};
+use crate::strangers::refused_by_threads;
+use crate::telling::{Entry, tell_all};
+use rept_path::PathFault;
+use rept_trace::Streams;
+use std::alloc::Global;
+
+/// What several streams tell before a row is walked.
+#[derive(Drop)]
+pub struct Survey<'a> {
+    /// The slices of the windows of all streams.
+    pub windows: Vec<Entry<'a>>,
+    /// The time from which on all streams tell.
+    pub time: u64,
+    /// The slices that are left from that time on.
+    pub slices: Vec<Entry<'a>>,
+}
+
+/// The slices of what is left of streams, and those that are left from the time on from which all of them tell.
+fn tell_slices<'a>(alloc: Global, windows: &[Window<'a>]) -> Result<Survey<'a>, PathFault>
+    requires { (lefts : List Left) × AreLeft windows.now lefts }
+    ensures ok { (lefts : List Left) → AreLeft windows.now lefts →
+        IfOk result (λ s. AreTold s.windows.items (told lefts) × (s.time ≡ full_from lefts) × AreTold s.slices.items (told (map (from_time (full_from lefts)) lefts))) }
+    ensures err { IfErr result (λ e. e ≡ OutOfMemory) }
+{
+    let time = full_from(windows);
+    let told = tell_all(alloc, windows)?;
+    let left = keep_from(alloc, windows, time)?;
+    let slices = tell_all(alloc, &left)?;
+    Ok(Survey {
+        windows: told,
+        time,
+        slices,
+    })
+}
+
+/// What several streams tell of threads that run as these processes, before a row is walked. Windows begin at start packets of the number `from` in their stream
+/// or a later one. The refusals are, in this order: a packet that isn't whole or that the format refuses (`Packet`, numbered through all streams), a packet of an
+/// earlier time than one before it in its stream (`TimeBack`), a stream with packets and no window (`NoStart`, with its count of packets), no packets at all
+/// (`NoStart(0)`), and then, slice by slice, one of a process that isn't given (`UnknownThread`) and one that begins while another thread runs (`OtherThread`).
+pub fn survey_all<'a>(
+    alloc: Global,
+    streams: &Streams<'a>,
+    processes: &[u32],
+    from: u32,
+) -> Result<Survey<'a>, PathFault>
+    requires { sum_by (λ bytes. length bytes) streams.now < 2 ^ 32 }
+    ensures ok { IfOk result (λ s. (lists : List (List Packet)) × HoldEach streams.now lists × (check from processes.now lists ≡ None) × AreTold s.windows.items (told (all_windows from lists)) × (s.time ≡ full_from (all_windows from lists)) × AreTold s.slices.items (told (kept from lists))) }
+    ensures err { IfErr result (λ e. (e ≡ OutOfMemory) ⊎ (((refused : TraceFault) × FailsIn 0 streams.now refused × (e ≡ PacketFault refused)) ⊎ ((lists : List (List Packet)) × HoldEach streams.now lists × (check from processes.now lists ≡ Some e)))) }
+{
+    let windows = read_all(alloc, streams, from)?;
+    if let Some(fault) = refused_before(&windows) {
+        return Err(fault);
+    }
+    let told = tell_slices(alloc, &windows)?;
+    if let Some(fault) = refused_by_threads(&told.slices, processes) {
+        return Err(fault);
+    }
+    Ok(told)
+}
