@@ -1,5 +1,5 @@
 -- From the report of the analysis to what is written of it.
-use Rattle.std.proofs.Common.{◌≡◌, ◌⊎◌, ℕ, List, inl, inr, refl, subst}
+use Rattle.std.proofs.Common.{◌≡◌, ◌⊎◌, ℕ, List, inl, inr, refl, sym, subst}
 use Rattle.rept_path.specs.declared.rebuilding.Path.{Path}
 use Rattle.rept_ports.specs.Port.{Port, Move}
 use Rattle.rept_report.specs.Closure.{ClosureHas, IsConsistent}
@@ -14,7 +14,9 @@ use Rattle.rept_app.specs.Delivered.{Tells}
 use Rattle.rept_app.specs.Ends.{Stopped, Yields, EndsSession, IsCaused, PortsEnd}
 use Rattle.rept_app.specs.Held.{Holds}
 use Rattle.rept_app.specs.Study.{Studies, IsStudied}
-use Rattle.rept_app.specs.Told.{crash_path}
+use Rattle.rept_words.specs.declared.request.Domain.{Domain}
+use Rattle.rept_app.specs.Domains.{SetsOf, means_of}
+use Rattle.rept_app.specs.Told.{CrashPath, crash_path}
 use Rattle.rept_app.specs.declared.refusal.Refusal.TheVariants as refusal
 use Rattle.rept_app.specs.declared.status.Status.{Status}
 use Rattle.rept_app.specs.declared.status.Status.TheVariants as ends
@@ -79,3 +81,7 @@ not_inconsistent status (inr (inl h)) e = cc
 not_inconsistent status (inr (inr (inl h))) e = cc
 not_inconsistent status (inr (inr (inr (inl h)))) e = cc
 not_inconsistent status (inr (inr (inr (inr h)))) e = cc
+
+-- what holds of a path in the sets of one domain holds in those of a domain that is the same
+pub in_domain : (P : (d : Domain) → CrashPath (SetsOf d) → Type 0) (d e : Domain) (crash : Crash) (path : Path) → d ≡ e → P e (crash_path (means_of e) crash path) → P d (crash_path (means_of d) crash path)
+in_domain P d e crash path same h = subst (λ (x : Domain). P x (crash_path (means_of x) crash path)) (sym same) h

@@ -39,7 +39,7 @@ pub fn rept<H: Shelf, S: Source, K: Sink>(
     out: &mut K,
 ) -> Status
     // Where the files and the input are told: at status 0 what was written is the answers of a session over the report of the files, and each
-    // register, byte, range and writer of that report holds in every execution of the path that ends in the crash; at status 1 there is none.
+    // register, byte, range, known bit and writer of that report holds in every execution of the path that ends in the crash; at status 1 there is none.
     ensures promise { IfSome (H.port shelf.old).files (λ files. IfSome (S.port input.old).bytes (λ left.
         Promise (given (map string_bytes words.now) files (move (H.port shelf.old) (H.port shelf.new)) (record { input = left; left = (S.port input.new).bytes })) (move (K.port out.old) (K.port out.new)) result)) }
 
@@ -79,7 +79,7 @@ pub fn rept<H: Shelf, S: Source, K: Sink>(
     ensures sound { IfSome (H.port shelf.old).files (λ files. ReportHolds (map string_bytes words.now) files) }
     ensures impossible { IfSome (H.port shelf.old).files (λ files. result ≡ Status.Inconsistent → NoExecution (map string_bytes words.now) files) }
 
-    // Whatever `open` knows of the files, `bits` knows of them.
+    // Each fact of the report of `open` is told by `bits` of the same files.
     ensures bits { IfSome (H.port shelf.old).files (λ files. BitsKnowMore (map string_bytes words.now) files) }
 {
     reports_are_true::<Range, Base>();

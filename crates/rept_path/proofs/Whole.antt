@@ -18,7 +18,7 @@ use Rattle.rept_path.specs.Route.{place, alone, earlier_by}
 use Rattle.rept_path.specs.State.{here, standing, Stands, Crossed, from_to}
 use Rattle.rept_path.specs.Trace.{starts, Window, IsWindow, StopsAt}
 use Rattle.rept_path.specs.Survey.{number_in, IsThere, Surveys}
-use Rattle.rept_path.specs.Traced.{IsUntraced, pc_of, IsTraced, IsRefusedBy, raw_by}
+use Rattle.rept_path.specs.Traced.{IsUntraced, pc_of, IsTraced, raw_by}
 
 pub get_drop : (xs : List Packet) (n : ℕ) → slice_get (drop n xs) 0 ≡ slice_get xs n
 get_drop [] zero = refl

@@ -1,11 +1,11 @@
 -- The window of a stream is that of a path of its own.
-use Rattle.std.proofs.Common.{◌≡◌, ◌⊎◌, inl, inr, ℕ, zero, suc, ◌+◌, ◌<◌, ◌≤◌, nat_le, List, [], ◌∷◌, ◌++◌, length, drop, Bool, true, false, not, cond, ◌&&◌, Option, Some, None, slice_get, refl, sym, ◌∙◌, ap, subst, arith, append_assoc, length-append}
+use Rattle.std.proofs.Common.{◌≡◌, inl, inr, ℕ, suc, ◌+◌, ◌≤◌, nat_le, List, [], ◌∷◌, ◌++◌, length, drop, Bool, true, false, not, cond, ◌&&◌, Some, slice_get, refl, sym, ◌∙◌, ap, subst, arith, append_assoc, length-append}
 use Rattle.std.specs.List.{list_any}
 use Rattle.std.proofs.lemmas.Bool.{cases_order}
 use Rattle.std.proofs.lemmas.Bool.Decides.{leb_tells}
 use Rattle.std.proofs.Math.Seq.{drop-append_seam}
 use Rattle.rept_trace.specs.declared.packet.Packet.{Packet}
-use Rattle.rept_path.specs.Trace.{starts, loses, MayBegin, Window, IsWindow}
+use Rattle.rept_path.specs.Trace.{starts, loses, MayBegin, IsWindow}
 use Rattle.rept_path.proofs.Windows.{starts_within}
 use Rattle.rept_threads.specs.Stamps.{is_start}
 use Rattle.rept_threads.specs.Skipping.{window_from, window_of}

@@ -1,7 +1,7 @@
 -- Packets whose times don't go back, and the times of the slices that they tell.
-use Rattle.std.proofs.Common.{map, ◌≡◌, ◌⊎◌, inl, inr, ℕ, zero, suc, ◌+◌, ◌-◌, ◌<◌, ◌≤◌, nat_lt, nat_le, List, [], ◌∷◌, ◌++◌, drop, length, not, ◌&&◌, Bool, true, false, cond, Option, Some, None, refl, sym, ◌∙◌, ap, subst, arith, ◌||◌}
+use Rattle.std.proofs.Common.{map, ◌≡◌, inl, inr, ℕ, zero, suc, ◌+◌, ◌≤◌, nat_le, List, [], ◌∷◌, ◌++◌, drop, length, not, ◌&&◌, Bool, true, false, cond, Option, Some, None, refl, arith, ◌||◌}
 use Rattle.std.specs.Prelude.{unwrap_or}
-use Rattle.std.specs.List.{list_any, cons_option, filter_map, flat_map, prefix_len}
+use Rattle.std.specs.List.{list_any, cons_option, filter_map, prefix_len}
 use Rattle.std.specs.Option.{option_or}
 use Rattle.std.proofs.lemmas.Bool.Decides.{leb_tells}
 use Rattle.rept_trace.specs.declared.packet.Packet.{Packet}
@@ -10,7 +10,7 @@ use Rattle.rept_path.specs.declared.fault.PathFault.TheVariants.{TimeBack}
 use Rattle.rept_threads.specs.Stamps.{time_of, clock_of, is_start, is_before, running_after}
 use Rattle.rept_threads.specs.Parts.{Left, Told, begin_of, told_from, told_in, told, first_time, beyond, inner, never}
 use Rattle.rept_threads.specs.Order.{head_of}
-use Rattle.rept_threads.specs.Skipping.{numbered, whole, skip, windows, window_of, from_time, full_from, kept}
+use Rattle.rept_threads.specs.Skipping.{numbered, whole, skip, windows, window_of, full_from, kept}
 use Rattle.rept_threads.specs.Checks.{back_from, time_back, startless, all_idle, stranger, first_fault, check}
 use Rattle.rept_threads.proofs.InTime.{Each}
 

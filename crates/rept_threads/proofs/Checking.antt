@@ -1,5 +1,5 @@
 -- What is looked at before slices are, stream by stream.
-use Rattle.std.proofs.Common.{◌≡◌, ◌≢◌, ℕ, zero, suc, ◌+◌, ◌<◌, ◌≤◌, ◌^◌, List, [], ◌∷◌, length, drop, get_or, Option, Some, None, refl, sym, ◌∙◌, ap, subst, arith, add-one}
+use Rattle.std.proofs.Common.{◌≡◌, ◌≢◌, ℕ, suc, ◌+◌, ◌<◌, ◌≤◌, ◌^◌, List, [], ◌∷◌, length, drop, get_or, Option, Some, None, refl, sym, ◌∙◌, ap, subst, arith, add-one}
 use Rattle.std.specs.List.{sum_by, cons_option, filter_map}
 use Rattle.std.proofs.lemmas.List.{at_drop_all, at_drop_more}
 use Rattle.std.proofs.lemmas.List.Sums.{sum_by-cons}
@@ -16,7 +16,6 @@ use Rattle.rept_threads.specs.Parts.{Left}
 use Rattle.rept_threads.specs.Order.{head_of}
 use Rattle.rept_threads.specs.Skipping.{whole, numbered, window_of}
 use Rattle.rept_threads.specs.Checks.{first_fault, startless, all_idle, back_from, time_back}
-use Rattle.rept_threads.specs.Raw.{timed_by}
 use Rattle.rept_threads.specs.Windows.{IsWindow, AreWindows, AreAll}
 use Rattle.rept_threads.specs.declared.reading.Window.{Window}
 use Rattle.rept_threads.proofs.Begun.{window_is}

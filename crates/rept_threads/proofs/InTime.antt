@@ -1,5 +1,5 @@
 -- Things in the order of time.
-use Rattle.std.proofs.Common.{map, ◌≡◌, ◌⊎◌, inl, inr, ℕ, ◌<◌, ◌≤◌, nat_le, List, [], ◌∷◌, Bool, true, false, cond, Option, Some, None, refl, sym, ◌∙◌, ap, subst, arith}
+use Rattle.std.proofs.Common.{inl, inr, ℕ, ◌≤◌, nat_le, List, [], ◌∷◌, Bool, true, false, cond, Option, Some, None, arith}
 use Rattle.std.specs.List.{filter}
 use Rattle.std.proofs.lemmas.Bool.Decides.{leb_tells}
 use Rattle.rept_threads.specs.Order.{put, by_time, head_of}

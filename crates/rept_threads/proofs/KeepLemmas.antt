@@ -1,13 +1,13 @@
 -- What is left of streams from a time on.
 use Rattle.std.proofs.Common.{◌≡◌, map, max, ℕ, suc, ◌+◌, ◌<◌, ◌≤◌, ◌^◌, nat_le, List, [], ◌∷◌, ◌++◌, length, drop, get_or, Bool, true, false, not, cond, ◌&&◌, Option, Some, None, Ok, refl, sym, ◌∙◌, ap, subst, arith, append_assoc, length-drop, inl, inr}
-use Rattle.std.specs.List.{prefix_len, filter_map, cons_option}
+use Rattle.std.specs.List.{filter_map, cons_option}
 use Rattle.std.proofs.lemmas.List.{append-nil, at_drop_all}
 use Rattle.std.proofs.lemmas.Bool.Decides.{leb_tells}
 use Rattle.std.proofs.lemmas.List.Sums.{prefix_len-le-length}
 use Rattle.rept_trace.specs.declared.packet.Packet.{Packet}
 use Rattle.rept_trace.specs.declared.packets.Packets.{Packets}
 use Rattle.rept_trace.specs.Packets.{rest_of}
-use Rattle.rept_trace.specs.Stream.{Stream, Hold, Answers}
+use Rattle.rept_trace.specs.Stream.{Hold, Answers}
 use Rattle.rept_trace.proofs.Going.{one_list}
 use Rattle.rept_path.specs.declared.window.Begin.{Begin}
 use Rattle.rept_path.proofs.Packeting.{taken, none_left}

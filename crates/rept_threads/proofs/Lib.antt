@@ -1,4 +1,5 @@
 pub mod Begun
+pub mod Fitting
 pub mod Going
 pub mod KeepLemmas
 pub mod Sound
@@ -7,6 +8,7 @@ pub mod SurveyLemmas
 pub mod Plain
 pub mod Calm
 pub mod InTime
+pub mod OneSurvey
 pub mod Only
 pub mod Whether
 pub mod Backs

@@ -1,5 +1,5 @@
 -- There is one run at most, or one refusal.
-use Rattle.std.proofs.Common.{◌≡◌, ◌⊎◌, inl, inr, ℕ, ◌+◌, List, [], ◌∷◌, Option, Some, None, Result, Ok, Err, refl, sym, ◌∙◌, ap, subst}
+use Rattle.std.proofs.Common.{◌≡◌, inl, inr, ℕ, ◌+◌, List, [], ◌∷◌, Option, Some, None, Result, Ok, Err, sym, ◌∙◌, ap, subst}
 use Rattle.rept_elf.specs.Segments.{ElfSegment}
 use Rattle.rept_isa.specs.declared.row.StepRow.{StepRow}
 use Rattle.rept_steps.specs.declared.run.Run.{Run}
@@ -8,8 +8,7 @@ use Rattle.rept_path.proofs.OneRoute.{one_route, route_or_stop, one_stop}
 use Rattle.std.specs.Prelude.{reverse}
 use Rattle.rept_threads.specs.Parts.{Told}
 use Rattle.rept_threads.specs.Stretches.{stretch, heads, Walked, origin_after, count_of, Goes, Walks, WalksFault}
-use Rattle.rept_threads.specs.Checks.{check}
-use Rattle.rept_threads.specs.Many.{Traces, IsRun, IsRefused, joined, left, processes}
+use Rattle.rept_threads.specs.Many.{Traces, IsRun, IsRefused, joined, left}
 
 module _ (code : List ElfSegment) where
   abbrev walked : Told → List (List StepRow) → Walked

@@ -1,8 +1,8 @@
 -- The rows of a stretch are no calls.
-use Rattle.std.proofs.Common.{◌≡◌, ◌⊎◌, inl, inr, ℕ, zero, suc, ◌+◌, ◌-◌, ◌<◌, ◌≤◌, List, [], ◌∷◌, ◌++◌, take, drop, length, reverse, Bool, true, false, cond, Option, Some, None, Result, Ok, Err, refl, sym, ◌∙◌, ap, subst, arith, append_assoc}
+use Rattle.std.proofs.Common.{◌≡◌, ℕ, zero, suc, ◌-◌, List, [], ◌∷◌, ◌++◌, take, drop, reverse, Bool, true, false, cond, Ok, refl, sym, ◌∙◌, ap, subst, append_assoc}
 use Rattle.std.specs.Prelude.{slice_get}
 use Rattle.std.specs.List.{flat_map}
-use Rattle.std.proofs.lemmas.List.{reverse-append, append-nil}
+use Rattle.std.proofs.lemmas.List.{reverse-append}
 use Rattle.rept_elf.specs.Segments.{ElfSegment}
 use Rattle.rept_isa.specs.declared.instr.Instr.{Instr}
 use Rattle.rept_isa.specs.declared.instr.Instr.TheVariants as instrs
@@ -10,12 +10,11 @@ use Rattle.rept_isa.specs.declared.row.StepRow.{StepRow}
 use Rattle.rept_trace.specs.declared.packet.Packet.{Packet}
 use Rattle.rept_trace.specs.declared.packet.Packet.TheVariants.{Start, Context, Support, Address, Map, MapAddress}
 use Rattle.rept_path.specs.declared.aim.Aim.{Aim}
-use Rattle.rept_path.specs.declared.fault.PathFault.{PathFault}
 use Rattle.rept_path.specs.Code.{look, flow_of}
 use Rattle.rept_path.specs.Packets.{begins, waiting, waits_after}
-use Rattle.rept_path.specs.Moves.{Lead, Place, Way, way_by, Stand, along, successor, IsMove, course_by, ◌>>=◌}
+use Rattle.rept_path.specs.Moves.{Lead, Place, Way, way_by, Stand, along, successor, IsMove, course_by}
 use Rattle.rept_path.specs.Legs.{Passes, Reaches}
-use Rattle.rept_path.specs.Route.{Phase, lead_of, further, with_bits, phases_of, PhaseLegs, Met, met_by, WaitingLeg, FirstLeg, Origin, Leg, Route}
+use Rattle.rept_path.specs.Route.{Phase, lead_of, further, with_bits, phases_of, PhaseLegs, Met, met_by, WaitingLeg, FirstLeg, Origin, Route}
 use Rattle.rept_path.proofs.MoveLemmas.{made}
 use Rattle.rept_path.proofs.Waiting.{LegIn}
 use Rattle.rept_threads.specs.Stamps.{is_start}

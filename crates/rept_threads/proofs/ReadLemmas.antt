@@ -1,5 +1,5 @@
 -- All packets of several streams, stream by stream.
-use Rattle.std.proofs.Common.{◌≡◌, ◌⊎◌, inl, inr, ℕ, suc, ◌+◌, ◌<◌, ◌≤◌, ◌^◌, List, [], ◌∷◌, ◌++◌, length, drop, Some, slice_get, refl, sym, ◌∙◌, ap, subst, arith, append_assoc, add-one}
+use Rattle.std.proofs.Common.{◌≡◌, inl, inr, ℕ, suc, ◌+◌, ◌≤◌, List, [], ◌∷◌, ◌++◌, length, drop, Some, slice_get, refl, sym, ◌∙◌, ap, subst, arith, append_assoc, add-one}
 use Rattle.std.specs.List.{sum_by}
 use Rattle.std.proofs.lemmas.List.{append-nil, at_drop_all}
 use Rattle.std.proofs.lemmas.List.Sums.{sum_by-cons}
@@ -11,8 +11,7 @@ use Rattle.rept_trace.specs.declared.parameters.Parameters.{Parameters}
 use Rattle.rept_trace.specs.Grammar.{timed}
 use Rattle.rept_trace.specs.Stream.{Stream, Hold, Fails, FailsAfter}
 use Rattle.rept_trace.proofs.Frames.{shorter}
-use Rattle.rept_path.specs.Survey.{Surveys}
-use Rattle.rept_threads.specs.Raw.{timed_by, HoldEach, FailsIn}
+use Rattle.rept_threads.specs.Raw.{timed_by, FailsIn}
 use Rattle.rept_threads.specs.Windows.{IsWindow, AreWindows, number_told, numbered_after}
 use Rattle.rept_threads.specs.declared.reading.Window.{Window}
 

@@ -1,9 +1,8 @@
 -- The run of several streams is sound.
-use Rattle.std.proofs.Common.{map, ◌≡◌, ◌⊎◌, inl, inr, ℕ, zero, suc, ◌+◌, ◌-◌, ◌^◌, ◌<◌, ◌≤◌, ◌==◌, nat_lt, nat_le, List, [], ◌∷◌, ◌++◌, length, reverse, Bool, true, false, cond, Option, Some, None, Result, Ok, Err, refl, sym, ◌∙◌, ap, subst, arith, length-append, ◌&&◌}
+use Rattle.std.proofs.Common.{map, ◌≡◌, inl, inr, ℕ, zero, suc, ◌+◌, ◌-◌, ◌^◌, ◌<◌, ◌≤◌, ◌==◌, nat_le, List, [], ◌∷◌, ◌++◌, length, reverse, Bool, true, false, cond, Option, Some, None, Result, Ok, Err, refl, sym, ◌∙◌, ap, subst, arith, length-append}
 use Rattle.std.specs.Prelude.{slice_get, is_none, option_map, unwrap_or}
-use Rattle.std.specs.List.{All, flat_map, filter, sum_by}
+use Rattle.std.specs.List.{All, flat_map, filter}
 use Rattle.std.proofs.lemmas.List.Elements.{All-head, All-tail}
-use Rattle.std.proofs.lemmas.List.{reverse-append}
 use Rattle.std.proofs.lemmas.Bool.Decides.{leb_tells}
 use Rattle.rept_elf.specs.Segments.{ElfSegment}
 use Rattle.rept_isa.specs.declared.instr.Instr.{Instr}
@@ -20,15 +19,15 @@ use Rattle.rept_path.specs.Code.{look, flow_of}
 use Rattle.rept_path.specs.Gap.{row, Goal, Edge, by_successor, by_flow, crossing, gap, gap_to_start}
 use Rattle.rept_path.specs.Moves.{Stand, way_by, successor, ◌>>=◌}
 use Rattle.rept_path.proofs.MoveLemmas.{bind_ok}
-use Rattle.rept_steps.specs.Course.{Row, row_of, Course, no_thread, is_call, is_call_row, slice_of, TakeRows, BeginsFrom, first_slice, KeepTime, CallsEnd, IsSound}
+use Rattle.rept_steps.specs.Course.{no_thread, is_call, is_call_row, slice_of, TakeRows, BeginsFrom, first_slice, KeepTime, IsSound}
 use Rattle.rept_threads.specs.Parts.{Told, thread_of, begin_of, first_time, beyond, lesser, never, end_before}
-use Rattle.rept_threads.specs.Order.{by_time, head_of}
+use Rattle.rept_threads.specs.Order.{head_of}
 use Rattle.rept_threads.specs.Stamps.{clock_of, address_of}
 use Rattle.rept_threads.specs.Skipping.{kept}
 use Rattle.rept_threads.specs.Checks.{first_fault}
 use Rattle.rept_threads.specs.Stretches.{heads, Ran, ran_by, ran_in, ran, Walked, within, Walks, count_of}
 use Rattle.rept_threads.specs.Joins.{Note, Ground, Ending, ending, stand_at, bridge, Joined, with_rows, join, slice_by, slices, thread, of_thread, rows_in, ran_rows, threads}
-use Rattle.rept_threads.specs.Many.{Traces, processes, left, ground, overlap_fault, unmet, run_by, IsRun, joined}
+use Rattle.rept_threads.specs.Many.{Traces, processes, left, ground, overlap_fault, unmet, run_by, IsRun}
 use Rattle.rept_threads.proofs.InTime.{Each, Ascend, FromTime, ascends, each_by_time, each_filter}
 use Rattle.rept_threads.proofs.Calm.{OnTime, NotBefore, ends_late, each_append, CanTell, CanBe, left_on_time, left_can}
 use Rattle.rept_threads.proofs.Plain.{IsPlain, has_successor, rows_plain}

@@ -9,7 +9,7 @@ use Rattle.rept_trace.proofs.Going.{one_list}
 use Rattle.rept_path.proofs.Packeting.{taken, none_left}
 use Rattle.rept_threads.specs.Stamps.{is_start, running_after}
 use Rattle.rept_threads.specs.Parts.{Told, told_from}
-use Rattle.rept_threads.specs.Entries.{IsTold, AreTold}
+use Rattle.rept_threads.specs.Entries.{AreTold}
 use Rattle.rept_threads.specs.declared.telling.Entry.{Entry}
 use Rattle.rept_threads.proofs.Going.{Bytes}
 

@@ -1,18 +1,14 @@
 -- Each list of streams has a run or a refusal.
-use Rattle.std.proofs.Common.{◌≡◌, ◌⊎◌, inl, inr, ℕ, suc, ◌+◌, List, [], ◌∷◌, ◌++◌, Bool, true, false, cond, Option, Some, None, Result, Ok, Err, refl, sym, ◌∙◌, ap, subst}
-use Rattle.std.specs.Prelude.{slice_get, is_none, reverse}
-use Rattle.std.specs.List.{All, filter, flat_map}
-use Rattle.std.proofs.lemmas.List.Elements.{All-filter}
+use Rattle.std.proofs.Common.{◌≡◌, ◌⊎◌, inl, inr, ℕ, suc, ◌+◌, List, [], ◌∷◌, Bool, true, false, cond, Option, Some, None, Result, Ok, Err, refl}
+use Rattle.std.specs.Prelude.{is_none}
 use Rattle.rept_elf.specs.Segments.{ElfSegment}
-use Rattle.rept_isa.specs.declared.row.StepRow.{StepRow}
 use Rattle.rept_steps.specs.declared.run.Run.{Run}
 use Rattle.rept_trace.specs.declared.packet.Packet.{Packet}
 use Rattle.rept_path.specs.declared.fault.PathFault.{PathFault}
-use Rattle.rept_path.specs.Trace.{StopsAt}
 use Rattle.rept_path.proofs.Decided.{route_of}
 use Rattle.rept_threads.specs.Stamps.{is_start, running_after}
 use Rattle.rept_threads.specs.Parts.{Left, Told, told_from, told_in, told}
-use Rattle.rept_threads.specs.Stretches.{stretch, heads, Walked, origin_after, count_of, Goes, Walks, WalksFault}
+use Rattle.rept_threads.specs.Stretches.{stretch, heads, Walked, origin_after, count_of, Walks, WalksFault}
 use Rattle.rept_threads.specs.Checks.{check}
 use Rattle.rept_threads.specs.Skipping.{kept}
 use Rattle.rept_threads.proofs.InTime.{Each, each_filter}

@@ -1,18 +1,17 @@
 -- The slices of windows, stream by stream.
-use Rattle.std.proofs.Common.{◌≡◌, ◌≢◌, map, ℕ, suc, ◌+◌, ◌-◌, ◌<◌, ◌≤◌, ◌^◌, List, [], ◌∷◌, ◌++◌, length, drop, get_or, Option, Some, None, refl, sym, ◌∙◌, ap, subst, arith, append_assoc, add-one, length-drop}
-use Rattle.std.specs.List.{sum_by, flat_map}
+use Rattle.std.proofs.Common.{◌≡◌, ◌≢◌, map, ℕ, suc, ◌+◌, ◌<◌, ◌≤◌, ◌^◌, List, [], ◌∷◌, ◌++◌, length, drop, get_or, Option, Some, None, refl, sym, ◌∙◌, ap, subst, arith, append_assoc, length-drop}
+use Rattle.std.specs.List.{sum_by}
 use Rattle.std.specs.Prelude.{unwrap_or}
 use Rattle.std.proofs.lemmas.List.{append-nil, at_drop_all}
 use Rattle.std.proofs.lemmas.List.Sums.{sum_by-cons}
 use Rattle.rept_trace.specs.declared.packet.Packet.{Packet}
 use Rattle.rept_trace.specs.Packets.{rest_of}
 use Rattle.rept_trace.specs.Stream.{Hold}
-use Rattle.rept_path.specs.declared.fault.PathFault.{PathFault}
 use Rattle.rept_path.specs.declared.fault.PathFault.TheVariants.{NoStart}
 use Rattle.rept_path.specs.declared.window.Begin.{Begin}
 use Rattle.rept_path.specs.Survey.{IsThere, number_in}
 use Rattle.rept_threads.specs.Parts.{Left, Told, told_from, told_in, told}
-use Rattle.rept_threads.specs.Skipping.{whole, numbered, skip, window_of, windows}
+use Rattle.rept_threads.specs.Skipping.{whole, numbered, window_of, windows}
 use Rattle.rept_threads.specs.Checks.{first_fault, startless}
 use Rattle.rept_threads.specs.Windows.{IsWindow, AreWindows, AreAll, window_left}
 use Rattle.rept_threads.specs.Lefts.{BeginsWith, IsLeftBy, IsLeft, AreLeft}

@@ -1,7 +1,6 @@
 -- Why several streams are refused before a row is walked. This project's own.
-use Rattle.std.specs.Prelude.{ℕ, suc, ◌==◌, List, [], ◌∷◌, length, Option, Some, None, slice_get, Bool, is_none, if◌then◌else◌}
+use Rattle.std.specs.Prelude.{ℕ, suc, ◌==◌, List, [], ◌∷◌, length, Option, Some, None, if◌then◌else◌}
 use Rattle.std.specs.List.{list_any, filter_map}
-use Rattle.std.specs.Option.{option_or}
 use Rattle.rept_trace.specs.declared.packet.Packet.{Packet}
 use Rattle.rept_path.specs.declared.fault.PathFault.{PathFault}
 use Rattle.rept_path.specs.declared.fault.PathFault.TheVariants.{NoStart, TimeBack, UnknownThread, OtherThread}

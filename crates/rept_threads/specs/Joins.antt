@@ -1,6 +1,6 @@
 -- The slices of a thread joined one to the next, and the last one to the end. The rows of a join are the last ones of the former slice.
 -- This project's own.
-use Rattle.std.specs.Prelude.{map, ℕ, ◌+◌, ◌-◌, ◌==◌, List, [], ◌∷◌, ◌++◌, length, reverse, Option, Some, None, option_map, Result, Ok, Err, is_none, if◌then◌else◌}
+use Rattle.std.specs.Prelude.{ℕ, ◌+◌, ◌-◌, ◌==◌, List, [], ◌∷◌, ◌++◌, length, reverse, Option, Some, None, option_map, Result, Ok, is_none, if◌then◌else◌}
 use Rattle.std.specs.List.{filter, flat_map, sum_by}
 use Rattle.rept_elf.specs.Segments.{ElfSegment}
 use Rattle.rept_isa.specs.declared.row.StepRow.{StepRow}

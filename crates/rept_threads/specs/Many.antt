@@ -1,5 +1,5 @@
 -- The run that several streams of packets tell of a program with several threads, and why there is none. This project's own.
-use Rattle.std.specs.Prelude.{map, ◌≡◌, ◌⊎◌, ℕ, List, [], ◌∷◌, length, Option, Some, None, Result, Ok, Err, option_map}
+use Rattle.std.specs.Prelude.{map, ◌≡◌, ◌⊎◌, ℕ, List, length, Option, Some, None, Result, Ok, Err, option_map}
 use Rattle.std.specs.List.{sum_by}
 use Rattle.rept_elf.specs.Segments.{ElfSegment}
 use Rattle.rept_steps.specs.declared.run.Run.{Run}

@@ -1,6 +1,6 @@
 -- Slices in the order of time. This project's own.
-use Rattle.std.specs.Prelude.{map, ℕ, ◌==◌, nat_le, nat_lt, List, [], ◌∷◌, ◌++◌, take, Option, Some, None, option_map, Bool, not, ◌&&◌, ◌||◌, if◌then◌else◌}
-use Rattle.std.specs.List.{filter, list_any, filter_map}
+use Rattle.std.specs.Prelude.{map, ℕ, ◌==◌, nat_le, nat_lt, List, [], ◌∷◌, take, Option, Some, None, option_map, Bool, not, ◌&&◌, ◌||◌, if◌then◌else◌}
+use Rattle.std.specs.List.{filter, list_any}
 use Rattle.rept_trace.specs.declared.packet.Packet.{Packet}
 use Rattle.rept_threads.specs.Stamps.{time_of, is_past, is_start}
 use Rattle.rept_threads.specs.Parts.{Told, thread_of, begin_of, inner, beyond, end_before}

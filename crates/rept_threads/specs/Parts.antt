@@ -1,6 +1,6 @@
 -- What is left of a stream of packets, and the slices that its packets tell, before a row is walked. Lists of packets are oldest
 -- first. This project's own.
-use Rattle.std.specs.Prelude.{ℕ, suc, ◌+◌, ◌-◌, ◌^◌, nat_le, List, [], ◌∷◌, drop, Option, Some, None, Bool, not, if◌then◌else◌}
+use Rattle.std.specs.Prelude.{ℕ, suc, ◌-◌, ◌^◌, nat_le, List, [], ◌∷◌, drop, Option, Some, None, not, if◌then◌else◌}
 use Rattle.std.specs.List.{prefix_len, flat_map}
 use Rattle.std.specs.Option.{option_or}
 use Rattle.rept_trace.specs.declared.packet.Packet.{Packet}

@@ -1,5 +1,5 @@
 -- The run of streams of bytes, and why there is none. This project's own.
-use Rattle.std.specs.Prelude.{◌≡◌, ◌⊎◌, ℕ, ◌+◌, List, [], ◌∷◌, length}
+use Rattle.std.specs.Prelude.{◌≡◌, ◌⊎◌, ℕ, ◌+◌, List, [], ◌∷◌, length, Some, None}
 use Rattle.rept_elf.specs.Segments.{ElfSegment}
 use Rattle.rept_steps.specs.declared.run.Run.{Run}
 use Rattle.rept_trace.specs.declared.packet.Packet.{Packet}
@@ -8,6 +8,7 @@ use Rattle.rept_trace.specs.Grammar.{timed}
 use Rattle.rept_trace.specs.Stream.{Stream, Hold, FailsAfter}
 use Rattle.rept_path.specs.declared.fault.PathFault.{PathFault}
 use Rattle.rept_path.specs.declared.fault.PathFault.TheVariants as fault
+use Rattle.rept_threads.specs.Checks.{check}
 use Rattle.rept_threads.specs.Joins.{Note}
 use Rattle.rept_threads.specs.Many.{Traces, IsRun, IsRefused}
 
@@ -46,3 +47,19 @@ abbrev pub HasNoRun : Files → PathFault → Type 0
 HasNoRun f e =
     ((refused : TraceFault) × FailsIn 0 f.streams refused × (e ≡ fault.Packet refused))
     ⊎ ((packets : List (List Packet)) × HoldEach f.streams packets × IsRefused (traces f packets) e)
+
+-- what is looked at before a row is walked: the bytes of each stream, the processes of the threads, and the number from which on a window may begin
+pub record Looked : Type 0 where
+  pub streams : List (List ℕ)
+  pub processes : List ℕ
+  pub from : ℕ
+
+-- Why the streams are refused before a row is walked: a packet is refused, before all else; or all are whole, and a check fails.
+abbrev pub IsRefusedBefore : Looked → PathFault → Type 0
+IsRefusedBefore l e =
+    ((refused : TraceFault) × FailsIn 0 l.streams refused × (e ≡ fault.Packet refused))
+    ⊎ ((lists : List (List Packet)) × HoldEach l.streams lists × (check l.from l.processes lists ≡ Some e))
+
+-- These are all packets, and no check fails.
+abbrev pub PassBefore : Looked → List (List Packet) → Type 0
+PassBefore l lists = HoldEach l.streams lists × (check l.from l.processes lists ≡ None)

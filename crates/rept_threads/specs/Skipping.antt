@@ -1,6 +1,6 @@
 -- Which packets of several streams are skipped, and until when the streams don't tell what happened. Lists of packets are oldest
 -- first. This project's own.
-use Rattle.std.specs.Prelude.{map, ℕ, suc, ◌+◌, ◌-◌, nat_le, nat_lt, List, [], ◌∷◌, length, drop, Option, Some, None, unwrap_or, Bool, not, ◌&&◌, if◌then◌else◌}
+use Rattle.std.specs.Prelude.{map, ℕ, suc, ◌+◌, ◌-◌, nat_le, nat_lt, List, [], ◌∷◌, length, drop, Option, Some, None, unwrap_or, not, ◌&&◌, if◌then◌else◌}
 use Rattle.std.specs.List.{prefix_len, list_any, filter, filter_map, sum_by}
 use Rattle.rept_trace.specs.declared.packet.Packet.{Packet}
 use Rattle.rept_path.specs.Trace.{loses}

@@ -1,6 +1,6 @@
 -- The walks of streams, stretch by stretch. A stretch begins at the first packet that is left of a stream and at each start packet while
 -- the trace waits, and is walked as a path of its own; what leads from one to another isn't looked at here.
-use Rattle.std.specs.Prelude.{map, ◌≡◌, ◌⊎◌, ℕ, suc, ◌+◌, ◌-◌, nat_le, nat_lt, List, [], ◌∷◌, length, take, drop, reverse, is_none, Bool, true, false, ◌&&◌, if◌then◌else◌}
+use Rattle.std.specs.Prelude.{map, ◌≡◌, ◌⊎◌, ℕ, suc, ◌+◌, ◌-◌, nat_le, nat_lt, List, [], ◌∷◌, length, take, drop, reverse, is_none, Bool, false, ◌&&◌, if◌then◌else◌}
 use Rattle.std.specs.List.{filter, flat_map}
 use Rattle.rept_elf.specs.Segments.{ElfSegment}
 use Rattle.rept_isa.specs.declared.row.StepRow.{StepRow}

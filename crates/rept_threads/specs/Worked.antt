@@ -1,10 +1,10 @@
 -- Examples: streams of packets of two threads, which run as the processes 1 and 2, and what the definitions say of them.
-use Rattle.std.specs.Prelude.{ℕ, List, [], ◌∷◌, map, Bool, true, false, Option}
+use Rattle.std.specs.Prelude.{ℕ, List, [], ◌∷◌, map, true, false, Option}
 use Rattle.rept_trace.specs.declared.packet.Qual.TheVariants.{EndedRep, TraceLost}
 use Rattle.rept_trace.specs.declared.packet.Packet.{Packet}
 use Rattle.rept_trace.specs.declared.packet.Packet.TheVariants.{Start, Context, Support}
 use Rattle.rept_path.specs.declared.fault.PathFault.{PathFault}
-use Rattle.rept_threads.specs.Parts.{Told, thread_of, begin_of, told}
+use Rattle.rept_threads.specs.Parts.{thread_of, begin_of, told}
 use Rattle.rept_threads.specs.Order.{end_of}
 use Rattle.rept_threads.specs.Skipping.{kept, skipped, dark}
 use Rattle.rept_threads.specs.Checks.{first_fault, check}

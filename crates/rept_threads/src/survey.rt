@@ -1,15 +1,14 @@
 //! What several streams tell before a row is walked.
 
-ghost use Rattle.std.specs.Prelude.{◌≡◌, ◌⊎◌, ◌<◌, ◌^◌, ℕ, List, length, map, Some, None, IfOk, IfErr};
+ghost use Rattle.std.specs.Prelude.{◌≡◌, ◌⊎◌, ◌<◌, ◌^◌, ℕ, List, length, map, IfOk, IfErr, MatchResult};
 ghost use Rattle.std.specs.List.{sum_by};
 ghost use Rattle.rept_trace.specs.declared.packet.Packet.{Packet};
-ghost use Rattle.rept_trace.specs.declared.fault.TraceFault.{TraceFault};
-ghost use Rattle.rept_path.specs.declared.fault.PathFault.TheVariants.{OutOfMemory, Packet as PacketFault};
-ghost use Rattle.rept_threads.specs.Checks.{check};
+ghost use Rattle.rept_path.specs.declared.fault.PathFault.{PathFault};
+ghost use Rattle.rept_path.specs.declared.fault.PathFault.TheVariants.{OutOfMemory};
 ghost use Rattle.rept_threads.specs.Entries.{AreTold};
 ghost use Rattle.rept_threads.specs.Lefts.{AreLeft};
 ghost use Rattle.rept_threads.specs.Parts.{Left, told};
-ghost use Rattle.rept_threads.specs.Raw.{HoldEach, FailsIn};
+ghost use Rattle.rept_threads.specs.Raw.{IsRefusedBefore, PassBefore};
 ghost use Rattle.rept_threads.specs.Skipping.{windows as all_windows, full_from, from_time, kept};
 
 use crate::checks::refused_before;
@@ -50,6 +49,28 @@ fn tell_slices<'a>(alloc: Global, windows: &[Window<'a>]) -> Result<Survey<'a>, 
     })
 }
 
+/// As `survey_all`.
+fn survey_once<'a>(
+    alloc: Global,
+    streams: &Streams<'a>,
+    processes: &[u32],
+    from: u32,
+) -> Result<Survey<'a>, PathFault>
+    requires { sum_by (λ bytes. length bytes) streams.now < 2 ^ 32 }
+    ensures ok { IfOk result (λ s. (lists : List (List Packet)) × PassBefore (record { streams = streams.now; processes = processes.now; from = from }) lists × AreTold s.windows.items (told (all_windows from lists)) × (s.time ≡ full_from (all_windows from lists)) × AreTold s.slices.items (told (kept from lists))) }
+    ensures err { IfErr result (λ e. (e ≡ OutOfMemory) ⊎ IsRefusedBefore (record { streams = streams.now; processes = processes.now; from = from }) e) }
+{
+    let windows = read_all(alloc, streams, from)?;
+    if let Some(fault) = refused_before(&windows) {
+        return Err(fault);
+    }
+    let told = tell_slices(alloc, &windows)?;
+    if let Some(fault) = refused_by_threads(&told.slices, processes) {
+        return Err(fault);
+    }
+    Ok(told)
+}
+
 /// What several streams tell of threads that run as these processes, before a row is walked. Windows begin at start packets of the number `from` in their stream
 /// or a later one. The refusals are, in this order: a packet that isn't whole or that the format refuses (`Packet`, numbered through all streams), a packet of an
 /// earlier time than one before it in its stream (`TimeBack`), a stream with packets and no window (`NoStart`, with its count of packets), no packets at all
@@ -61,16 +82,12 @@ pub fn survey_all<'a>(
     from: u32,
 ) -> Result<Survey<'a>, PathFault>
     requires { sum_by (λ bytes. length bytes) streams.now < 2 ^ 32 }
-    ensures ok { IfOk result (λ s. (lists : List (List Packet)) × HoldEach streams.now lists × (check from processes.now lists ≡ None) × AreTold s.windows.items (told (all_windows from lists)) × (s.time ≡ full_from (all_windows from lists)) × AreTold s.slices.items (told (kept from lists))) }
-    ensures err { IfErr result (λ e. (e ≡ OutOfMemory) ⊎ (((refused : TraceFault) × FailsIn 0 streams.now refused × (e ≡ PacketFault refused)) ⊎ ((lists : List (List Packet)) × HoldEach streams.now lists × (check from processes.now lists ≡ Some e)))) }
+    ensures ok { IfOk result (λ s. (lists : List (List Packet)) × PassBefore (record { streams = streams.now; processes = processes.now; from = from }) lists × AreTold s.windows.items (told (all_windows from lists)) × (s.time ≡ full_from (all_windows from lists)) × AreTold s.slices.items (told (kept from lists))) }
+    ensures err { IfErr result (λ e. (e ≡ OutOfMemory) ⊎ IsRefusedBefore (record { streams = streams.now; processes = processes.now; from = from }) e) }
+
+    // They tell nothing else, and are refused for nothing else.
+    ensures only_ok { (lists : List (List Packet)) → PassBefore (record { streams = streams.now; processes = processes.now; from = from }) lists → IfErr result (λ e. e ≡ OutOfMemory) }
+    ensures only_refusal { (fault : PathFault) → IsRefusedBefore (record { streams = streams.now; processes = processes.now; from = from }) fault → MatchResult result (λ _. ⊥) (λ e. (e ≡ OutOfMemory) ⊎ (e ≡ fault)) }
 {
-    let windows = read_all(alloc, streams, from)?;
-    if let Some(fault) = refused_before(&windows) {
-        return Err(fault);
-    }
-    let told = tell_slices(alloc, &windows)?;
-    if let Some(fault) = refused_by_threads(&told.slices, processes) {
-        return Err(fault);
-    }
-    Ok(told)
+    survey_once(alloc, streams, processes, from)
 }

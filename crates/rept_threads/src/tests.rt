@@ -1,9 +1,10 @@
-//! A stretch that was worked out by hand.
+//! Streams and a stretch that were worked out by hand.
 
 ghost use Rattle.std.specs.Prelude.{◌<◌, ◌^◌, length};
 ghost use Rattle.rept_trace.specs.Packets.{rest_of};
 
 use crate::stretch::walk_stretch;
+use crate::survey::survey_all;
 use rept_dump::Dump;
 use rept_elf::{Image, Want};
 use rept_path::PathFault;
@@ -11,7 +12,7 @@ use rept_path::walk::Walk;
 use rept_path::window::go_through;
 use rept_sample::{core_file, executable};
 use rept_steps::LIMIT;
-use rept_trace::Packets;
+use rept_trace::{Packets, Streams, TraceFault};
 use std::alloc::Global;
 use std::test::Fail;
 
@@ -54,5 +55,75 @@ fn stretch_ends_before_the_next(rt: HostRuntime) -> Result<(), Fail> {
             );
         }
     }
+    Ok(())
+}
+
+// Two harts. Each start packet has a time, a thread and an address: on the first hart 1, 1, 0x10000; 3, 1, 0x10004; 9, 1, 0x1000c; on the second 1, 2, 0x10000;
+// 4, 2, 0x10004. Then the trace ends on each, and the second has a context packet of time 8. The bits were packed by hand from the field tables of
+// Efficient Trace for RISC-V 2.0.
+const TWO_HARTS: &[u8] = b"\x52\x54\x52\x32\x02\x00\x00\x00\x32\x00\x00\x00\
+    \x0f\x93\x00\x00\x00\x00\x00\x00\x00\x80\x00\x00\x00\x00\x00\x20\
+    \x0f\x93\x01\x00\x00\x00\x00\x00\x00\x80\x00\x00\x00\x80\x00\x20\
+    \x0f\x93\x04\x00\x00\x00\x00\x00\x00\x80\x00\x00\x00\x80\x01\x20\
+    \x01\x4f\
+    \x25\x00\x00\x00\
+    \x0f\x93\x00\x00\x00\x00\x00\x00\x00\x00\x01\x00\x00\x00\x00\x20\
+    \x0f\x13\x02\x00\x00\x00\x00\x00\x00\x00\x01\x00\x00\x80\x00\x20\
+    \x01\x4f\x02\x0b\x02";
+
+/// The time from which on these streams tell, and how many slices they tell and leave, of the processes 1 and 2.
+fn times(alloc: Global, bytes: &[u8], from: u32) -> Result<(u64, usize, usize), PathFault>
+    requires { length bytes.now < 2 ^ 32 }
+{
+    let streams = match Streams::open(bytes) {
+        Ok(streams) => streams,
+        Err(fault) => return Err(PathFault::Packet(fault)),
+    };
+    let told = survey_all(alloc, &streams, &[1, 2], from)?;
+    Ok((told.time, told.windows.len(), told.slices.len()))
+}
+
+/// Each refusal once, and pairs of which the first is told: the bytes that differ, the least number of a window's start packet, and what is told.
+#[test]
+fn streams_are_surveyed(rt: HostRuntime) -> Result<(), Fail> {
+    let alloc = rt.alloc();
+    let cases: [(&[(usize, u8)], u32, Result<(u64, usize, usize), PathFault>); 13] = [
+        (&[], 0, Ok((1, 5, 5))),
+        (&[], 1, Ok((4, 3, 2))),
+        (
+            &[(99, 0x07)],
+            0,
+            Err(PathFault::Packet(TraceFault::Trap(6))),
+        ),
+        (&[(84, 0)], 0, Err(PathFault::TimeBack(5))),
+        (&[], 2, Err(PathFault::NoStart(4))),
+        (&[(75, 0x80)], 0, Err(PathFault::UnknownThread(4, 3))),
+        (&[(91, 0x80), (92, 0)], 0, Err(PathFault::OtherThread(5, 1))),
+        (
+            &[(99, 0x07), (84, 0)],
+            0,
+            Err(PathFault::Packet(TraceFault::Trap(6))),
+        ),
+        (&[(84, 0)], 2, Err(PathFault::TimeBack(5))),
+        (&[(84, 0), (75, 0x80)], 0, Err(PathFault::TimeBack(5))),
+        (&[(75, 0x80)], 2, Err(PathFault::NoStart(4))),
+        (&[(91, 0x80)], 0, Err(PathFault::UnknownThread(5, 3))),
+        (&[(75, 0x80)], 1, Ok((4, 3, 2))),
+    ];
+    for (i, (edits, from, wanted)) in cases.iter().enumerate() {
+        let mut bytes = TWO_HARTS.to_vec(alloc)?;
+        for (at, byte) in edits.iter() {
+            if let Some(place) = bytes.get_mut(*at) {
+                *place = *byte;
+            }
+        }
+        if bytes.len() < 1000 {
+            assert_eq!(rt; times(alloc, &bytes, *from), *wanted, "case {i}");
+        }
+    }
+    assert_eq!(rt;
+        times(alloc, b"RTR2\x01\0\0\0\0\0\0\0", 0),
+        Err(PathFault::NoStart(0))
+    );
     Ok(())
 }

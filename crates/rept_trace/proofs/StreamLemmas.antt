@@ -1,12 +1,12 @@
 -- Files of several streams.
-use Rattle.std.proofs.Common.{◌≡◌, ℕ, zero, suc, ◌+◌, ◌-◌, ◌<◌, ◌≤◌, List, [], ◌∷◌, ◌++◌, length, take, drop, slice_get, Bool, Option, Some, Result, Ok, Err, refl, sym, ◌∙◌, ap, subst, arith, length-append, length-drop, ◌⊎◌, inl, inr}
+use Rattle.std.proofs.Common.{◌≡◌, ℕ, zero, suc, ◌+◌, ◌-◌, ◌<◌, ◌≤◌, List, [], ◌∷◌, ◌++◌, length, take, drop, slice_get, Bool, Some, Result, Ok, Err, refl, sym, ◌∙◌, ap, subst, arith, length-append, length-drop, inl, inr}
 use Rattle.std.proofs.Math.Seq.{take-append_seam, drop-append_seam}
 use Rattle.std.proofs.lemmas.Bool.{cases_order}
 use Rattle.byteorder.specs.Endian.{little_number}
 use Rattle.rept_trace.specs.declared.fault.TraceFault.{TraceFault}
 use Rattle.rept_trace.specs.declared.fault.TraceFault.TheVariants.{BadMagic, BadHeader, Truncated, Optional, Trap, BadSupport, StreamPastEnd, Rest}
 use Rattle.rept_trace.specs.declared.header.Heading.{Heading}
-use Rattle.rept_trace.specs.Header.{several_streams, heading_of, HasHeader, IsHeaderFault}
+use Rattle.rept_trace.specs.Header.{several_streams, heading_of, HasHeader}
 use Rattle.rept_trace.specs.Streams.{StreamFile, IsStreamThen, AreStreamsThen, IsStreamCut, IsCutAfter, GoesOn, AreNoStreams, AreStreams, Opens}
 use Rattle.rept_trace.specs.Opened.{streams_in}
 use Rattle.rept_trace.proofs.Frames.{same_cut}

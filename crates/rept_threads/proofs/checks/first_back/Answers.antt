@@ -1,4 +1,4 @@
-use Rattle.std.proofs.Common.{drop, sym, ◌+◌, arith, ◌≤◌, length, Some, None}
+use Rattle.std.proofs.Common.{drop, sym, ◌+◌, Some, None}
 use Rattle.rept_threads.specs.Checks.{time_back}
 use Rattle.rept_threads.proofs.Checking.{one_passes, one_fails, none_fails, rest_at, rest_end, back_of, holds_first}
 use Rattle.rept_threads.proofs.checks.first_back.Goals as goal

@@ -1,4 +1,4 @@
-use Rattle.std.proofs.Common.{drop, sym, ◌+◌, arith, ◌≤◌, length, Some, None}
+use Rattle.std.proofs.Common.{drop, sym, ◌+◌}
 use Rattle.rept_threads.specs.Checks.{startless}
 use Rattle.rept_threads.proofs.Checking.{one_passes, one_fails, none_fails, rest_at, rest_end}
 use Rattle.rept_threads.proofs.checks.first_startless.Goals as goal

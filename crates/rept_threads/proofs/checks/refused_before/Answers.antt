@@ -1,4 +1,4 @@
-use Rattle.std.proofs.Common.{◌≡◌, Some, None, sym, ◌∙◌}
+use Rattle.std.proofs.Common.{sym}
 use Rattle.rept_threads.proofs.WindowLemmas.{windows_are_left}
 use Rattle.rept_threads.proofs.checks.refused_before.Goals as goal
 

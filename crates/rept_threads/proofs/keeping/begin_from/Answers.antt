@@ -1,4 +1,4 @@
-use Rattle.std.proofs.Common.{◌∷◌, List, refl, sym, ◌∙◌, arith}
+use Rattle.std.proofs.Common.{◌∷◌, refl, sym, ◌∙◌, arith}
 use Rattle.rept_trace.specs.Packets.{rest_of, number_of}
 use Rattle.rept_threads.proofs.KeepLemmas.{here_first, passes_first, passes_on, passes_room, passes_to, passes_all}
 use Rattle.rept_threads.proofs.keeping.begin_from.Goals as goal

@@ -1,4 +1,4 @@
-use Rattle.std.proofs.Common.{List, ◌∷◌, length}
+use Rattle.std.proofs.Common.{◌∷◌, length}
 use Rattle.rept_trace.specs.Packets.{rest_of}
 use Rattle.rept_threads.proofs.KeepLemmas.{Passing}
 use Rattle.rept_threads.proofs.keeping.begin_from.Given as goal

@@ -1,4 +1,4 @@
-use Rattle.std.proofs.Common.{◌≡◌, ◌≤◌, ◌+◌, ◌++◌, ◌∷◌, [], length, inr, refl, subst, sym, arith, ℕ}
+use Rattle.std.proofs.Common.{◌≤◌, ◌+◌, ◌++◌, ◌∷◌, [], length, inr, refl, subst, sym, arith, ℕ}
 use Rattle.rept_threads.specs.Raw.{timed_by}
 use Rattle.rept_threads.proofs.ReadLemmas.{Read, none_read, room, one_read, one_refused, all_read, held_few}
 use Rattle.rept_threads.proofs.reading.read_all.Goals as goal

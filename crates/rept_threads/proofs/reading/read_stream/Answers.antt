@@ -1,8 +1,7 @@
-use Rattle.std.proofs.Common.{◌≡◌, refl, sym, subst, arith}
+use Rattle.std.proofs.Common.{refl, subst, arith}
 use Rattle.rept_trace.specs.Stream.{Stream}
 use Rattle.rept_trace.specs.Packets.{rest_of, number_of}
 use Rattle.rept_path.specs.Survey.{Surveys}
-use Rattle.rept_threads.specs.Raw.{timed_by}
 use Rattle.rept_threads.proofs.ReadLemmas.{same_stream, told_few, numbered}
 use Rattle.rept_threads.proofs.reading.read_stream.Goals as goal
 

@@ -1,7 +1,5 @@
-use Rattle.std.proofs.Common.{sym, ◌∙◌, List, ◌≡◌, [], subst}
-use Rattle.rept_trace.specs.declared.packet.Packet.{Packet}
+use Rattle.std.proofs.Common.{sym, ◌∙◌}
 use Rattle.rept_trace.specs.Packets.{rest_of, number_of}
-use Rattle.rept_trace.specs.Stream.{Hold}
 use Rattle.rept_threads.proofs.Scanning.{same_first, same_on, from_end, end_on, end_stays, end_none}
 use Rattle.rept_threads.proofs.scan.beyond.Goals as goal
 

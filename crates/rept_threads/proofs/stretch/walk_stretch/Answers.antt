@@ -11,7 +11,7 @@ use Rattle.rept_path.specs.State.{met, Followed, Stands, from_to}
 use Rattle.rept_path.specs.Route.{Origin, FaultBy, earlier_by}
 use Rattle.rept_path.specs.Trace.{StopsAt}
 use Rattle.rept_threads.specs.Stretches.{same_stretch}
-use Rattle.rept_threads.proofs.Going.{Head, goes_first, goes_on, stops_or, arrives, room, first_or}
+use Rattle.rept_threads.proofs.Going.{Head, goes_first, goes_on, stops_or, arrives, room}
 use Rattle.rept_threads.proofs.stretch.walk_stretch.Goals as goal
 
 pub returns-in_err-follow-clause-err : goal.returns-in_err-follow-clause-err

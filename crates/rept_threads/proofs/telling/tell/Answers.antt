@@ -1,8 +1,6 @@
-use Rattle.std.proofs.Common.{◌≡◌, ◌++◌, ◌∷◌, [], List, cond, None, sym, ◌∙◌, ap, arith, rules}
+use Rattle.std.proofs.Common.{◌∷◌, None, arith}
 use Rattle.rept_trace.specs.Packets.{rest_of, number_of}
 use Rattle.rept_threads.specs.Parts.{told_from}
-use Rattle.rept_threads.specs.Stamps.{is_start}
-use Rattle.rept_threads.specs.declared.telling.Entry.{Entry}
 use Rattle.rept_threads.proofs.TellLemmas.{tells_first, tells_on, tells_room, tells_end}
 use Rattle.rept_threads.proofs.telling.tell.Goals as goal
 

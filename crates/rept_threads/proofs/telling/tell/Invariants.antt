@@ -1,4 +1,4 @@
-use Rattle.std.proofs.Common.{List, ◌∷◌, length, None}
+use Rattle.std.proofs.Common.{◌∷◌, length, None}
 use Rattle.rept_trace.specs.Packets.{rest_of}
 use Rattle.rept_threads.specs.Parts.{told_from}
 use Rattle.rept_threads.proofs.TellLemmas.{Telling}

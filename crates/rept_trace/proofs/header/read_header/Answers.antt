@@ -1,4 +1,4 @@
-use Rattle.std.proofs.Common.{◌≡◌, ◌<◌, ◌-◌, ◌==◌, ℕ, List, length, take, drop, sym, subst, slice_index, arith}
+use Rattle.std.proofs.Common.{◌≡◌, ◌-◌, ◌==◌, ℕ, List, length, take, drop, sym, subst, slice_index, arith}
 use Rattle.std.proofs.lemmas.Grind.{common_steps}
 use Rattle.rept_trace.specs.Header.{heading_of, HasHeader}
 use Rattle.rept_trace.proofs.HeaderLemmas.{header_of}

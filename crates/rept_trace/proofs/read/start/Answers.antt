@@ -1,4 +1,3 @@
-use Rattle.std.proofs.Common.{arith}
 use Rattle.rept_word.proofs.BitLemmas.{is_bit}
 use Rattle.rept_trace.specs.Grammar.{after_stamp}
 use Rattle.rept_trace.proofs.read.start.Goals as goal

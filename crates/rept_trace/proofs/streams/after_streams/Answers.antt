@@ -1,4 +1,4 @@
-use Rattle.std.proofs.Common.{◌∷◌, ◌++◌, [], List, ℕ, length-append, arith}
+use Rattle.std.proofs.Common.{◌∷◌, ◌++◌, [], length-append, arith}
 use Rattle.rept_trace.proofs.StreamLemmas.{append_stream}
 use Rattle.rept_trace.proofs.streams.after_streams.Goals as goal
 

@@ -1,4 +1,4 @@
-use Rattle.std.proofs.Common.{◌≡◌, ◌<◌, [], List, ℕ, length, arith}
+use Rattle.std.proofs.Common.{arith}
 use Rattle.std.proofs.lemmas.Grind.{common_steps}
 use Rattle.rept_trace.specs.Header.{several_streams}
 use Rattle.rept_trace.proofs.HeaderLemmas.{length_of_header}

@@ -1,4 +1,4 @@
-use Rattle.std.proofs.Common.{◌≡◌, ◌<◌, subst, sym, slice_get, Some, length, arith, List, ℕ}
+use Rattle.std.proofs.Common.{◌≡◌, subst, slice_get, Some, arith, ℕ}
 use Rattle.rept_trace.proofs.StreamLemmas.{stream_found, none_cut, cut_in}
 use Rattle.rept_trace.proofs.streams.stream_at.Goals as goal
 

@@ -1,0 +1,50 @@
+-- A dialog with a debugger: each arrival is answered before the next one is read (GDB manual, appendix Remote Serial Protocol, sections Overview
+-- and Packet Acknowledgment).
+use Rattle.std.specs.Prelude.{◌≡◌, ℕ, List, [], ◌++◌, Bool, true, false, codes, if◌then◌else◌}
+use Rattle.rept_remote.specs.Escapes.{packet_of}
+use Rattle.rept_remote.specs.Frames.{Arrived, Arrives}
+use Rattle.rept_remote.specs.Frames.Arrived.{packet, broken, large, again, interrupt}
+use Rattle.rept_request.specs.Requests.{request_of}
+use Rattle.rept_request.specs.declared.request.Request.{Request}
+use Rattle.rept_request.specs.declared.request.Request.TheVariants as request
+use Rattle.rept_session.specs.Shown.{Told}
+use Rattle.rept_stub.specs.Answers.{IsAnswer, stand_after}
+use Rattle.rept_stub.specs.Replies.{error}
+use Rattle.rept_dialog.specs.declared.turn.Dialog.{Dialog}
+
+-- packets are acknowledged until the debugger asks for none
+abbrev pub acknowledges_after : Bool → Request → Bool
+acknowledges_after before request.NoAcknowledgments = false
+acknowledges_after before _ = before
+
+abbrev pub is_last : Request → Bool
+is_last request.Detach = true
+is_last request.Kill = true
+is_last _ = false
+
+abbrev pub sign : Dialog → List ℕ → List ℕ
+sign d text = if d.acknowledges then text else []
+
+-- the dialog after a packet with this reply
+abbrev pub after_packet : Told → Dialog → List ℕ → List ℕ → Dialog
+after_packet t d bytes reply = record {
+  stand = stand_after t.shown d.stand bytes;
+  acknowledges = acknowledges_after d.acknowledges (request_of bytes);
+  last = packet_of reply;
+  is_over = is_last (request_of bytes);
+}
+
+-- What is written at an arrival, and the dialog after it. A packet is acknowledged and answered; one that is broken is refused; the last reply is
+-- written again where it is wished for.
+abbrev pub IsTurn : Told → ℕ → Dialog → Arrived → List ℕ → Dialog → Type 0
+IsTurn t signal d (packet bytes) text new = (reply : List ℕ) × IsAnswer t signal d.stand bytes reply × (text ≡ sign d (codes "+") ++ packet_of reply) × (new ≡ after_packet t d bytes reply)
+IsTurn t signal d broken text new = (text ≡ sign d (codes "-")) × (new ≡ d)
+IsTurn t signal d large text new = (text ≡ sign d (codes "+") ++ packet_of error) × (new ≡ record d { last = packet_of error })
+IsTurn t signal d again text new = (text ≡ d.last) × (new ≡ d)
+IsTurn t signal d interrupt text new = (text ≡ []) × (new ≡ d)
+
+-- what was read and written since a dialog began, and where it is then
+pub data Talks (t : Told) (signal : ℕ) (start : Dialog) : List ℕ → List ℕ → Dialog → Type 0 where
+  begun : Talks t signal start [] [] start
+  turn : (read written : List ℕ) (d : Dialog) (got text : List ℕ) (what : Arrived) (new : Dialog)
+      → Talks t signal start read written d → Arrives got what → IsTurn t signal d what text new → Talks t signal start (read ++ got) (written ++ text) new

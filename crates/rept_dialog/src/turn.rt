@@ -1,0 +1,155 @@
+//! One arrival, and what is written then.
+
+ghost use Rattle.std.specs.Prelude.{◌≡◌, ◌≤◌, ◌++◌, [], true, false, length, codes, IfOk, OnOk, if◌then◌else◌};
+ghost use Rattle.rept_remote.specs.Escapes.{packet_of};
+ghost use Rattle.rept_remote.specs.Frames.{arrived};
+ghost use Rattle.rept_remote.specs.Frames.Arrived.{packet};
+ghost use Rattle.rept_session.specs.Shown.{SameReasons, told};
+ghost use Rattle.rept_dialog.specs.Dialog.{IsTurn, acknowledges_after, is_last, sign};
+
+use rept_remote::{Arrival, push_packet};
+use rept_request::{Request, parse};
+use rept_session::Findings;
+use rept_stub::{Setting, Spots, Stand, answer_packet};
+use rept_word::{OutOfMemory, Text};
+use std::alloc::Global;
+
+/// A dialog with a debugger.
+#[derive(Drop)]
+pub struct Dialog {
+    /// where the debugger stands
+    pub stand: Stand,
+    /// whether packets are acknowledged
+    pub acknowledges: bool,
+    /// the packet of the last reply
+    pub last: Text,
+    /// whether the debugger has left
+    pub is_over: bool,
+}
+
+/// A dialog that begins at a point, without breakpoints.
+pub fn begin(alloc: Global, point: u32) -> Dialog
+    ensures { result ≡ record { stand = record { point = point; spots = record { breaks = []; regions = [] } }; acknowledges = true; last = []; is_over = false } }
+{
+    Dialog {
+        stand: Stand {
+            point,
+            spots: Spots::new(alloc),
+        },
+        acknowledges: true,
+        last: Text::new(alloc),
+        is_over: false,
+    }
+}
+
+/// What is written at an arrival. The only refusal is out of memory. In each case the findings stay as they were.
+pub fn take_turn<F: Findings>(
+    alloc: Global,
+    findings: &mut F,
+    setting: Setting,
+    dialog: &mut Dialog,
+    arrival: Arrival,
+    carried: &[u8],
+) -> Result<Text, OutOfMemory>
+    requires { dialog.old.stand.point ≤ length (F.shown findings.old).rows }
+    ensures turn { IfOk result (λ text. IsTurn (told (F.shown findings.old) setting.skipped (F.reasons findings.old)) setting.signal dialog.old (arrived arrival carried.now) text dialog.new) }
+    ensures within { dialog.new.stand.point ≤ length (F.shown findings.old).rows }
+    ensures same { F.shown findings.new ≡ F.shown findings.old }
+    ensures same_reasons { SameReasons (F.reasons findings.old) (F.reasons findings.new) }
+{
+    match arrival {
+        Arrival::Packet => answer(alloc, findings, setting, dialog, carried),
+        Arrival::Broken => signed(alloc, dialog.acknowledges, b"-"),
+        Arrival::Large => refuse(alloc, dialog),
+        Arrival::Again => copy_of(alloc, dialog.last.bytes()),
+        Arrival::Interrupt => Ok(Text::new(alloc)),
+    }
+}
+
+/// The answer to a packet.
+fn answer<F: Findings>(
+    alloc: Global,
+    findings: &mut F,
+    setting: Setting,
+    dialog: &mut Dialog,
+    carried: &[u8],
+) -> Result<Text, OutOfMemory>
+    requires { dialog.old.stand.point ≤ length (F.shown findings.old).rows }
+    ensures turn { IfOk result (λ text. IsTurn (told (F.shown findings.old) setting.skipped (F.reasons findings.old)) setting.signal dialog.old (packet carried.now) text dialog.new) }
+    ensures within { dialog.new.stand.point ≤ length (F.shown findings.old).rows }
+    ensures same { F.shown findings.new ≡ F.shown findings.old }
+    ensures same_reasons { SameReasons (F.reasons findings.old) (F.reasons findings.new) }
+{
+    let request = parse(carried);
+    let reply = answer_packet(alloc, findings, setting, &mut dialog.stand, carried)?;
+    let written = packed(alloc, reply.bytes())?;
+    let text = replied(alloc, dialog.acknowledges, written.bytes())?;
+    dialog.acknowledges = acknowledges_after(dialog.acknowledges, request);
+    dialog.is_over = is_last(request);
+    dialog.last = written;
+    Ok(text)
+}
+
+/// The answer to a packet that is too large.
+fn refuse(alloc: Global, dialog: &mut Dialog) -> Result<Text, OutOfMemory>
+    ensures text { IfOk result (λ text. text ≡ sign dialog.old (codes "+") ++ packet_of (codes "E01")) }
+    ensures dialog { OnOk result (dialog.new ≡ record dialog.old { last = packet_of (codes "E01") }) }
+    ensures within { dialog.new.stand ≡ dialog.old.stand }
+{
+    let written = packed(alloc, b"E01")?;
+    let text = replied(alloc, dialog.acknowledges, written.bytes())?;
+    dialog.last = written;
+    Ok(text)
+}
+
+/// A packet that carries these bytes.
+fn packed(alloc: Global, reply: &[u8]) -> Result<Text, OutOfMemory>
+    ensures { IfOk result (λ text. text ≡ packet_of reply.now) }
+{
+    let mut text = Text::new(alloc);
+    push_packet(alloc, &mut text, reply)?;
+    Ok(text)
+}
+
+fn copy_of(alloc: Global, words: &[u8]) -> Result<Text, OutOfMemory>
+    ensures { IfOk result (λ text. text ≡ words.now) }
+{
+    let mut text = Text::new(alloc);
+    text.push(words)?;
+    Ok(text)
+}
+
+/// A sign, where packets are acknowledged.
+fn signed(alloc: Global, acknowledges: bool, sign: &[u8]) -> Result<Text, OutOfMemory>
+    ensures { IfOk result (λ text. text ≡ (if acknowledges then sign.now else [])) }
+{
+    if acknowledges {
+        copy_of(alloc, sign)
+    } else {
+        Ok(Text::new(alloc))
+    }
+}
+
+/// `+`, where packets are acknowledged, and a packet.
+fn replied(alloc: Global, acknowledges: bool, written: &[u8]) -> Result<Text, OutOfMemory>
+    ensures { IfOk result (λ text. text ≡ (if acknowledges then codes "+" else []) ++ written.now) }
+{
+    let mut text = signed(alloc, acknowledges, b"+")?;
+    text.push(written)?;
+    Ok(text)
+}
+
+fn acknowledges_after(acknowledges: bool, request: Request) -> bool
+    ensures { result ≡ acknowledges_after acknowledges request }
+{
+    match request {
+        Request::NoAcknowledgments => false,
+        _ => acknowledges,
+    }
+}
+
+fn is_last(request: Request) -> bool
+    ensures { result ≡ is_last request }
+{
+    matches!(request, Request::Detach | Request::Kill)
+}

@@ -1,0 +1,4 @@
+pub mod Escaping
+pub mod Taking
+pub mod Unique
+pub mod Written

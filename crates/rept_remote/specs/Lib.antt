@@ -1,0 +1,4 @@
+pub mod Escapes
+pub mod Frames
+pub mod Reading
+pub mod Steps

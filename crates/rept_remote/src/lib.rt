@@ -1,0 +1,19 @@
+//! GDB's remote serial protocol: the packets that come in, and those that go out.
+#![tactic(auto)]
+
+pub mod arrival;
+mod bytes;
+mod check;
+mod frame;
+pub mod laws;
+pub mod reader;
+mod unescape;
+pub mod writer;
+
+pub use arrival::{Arrival, Ending};
+pub use check::digits_value;
+pub use reader::Packets;
+pub use writer::push_packet;
+
+#[cfg(test)]
+mod tests;

@@ -1,0 +1,122 @@
+-- What a packet asks for (GDB manual, appendix Remote Serial Protocol, sections Packets, General Query Packets and vCont). Packets that aren't
+-- named here ask for nothing that is known.
+use Rattle.std.specs.Prelude.{ℕ, List, [], ◌∷◌, drop, Bool, ◌==◌, nat_eq, Option, None, Some, codes, if◌then◌else◌}
+use Rattle.std.specs.List.{starts_with}
+use Rattle.std.specs.Option.{option_or}
+use Rattle.std.specs.Str.{bytes_eq}
+use Rattle.rept_request.specs.Numbers.{number_of, pair_of}
+use Rattle.rept_request.specs.declared.request.Request.{Request}
+use Rattle.rept_request.specs.declared.request.Request.TheVariants as request
+use Rattle.rept_request.specs.declared.parser.Spot.{Spot}
+use Rattle.rept_request.specs.declared.parser.Spot.TheVariants as spot
+
+-- packets that move
+abbrev pub move_named : List ℕ → Option Request
+move_named packet =
+    if bytes_eq packet (codes "s") then Some request.Step
+    else if bytes_eq packet (codes "c") then Some request.Continue
+    else if bytes_eq packet (codes "bs") then Some request.StepBack
+    else if bytes_eq packet (codes "bc") then Some request.ContinueBack
+    else if bytes_eq packet (codes "D") then Some request.Detach
+    else if bytes_eq packet (codes "k") then Some request.Kill
+    else None
+
+-- packets that ask for something of the one thread
+abbrev pub query_named : List ℕ → Option Request
+query_named packet =
+    if bytes_eq packet (codes "?") then Some request.Reason
+    else if bytes_eq packet (codes "g") then Some request.Registers
+    else if bytes_eq packet (codes "qC") then Some request.Thread
+    else if bytes_eq packet (codes "qfThreadInfo") then Some request.Threads
+    else if bytes_eq packet (codes "qsThreadInfo") then Some request.MoreThreads
+    else if bytes_eq packet (codes "QStartNoAckMode") then Some request.NoAcknowledgments
+    else if bytes_eq packet (codes "vCont?") then Some request.Moves
+    else None
+
+abbrev pub has_prefix : List ℕ → List ℕ → Bool
+has_prefix packet front = starts_with nat_eq packet front
+
+-- packets that are known by how they begin
+abbrev pub move_begun : List ℕ → Option Request
+move_begun packet =
+    if has_prefix packet (codes "vCont;s") then Some request.Step
+    else if has_prefix packet (codes "vCont;S") then Some request.Step
+    else if has_prefix packet (codes "vCont;r") then Some request.Step
+    else if has_prefix packet (codes "vCont;c") then Some request.Continue
+    else if has_prefix packet (codes "vCont;C") then Some request.Continue
+    else None
+
+abbrev pub query_begun : List ℕ → Option Request
+query_begun packet =
+    if has_prefix packet (codes "qSupported") then Some request.Features
+    else if has_prefix packet (codes "qAttached") then Some request.Attached
+    else if has_prefix packet (codes "qThreadExtraInfo,") then Some request.ThreadText
+    else if has_prefix packet (codes "qRcmd,") then Some request.Monitor
+    else if has_prefix packet (codes "H") then Some request.SelectThread
+    else if has_prefix packet (codes "T") then Some request.IsAlive
+    else None
+
+abbrev pub change_begun : List ℕ → Option Request
+change_begun packet =
+    if has_prefix packet (codes "G") then Some request.Change
+    else if has_prefix packet (codes "P") then Some request.Change
+    else if has_prefix packet (codes "M") then Some request.Change
+    else if has_prefix packet (codes "X") then Some request.Change
+    else None
+
+-- a request of one number, or of two
+abbrev pub with_number : (ℕ → Request) → Option ℕ → Request
+with_number f None = request.Unknown
+with_number f (Some n) = f n
+
+abbrev pub with_pair : (ℕ → ℕ → Request) → Option (ℕ × ℕ) → Request
+with_pair f None = request.Unknown
+with_pair f (Some pair) = f pair.0 pair.1
+
+-- a breakpoint or a watchpoint, by the digit after `Z` or `z`
+abbrev pub with_spot : (ℕ → Request) → (ℕ → ℕ → Request) → List ℕ → Request
+with_spot code writes rest =
+    if has_prefix rest (codes "0,") then with_pair (λ address kind. code address) (pair_of (drop 2 rest))
+    else if has_prefix rest (codes "1,") then with_pair (λ address kind. code address) (pair_of (drop 2 rest))
+    else if has_prefix rest (codes "2,") then with_pair writes (pair_of (drop 2 rest))
+    else request.Unknown
+
+-- the same of what the code found there
+abbrev pub request_at : (ℕ → Request) → (ℕ → ℕ → Request) → Option Spot → Request
+request_at code writes None = request.Unknown
+request_at code writes (Some (spot.Code address)) = code address
+request_at code writes (Some (spot.Writes address length)) = writes address length
+
+-- packets with numbers in them, by their first byte
+abbrev pub numbered : ℕ → List ℕ → Request
+numbered letter rest =
+    if letter == 112 then with_number request.Register (number_of rest)
+    else if letter == 109 then with_pair request.Memory (pair_of rest)
+    else if letter == 120 then with_pair request.Bytes (pair_of rest)
+    else if letter == 90 then with_spot request.Break request.Watch rest
+    else if letter == 122 then with_spot request.Unbreak request.Unwatch rest
+    else request.Unknown
+
+abbrev pub lettered : List ℕ → Request
+lettered [] = request.Unknown
+lettered (letter ∷ rest) = numbered letter rest
+
+-- a part of the description of the registers
+abbrev pub description : List ℕ
+description = codes "qXfer:features:read:target.xml:"
+
+unfoldable pub is_part : List ℕ → Bool
+is_part packet = has_prefix packet description
+
+abbrev pub numbered_or_part : List ℕ → Request
+numbered_or_part packet = if is_part packet then with_pair request.Description (pair_of (drop 31 packet)) else lettered packet
+
+abbrev pub named : List ℕ → Option Request
+named packet = option_or (move_named packet) (option_or (query_named packet) (option_or (move_begun packet) (option_or (query_begun packet) (change_begun packet))))
+
+abbrev pub request_by : Option Request → List ℕ → Request
+request_by None packet = numbered_or_part packet
+request_by (Some request) packet = request
+
+abbrev pub request_of : List ℕ → Request
+request_of packet = request_by (named packet) packet

@@ -1,0 +1,13 @@
+//! The requests of a debugger: what a packet of GDB's remote serial protocol asks for.
+#![tactic(auto)]
+
+mod named;
+mod numbers;
+mod parser;
+pub mod request;
+
+pub use parser::parse;
+pub use request::Request;
+
+#[cfg(test)]
+mod tests;

@@ -1,0 +1,107 @@
+//! Packets that are known by a word.
+
+ghost use Rattle.std.specs.Prelude.{◌≡◌};
+ghost use Rattle.rept_request.specs.Requests.{change_begun, move_begun, move_named, query_begun, query_named};
+
+use crate::request::Request;
+
+/// Packets that move.
+pub fn move_named(packet: &[u8]) -> Option<Request>
+    ensures { result ≡ move_named packet.now }
+{
+    if packet == b"s".as_slice() {
+        Some(Request::Step)
+    } else if packet == b"c".as_slice() {
+        Some(Request::Continue)
+    } else if packet == b"bs".as_slice() {
+        Some(Request::StepBack)
+    } else if packet == b"bc".as_slice() {
+        Some(Request::ContinueBack)
+    } else if packet == b"D".as_slice() {
+        Some(Request::Detach)
+    } else if packet == b"k".as_slice() {
+        Some(Request::Kill)
+    } else {
+        None
+    }
+}
+
+/// Packets that ask for something of the one thread.
+pub fn query_named(packet: &[u8]) -> Option<Request>
+    ensures { result ≡ query_named packet.now }
+{
+    if packet == b"?".as_slice() {
+        Some(Request::Reason)
+    } else if packet == b"g".as_slice() {
+        Some(Request::Registers)
+    } else if packet == b"qC".as_slice() {
+        Some(Request::Thread)
+    } else if packet == b"qfThreadInfo".as_slice() {
+        Some(Request::Threads)
+    } else if packet == b"qsThreadInfo".as_slice() {
+        Some(Request::MoreThreads)
+    } else if packet == b"QStartNoAckMode".as_slice() {
+        Some(Request::NoAcknowledgments)
+    } else if packet == b"vCont?".as_slice() {
+        Some(Request::Moves)
+    } else {
+        None
+    }
+}
+
+/// Packets that move, by how they begin.
+pub fn move_begun(packet: &[u8]) -> Option<Request>
+    ensures { result ≡ move_begun packet.now }
+{
+    if packet.starts_with(b"vCont;s") {
+        Some(Request::Step)
+    } else if packet.starts_with(b"vCont;S") {
+        Some(Request::Step)
+    } else if packet.starts_with(b"vCont;r") {
+        Some(Request::Step)
+    } else if packet.starts_with(b"vCont;c") {
+        Some(Request::Continue)
+    } else if packet.starts_with(b"vCont;C") {
+        Some(Request::Continue)
+    } else {
+        None
+    }
+}
+
+/// Packets that ask, by how they begin.
+pub fn query_begun(packet: &[u8]) -> Option<Request>
+    ensures { result ≡ query_begun packet.now }
+{
+    if packet.starts_with(b"qSupported") {
+        Some(Request::Features)
+    } else if packet.starts_with(b"qAttached") {
+        Some(Request::Attached)
+    } else if packet.starts_with(b"qThreadExtraInfo,") {
+        Some(Request::ThreadText)
+    } else if packet.starts_with(b"qRcmd,") {
+        Some(Request::Monitor)
+    } else if packet.starts_with(b"H") {
+        Some(Request::SelectThread)
+    } else if packet.starts_with(b"T") {
+        Some(Request::IsAlive)
+    } else {
+        None
+    }
+}
+
+/// Packets that change, by how they begin.
+pub fn change_begun(packet: &[u8]) -> Option<Request>
+    ensures { result ≡ change_begun packet.now }
+{
+    if packet.starts_with(b"G") {
+        Some(Request::Change)
+    } else if packet.starts_with(b"P") {
+        Some(Request::Change)
+    } else if packet.starts_with(b"M") {
+        Some(Request::Change)
+    } else if packet.starts_with(b"X") {
+        Some(Request::Change)
+    } else {
+        None
+    }
+}

@@ -1,0 +1,149 @@
+//! Reading a packet as a request.
+
+ghost use Rattle.std.specs.Prelude.{◌≡◌, ◌≤◌, ℕ, length, true};
+ghost use Rattle.rept_request.specs.Numbers.{number_of, pair_of};
+ghost use Rattle.rept_request.specs.Requests.{is_part, lettered, named, numbered, numbered_or_part, request_of, request_at, with_number, with_pair, with_spot};
+
+use crate::named::{change_begun, move_begun, move_named, query_begun, query_named};
+use crate::numbers::{number_of, pair_of};
+use crate::request::Request;
+
+/// What a packet asks for. Each packet asks for something; what isn't known is `Unknown`.
+pub fn parse(packet: &[u8]) -> Request
+    ensures { result ≡ request_of packet.now }
+{
+    match named(packet) {
+        Some(request) => request,
+        None => numbered_or_part(packet),
+    }
+}
+
+/// A packet that is known by a word.
+fn named(packet: &[u8]) -> Option<Request>
+    ensures { result ≡ named packet.now }
+{
+    if let Some(request) = move_named(packet) {
+        return Some(request);
+    }
+    if let Some(request) = query_named(packet) {
+        return Some(request);
+    }
+    if let Some(request) = move_begun(packet) {
+        return Some(request);
+    }
+    if let Some(request) = query_begun(packet) {
+        return Some(request);
+    }
+    change_begun(packet)
+}
+
+/// A packet with numbers in it, or one that asks for a part of the description.
+fn numbered_or_part(packet: &[u8]) -> Request
+    ensures { result ≡ numbered_or_part packet.now }
+{
+    if is_part(packet) {
+        part_of(&packet[31..])
+    } else {
+        lettered(packet)
+    }
+}
+
+/// Whether a packet asks for a part of the description of the registers.
+#[tactic(auto, unfolding(crate::specs::Requests::is_part))]
+fn is_part(packet: &[u8]) -> bool
+    ensures value { result ≡ is_part packet.now }
+    ensures long { result ≡ true → 31 ≤ length packet.now }
+{
+    packet.starts_with(b"qXfer:features:read:target.xml:")
+}
+
+fn part_of(rest: &[u8]) -> Request
+    ensures { result ≡ with_pair Request.Description (pair_of rest.now) }
+{
+    match pair_of(rest) {
+        Some((offset, length)) => Request::Description(offset, length),
+        None => Request::Unknown,
+    }
+}
+
+fn lettered(packet: &[u8]) -> Request
+    ensures { result ≡ lettered packet.now }
+{
+    match packet.split_first() {
+        Some((letter, rest)) => numbered(*letter, rest),
+        None => Request::Unknown,
+    }
+}
+
+/// A packet with numbers in it, by its first byte.
+fn numbered(letter: u8, rest: &[u8]) -> Request
+    ensures { result ≡ numbered letter rest.now }
+{
+    match letter {
+        b'p' => register_of(rest),
+        b'm' => match pair_of(rest) {
+            Some((address, length)) => Request::Memory(address, length),
+            None => Request::Unknown,
+        },
+        b'x' => match pair_of(rest) {
+            Some((address, length)) => Request::Bytes(address, length),
+            None => Request::Unknown,
+        },
+        b'Z' => spot_set(rest),
+        b'z' => spot_taken(rest),
+        _ => Request::Unknown,
+    }
+}
+
+fn register_of(rest: &[u8]) -> Request
+    ensures { result ≡ with_number Request.Register (number_of rest.now) }
+{
+    match number_of(rest) {
+        Some(number) => Request::Register(number),
+        None => Request::Unknown,
+    }
+}
+
+/// What is set, by what comes after `Z`.
+fn spot_set(rest: &[u8]) -> Request
+    ensures { result ≡ with_spot Request.Break Request.Watch rest.now }
+{
+    match spot_of(rest) {
+        Some(Spot::Code(address)) => Request::Break(address),
+        Some(Spot::Writes(address, length)) => Request::Watch(address, length),
+        None => Request::Unknown,
+    }
+}
+
+/// What is taken away, by what comes after `z`.
+fn spot_taken(rest: &[u8]) -> Request
+    ensures { result ≡ with_spot Request.Unbreak Request.Unwatch rest.now }
+{
+    match spot_of(rest) {
+        Some(Spot::Code(address)) => Request::Unbreak(address),
+        Some(Spot::Writes(address, length)) => Request::Unwatch(address, length),
+        None => Request::Unknown,
+    }
+}
+
+/// A breakpoint, or bytes whose writes are watched.
+#[derive(Clone, Copy)]
+enum Spot {
+    Code(u32),
+    Writes(u32, u32),
+}
+
+/// The breakpoint or watchpoint of what comes after `Z` or `z`.
+fn spot_of(rest: &[u8]) -> Option<Spot>
+    ensures { (code : ℕ → Request) (writes : ℕ → ℕ → Request) → with_spot code writes rest.now ≡ request_at code writes result }
+{
+    if rest.starts_with(b"0,") || rest.starts_with(b"1,") {
+        let (address, _kind) = pair_of(&rest[2..])?;
+        return Some(Spot::Code(address));
+    }
+    if rest.starts_with(b"2,") {
+        let (address, length) = pair_of(&rest[2..])?;
+        return Some(Spot::Writes(address, length));
+    }
+    None
+}

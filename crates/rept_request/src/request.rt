@@ -1,0 +1,64 @@
+//! What a packet asks for.
+
+/// A request of a debugger. Addresses and counts are in bytes.
+#[derive(Clone, Copy, Debug, PartialEq, Eq)]
+pub enum Request {
+    /// `qSupported`: what this side can do.
+    Features,
+    /// `QStartNoAckMode`: packets are no longer to be acknowledged.
+    NoAcknowledgments,
+    /// `?`: why it stands where it does.
+    Reason,
+    /// `g`: all registers.
+    Registers,
+    /// `p N`: one register, by its number.
+    Register(u32),
+    /// `m A,LEN`: bytes from an address on, as digits.
+    Memory(u32, u32),
+    /// `x A,LEN`: the same, as they are.
+    Bytes(u32, u32),
+    /// `s`, `vCont;s`, `vCont;S`, `vCont;r`: one step forward.
+    Step,
+    /// `c`, `vCont;c`, `vCont;C`: forward to the next stop.
+    Continue,
+    /// `bs`: one step back.
+    StepBack,
+    /// `bc`: back to the last stop.
+    ContinueBack,
+    /// `vCont?`: which moves are known.
+    Moves,
+    /// `Z0 A`, `Z1 A`: a breakpoint is set at an address.
+    Break(u32),
+    /// `z0 A`, `z1 A`: it is taken away.
+    Unbreak(u32),
+    /// `Z2 A,LEN`: writes of so many bytes from an address on are watched.
+    Watch(u32, u32),
+    /// `z2 A,LEN`: they are no longer.
+    Unwatch(u32, u32),
+    /// `qXfer:features:read:target.xml:OFFSET,LEN`: a part of the description of the registers.
+    Description(u32, u32),
+    /// `qRcmd,`: a line of a session, in pairs of digits.
+    Monitor,
+    /// `H`: a thread is selected.
+    SelectThread,
+    /// `T`: whether a thread is alive.
+    IsAlive,
+    /// `qC`: the thread.
+    Thread,
+    /// `qfThreadInfo`: the threads.
+    Threads,
+    /// `qsThreadInfo`: further threads.
+    MoreThreads,
+    /// `qThreadExtraInfo`: a text about a thread.
+    ThreadText,
+    /// `qAttached`: whether the process was there before.
+    Attached,
+    /// `G`, `P`, `M`, `X`: a register or memory is to be changed.
+    Change,
+    /// `D`: the debugger leaves.
+    Detach,
+    /// `k`: the debugger ends what it debugs.
+    Kill,
+    /// Any other packet.
+    Unknown,
+}

@@ -1,0 +1,18 @@
+use Rattle.std.proofs.Common.{◌≡◌, ◌+◌, ◌++◌, drop, List, ℕ, sym, subst, arith}
+use Rattle.std.specs.Prelude.{option_map}
+use Rattle.rept_stub.specs.Replies.{decoded}
+use Rattle.rept_stub.proofs.Bytes.{pair_more, odd_ends}
+use Rattle.rept_stub.proofs.pieces.decoded.Goals as goal
+
+pub loop-place-preserved : goal.loop-place-preserved
+loop-place-preserved c =
+    let digits = c.args.digits.now in
+    let place = c.loop-place.place in
+    record {
+      within = omega arith;
+      value = subst (λ (items : List ℕ). decoded digits ≡ option_map (λ rest. items ++ rest) (decoded (drop (place + 2) digits))) (sym c.in_ok-push-in-Some.ensures.items)
+          (pair_more digits c.loop-place.bytes.items place c.loop-place-test.true c.loop-place.invariant.value c.in-Some.byte (sym c.in-Some.ensures));
+    }
+
+pub returns-then-place-digits : goal.returns-then-place-digits
+returns-then-place-digits c = sym (odd_ends c.args.digits.now c.loop-place.bytes.items c.loop-place.place c.loop-place-test.false c.if-place-digits.true c.loop-place.invariant.value)

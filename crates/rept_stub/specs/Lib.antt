@@ -1,0 +1,5 @@
+pub mod Answers
+pub mod Description
+pub mod Halts
+pub mod Replies
+pub mod Spots

@@ -1,0 +1,86 @@
+-- What is answered to a request (GDB manual, appendix Remote Serial Protocol, sections Packets, Stop Reply Packets and General Query Packets).
+use Rattle.std.specs.Prelude.{ℕ, ◌+◌, ◌/◌, ◌%◌, ◌^◌, min, List, [], ◌∷◌, ◌++◌, map, length, drop, take, ◌==◌, nat_lt, nat_le, Option, None, Some, codes, if◌then◌else◌}
+use Rattle.std.specs.List.{flat_map, range_with_len}
+use Rattle.rept_word.specs.Hex.{hex_byte}
+use Rattle.rept_remote.specs.Escapes.{digits_value}
+use Rattle.rept_session.specs.Shown.{Shown}
+use Rattle.rept_session.specs.Texts.{pc_at, wrapped}
+use Rattle.rept_stub.specs.declared.halt.Stop.{Stop}
+use Rattle.rept_stub.specs.declared.halt.Stop.TheVariants as stop
+
+-- bytes as pairs of digits
+abbrev pub digits_of : List ℕ → List ℕ
+digits_of bytes = flat_map hex_byte bytes
+
+-- the four bytes of a word, from the lowest byte on and from the highest
+abbrev pub little_word : ℕ → List ℕ
+little_word value = hex_byte (value % 2 ^ 8) ++ hex_byte (value / 2 ^ 8 % 2 ^ 8) ++ hex_byte (value / 2 ^ 16 % 2 ^ 8) ++ hex_byte (value / 2 ^ 24 % 2 ^ 8)
+
+abbrev pub big_word : ℕ → List ℕ
+big_word value = hex_byte (value / 2 ^ 24 % 2 ^ 8) ++ hex_byte (value / 2 ^ 16 % 2 ^ 8) ++ hex_byte (value / 2 ^ 8 % 2 ^ 8) ++ hex_byte (value % 2 ^ 8)
+
+-- the value of a register; one that isn't known is `xxxxxxxx`
+abbrev pub value_digits : Option ℕ → List ℕ
+value_digits None = codes "xxxxxxxx"
+value_digits (Some value) = little_word value
+
+-- x0 to x31 and the address at the point
+abbrev pub registers_reply : Shown → ℕ → List ℕ
+registers_reply s point = flat_map (λ r. value_digits (s.register point r)) (range_with_len 0 32) ++ little_word (pc_at s point)
+
+abbrev pub error : List ℕ
+error = codes "E01"
+
+-- one of them by its number
+abbrev pub register_reply : Shown → ℕ → ℕ → List ℕ
+register_reply s point number =
+    if nat_lt number 32 then value_digits (s.register point number) else if number == 32 then little_word (pc_at s point) else error
+
+-- what stands before the first gap
+abbrev pub known_run : List (Option ℕ) → List ℕ
+known_run [] = []
+known_run (None ∷ more) = []
+known_run (Some byte ∷ more) = byte ∷ known_run more
+
+-- at most so many bytes from an address on, up to the first one that isn't known, and at most 2000
+abbrev pub known_bytes : Shown → ℕ → ℕ → ℕ → List ℕ
+known_bytes s point address count = known_run (map (λ i. s.byte point (wrapped (address + i))) (range_with_len 0 (min count 2000)))
+
+abbrev pub memory_digits : List ℕ → List ℕ
+memory_digits [] = error
+memory_digits bytes = digits_of bytes
+
+abbrev pub memory_bytes : List ℕ → List ℕ
+memory_bytes [] = error
+memory_bytes bytes = codes "b" ++ bytes
+
+-- why it stopped
+abbrev pub stop_reply : Stop → List ℕ
+stop_reply stop.Step = codes "T05"
+stop_reply (stop.Write address) = codes "T05watch:" ++ big_word address ++ codes ";"
+stop_reply stop.Begin = codes "T05replaylog:begin;"
+stop_reply stop.End = codes "T05replaylog:end;"
+
+-- at the last point stands the signal that ended the process
+abbrev pub reason_reply : Shown → ℕ → ℕ → List ℕ
+reason_reply s signal point = if point == length s.rows then codes "T" ++ hex_byte signal else codes "T05"
+
+-- a part of a text, and whether it is the last one; at most 4000 bytes
+abbrev pub part_reply : List ℕ → ℕ → ℕ → List ℕ
+part_reply text offset count =
+    if nat_le (length (drop offset text)) (min count 4000) then codes "l" ++ drop offset text else codes "m" ++ take (min count 4000) (drop offset text)
+
+-- the bytes that pairs of digits are
+abbrev pub with_first : Option ℕ → Option (List ℕ) → Option (List ℕ)
+with_first (Some byte) (Some bytes) = Some (byte ∷ bytes)
+with_first _ _ = None
+
+abbrev pub decoded : List ℕ → Option (List ℕ)
+decoded [] = Some []
+decoded (digit ∷ []) = None
+decoded (high ∷ low ∷ digits) = with_first (digits_value high low) (decoded digits)
+
+-- a text of a session, as pairs of digits; `OK` where there is none
+abbrev pub text_reply : List ℕ → List ℕ
+text_reply [] = codes "OK"
+text_reply text = digits_of text
