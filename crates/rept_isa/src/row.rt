@@ -32,9 +32,5 @@ impl StepRow {
 pub fn from_address(at: u32, short: bool) -> u32
     ensures { result ≡ from_at at short }
 {
-    if short {
-        at.wrapping_sub(2)
-    } else {
-        at
-    }
+    if short { at.wrapping_sub(2) } else { at }
 }

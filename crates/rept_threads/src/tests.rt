@@ -10,7 +10,7 @@ use rept_elf::{Image, Want};
 use rept_path::PathFault;
 use rept_path::walk::Walk;
 use rept_path::window::go_through;
-use rept_sample::{core_file, executable};
+use test_files::{core_file, executable};
 use rept_steps::LIMIT;
 use rept_trace::{Packets, Streams, TraceFault};
 use std::alloc::Global;

@@ -3,7 +3,7 @@
 use super::{OPEN, THREE, trace_file, word_list};
 use rept_app::{Status, rept};
 use rept_ports::{CalmShelf, CalmSource, MemSink};
-use rept_sample::{core_file, executable};
+use test_files::{core_file, executable};
 use std::alloc::{AllocError, Global};
 use std::test::Fail;
 

@@ -116,13 +116,17 @@ fn calls_by_hand(rt: HostRuntime) -> Result<(), Fail> {
         let mut bytes = Vec::new(alloc);
         let mut writers = Vec::new(alloc);
         for address in case.spared {
-            let byte = [7, 0, 0, 0, 5, 6, 7, 8].get((*address & 7) as usize).copied();
+            let byte = [7, 0, 0, 0, 5, 6, 7, 8]
+                .get((*address & 7) as usize)
+                .copied();
             bytes.push((0, *address, byte))?;
             bytes.push((count, *address, byte))?;
             writers.push((count, *address, Writer::None))?;
         }
         for address in case.written {
-            let byte = [7, 0, 0, 0, 5, 6, 7, 8].get((*address & 7) as usize).copied();
+            let byte = [7, 0, 0, 0, 5, 6, 7, 8]
+                .get((*address & 7) as usize)
+                .copied();
             bytes.push((call, *address, None))?;
             bytes.push((count, *address, byte))?;
             writers.push((call, *address, Writer::None))?;

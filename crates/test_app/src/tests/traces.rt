@@ -3,7 +3,7 @@
 use super::{THREE, word_list};
 use rept_app::{Status, rept};
 use rept_ports::{CalmShelf, CalmSource, MemSink};
-use rept_sample::{core_file, executable};
+use test_files::{core_file, executable};
 use std::test::Fail;
 
 /// A program with each kind of instruction that a path may meet.

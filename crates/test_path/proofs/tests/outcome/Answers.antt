@@ -1,7 +1,7 @@
 use Rattle.std.proofs.Common.{◌≡◌, ℕ, ◌++◌, length, arith, ap, length-append}
 use Rattle.rept_trace.specs.Stream.{header}
 use Rattle.rept_trace.specs.Packets.{rest_of}
-use Rattle.rept_path_tests.proofs.tests.outcome.Goals as goal
+use Rattle.test_path.proofs.tests.outcome.Goals as goal
 
 pub rebuild-requires : goal.rebuild-requires
 rebuild-requires c =

@@ -8,7 +8,7 @@ mod traces;
 
 use rept_app::{Status, rept, tell_no_memory};
 use rept_ports::{CalmShelf, CalmSource, MemShelf, MemSink, MemSource};
-use rept_sample::{core_file, executable};
+use test_files::{core_file, executable};
 use std::alloc::{AllocError, Global};
 use std::test::Fail;
 

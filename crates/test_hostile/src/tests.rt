@@ -3,7 +3,7 @@
 mod damages;
 mod ports;
 
-use rept_sample::executable;
+use test_files::executable;
 use std::alloc::{AllocError, Global};
 
 // The header and program headers of a core file whose only segment is the note at 84.

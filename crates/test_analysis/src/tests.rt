@@ -16,7 +16,7 @@ use rept_isa::{Instr, Reg, StepRow, decode};
 use rept_partial::{Flat, Partial, Range};
 use rept_report::{Counts, Writer};
 use rept_rules::Base;
-use rept_sample::executable;
+use test_files::executable;
 use rept_steps::Steps;
 use rept_versions::{ByteFacts, PlainFacts, SpanFacts};
 use std::alloc::{AllocError, Global};

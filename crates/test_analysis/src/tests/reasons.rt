@@ -8,7 +8,7 @@ use rept_isa::Reg;
 use rept_partial::{Partial, Range};
 use rept_reason::{Cell, Fact, Reason};
 use rept_rules::Base;
-use rept_sample::executable;
+use test_files::executable;
 use rept_versions::{ByteFacts, PlainFacts, SpanFacts};
 use std::alloc::Global;
 use std::process::Abort;

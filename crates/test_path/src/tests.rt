@@ -14,7 +14,7 @@ use rept_dump::Dump;
 use rept_elf::{Image, Want};
 use rept_isa::{Instr, StepRow, decode};
 use rept_path::{PathFault, rebuild};
-use rept_sample::{core_file, executable};
+use test_files::{core_file, executable};
 use rept_trace::Packets;
 use sent::{Sent, push_sent};
 use std::alloc::{AllocError, Global};
