@@ -12,6 +12,10 @@ use Rattle.rept_stub.specs.Answers.{IsAnswer, stand_after}
 use Rattle.rept_stub.specs.Replies.{error}
 use Rattle.rept_dialog.specs.declared.turn.Dialog.{Dialog}
 
+-- a dialog as it begins, at this point and without breakpoints
+abbrev pub start_at : ℕ → Dialog
+start_at point = record { stand = record { point = point; spots = record { breaks = []; regions = [] } }; acknowledges = true; last = []; is_over = false }
+
 -- packets are acknowledged until the debugger asks for none
 abbrev pub acknowledges_after : Bool → Request → Bool
 acknowledges_after before request.NoAcknowledgments = false

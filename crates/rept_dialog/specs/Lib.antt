@@ -1,1 +1,2 @@
+pub mod Converse
 pub mod Dialog

@@ -1,6 +1,8 @@
-//! A dialog with a debugger, arrival by arrival.
+//! A dialog with a debugger over an input and an output.
 #![tactic(auto)]
 
+pub mod conversation;
 pub mod turn;
 
+pub use conversation::{Conversed, converse};
 pub use turn::{Dialog, begin, take_turn};

@@ -1,11 +1,11 @@
 //! One arrival, and what is written then.
 
-ghost use Rattle.std.specs.Prelude.{◌≡◌, ◌≤◌, ◌++◌, [], true, false, length, codes, IfOk, OnOk, if◌then◌else◌};
+ghost use Rattle.std.specs.Prelude.{◌≡◌, ◌≤◌, ◌++◌, [], length, codes, IfOk, OnOk, if◌then◌else◌};
 ghost use Rattle.rept_remote.specs.Escapes.{packet_of};
 ghost use Rattle.rept_remote.specs.Frames.{arrived};
 ghost use Rattle.rept_remote.specs.Frames.Arrived.{packet};
 ghost use Rattle.rept_session.specs.Shown.{SameReasons, told};
-ghost use Rattle.rept_dialog.specs.Dialog.{IsTurn, acknowledges_after, is_last, sign};
+ghost use Rattle.rept_dialog.specs.Dialog.{IsTurn, acknowledges_after, is_last, sign, start_at};
 
 use rept_remote::{Arrival, push_packet};
 use rept_request::{Request, parse};
@@ -29,7 +29,7 @@ pub struct Dialog {
 
 /// A dialog that begins at a point, without breakpoints.
 pub fn begin(alloc: Global, point: u32) -> Dialog
-    ensures { result ≡ record { stand = record { point = point; spots = record { breaks = []; regions = [] } }; acknowledges = true; last = []; is_over = false } }
+    ensures { result ≡ start_at point }
 {
     Dialog {
         stand: Stand {

@@ -3,8 +3,11 @@
 mod fixed;
 
 use crate::tests::fixed::two_steps;
+use rept_dialog::{Conversed, converse};
+use rept_ports::{MemSink, MemSource};
+use rept_remote::Ending;
 use rept_stub::{Setting, Spots, Stand, answer_packet};
-use rept_word::Text;
+use rept_word::{OutOfMemory, Text};
 use std::alloc::Global;
 use std::process::Abort;
 use std::test::Fail;
@@ -53,19 +56,24 @@ fn packets_are_answered(rt: HostRuntime) -> Result<(), Fail> {
     compare(&rt, rt.alloc(), &table)
 }
 
-fn compare(rt: &impl Abort, alloc: Global, rows: &[(&str, &str)]) -> Result<(), Fail> {
+/// The answer over two steps, at point 0, 1 or 2.
+fn ask(alloc: Global, stand: &mut Stand, packet: &str) -> Result<Text, OutOfMemory> {
     let mut findings = two_steps();
-    let mut stand = Stand {
-        point: 2,
-        spots: Spots::new(alloc),
-    };
     let setting = Setting {
         skipped: 0,
         signal: 11,
     };
+    stand.point = stand.point.min(2);
+    answer_packet(alloc, &mut findings, setting, stand, packet.as_bytes())
+}
+
+fn compare(rt: &impl Abort, alloc: Global, rows: &[(&str, &str)]) -> Result<(), Fail> {
+    let mut stand = Stand {
+        point: 2,
+        spots: Spots::new(alloc),
+    };
     for (packet, reply) in rows {
-        stand.point = stand.point.min(2);
-        let text = answer_packet(alloc, &mut findings, setting, &mut stand, packet.as_bytes())?;
+        let text = ask(alloc, &mut stand, packet)?;
         assert_eq!(rt; text.bytes(), reply.as_bytes(), "{packet}");
     }
     Ok(())
@@ -89,5 +97,33 @@ fn all_registers(rt: HostRuntime) -> Result<(), Fail> {
     }
     wanted.push(b"00000100")?;
     assert_eq!(rt; text.bytes(), wanted.bytes());
+    Ok(())
+}
+
+const PACKETS: &[u8] = b"$?#3f$?#40-$bs#d5\x03$QStartNoAckMode#b0$p20#d2$D#44$?#3f";
+
+const REPLIES: &[u8] = b"+$T0b#e6-$T0b#e6+$T05#b9+$OK#9a$04000100#85$OK#9a";
+
+// A dialog up to `D`, whose second packet has a wrong sum; one whose input ends within a packet, and one whose output fails.
+#[test]
+fn dialogs_end(rt: HostRuntime) -> Result<(), Fail> {
+    let alloc = rt.alloc();
+    let setting = Setting {
+        skipped: 0,
+        signal: 11,
+    };
+    let table: [(&[u8], &[u64], &[u8], Conversed); 3] = [
+        (PACKETS, &[], REPLIES, Conversed::Left),
+        (b"$?#3", &[], b"", Conversed::Ended(Ending::InPacket)),
+        (b"$?#3f", &[1], b"", Conversed::OutputFault),
+    ];
+    for (packets, fails, replies, end) in table {
+        let mut findings = two_steps();
+        let mut source = MemSource::new(alloc, packets, &[])?;
+        let mut sink = MemSink::new(alloc, 200, fails)?;
+        let ended = converse(alloc, &mut findings, setting, &mut source, &mut sink);
+        assert_eq!(rt; sink.bytes(), replies);
+        assert_eq!(rt; ended, end);
+    }
     Ok(())
 }

@@ -1,0 +1,27 @@
+use Rattle.std.proofs.Common.{◌≡◌, ◌≤◌, ◌-◌, ℕ, List, length, None}
+use Rattle.rept_ports.specs.Port.{move}
+use Rattle.rept_remote.specs.Reading.{most_input}
+use Rattle.rept_session.specs.Shown.{SameReasons, told}
+use Rattle.rept_dialog.specs.Converse.{Progress}
+use Rattle.rept_dialog.specs.Dialog.{start_at}
+use Rattle.rept_dialog.proofs.conversation.converse.Given as goal
+
+abbrev pub invariant-dialog : goal.invariant-dialog
+invariant-dialog g l =
+    let source = g.S.Source.port in
+    let sink = g.K.Sink.port in
+    let shown = g.F.Findings.shown in
+    let reasons = g.F.Findings.reasons in
+    record {
+      shown_stays : shown l.findings ≡ shown l.fn.findings;
+      reasons_stay : SameReasons (reasons l.fn.findings) (reasons l.findings);
+      within : l.dialog.stand.point ≤ length (shown l.fn.findings).rows;
+      going : l.packets.over ≡ None;
+      read : List ℕ;
+      counted : l.packets.count ≡ length read;
+      few : l.packets.count ≤ most_input;
+      progress : Progress (record { told = told (shown l.fn.findings) l.setting.skipped (reasons l.fn.findings); signal = l.setting.signal; start = start_at (length (shown l.fn.findings).rows) }) (move (source l.fn.input) (source l.input)) (move (sink l.fn.out) (sink l.out)) read l.dialog;
+    }
+
+abbrev pub decreases-dialog : goal.decreases-dialog
+decreases-dialog g l = most_input - l.packets.count

@@ -1,0 +1,75 @@
+-- A whole dialog over an input and an output, and how it ends. This project's own.
+use Rattle.std.specs.Prelude.{◌≡◌, ℕ, List, [], ◌++◌, length, Bool, true, false}
+use Rattle.std.specs.Io.KnownBytes.{Appends, Consumes}
+use Rattle.rept_ports.specs.Causes.{OneFault, AppendsPrefix}
+use Rattle.rept_ports.specs.Port.{Port, Move, move}
+use Rattle.rept_remote.specs.Frames.{Arrived, Arrives}
+use Rattle.rept_remote.specs.Reading.{Stops, taking}
+use Rattle.rept_remote.specs.declared.arrival.Ending.{Ending}
+use Rattle.rept_session.specs.Shown.{Told}
+use Rattle.rept_dialog.specs.Dialog.{IsTurn, Talks}
+use Rattle.rept_dialog.specs.declared.turn.Dialog.{Dialog}
+use Rattle.rept_dialog.specs.declared.conversation.Conversed.{Conversed}
+use Rattle.rept_dialog.specs.declared.conversation.Conversed.TheVariants as conversed
+
+-- who talks: what is told, the signal that ended the process, and the dialog as it began
+pub record Scene : Type 1 where
+  pub told : Told
+  pub signal : ℕ
+  pub start : Dialog
+
+-- the bytes that were taken of an input and those that were written to an output, neither of which failed, are those of the arrivals so far and of
+-- what was written at each
+pub record Progress (scene : Scene) (source sink : Move Port) (read : List ℕ) (now : Dialog) : Type 0 where
+  pub written : List ℕ
+  pub talks : Talks scene.told scene.signal scene.start read written now
+  pub consumed : Consumes source.before.bytes source.after.bytes read
+  pub wrote : Appends sink.before.bytes sink.after.bytes written
+  pub read_calm : source.after.faults ≡ source.before.faults
+  pub write_calm : sink.after.faults ≡ sink.before.faults
+
+-- one arrival more came after that
+pub record Arrival (scene : Scene) (source sink : Move Port) : Type 0 where
+  pub read : List ℕ
+  pub now : Dialog
+  pub got : List ℕ
+  pub what : Arrived
+  pub middle : Port
+  pub progress : Progress scene (move source.before middle) sink read now
+  pub consumed : Consumes middle.bytes source.after.bytes got
+  pub arrives : Arrives got what
+  pub calm : source.after.faults ≡ middle.faults
+
+-- the input ended or failed, or too much of it came, between arrivals or within one
+pub record Ended (scene : Scene) (source sink : Move Port) (why : Ending) : Type 0 where
+  pub read : List ℕ
+  pub now : Dialog
+  pub got : List ℕ
+  pub middle : Port
+  pub count : Move ℕ
+  pub progress : Progress scene (move source.before middle) sink read now
+  pub counted : count.before ≡ length read
+  pub stops : Stops (taking count (move middle source.after) got) why
+
+-- the debugger left
+pub record Left (scene : Scene) (source sink : Move Port) : Type 0 where
+  pub read : List ℕ
+  pub now : Dialog
+  pub progress : Progress scene source sink read now
+  pub left : now.is_over ≡ true
+
+-- the output failed in what is written at an arrival
+pub record Broke (scene : Scene) (source sink : Move Port) : Type 0 where
+  pub before : Port
+  pub arrival : Arrival scene source (move sink.before before)
+  pub text : List ℕ
+  pub next : Dialog
+  pub turn : IsTurn scene.told scene.signal arrival.now arrival.what text next
+  pub wrote : AppendsPrefix before.bytes sink.after.bytes text
+  pub fault : OneFault before.faults sink.after.faults
+
+abbrev pub Converses : Scene → Move Port → Move Port → Conversed → Type 0
+Converses scene source sink conversed.Left = Left scene source sink
+Converses scene source sink (conversed.Ended why) = Ended scene source sink why
+Converses scene source sink conversed.OutputFault = Broke scene source sink
+Converses scene source sink conversed.OutOfMemory = Arrival scene source sink

@@ -1,0 +1,68 @@
+//! The loop over what arrives.
+
+ghost use Rattle.std.specs.Prelude.{◌≡◌, length};
+ghost use Rattle.rept_ports.specs.Port.{move};
+ghost use Rattle.rept_session.specs.Shown.{SameReasons, told};
+ghost use Rattle.rept_dialog.specs.Converse.{Converses};
+ghost use Rattle.rept_dialog.specs.Dialog.{start_at};
+
+use crate::turn::{begin, take_turn};
+use rept_ports::{Sink, Source, write_all};
+use rept_remote::{Ending, Packets};
+use rept_session::Findings;
+use rept_stub::Setting;
+use std::alloc::Global;
+
+/// How a dialog ended.
+#[derive(Clone, Copy, Debug, PartialEq, Eq)]
+pub enum Conversed {
+    /// The debugger left.
+    Left,
+    /// Nothing arrives any more.
+    Ended(Ending),
+    /// The output failed.
+    OutputFault,
+    /// There is no memory for an answer.
+    OutOfMemory,
+}
+
+/// Answers what arrives, each before the next one is read, with the debugger at the last point first. In each case the findings stay as they
+/// were.
+pub fn converse<F: Findings, S: Source, K: Sink>(
+    alloc: Global,
+    findings: &mut F,
+    setting: Setting,
+    input: &mut S,
+    out: &mut K,
+) -> Conversed
+    ensures talk { Converses (record { told = told (F.shown findings.old) setting.skipped (F.reasons findings.old); signal = setting.signal; start = start_at (length (F.shown findings.old).rows) }) (move (S.port input.old) (S.port input.new)) (move (K.port out.old) (K.port out.new)) result }
+    ensures same { F.shown findings.new ≡ F.shown findings.old }
+    ensures same_reasons { SameReasons (F.reasons findings.old) (F.reasons findings.new) }
+{
+    let mut dialog = begin(alloc, findings.rows().len() as u32);
+    let mut packets = Packets::new();
+    'dialog: loop {
+        let arrival = match packets.next(input) {
+            Ok(arrival) => arrival,
+            Err(why) => return Conversed::Ended(why),
+        };
+        let text = match take_turn(
+            alloc,
+            findings,
+            setting,
+            &mut dialog,
+            arrival,
+            packets.carried(),
+        ) {
+            Ok(text) => text,
+            Err(_) => return Conversed::OutOfMemory,
+        };
+        match write_all(out, text.bytes()) {
+            Ok(()) => {}
+            Err(_) => return Conversed::OutputFault,
+        }
+        if dialog.is_over {
+            return Conversed::Left;
+        }
+    }
+}
