@@ -1,10 +1,10 @@
 -- A walk over the packets of a stretch.
 use Rattle.std.proofs.Common.{◌≡◌, ◌⊎◌, inl, inr, ℕ, ◌+◌, ◌<◌, ◌≤◌, List, [], ◌∷◌, ◌++◌, length, reverse, Bool, true, false, cond, Some, Ok, refl, sym, ◌∙◌, ap, subst, append_assoc, arith}
 use Rattle.std.proofs.lemmas.List.{reverse-append, reverse-reverse, append-nil}
-use Rattle.rept_elf.specs.Segments.{ElfSegment}
 use Rattle.rept_isa.specs.declared.row.StepRow.{StepRow}
 use Rattle.rept_trace.specs.declared.packet.Packet.{Packet}
 use Rattle.rept_trace.specs.Stream.{Stream, Hold, Answers}
+use Rattle.rept_path.specs.Code.{Code}
 use Rattle.rept_path.specs.declared.fault.PathFault.{PathFault}
 use Rattle.rept_path.specs.declared.fault.PathFault.TheVariants.{OutOfMemory}
 use Rattle.rept_path.specs.declared.walk.Walk.{Walk}
@@ -30,7 +30,7 @@ abbrev pub packets_of : Head → List Packet
 packets_of h = h.first ∷ same_stretch false h.later
 
 -- The packets that were gone over, newest first, and those that the stream still holds.
-pub record Going (code : List ElfSegment) (origin : Origin) (head : Head) (number : ℕ) (rest : Bytes) (w : Walk) : Type 0 where
+pub record Going (code : Code) (origin : Origin) (head : Head) (number : ℕ) (rest : Bytes) (w : Walk) : Type 0 where
   pub done : List Packet
   pub more : List Packet
   pub legs : List (List StepRow)
@@ -41,7 +41,7 @@ pub record Going (code : List ElfSegment) (origin : Origin) (head : Head) (numbe
   pub some : 0 < length done
   pub counted : length done + length more ≡ 1 + length head.later
 
-pub goes_first : (code : List ElfSegment) (origin : Origin) (first : Packet) (later : List Packet) (rest : Bytes) (w : Walk) (legs : List (List StepRow)) → is_start first ≡ true → Hold rest later → Stands code (earlier_by origin (first ∷ []) legs) w → Going code origin (record { first = first; later = later }) (origin.number + 1) rest w
+pub goes_first : (code : Code) (origin : Origin) (first : Packet) (later : List Packet) (rest : Bytes) (w : Walk) (legs : List (List StepRow)) → is_start first ≡ true → Hold rest later → Stands code (earlier_by origin (first ∷ []) legs) w → Going code origin (record { first = first; later = later }) (origin.number + 1) rest w
 unfolding waiting
 goes_first code origin first later rest w legs starts h s =
     let runs : false ≡ waiting (first ∷ []) = sym (starts_run first starts) in
@@ -70,7 +70,7 @@ ends_there k n rest after waits packet more h a b =
     let t = taken k n rest after packet more h a in
     ap (λ (xs : List Packet). same_stretch waits xs) t.1 ∙ same_off waits packet t.0 b
 
-module _ (code : List ElfSegment) (origin : Origin) (head : Head) (number : ℕ) (rest : Bytes) (w : Walk) (g : Going code origin head number rest w) where
+module _ (code : Code) (origin : Origin) (head : Head) (number : ℕ) (rest : Bytes) (w : Walk) (g : Going code origin head number rest w) where
   module _ (k n : ℕ) (after : Bytes) (packet : Packet) (a : Answers k rest (Ok (Some packet)) n after) (same : begins packet w.waiting ≡ false) where
     front : (later : List Packet) → g.more ≡ packet ∷ later → packets_of head ≡ reverse (packet ∷ g.done) ++ same_stretch (waits_after packet (waiting g.done)) later
     front later is =
@@ -134,7 +134,7 @@ module _ (code : List ElfSegment) (origin : Origin) (head : Head) (number : ℕ)
       (g.legs, subst (λ (xs : List Packet). Stands code (earlier_by origin xs g.legs) w) (sym e) g.stands)
 
 -- the first packet
-pub first_or : (code : List ElfSegment) (origin : Origin) (first : Packet) (later : List Packet) (e : PathFault) → (e ≡ OutOfMemory) ⊎ FirstFault code first e → (e ≡ OutOfMemory) ⊎ StopsAt code origin (first ∷ later) e
+pub first_or : (code : Code) (origin : Origin) (first : Packet) (later : List Packet) (e : PathFault) → (e ≡ OutOfMemory) ⊎ FirstFault code first e → (e ≡ OutOfMemory) ⊎ StopsAt code origin (first ∷ later) e
 first_or code origin first later e h = elim h [
   | inl m ↦ inl m
   | inr f ↦ inr (record { earlier = []; packet = first; later = later; cut = refl; legs = []; route = tt; fault = f })

@@ -1,8 +1,8 @@
 -- There is one run at most, or one refusal.
 use Rattle.std.proofs.Common.{◌≡◌, inl, inr, ℕ, ◌+◌, List, [], ◌∷◌, Option, Some, None, Result, Ok, Err, sym, ◌∙◌, ap, subst}
-use Rattle.rept_elf.specs.Segments.{ElfSegment}
 use Rattle.rept_isa.specs.declared.row.StepRow.{StepRow}
 use Rattle.rept_steps.specs.declared.run.Run.{Run}
+use Rattle.rept_path.specs.Code.{Code}
 use Rattle.rept_path.specs.declared.fault.PathFault.{PathFault}
 use Rattle.rept_path.proofs.OneRoute.{one_route, route_or_stop, one_stop}
 use Rattle.std.specs.Prelude.{reverse}
@@ -10,7 +10,7 @@ use Rattle.rept_threads.specs.Parts.{Told}
 use Rattle.rept_threads.specs.Stretches.{stretch, heads, Walked, origin_after, count_of, Goes, Walks, WalksFault}
 use Rattle.rept_threads.specs.Many.{Traces, IsRun, IsRefused, joined, left}
 
-module _ (code : List ElfSegment) where
+module _ (code : Code) where
   abbrev walked : Told → List (List StepRow) → Walked
   walked t legs = record { head = t; legs = legs }
 

@@ -3,16 +3,15 @@ use Rattle.std.proofs.Common.{◌≡◌, ℕ, zero, suc, ◌-◌, List, [], ◌�
 use Rattle.std.specs.Prelude.{slice_get}
 use Rattle.std.specs.List.{flat_map}
 use Rattle.std.proofs.lemmas.List.{reverse-append}
-use Rattle.rept_elf.specs.Segments.{ElfSegment}
 use Rattle.rept_isa.specs.declared.instr.Instr.{Instr}
 use Rattle.rept_isa.specs.declared.instr.Instr.TheVariants as instrs
 use Rattle.rept_isa.specs.declared.row.StepRow.{StepRow}
 use Rattle.rept_trace.specs.declared.packet.Packet.{Packet}
 use Rattle.rept_trace.specs.declared.packet.Packet.TheVariants.{Start, Context, Support, Address, Map, MapAddress}
 use Rattle.rept_path.specs.declared.aim.Aim.{Aim}
-use Rattle.rept_path.specs.Code.{look, flow_of}
+use Rattle.rept_path.specs.Code.{Code, look, flow_of}
 use Rattle.rept_path.specs.Packets.{begins, waiting, waits_after}
-use Rattle.rept_path.specs.Moves.{Lead, Place, Way, way_by, Stand, along, successor, IsMove, course_by}
+use Rattle.rept_path.specs.Moves.{Lead, Place, Way, way_by, Stand, along, Site, site, successor, IsMove, course_by}
 use Rattle.rept_path.specs.Legs.{Passes, Reaches}
 use Rattle.rept_path.specs.Route.{Phase, lead_of, further, with_bits, phases_of, PhaseLegs, Met, met_by, WaitingLeg, FirstLeg, Origin, Route}
 use Rattle.rept_path.proofs.MoveLemmas.{made}
@@ -28,7 +27,7 @@ abbrev pub IsPlain : StepRow → Type 0
 IsPlain row = is_call row.instr ≡ false
 
 -- an instruction with a successor is no call
-pub has_successor : (k p a : ℕ) (i : Instr) (way : Way) → successor k p (flow_of i) way ≡ Ok a → is_call i ≡ false
+pub has_successor : (k : ℕ) (p : Site) (a : ℕ) (i : Instr) (way : Way) → successor k p (flow_of i) way ≡ Ok a → is_call i ≡ false
 has_successor k p a (instrs.Lui rd imm) way h = refl
 has_successor k p a (instrs.Auipc rd imm) way h = refl
 has_successor k p a (instrs.Jal rd imm) way h = refl
@@ -82,14 +81,14 @@ one_stretch t h =
     let e : reverse (stretch t) ≡ reverse (same_stretch (waiting (t.start ∷ [])) t.later) ++ t.start ∷ [] = reverse-append (t.start ∷ []) (same_stretch false t.later) ∙ ap (λ (b : Bool). reverse (same_stretch b t.later) ++ t.start ∷ []) (sym runs) in
     subst OneStretch (sym e) o
 
-module _ (code : List ElfSegment) where
+module _ (code : Code) where
   of_move : (lead : Lead) (p : Place) (r : StepRow) → IsMove code lead p r → IsPlain r
   of_move lead p r m =
       let x = made code lead p r.next m.next in
       let there : look code p.at ≡ Ok x.0 = x.1 in
       let here : look code p.at ≡ Ok r.instr = m.instr in
       let same : x.0 ≡ r.instr = cc in
-      subst (λ (i : Instr). is_call i ≡ false) same (has_successor lead.packet p.at x.2.0 x.0 (way_by (slice_get lead.bits p.branches) lead.target) x.2.1)
+      subst (λ (i : Instr). is_call i ≡ false) same (has_successor lead.packet (site code p.at) x.2.0 x.0 (way_by (slice_get lead.bits p.branches) lead.target) x.2.1)
 
   passed : (lead : Lead) (aim : Aim) (past : Place) (leg : List StepRow) → Passes code (course_by lead aim) past leg → Each IsPlain leg
   passed lead aim past [] x = tt
@@ -152,7 +151,7 @@ all_plain [] h = tt
 all_plain (leg ∷ legs) h = each_append IsPlain (reverse leg) (flat_map reverse legs) (each_reverse IsPlain leg h.0) (all_plain legs h.1)
 
 -- The rows of a slice that was walked are no calls.
-pub rows_plain : (code : List ElfSegment) (count : ℕ) (w : Walked) (t : Told) → is_start w.head.start ≡ true → Goes code count w → Each IsPlain (rows_of w t)
+pub rows_plain : (code : Code) (count : ℕ) (w : Walked) (t : Told) → is_start w.head.start ≡ true → Goes code count w → Each IsPlain (rows_of w t)
 rows_plain code count w t starts goes =
     let legs = of_route code (origin_after count w.head) (reverse (stretch w.head)) w.legs (one_stretch w.head starts) goes in
     let oldest = reverse w.legs in

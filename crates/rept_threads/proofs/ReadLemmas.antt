@@ -1,7 +1,9 @@
 -- All packets of several streams, stream by stream.
-use Rattle.std.proofs.Common.{◌≡◌, inl, inr, ℕ, suc, ◌+◌, ◌≤◌, List, [], ◌∷◌, ◌++◌, length, drop, Some, slice_get, refl, sym, ◌∙◌, ap, subst, arith, append_assoc, add-one}
+use Rattle.std.proofs.Common.{map, ◌≡◌, inl, inr, ℕ, suc, ◌+◌, ◌≤◌, List, [], ◌∷◌, ◌++◌, length, drop, Some, slice_get, refl, sym, ◌∙◌, ap, subst, arith, append_assoc, add-one}
+use Rattle.std.specs.Prelude.{option_map}
 use Rattle.std.specs.List.{sum_by}
-use Rattle.std.proofs.lemmas.List.{append-nil, at_drop_all}
+use Rattle.std.proofs.lemmas.Option.{slice_get-map}
+use Rattle.std.proofs.lemmas.List.{append-nil, at_drop_all, length-map}
 use Rattle.std.proofs.lemmas.List.Sums.{sum_by-cons}
 use Rattle.rept_elf.proofs.SegmentLemmas.{drop-slice_get}
 use Rattle.rept_trace.specs.declared.packet.Packet.{Packet}
@@ -10,15 +12,33 @@ use Rattle.rept_trace.specs.declared.fault.TraceFault.TheVariants.{BadMagic, Bad
 use Rattle.rept_trace.specs.declared.parameters.Parameters.{Parameters}
 use Rattle.rept_trace.specs.Grammar.{timed}
 use Rattle.rept_trace.specs.Stream.{Stream, Hold, Fails, FailsAfter}
+use Rattle.rept_trace.specs.Streams.{StreamFile}
 use Rattle.rept_trace.proofs.Frames.{shorter}
-use Rattle.rept_threads.specs.Raw.{timed_by, FailsIn}
+use Rattle.rept_threads.specs.Raw.{streams_of, FailsIn}
 use Rattle.rept_threads.specs.Windows.{IsWindow, AreWindows, number_told, numbered_after}
 use Rattle.rept_threads.specs.declared.reading.Window.{Window}
 
-pub same_stream : (x : Stream) (bytes : List ℕ) → bytes ≡ x.bytes → x.widths ≡ timed → x ≡ timed_by bytes
-same_stream x bytes e w =
-    let by_widths : Parameters → Stream = λ p. record { widths = p; bytes = x.bytes } in
-    ap by_widths w ∙ ap timed_by (sym e)
+-- the stream of a number is that of its bytes
+pub sent_there : (file : StreamFile) (s : ℕ) (stream : Stream) → slice_get file.streams s ≡ Some stream.bytes → stream.widths ≡ timed file.halves → slice_get (streams_of file) s ≡ Some stream
+sent_there file s stream at widths =
+    let by_bytes : List ℕ → Stream = λ bytes. record { widths = timed file.halves; bytes = bytes } in
+    let by_widths : Parameters → Stream = λ p. record { widths = p; bytes = stream.bytes } in
+    slice_get-map by_bytes file.streams s ∙ ap (option_map by_bytes) at ∙ ap (λ (p : Parameters). Some (by_widths p)) (sym widths)
+
+pub as_many : (file : StreamFile) → length (streams_of file) ≡ length file.streams
+as_many file = length-map file.streams (λ (bytes : List ℕ). record { widths = timed file.halves; bytes = bytes })
+
+-- streams have as many bytes as a file has of them
+pub sizes : (file : StreamFile) → sum_by (λ stream. length stream.bytes) (streams_of file) ≡ sum_by (λ bytes. length bytes) file.streams
+sizes file = go file.streams where
+  by_bytes : List ℕ → Stream
+  by_bytes bytes = record { widths = timed file.halves; bytes = bytes }
+
+  go : (streams : List (List ℕ)) → sum_by (λ stream. length stream.bytes) (map by_bytes streams) ≡ sum_by (λ bytes. length bytes) streams
+  go [] = refl
+  go (bytes ∷ streams) =
+      let i = go streams in
+      omega (arith, i, sum_by-cons (λ (s : Stream). length s.bytes) (by_bytes bytes) (map by_bytes streams), sum_by-cons (λ (bs : List ℕ). length bs) bytes streams)
 
 -- the number that a fault tells is that of a packet
 fails_at : (n : ℕ) (stream : Stream) (f : TraceFault) → Fails n stream f → number_told f ≤ n
@@ -55,52 +75,52 @@ later_after before n stream (p ∷ packets) f h =
     (h.0, h.1, subst (λ (m : ℕ). FailsAfter m h.0 packets (numbered_after before f)) e (later_after before (n + 1) h.0 packets f h.2))
 
 -- a fault of a stream, with the packets before it counted
-pub numbered : (before n : ℕ) (x : Stream) (bytes : List ℕ) (packets : List Packet) (f : TraceFault) → n ≡ 0 → x ≡ timed_by bytes → FailsAfter n x packets f → FailsAfter before (timed_by bytes) packets (numbered_after before f)
-numbered before n x bytes packets f zero same h =
+pub numbered : (before n : ℕ) (stream : Stream) (packets : List Packet) (f : TraceFault) → n ≡ 0 → FailsAfter n stream packets f → FailsAfter before stream packets (numbered_after before f)
+numbered before n stream packets f zero h =
     let e : before + n ≡ before = omega arith in
-    subst (λ (s : Stream). FailsAfter before s packets (numbered_after before f)) same (subst (λ (m : ℕ). FailsAfter m x packets (numbered_after before f)) e (later_after before n x packets f h))
+    subst (λ (m : ℕ). FailsAfter m stream packets (numbered_after before f)) e (later_after before n stream packets f h)
 
 -- The streams before a number were read, and those from it on are left: what is so of the latter is so of all.
-pub record Read (from : ℕ) (streams : List (List ℕ)) (i k : ℕ) (ws : List Window) : Type 0 where
+pub record Read (from : ℕ) (streams : List Stream) (i k : ℕ) (ws : List Window) : Type 0 where
   pub lists : List (List Packet)
   pub goes : (later : List (List Packet)) (more : List Window) → AreWindows i k from (drop i streams) later more → AreWindows 0 0 from streams (lists ++ later) (ws ++ more)
   pub fails : (f : TraceFault) → FailsIn k (drop i streams) f → FailsIn 0 streams f
-  pub few : k + sum_by (λ bytes. length bytes) (drop i streams) ≤ sum_by (λ bytes. length bytes) streams
+  pub few : k + sum_by (λ stream. length stream.bytes) (drop i streams) ≤ sum_by (λ stream. length stream.bytes) streams
 
-pub none_read : (from : ℕ) (streams : List (List ℕ)) → Read from streams 0 0 []
+pub none_read : (from : ℕ) (streams : List Stream) → Read from streams 0 0 []
 none_read from streams = record { lists = []; goes = λ later more h. h; fails = λ f h. h; few = omega arith }
 
-module _ (from : ℕ) (streams : List (List ℕ)) (i k : ℕ) (ws : List Window) (r : Read from streams i k ws) (bytes : List ℕ) (at : slice_get streams i ≡ Some bytes) where
-  split : drop i streams ≡ bytes ∷ drop (i + 1) streams
-  split = drop-slice_get streams i bytes at
+module _ (from : ℕ) (streams : List Stream) (i k : ℕ) (ws : List Window) (r : Read from streams i k ws) (stream : Stream) (at : slice_get streams i ≡ Some stream) where
+  split : drop i streams ≡ stream ∷ drop (i + 1) streams
+  split = drop-slice_get streams i stream at
 
-  pub room : k + length bytes ≤ sum_by (λ bytes. length bytes) streams
+  pub room : k + length stream.bytes ≤ sum_by (λ stream. length stream.bytes) streams
   room =
       let few = r.few in
-      let e = ap (sum_by (λ (bytes : List ℕ). length bytes)) split in
-      omega (arith, few, e, sum_by-cons (λ (bs : List ℕ). length bs) bytes (drop (i + 1) streams))
+      let e = ap (sum_by (λ (s : Stream). length s.bytes)) split in
+      omega (arith, few, e, sum_by-cons (λ (s : Stream). length s.bytes) stream (drop (i + 1) streams))
 
   module _ (packets : List Packet) where
-    pub one_read : (w : Window) → IsWindow i k from bytes packets w → length packets ≤ length bytes → Read from streams (i + 1) (k + length packets) (ws ++ w ∷ [])
+    pub one_read : (w : Window) → IsWindow i k from stream packets w → length packets ≤ length stream.bytes → Read from streams (i + 1) (k + length packets) (ws ++ w ∷ [])
     one_read w is short = record {
       lists = r.lists ++ packets ∷ [];
       goes = λ later more h.
           let next : AreWindows (suc i) (k + length packets) from (drop (i + 1) streams) later more = rw (← add-one) h in
-          let all : AreWindows i k from (drop i streams) (packets ∷ later) (w ∷ more) = subst (λ (ss : List (List ℕ)). AreWindows i k from ss (packets ∷ later) (w ∷ more)) (sym split) (is, next) in
+          let all : AreWindows i k from (drop i streams) (packets ∷ later) (w ∷ more) = subst (λ (ss : List Stream). AreWindows i k from ss (packets ∷ later) (w ∷ more)) (sym split) (is, next) in
           rw (append_assoc r.lists (packets ∷ []) later, append_assoc ws (w ∷ []) more) (r.goes (packets ∷ later) (w ∷ more) all);
-      fails = λ f h. r.fails f (subst (λ (ss : List (List ℕ)). FailsIn k ss f) (sym split) (inr (packets, is.surveys.hold, h)));
+      fails = λ f h. r.fails f (subst (λ (ss : List Stream). FailsIn k ss f) (sym split) (inr (packets, is.surveys.hold, h)));
       few =
           let few = r.few in
-          let e = ap (sum_by (λ (bytes : List ℕ). length bytes)) split in
-          omega (arith, few, e, short, sum_by-cons (λ (bs : List ℕ). length bs) bytes (drop (i + 1) streams));
+          let e = ap (sum_by (λ (s : Stream). length s.bytes)) split in
+          omega (arith, few, e, short, sum_by-cons (λ (s : Stream). length s.bytes) stream (drop (i + 1) streams));
     }
 
-    pub one_refused : (f : TraceFault) → FailsAfter k (timed_by bytes) packets f → FailsIn 0 streams f
-    one_refused f h = r.fails f (subst (λ (ss : List (List ℕ)). FailsIn k ss f) (sym split) (inl (packets, h)))
+    pub one_refused : (f : TraceFault) → FailsAfter k stream packets f → FailsIn 0 streams f
+    one_refused f h = r.fails f (subst (λ (ss : List Stream). FailsIn k ss f) (sym split) (inl (packets, h)))
 
-pub all_read : (from : ℕ) (streams : List (List ℕ)) (i k : ℕ) (ws : List Window) → Read from streams i k ws → length streams ≤ i → (lists : List (List Packet)) × AreWindows 0 0 from streams lists ws
+pub all_read : (from : ℕ) (streams : List Stream) (i k : ℕ) (ws : List Window) → Read from streams i k ws → length streams ≤ i → (lists : List (List Packet)) × AreWindows 0 0 from streams lists ws
 all_read from streams i k ws r past =
-    let none : AreWindows i k from (drop i streams) [] [] = subst (λ (ss : List (List ℕ)). AreWindows i k from ss [] []) (sym (at_drop_all (λ (ss : List (List ℕ)). ss) streams i past)) (refl, refl) in
+    let none : AreWindows i k from (drop i streams) [] [] = subst (λ (ss : List Stream). AreWindows i k from ss [] []) (sym (at_drop_all (λ (ss : List Stream). ss) streams i past)) (refl, refl) in
     let all = r.goes [] [] none in
     (r.lists, subst (λ (xs : List (List Packet)). AreWindows 0 0 from streams xs ws) (append-nil r.lists) (subst (λ (vs : List Window). AreWindows 0 0 from streams (r.lists ++ []) vs) (append-nil ws) all))
 

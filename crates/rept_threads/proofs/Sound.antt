@@ -4,7 +4,6 @@ use Rattle.std.specs.Prelude.{slice_get, is_none, option_map, unwrap_or}
 use Rattle.std.specs.List.{All, flat_map, filter}
 use Rattle.std.proofs.lemmas.List.Elements.{All-head, All-tail}
 use Rattle.std.proofs.lemmas.Bool.Decides.{leb_tells}
-use Rattle.rept_elf.specs.Segments.{ElfSegment}
 use Rattle.rept_isa.specs.declared.instr.Instr.{Instr}
 use Rattle.rept_isa.specs.declared.row.StepRow.{StepRow}
 use Rattle.rept_steps.specs.declared.run.Run.{Run}
@@ -15,9 +14,9 @@ use Rattle.rept_path.specs.declared.flow.Flow.{Flow}
 use Rattle.rept_path.specs.declared.flow.Flow.TheVariants.{Plain, Branch, Jump, Fixed, Far, Call, Stop}
 use Rattle.rept_path.specs.declared.fault.PathFault.{PathFault}
 use Rattle.rept_path.specs.declared.fault.PathFault.TheVariants.{TooLong, Gap, End}
-use Rattle.rept_path.specs.Code.{look, flow_of}
+use Rattle.rept_path.specs.Code.{Code, look, is_short, flow_of}
 use Rattle.rept_path.specs.Gap.{row, Goal, Edge, by_successor, by_flow, crossing, gap, gap_to_start}
-use Rattle.rept_path.specs.Moves.{Stand, way_by, successor, ◌>>=◌}
+use Rattle.rept_path.specs.Moves.{Stand, way_by, site, successor, ◌>>=◌}
 use Rattle.rept_path.proofs.MoveLemmas.{bind_ok}
 use Rattle.rept_steps.specs.Course.{no_thread, is_call, is_call_row, slice_of, TakeRows, BeginsFrom, first_slice, KeepTime, IsSound}
 use Rattle.rept_threads.specs.Parts.{Told, thread_of, begin_of, first_time, beyond, lesser, never, end_before}
@@ -72,15 +71,15 @@ one_only : (b : Bool) (r : StepRow) (e : PathFault) (rows : List StepRow) → co
 one_only true r e rows h = let same : r ∷ [] ≡ rows = cc in subst Bridged same (tt, omega arith)
 one_only false r e rows h = absurd (cc)
 
-module _ (code : List ElfSegment) where
+module _ (code : Code) where
   by_next : (e : Edge) (next : Result ℕ PathFault) (rows : List StepRow) → ((a : ℕ) → next ≡ Ok a → is_call e.instr ≡ false) → (next >>= by_successor code e) ≡ Ok rows → Bridged rows
   by_next e next rows plain h =
       let b = bind_ok next (by_successor code e) rows h in
-      one_or_two (b.0 == e.to) _ (row e.at e.instr b.0 false) _ e.otherwise rows (plain b.0 b.1) b.2
+      one_or_two (b.0 == e.to) _ (row e b.0 false) _ e.otherwise rows (plain b.0 b.1) b.2
 
   flow_bridged : (e : Edge) (next : Result ℕ PathFault) (flow : Flow) (rows : List StepRow) → ((a : ℕ) → next ≡ Ok a → is_call e.instr ≡ false) → by_flow code e next flow ≡ Ok rows → Bridged rows
-  flow_bridged e next Call rows plain h = one_only _ (row e.at e.instr e.to true) e.otherwise rows h
-  flow_bridged e next Far rows plain h = one_only _ (row e.at e.instr e.to false) e.otherwise rows h
+  flow_bridged e next Call rows plain h = one_only _ (row e e.to true) e.otherwise rows h
+  flow_bridged e next Far rows plain h = one_only _ (row e e.to false) e.otherwise rows h
   flow_bridged e next Stop rows plain h = absurd (cc)
   flow_bridged e next Plain rows plain h = by_next e next rows plain h
   flow_bridged e next (Jump imm) rows plain h = by_next e next rows plain h
@@ -100,9 +99,9 @@ module _ (code : List ElfSegment) where
       let g : Instr → Result (List StepRow) PathFault = λ i. cross i >>= f in
       let b = bind_ok (look code p.at) g rows is in
       let c = bind_ok (cross b.0) f rows b.2 in
-      let edge : Edge = record { at = p.at; instr = b.0; to = goal.address; otherwise = goal.otherwise } in
+      let edge : Edge = record { at = p.at; instr = b.0; short = is_short code p.at; to = goal.address; otherwise = goal.otherwise } in
       let way = way_by (slice_get s.bits p.branches) None in
-      let there = flow_bridged edge (successor s.packet p.at (flow_of b.0) way) (flow_of b.0) c.0 (λ a h. has_successor s.packet p.at a b.0 way h) c.1 in
+      let there = flow_bridged edge (successor s.packet (site code p.at) (flow_of b.0) way) (flow_of b.0) c.0 (λ a h. has_successor s.packet (site code p.at) a b.0 way h) c.1 in
       fits (nat_le (length p.rows + length c.0) s.room) s.packet c.0 rows there c.2
 
 bridge_bridged : (e : Ending) (count : ℕ) (r : Ran) (next : Option Ran) (rows : List StepRow) → bridge e count r next ≡ Ok rows → Bridged rows
@@ -268,7 +267,7 @@ module _ (g : Ground) (rs : List Ran) (plain : Each (λ (r : Ran). Each IsPlain 
       subst (Each Good) is (good_thread own b.0 same (ascends time (filter test rs)) timed_own, good_threads (count + (rows_in b.0 - ran_rows own)) notes c.0 c.1)
 
 -- the slices of stretches that were walked
-module _ (code : List ElfSegment) (ts : List Told) where
+module _ (code : Code) (ts : List Told) where
   ran_in_time : Each InTime ts → (ws : List Walked) → Each (λ (r : Ran). InTime r.told) (ran code ts ws)
   ran_in_time h [] = tt
   ran_in_time h (w ∷ ws) = each_append (λ (r : Ran). InTime r.told) (ran_in code ts w) (ran code ts ws) (go (filter (within w) ts) (each_filter InTime (within w) ts h)) (ran_in_time h ws) where

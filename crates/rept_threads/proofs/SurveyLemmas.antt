@@ -3,31 +3,35 @@ use Rattle.std.proofs.Common.{◌≡◌, ℕ, suc, ◌+◌, ◌<◌, ◌≤◌, 
 use Rattle.std.specs.List.{sum_by}
 use Rattle.std.proofs.lemmas.List.Sums.{sum_by-cons}
 use Rattle.rept_trace.specs.declared.packet.Packet.{Packet}
+use Rattle.rept_trace.specs.Stream.{Stream}
+use Rattle.rept_trace.specs.Streams.{StreamFile}
 use Rattle.rept_path.specs.declared.fault.PathFault.{PathFault}
 use Rattle.rept_threads.specs.Parts.{told}
 use Rattle.rept_threads.specs.Skipping.{whole, kept}
 use Rattle.rept_threads.specs.Checks.{first_fault, time_back, startless, all_idle, stranger, check}
-use Rattle.rept_threads.specs.Raw.{timed_by, HoldEach}
+use Rattle.rept_threads.specs.Raw.{streams_of, HoldEach}
 use Rattle.rept_threads.specs.Windows.{AreWindows, AreAll}
 use Rattle.rept_threads.specs.declared.reading.Window.{Window}
-use Rattle.rept_threads.proofs.ReadLemmas.{held_few}
+use Rattle.rept_threads.proofs.ReadLemmas.{sizes, held_few}
 
-pub hold_each : (s k from : ℕ) (streams : List (List ℕ)) (lists : List (List Packet)) (ws : List Window) → AreWindows s k from streams lists ws → HoldEach streams lists
+pub hold_each : (s k from : ℕ) (streams : List Stream) (lists : List (List Packet)) (ws : List Window) → AreWindows s k from streams lists ws → HoldEach streams lists
 hold_each s k from [] lists ws a = a.0
-hold_each s k from (bytes ∷ streams) [] ws a = absurd a
-hold_each s k from (bytes ∷ streams) (packets ∷ lists) [] a = absurd a
-hold_each s k from (bytes ∷ streams) (packets ∷ lists) (w ∷ ws) a = ((a.0).surveys.hold, hold_each (suc s) (k + length packets) from streams lists ws a.1)
+hold_each s k from (stream ∷ streams) [] ws a = absurd a
+hold_each s k from (stream ∷ streams) (packets ∷ lists) [] a = absurd a
+hold_each s k from (stream ∷ streams) (packets ∷ lists) (w ∷ ws) a = ((a.0).surveys.hold, hold_each (suc s) (k + length packets) from streams lists ws a.1)
 
-few_packets : (streams : List (List ℕ)) (lists : List (List Packet)) → HoldEach streams lists → sum_by (λ packets. length packets) lists ≤ sum_by (λ bytes. length bytes) streams
+few_packets : (streams : List Stream) (lists : List (List Packet)) → HoldEach streams lists → sum_by (λ packets. length packets) lists ≤ sum_by (λ stream. length stream.bytes) streams
 few_packets [] lists h = let e = ap (sum_by (λ (ps : List Packet). length ps)) h in omega (arith, e)
-few_packets (bytes ∷ streams) [] h = absurd h
-few_packets (bytes ∷ streams) (packets ∷ lists) h =
+few_packets (stream ∷ streams) [] h = absurd h
+few_packets (stream ∷ streams) (packets ∷ lists) h =
     let i = few_packets streams lists h.1 in
-    let n = held_few (timed_by bytes) packets h.0 in
-    omega (arith, i, n, sum_by-cons (λ (bs : List ℕ). length bs) bytes streams, sum_by-cons (λ (ps : List Packet). length ps) packets lists)
+    let n = held_few stream packets h.0 in
+    omega (arith, i, n, sum_by-cons (λ (s : Stream). length s.bytes) stream streams, sum_by-cons (λ (ps : List Packet). length ps) packets lists)
 
-pub are_all : (from : ℕ) (streams : List (List ℕ)) (lists : List (List Packet)) (ws : List Window) → AreWindows 0 0 from streams lists ws → sum_by (λ bytes. length bytes) streams < 2 ^ 32 → AreAll from streams lists ws
-are_all from streams lists ws a few = let n = few_packets streams lists (hold_each 0 0 from streams lists ws a) in record { windows = a; few = omega (arith, n, few) }
+pub are_all : (from : ℕ) (file : StreamFile) (lists : List (List Packet)) (ws : List Window) → AreWindows 0 0 from (streams_of file) lists ws → sum_by (λ bytes. length bytes) file.streams < 2 ^ 32 → AreAll from (streams_of file) lists ws
+are_all from file lists ws a few =
+    let n = few_packets (streams_of file) lists (hold_each 0 0 from (streams_of file) lists ws a) in
+    record { windows = a; few = omega (arith, n, few, sizes file) }
 
 -- the checks before the last one
 abbrev earlier : ℕ → List (List Packet) → List (Option PathFault)

@@ -1,9 +1,9 @@
 -- Each list of streams has a run or a refusal.
 use Rattle.std.proofs.Common.{◌≡◌, ◌⊎◌, inl, inr, ℕ, suc, ◌+◌, List, [], ◌∷◌, Bool, true, false, cond, Option, Some, None, Result, Ok, Err, refl}
 use Rattle.std.specs.Prelude.{is_none}
-use Rattle.rept_elf.specs.Segments.{ElfSegment}
 use Rattle.rept_steps.specs.declared.run.Run.{Run}
 use Rattle.rept_trace.specs.declared.packet.Packet.{Packet}
+use Rattle.rept_path.specs.Code.{Code}
 use Rattle.rept_path.specs.declared.fault.PathFault.{PathFault}
 use Rattle.rept_path.proofs.Decided.{route_of}
 use Rattle.rept_threads.specs.Stamps.{is_start, running_after}
@@ -36,7 +36,7 @@ pub starts_told : (lefts : List Left) → Each Started (told lefts)
 starts_told [] = tt
 starts_told (l ∷ lefts) = each_append Started (told_in l) (told lefts) (start_told l.stream l.number None l.packets) (starts_told lefts)
 
-module _ (code : List ElfSegment) where
+module _ (code : Code) where
   walks_of : (count : ℕ) (ts : List Told) → Each Started ts → ((ws : List Walked) × Walks code count ts ws) ⊎ ((e : PathFault) × WalksFault code count ts e)
   walks_of count [] a = inl ([], refl)
   walks_of count (t ∷ ts) a = elim (route_of code (origin_after count t) (stretch t) a.0) [

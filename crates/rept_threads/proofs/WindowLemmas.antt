@@ -6,7 +6,7 @@ use Rattle.std.proofs.lemmas.List.{append-nil, at_drop_all}
 use Rattle.std.proofs.lemmas.List.Sums.{sum_by-cons}
 use Rattle.rept_trace.specs.declared.packet.Packet.{Packet}
 use Rattle.rept_trace.specs.Packets.{rest_of}
-use Rattle.rept_trace.specs.Stream.{Hold}
+use Rattle.rept_trace.specs.Stream.{Stream, Hold}
 use Rattle.rept_path.specs.declared.fault.PathFault.TheVariants.{NoStart}
 use Rattle.rept_path.specs.declared.window.Begin.{Begin}
 use Rattle.rept_path.specs.Survey.{IsThere, number_in}
@@ -94,20 +94,20 @@ all_told lefts ws i now past t =
     subst (λ (ts : List Told). AreTold now ts) (sym e) t.are
 
 -- what is left of streams that have windows
-module _ (s k from : ℕ) (bytes : List ℕ) (w : Window) where
-  no_more : (packets : List Packet) → IsWindow s k from bytes packets w → startless from (left s k packets) ≡ None → w.begin ≡ None → drop (unwrap_or (window_of from packets) 0) packets ≡ []
+module _ (s k from : ℕ) (stream : Stream) (w : Window) where
+  no_more : (packets : List Packet) → IsWindow s k from stream packets w → startless from (left s k packets) ≡ None → w.begin ≡ None → drop (unwrap_or (window_of from packets) 0) packets ≡ []
   no_more [] is calm none = refl
   no_more (p ∷ later) is calm none =
       let counted = is.surveys.count in
       let some : w.count ≢ 0 = λ e. let n : length (p ∷ later) ≡ 0 = sym counted ∙ e in omega arith in
-      let f : Some (NoStart w.count) ≡ startless from (left s k (p ∷ later)) = no_window s k from bytes w (p ∷ later) is some none in
+      let f : Some (NoStart w.count) ≡ startless from (left s k (p ∷ later)) = no_window s k from stream w (p ∷ later) is some none in
       absurd ((cc))
 
-  left_by : (packets : List Packet) (is : IsWindow s k from bytes packets w) → startless from (left s k packets) ≡ None → (o : Option Begin) → w.begin ≡ o → IsLeftBy (window_left from (left s k packets)) w.number o
+  left_by : (packets : List Packet) (is : IsWindow s k from stream packets w) → startless from (left s k packets) ≡ None → (o : Option Begin) → w.begin ≡ o → IsLeftBy (window_left from (left s k packets)) w.number o
   left_by packets is calm None e = no_more packets is calm e
   left_by packets is calm (Some b) e =
       let t : (later : List Packet) × Hold (rest_of b.later) later × (drop b.number packets ≡ b.first ∷ later) = subst (λ (o : Option Begin). IsThere packets o) e is.surveys.there in
-      let u : window_of from packets ≡ Some b.number = unique s k from bytes w packets is ∙ ap number_in e in
+      let u : window_of from packets ≡ Some b.number = unique s k from stream w packets is ∙ ap number_in e in
       record {
         later = t.0;
         hold = t.1;
@@ -115,7 +115,7 @@ module _ (s k from : ℕ) (bytes : List ℕ) (w : Window) where
         number = ap (λ (o : Option ℕ). k + unwrap_or o 0) u ∙ ap (λ (n : ℕ). n + b.number) (sym is.number);
       }
 
-  pub window_is_left : (packets : List Packet) → IsWindow s k from bytes packets w → startless from (left s k packets) ≡ None → k + length packets < 2 ^ 32 → IsLeft w (window_left from (left s k packets))
+  pub window_is_left : (packets : List Packet) → IsWindow s k from stream packets w → startless from (left s k packets) ≡ None → k + length packets < 2 ^ 32 → IsLeft w (window_left from (left s k packets))
   window_is_left packets is calm few =
       let o = unwrap_or (window_of from packets) 0 in
       let d = length-drop (unwrap_or (window_of from packets) 0) packets in
@@ -125,13 +125,13 @@ module _ (s k from : ℕ) (bytes : List ℕ) (w : Window) where
         few = within (window_of from packets) (λ i e. in_window packets is calm i e);
       }
     where
-      in_window : (packets : List Packet) → IsWindow s k from bytes packets w → startless from (left s k packets) ≡ None → (i : ℕ) → window_of from packets ≡ Some i → i ≤ length packets
+      in_window : (packets : List Packet) → IsWindow s k from stream packets w → startless from (left s k packets) ≡ None → (i : ℕ) → window_of from packets ≡ Some i → i ≤ length packets
       in_window packets is calm i e = go w.begin refl where
         go : (o : Option Begin) → w.begin ≡ o → i ≤ length packets
-        go None h = let n : Some i ≡ None = sym e ∙ unique s k from bytes w packets is ∙ ap number_in h in absurd ((cc))
+        go None h = let n : Some i ≡ None = sym e ∙ unique s k from stream w packets is ∙ ap number_in h in absurd ((cc))
         go (Some b) h =
             let t : (later : List Packet) × Hold (rest_of b.later) later × (drop b.number packets ≡ b.first ∷ later) = subst (λ (o : Option Begin). IsThere packets o) h is.surveys.there in
-            let n : Some i ≡ Some b.number = sym e ∙ unique s k from bytes w packets is ∙ ap number_in h in
+            let n : Some i ≡ Some b.number = sym e ∙ unique s k from stream w packets is ∙ ap number_in h in
             let same : i ≡ b.number = (cc) in
             let d = length-drop b.number packets in
             let l = ap (length {A = Packet}) t.2 in
@@ -144,14 +144,14 @@ module _ (s k from : ℕ) (bytes : List ℕ) (w : Window) where
           let d = length-drop i packets in
           omega (arith, le, d)
 
-lefts_from : (from s k : ℕ) (others : List (List ℕ)) (lists : List (List Packet)) (ws : List Window) → AreWindows s k from others lists ws → first_fault (startless from) (numbered s k lists) ≡ None → k + sum_by (λ packets. length packets) lists < 2 ^ 32 → AreLeft ws (map (window_left from) (numbered s k lists))
+lefts_from : (from s k : ℕ) (others : List Stream) (lists : List (List Packet)) (ws : List Window) → AreWindows s k from others lists ws → first_fault (startless from) (numbered s k lists) ≡ None → k + sum_by (λ packets. length packets) lists < 2 ^ 32 → AreLeft ws (map (window_left from) (numbered s k lists))
 lefts_from from s k [] lists ws a calm few = subst (λ (vs : List Window). AreLeft vs (map (window_left from) (numbered s k lists))) (sym a.1) (ap (λ (ls : List (List Packet)). map (window_left from) (numbered s k ls)) a.0)
-lefts_from from s k (bytes ∷ others) [] ws a calm few = absurd a
-lefts_from from s k (bytes ∷ others) (packets ∷ lists) [] a calm few = absurd a
-lefts_from from s k (bytes ∷ others) (packets ∷ lists) (w ∷ ws) a calm few =
+lefts_from from s k (stream ∷ others) [] ws a calm few = absurd a
+lefts_from from s k (stream ∷ others) (packets ∷ lists) [] a calm few = absurd a
+lefts_from from s k (stream ∷ others) (packets ∷ lists) (w ∷ ws) a calm few =
     let n = none_first (startless from) (left s k packets) (numbered (suc s) (k + length packets) lists) calm in
     let sizes = sum_by-cons (λ (ps : List Packet). length ps) packets lists in
-    (window_is_left s k from bytes w packets a.0 n.0 (omega (arith, sizes, few)), lefts_from from (suc s) (k + length packets) others lists ws a.1 n.1 (omega (arith, sizes, few)))
+    (window_is_left s k from stream w packets a.0 n.0 (omega (arith, sizes, few)), lefts_from from (suc s) (k + length packets) others lists ws a.1 n.1 (omega (arith, sizes, few)))
 
-pub windows_are_left : (from : ℕ) (streams : List (List ℕ)) (lists : List (List Packet)) (ws : List Window) → AreAll from streams lists ws → first_fault (startless from) (whole lists) ≡ None → AreLeft ws (windows from lists)
+pub windows_are_left : (from : ℕ) (streams : List Stream) (lists : List (List Packet)) (ws : List Window) → AreAll from streams lists ws → first_fault (startless from) (whole lists) ≡ None → AreLeft ws (windows from lists)
 windows_are_left from streams lists ws a calm = let few = a.few in lefts_from from 0 0 streams lists ws a.windows calm (omega arith)

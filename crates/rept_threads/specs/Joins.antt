@@ -2,10 +2,10 @@
 -- This project's own.
 use Rattle.std.specs.Prelude.{ℕ, ◌+◌, ◌-◌, ◌==◌, List, [], ◌∷◌, ◌++◌, length, reverse, Option, Some, None, option_map, Result, Ok, is_none, if◌then◌else◌}
 use Rattle.std.specs.List.{filter, flat_map, sum_by}
-use Rattle.rept_elf.specs.Segments.{ElfSegment}
 use Rattle.rept_isa.specs.declared.row.StepRow.{StepRow}
 use Rattle.rept_steps.specs.declared.slice.Slice.{Slice}
 use Rattle.rept_steps.specs.declared.threads.ThreadRows.{ThreadRows}
+use Rattle.rept_path.specs.Code.{Code}
 use Rattle.rept_path.specs.declared.fault.PathFault.{PathFault}
 use Rattle.rept_path.specs.Moves.{Stand, ◌>>=◌}
 use Rattle.rept_path.specs.Gap.{gap_to_start, gap_to_end}
@@ -21,7 +21,7 @@ pub record Note : Type 0 where
 
 -- what joins are made over: the program, the count of all packets, and the thread's program counter at the end
 pub record Ending : Type 0 where
-  pub code : List ElfSegment
+  pub code : Code
   pub packets : ℕ
   pub pc : ℕ
 
@@ -69,7 +69,7 @@ thread js = record { steps = flat_map (λ (j : Joined). j.rows) js; slices = sli
 abbrev pub of_thread : ℕ → List Ran → List Ran
 of_thread process rs = by_time (λ r. begin_of r.told) (filter (λ r. thread_of r.told == process) rs)
 
-abbrev pub ending : List ElfSegment → ℕ → Note → Ending
+abbrev pub ending : Code → ℕ → Note → Ending
 ending code packets note = record { code = code; packets = packets; pc = note.pc }
 
 abbrev pub rows_in : List Joined → ℕ
@@ -80,7 +80,7 @@ ran_rows rs = sum_by (λ (r : Ran). length r.rows) rs
 
 -- a program, and how many packets there are
 pub record Ground : Type 0 where
-  pub code : List ElfSegment
+  pub code : Code
   pub packets : ℕ
 
 -- all threads, in the order of their notes, where so many rows stand in all threads; the rows of joins are counted as they are made

@@ -1,10 +1,10 @@
 -- The run that several streams of packets tell of a program with several threads, and why there is none. This project's own.
 use Rattle.std.specs.Prelude.{map, ◌≡◌, ◌⊎◌, ℕ, List, length, Option, Some, None, Result, Ok, Err, option_map}
 use Rattle.std.specs.List.{sum_by}
-use Rattle.rept_elf.specs.Segments.{ElfSegment}
 use Rattle.rept_steps.specs.declared.run.Run.{Run}
 use Rattle.rept_steps.specs.declared.threads.ThreadRows.{ThreadRows}
 use Rattle.rept_trace.specs.declared.packet.Packet.{Packet}
+use Rattle.rept_path.specs.Code.{Code}
 use Rattle.rept_path.specs.declared.fault.PathFault.{PathFault}
 use Rattle.rept_path.specs.declared.fault.PathFault.TheVariants.{SliceOverlap}
 use Rattle.rept_path.specs.Moves.{◌>>=◌}
@@ -17,7 +17,7 @@ use Rattle.rept_threads.specs.Joins.{Note, Ground, ran_rows, threads}
 
 -- a program, the packets of each stream, the notes of the threads, and the number from which on a window may begin
 pub record Traces : Type 0 where
-  pub code : List ElfSegment
+  pub code : Code
   pub streams : List (List Packet)
   pub notes : List Note
   pub from : ℕ

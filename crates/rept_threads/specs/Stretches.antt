@@ -2,9 +2,9 @@
 -- the trace waits, and is walked as a path of its own; what leads from one to another isn't looked at here.
 use Rattle.std.specs.Prelude.{map, ◌≡◌, ◌⊎◌, ℕ, suc, ◌+◌, ◌-◌, nat_le, nat_lt, List, [], ◌∷◌, length, take, drop, reverse, is_none, Bool, false, ◌&&◌, if◌then◌else◌}
 use Rattle.std.specs.List.{filter, flat_map}
-use Rattle.rept_elf.specs.Segments.{ElfSegment}
 use Rattle.rept_isa.specs.declared.row.StepRow.{StepRow}
 use Rattle.rept_trace.specs.declared.packet.Packet.{Packet}
+use Rattle.rept_path.specs.Code.{Code}
 use Rattle.rept_path.specs.declared.fault.PathFault.{PathFault}
 use Rattle.rept_path.specs.Packets.{begins, waits_after, bits}
 use Rattle.rept_path.specs.Moves.{Place}
@@ -30,27 +30,27 @@ pub record Walked : Type 0 where
   pub head : Told
   pub legs : List (List StepRow)
 
-abbrev pub last_place : List ElfSegment → Walked → Place
+abbrev pub last_place : Code → Walked → Place
 last_place code w = place code (reverse (stretch w.head)) w.legs
 
-abbrev pub count_of : List ElfSegment → Walked → ℕ
+abbrev pub count_of : Code → Walked → ℕ
 count_of code w = length (last_place code w).rows
 
 -- where the walk of a stretch begins, after others of so many rows
 abbrev pub origin_after : ℕ → Told → Origin
 origin_after count t = record { number = t.number; room = 65536 - count }
 
-abbrev pub Goes : List ElfSegment → ℕ → Walked → Type 0
+abbrev pub Goes : Code → ℕ → Walked → Type 0
 Goes code count w = Route code (origin_after count w.head) (reverse (stretch w.head)) w.legs
 
 -- The stretches that begin with these slices are walked one after the other, after others of so many rows.
-abbrev pub Walks : List ElfSegment → ℕ → List Told → List Walked → Type 0
+abbrev pub Walks : Code → ℕ → List Told → List Walked → Type 0
 Walks code count [] ws = ws ≡ []
 Walks code count (t ∷ ts) [] = ⊥
 Walks code count (t ∷ ts) (w ∷ ws) = (w.head ≡ t) × Goes code count w × Walks code (count + count_of code w) ts ws
 
 -- One of them is refused, after those before it were walked.
-abbrev pub WalksFault : List ElfSegment → ℕ → List Told → PathFault → Type 0
+abbrev pub WalksFault : Code → ℕ → List Told → PathFault → Type 0
 WalksFault code count [] e = ⊥
 WalksFault code count (t ∷ ts) e =
     StopsAt code (origin_after count t) (stretch t) e
@@ -71,12 +71,12 @@ within w t = nat_le w.head.number t.number && nat_lt t.number (w.head.number + l
 abbrev pub rows_of : Walked → Told → List StepRow
 rows_of w t = flat_map reverse (take (suc (inner t)) (drop (suc (t.number - w.head.number)) (reverse w.legs)))
 
-abbrev pub ran_by : List ElfSegment → Walked → Told → Ran
+abbrev pub ran_by : Code → Walked → Told → Ran
 ran_by code w t = record { told = t; rows = rows_of w t; last = last_place code w; bits = bits code (reverse (stretch w.head)) }
 
-abbrev pub ran_in : List ElfSegment → List Told → Walked → List Ran
+abbrev pub ran_in : Code → List Told → Walked → List Ran
 ran_in code ts w = map (ran_by code w) (filter (within w) ts)
 
 -- all slices, in the order of their packets
-abbrev pub ran : List ElfSegment → List Told → List Walked → List Ran
+abbrev pub ran : Code → List Told → List Walked → List Ran
 ran code ts ws = flat_map (ran_in code ts) ws

@@ -5,25 +5,25 @@ use Rattle.rept_trace.specs.declared.packet.Packet.{Packet}
 use Rattle.rept_trace.specs.declared.fault.TraceFault.{TraceFault}
 use Rattle.rept_trace.specs.declared.fault.TraceFault.TheVariants.{BadMagic, BadHeader, Truncated, Optional, Trap, BadSupport, StreamPastEnd, Rest}
 use Rattle.rept_trace.specs.Packets.{rest_of}
+use Rattle.rept_trace.specs.Stream.{Stream}
 use Rattle.rept_path.specs.Survey.{Surveys}
 use Rattle.rept_threads.specs.declared.reading.Window.{Window}
-use Rattle.rept_threads.specs.Raw.{timed_by}
 use Rattle.rept_threads.specs.Parts.{Left}
 use Rattle.rept_threads.specs.Skipping.{skip, window_of}
 
--- the stream of this number, the first packet of which has that number, of these bytes, with these packets
-pub record IsWindow (s k from : ℕ) (bytes : List ℕ) (packets : List Packet) (w : Window) : Type 0 where
+-- the stream of this number, the first packet of which has that number, which was sent so, with these packets
+pub record IsWindow (s k from : ℕ) (sent : Stream) (packets : List Packet) (w : Window) : Type 0 where
   pub stream : w.stream ≡ s
   pub number : w.number ≡ k
-  pub rest : rest_of w.packets ≡ timed_by bytes
-  pub surveys : Surveys (timed_by bytes) packets from (record { count = w.count; begin = w.begin })
+  pub rest : rest_of w.packets ≡ sent
+  pub surveys : Surveys sent packets from (record { count = w.count; begin = w.begin })
 
 -- the streams from that of this number on, the first packet of which has that number
-abbrev pub AreWindows : ℕ → ℕ → ℕ → List (List ℕ) → List (List Packet) → List Window → Type 0
+abbrev pub AreWindows : ℕ → ℕ → ℕ → List Stream → List (List Packet) → List Window → Type 0
 AreWindows s k from [] lists ws = (lists ≡ []) × (ws ≡ [])
-AreWindows s k from (bytes ∷ others) [] ws = ⊥
-AreWindows s k from (bytes ∷ others) (packets ∷ lists) [] = ⊥
-AreWindows s k from (bytes ∷ others) (packets ∷ lists) (w ∷ ws) = IsWindow s k from bytes packets w × AreWindows (suc s) (k + length packets) from others lists ws
+AreWindows s k from (stream ∷ others) [] ws = ⊥
+AreWindows s k from (stream ∷ others) (packets ∷ lists) [] = ⊥
+AreWindows s k from (stream ∷ others) (packets ∷ lists) (w ∷ ws) = IsWindow s k from stream packets w × AreWindows (suc s) (k + length packets) from others lists ws
 
 -- what is left of a stream from its window on
 abbrev pub window_left : ℕ → Left → Left
@@ -52,6 +52,6 @@ numbered_after before (StreamPastEnd s) = StreamPastEnd s
 numbered_after before (Rest offset) = Rest offset
 
 -- all streams, which have fewer than 2^32 packets
-pub record AreAll (from : ℕ) (streams : List (List ℕ)) (lists : List (List Packet)) (ws : List Window) : Type 0 where
+pub record AreAll (from : ℕ) (streams : List Stream) (lists : List (List Packet)) (ws : List Window) : Type 0 where
   pub windows : AreWindows 0 0 from streams lists ws
   pub few : sum_by (λ packets. length packets) lists < 2 ^ 32

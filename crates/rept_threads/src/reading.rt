@@ -4,9 +4,9 @@ ghost use Rattle.std.specs.Prelude.{◌≡◌, ◌⊎◌, ◌+◌, ◌<◌, ◌^
 ghost use Rattle.std.specs.List.{sum_by};
 ghost use Rattle.rept_trace.specs.declared.packet.Packet.{Packet};
 ghost use Rattle.rept_trace.specs.declared.fault.TraceFault.{TraceFault};
-ghost use Rattle.rept_trace.specs.Stream.{FailsAfter};
+ghost use Rattle.rept_trace.specs.Stream.{Stream, FailsAfter};
 ghost use Rattle.rept_path.specs.declared.fault.PathFault.TheVariants.{OutOfMemory, Packet as PacketFault};
-ghost use Rattle.rept_threads.specs.Raw.{timed_by, FailsIn};
+ghost use Rattle.rept_threads.specs.Raw.{streams_of, FailsIn};
 ghost use Rattle.rept_threads.specs.Windows.{IsWindow, AreWindows, number_told, numbered_after};
 
 use rept_path::PathFault;
@@ -54,10 +54,10 @@ fn read_stream<'a>(
     number: u32,
     from: u32,
 ) -> Result<Window<'a>, TraceFault>
-    requires there { s < length streams.now }
-    requires few { (bytes : List ℕ) → slice_get streams.now s ≡ Some bytes → number + length bytes < 2 ^ 32 }
-    ensures ok { IfOk result (λ w. (bytes : List ℕ) × (packets : List Packet) × (slice_get streams.now s ≡ Some bytes) × IsWindow s number from bytes packets w) }
-    ensures err { IfErr result (λ fault. (bytes : List ℕ) × (packets : List Packet) × (slice_get streams.now s ≡ Some bytes) × FailsAfter number (timed_by bytes) packets fault) }
+    requires there { s < length streams.now.streams }
+    requires few { (stream : Stream) → slice_get (streams_of streams.now) s ≡ Some stream → number + length stream.bytes < 2 ^ 32 }
+    ensures ok { IfOk result (λ w. (stream : Stream) × (packets : List Packet) × (slice_get (streams_of streams.now) s ≡ Some stream) × IsWindow s number from stream packets w) }
+    ensures err { IfErr result (λ fault. (stream : Stream) × (packets : List Packet) × (slice_get (streams_of streams.now) s ≡ Some stream) × FailsAfter number stream packets fault) }
 {
     let packets = streams.packets(s);
     match go_through(packets, from) {
@@ -78,9 +78,9 @@ pub fn read_all<'a>(
     streams: &Streams<'a>,
     from: u32,
 ) -> Result<Vec<Window<'a>>, PathFault>
-    requires { sum_by (λ bytes. length bytes) streams.now < 2 ^ 32 }
-    ensures ok { IfOk result (λ ws. (lists : List (List Packet)) × AreWindows 0 0 from streams.now lists ws.items) }
-    ensures err { IfErr result (λ e. (e ≡ OutOfMemory) ⊎ ((refused : TraceFault) × FailsIn 0 streams.now refused × (e ≡ PacketFault refused))) }
+    requires { sum_by (λ bytes. length bytes) streams.now.streams < 2 ^ 32 }
+    ensures ok { IfOk result (λ ws. (lists : List (List Packet)) × AreWindows 0 0 from (streams_of streams.now) lists ws.items) }
+    ensures err { IfErr result (λ e. (e ≡ OutOfMemory) ⊎ ((refused : TraceFault) × FailsIn 0 (streams_of streams.now) refused × (e ≡ PacketFault refused))) }
 {
     let mut windows = Vec::new(alloc);
     let mut number = 0u32;

@@ -2,19 +2,19 @@
 
 ghost use Rattle.std.specs.Prelude.{◌≡◌, ◌⊎◌, ◌<◌, ◌+◌, ◌^◌, ◌∷◌, [], List, ℕ, length, reverse, IfOk, IfErr, IfSome, IfNone, Ok, Some, None, true, false};
 ghost use Rattle.rept_isa.specs.declared.row.StepRow.{StepRow};
-ghost use Rattle.rept_dump.specs.Dump.{exe_of};
 ghost use Rattle.rept_trace.specs.declared.packet.Packet.{Packet};
 ghost use Rattle.rept_trace.specs.Packets.{rest_of, number_of};
 ghost use Rattle.rept_trace.specs.Stream.{Hold, Answers};
 ghost use Rattle.rept_path.specs.declared.fault.PathFault.TheVariants.{OutOfMemory};
 ghost use Rattle.rept_path.specs.Packets.{begins};
+ghost use Rattle.rept_path.specs.Program.{code_of};
 ghost use Rattle.rept_path.specs.Route.{earlier_by};
 ghost use Rattle.rept_path.specs.State.{Stands};
 ghost use Rattle.rept_path.specs.Trace.{starts, StopsAt};
 ghost use Rattle.rept_threads.specs.Stretches.{same_stretch};
 
-use rept_dump::Dump;
 use rept_path::PathFault;
+use rept_path::program::Program;
 use rept_path::walk::Walk;
 use rept_path::window::{Begin, next_packet};
 use rept_trace::{Packet, Packets};
@@ -52,21 +52,21 @@ fn next_of_stretch(rest: &mut Packets<'_>, waits: bool) -> Option<Packet>
 /// A walk over the packets of a stretch, from its first packet on, which may make so many steps.
 pub fn walk_stretch(
     alloc: Global,
-    dump: &Dump<'_>,
+    program: &Program<'_>,
     room: usize,
     head: Begin<'_>,
 ) -> Result<Walk, PathFault>
     requires starts { starts (Some head.first) ≡ true }
     requires few { (later : List Packet) × Hold (rest_of head.later) later × (head.number + 1 + length later < 2 ^ 32) }
-    ensures ok { (later : List Packet) → Hold (rest_of head.entry.later) later → IfOk result (λ w. (legs : List (List StepRow)) × Stands (exe_of dump.now) (earlier_by (record { number = head.entry.number; room = room }) (reverse (head.entry.first ∷ same_stretch false later)) legs) w) }
-    ensures err { (later : List Packet) → Hold (rest_of head.entry.later) later → IfErr result (λ e. (e ≡ OutOfMemory) ⊎ StopsAt (exe_of dump.now) (record { number = head.entry.number; room = room }) (head.entry.first ∷ same_stretch false later) e) }
+    ensures ok { (later : List Packet) → Hold (rest_of head.entry.later) later → IfOk result (λ w. (legs : List (List StepRow)) × Stands (code_of program.now) (earlier_by (record { number = head.entry.number; room = room }) (reverse (head.entry.first ∷ same_stretch false later)) legs) w) }
+    ensures err { (later : List Packet) → Hold (rest_of head.entry.later) later → IfErr result (λ e. (e ≡ OutOfMemory) ⊎ StopsAt (code_of program.now) (record { number = head.entry.number; room = room }) (head.entry.first ∷ same_stretch false later) e) }
 {
-    let mut walk = Walk::begin(alloc, dump, head.number, room, head.first)?;
+    let mut walk = Walk::begin(alloc, program, head.number, room, head.first)?;
     let mut rest = head.later;
     let mut number = head.number + 1;
-    let mut near = *dump;
+    let mut near = *program;
     while let Some(packet) = next_of_stretch(&mut rest, walk.waiting) {
-        near = near.near_code(walk.at);
+        near = near.near(walk.at);
         walk.follow(&near, number, packet)?;
         number += 1;
     }

@@ -56,9 +56,9 @@ fn survey_once<'a>(
     processes: &[u32],
     from: u32,
 ) -> Result<Survey<'a>, PathFault>
-    requires { sum_by (λ bytes. length bytes) streams.now < 2 ^ 32 }
-    ensures ok { IfOk result (λ s. (lists : List (List Packet)) × PassBefore (record { streams = streams.now; processes = processes.now; from = from }) lists × AreTold s.windows.items (told (all_windows from lists)) × (s.time ≡ full_from (all_windows from lists)) × AreTold s.slices.items (told (kept from lists))) }
-    ensures err { IfErr result (λ e. (e ≡ OutOfMemory) ⊎ IsRefusedBefore (record { streams = streams.now; processes = processes.now; from = from }) e) }
+    requires { sum_by (λ bytes. length bytes) streams.now.streams < 2 ^ 32 }
+    ensures ok { IfOk result (λ s. (lists : List (List Packet)) × PassBefore (record { file = streams.now; processes = processes.now; from = from }) lists × AreTold s.windows.items (told (all_windows from lists)) × (s.time ≡ full_from (all_windows from lists)) × AreTold s.slices.items (told (kept from lists))) }
+    ensures err { IfErr result (λ e. (e ≡ OutOfMemory) ⊎ IsRefusedBefore (record { file = streams.now; processes = processes.now; from = from }) e) }
 {
     let windows = read_all(alloc, streams, from)?;
     if let Some(fault) = refused_before(&windows) {
@@ -81,13 +81,13 @@ pub fn survey_all<'a>(
     processes: &[u32],
     from: u32,
 ) -> Result<Survey<'a>, PathFault>
-    requires { sum_by (λ bytes. length bytes) streams.now < 2 ^ 32 }
-    ensures ok { IfOk result (λ s. (lists : List (List Packet)) × PassBefore (record { streams = streams.now; processes = processes.now; from = from }) lists × AreTold s.windows.items (told (all_windows from lists)) × (s.time ≡ full_from (all_windows from lists)) × AreTold s.slices.items (told (kept from lists))) }
-    ensures err { IfErr result (λ e. (e ≡ OutOfMemory) ⊎ IsRefusedBefore (record { streams = streams.now; processes = processes.now; from = from }) e) }
+    requires { sum_by (λ bytes. length bytes) streams.now.streams < 2 ^ 32 }
+    ensures ok { IfOk result (λ s. (lists : List (List Packet)) × PassBefore (record { file = streams.now; processes = processes.now; from = from }) lists × AreTold s.windows.items (told (all_windows from lists)) × (s.time ≡ full_from (all_windows from lists)) × AreTold s.slices.items (told (kept from lists))) }
+    ensures err { IfErr result (λ e. (e ≡ OutOfMemory) ⊎ IsRefusedBefore (record { file = streams.now; processes = processes.now; from = from }) e) }
 
     // They tell nothing else, and are refused for nothing else.
-    ensures only_ok { (lists : List (List Packet)) → PassBefore (record { streams = streams.now; processes = processes.now; from = from }) lists → IfErr result (λ e. e ≡ OutOfMemory) }
-    ensures only_refusal { (fault : PathFault) → IsRefusedBefore (record { streams = streams.now; processes = processes.now; from = from }) fault → MatchResult result (λ _. ⊥) (λ e. (e ≡ OutOfMemory) ⊎ (e ≡ fault)) }
+    ensures only_ok { (lists : List (List Packet)) → PassBefore (record { file = streams.now; processes = processes.now; from = from }) lists → IfErr result (λ e. e ≡ OutOfMemory) }
+    ensures only_refusal { (fault : PathFault) → IsRefusedBefore (record { file = streams.now; processes = processes.now; from = from }) fault → MatchResult result (λ _. ⊥) (λ e. (e ≡ OutOfMemory) ⊎ (e ≡ fault)) }
 {
     survey_once(alloc, streams, processes, from)
 }

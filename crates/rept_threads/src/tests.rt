@@ -1,58 +1,67 @@
 //! Streams and a stretch that were worked out by hand.
 
 ghost use Rattle.std.specs.Prelude.{◌<◌, ◌^◌, length};
-ghost use Rattle.rept_trace.specs.Packets.{rest_of};
 
 use crate::stretch::walk_stretch;
 use crate::survey::survey_all;
 use rept_dump::Dump;
 use rept_elf::{Image, Want};
 use rept_path::PathFault;
+use rept_path::program::Program;
 use rept_path::walk::Walk;
 use rept_path::window::go_through;
-use test_files::{core_file, executable};
 use rept_steps::LIMIT;
 use rept_trace::{Packets, Streams, TraceFault};
 use std::alloc::Global;
 use std::test::Fail;
+use test_files::{core_file, executable};
 
-/// The walk of the first stretch of a window.
-fn walk_first(
-    alloc: Global,
-    packets: Packets<'_>,
-    dump: &Dump<'_>,
-) -> Result<Option<Walk>, PathFault>
-    requires { length (rest_of packets).bytes < 2 ^ 32 }
-{
+/// The walk of the first stretch of a trace.
+fn walk_first(alloc: Global, trace: &[u8], dump: &Dump<'_>) -> Result<Option<Walk>, Fail> {
+    if trace.len() >= 0x1_0000_0000 {
+        return Ok(None);
+    }
+    let packets = Packets::open(trace)?;
     let Ok(survey) = go_through(packets, 0) else {
         return Ok(None);
     };
     let Some(begin) = survey.begin else {
         return Ok(None);
     };
-    let walk = walk_stretch(alloc, dump, LIMIT, begin)?;
+    let program = Program::new(dump, packets.halves());
+    let walk = walk_stretch(alloc, &program, LIMIT, begin)?;
     Ok(Some(walk))
 }
 
-/// Three instructions; a start packet at 0x10000, a report of 0x10008, the end of the trace, and a start packet at 0x10000 again, to which no gap
-/// leads. It begins a stretch of its own.
+/// Each trace has a start packet at 0x10000, a report, the end of the trace, and a start packet at 0x10000 again, to which no gap leads: it begins a stretch of
+/// its own. The report is of 0x10008, after two instructions of four bytes; or, where code may be compressed, of 0x10006, after c.li a0, 7 and one of four bytes.
 #[test]
 fn stretch_ends_before_the_next(rt: HostRuntime) -> Result<(), Fail> {
     let alloc = rt.alloc();
-    let exe = executable(alloc, 0x10000, &[0x0070_0293, 0x0032_8313, 0x0062_83b3])?;
-    let core = core_file(alloc, 0x1000c, [7, 10, 17])?;
-    let dump = Dump::read(
-        Image::read(exe.as_slice(), Want::Exec)?,
-        Image::read(core.as_slice(), Want::Core)?,
-    )?;
-    let trace = b"RTR1\x01\0\0\0\x03\x13\0\x20\x01\x0a\x01\x4f\x03\x13\0\x20";
-    match walk_first(alloc, Packets::open(trace)?, &dump)? {
-        None => assert!(rt; false),
-        Some(walk) => {
-            assert_eq!(rt;
-                (walk.steps.len(), walk.at, walk.waiting),
-                (2, 0x10008, true)
-            );
+    let cases: [([u32; 3], &[u8], u32); 2] = [
+        (
+            [0x0070_0293, 0x0032_8313, 0x0062_83b3],
+            b"RTR1\x01\0\0\0\x03\x13\0\x20\x01\x0a\x01\x4f\x03\x13\0\x20",
+            0x10008,
+        ),
+        (
+            [0x0293_451d, 0x0505_0070, 0x0062_83b3],
+            b"RTR1\x01\x01\0\0\x03\x13\0\x40\x01\x0e\x01\x4f\x03\x13\0\x40",
+            0x10006,
+        ),
+    ];
+    for (code, trace, at) in cases.iter() {
+        let exe = executable(alloc, 0x10000, code)?;
+        let core = core_file(alloc, 0x1000c, [7, 10, 17])?;
+        let dump = Dump::read(
+            Image::read(exe.as_slice(), Want::Exec)?,
+            Image::read(core.as_slice(), Want::Core)?,
+        )?;
+        match walk_first(alloc, trace, &dump)? {
+            None => assert!(rt; false),
+            Some(walk) => {
+                assert_eq!(rt; (walk.steps.len(), walk.at, walk.waiting), (2, *at, true));
+            }
         }
     }
     Ok(())
@@ -87,8 +96,9 @@ fn times(alloc: Global, bytes: &[u8], from: u32) -> Result<(u64, usize, usize), 
 #[test]
 fn streams_are_surveyed(rt: HostRuntime) -> Result<(), Fail> {
     let alloc = rt.alloc();
-    let cases: [(&[(usize, u8)], u32, Result<(u64, usize, usize), PathFault>); 13] = [
+    let cases: [(&[(usize, u8)], u32, Result<(u64, usize, usize), PathFault>); 14] = [
         (&[], 0, Ok((1, 5, 5))),
+        (&[(5, 1)], 0, Ok((1, 5, 5))),
         (&[], 1, Ok((4, 3, 2))),
         (
             &[(99, 0x07)],

@@ -1,5 +1,5 @@
-use Rattle.std.proofs.Common.{◌≡◌, ℕ, sym, subst}
-use Rattle.std.proofs.lemmas.Result.{IfOk-weaker}
+use Rattle.std.proofs.Common.{◌≡◌, ◌⊎◌, inl, inr, ℕ, List, sym, subst}
+use Rattle.std.proofs.lemmas.Result.{IfOk-weaker, IfErr-weaker}
 use Rattle.rept_dump.specs.declared.dump.Dump.{Dump}
 use Rattle.rept_dump.specs.Dump.{exe_of, registers_of}
 use Rattle.rept_trace.specs.Stream.{Stream, plain}
@@ -7,8 +7,9 @@ use Rattle.rept_trace.specs.declared.packets.Packets.{Packets}
 use Rattle.rept_trace.specs.Packets.{rest_of, number_of}
 use Rattle.rept_path.specs.Traced.{RawRun, IsTraced, IsUntraced, raw_of}
 use Rattle.rept_path.specs.declared.fault.PathFault.{PathFault}
+use Rattle.rept_path.specs.declared.fault.PathFault.TheVariants.{OutOfMemory}
 use Rattle.rept_found.specs.Crash.{crash_of, end_pc}
-use Rattle.rept_app.specs.Path.{TraceFile, run_of, IsTracePath}
+use Rattle.rept_app.specs.Path.{TraceFile, file_bytes, run_of, IsTracePath, HasNoPath}
 use Rattle.rept_app.proofs.PathLemmas.{traced_after, untraced_after, same_path}
 use Rattle.rept_app.proofs.path.trace_path.Goals as goal
 
@@ -21,12 +22,28 @@ untraced_in : (dump : Dump) (packets : Packets) (from : ℕ) (fault : PathFault)
 untraced_in dump packets from fault file stream number h =
     subst (λ n. IsUntraced (raw_of packets dump from) n fault) number (subst (λ (s : Stream). IsUntraced (run_by dump from s) 0 fault) stream h)
 
+untraced_from : (dump : Dump) (packets : Packets) (from : ℕ) (fault : PathFault) (file : TraceFile) → rest_of packets ≡ plain file.halves file.bytes → number_of packets ≡ 0 → IsUntraced (raw_of packets dump from) (number_of packets) fault → IsUntraced (run_of (crash_of dump) file from) 0 fault
+untraced_from dump packets from fault file stream number h =
+    subst (λ (s : Stream). IsUntraced (run_by dump from s) 0 fault) stream (subst (λ n. IsUntraced (raw_of packets dump from) n fault) number h)
+
+-- a refusal of what is left of the packets is one of the file
+refused_by : (dump : Dump) (packets : Packets) (from : ℕ) (trace : List ℕ) (file : TraceFile) → trace ≡ file_bytes file → rest_of packets ≡ plain file.halves file.bytes → number_of packets ≡ 0 → (e : PathFault) → (e ≡ OutOfMemory) ⊎ IsUntraced (raw_of packets dump from) (number_of packets) e → (e ≡ OutOfMemory) ⊎ HasNoPath (crash_of dump) trace from e
+refused_by dump packets from trace file parts stream number e (inl none) = inl none
+refused_by dump packets from trace file parts stream number e (inr h) = inr (inr (file, parts, untraced_from dump packets from e file stream number h))
+
 pub returns-in-Ok-clause-path : goal.returns-in-Ok-clause-path
 returns-in-Ok-clause-path c =
     let ok = c.in-Ok.ensures.ok in
     let file : TraceFile = record { halves = ok.0; bytes = (rest_of c.in-Ok.packets).bytes } in
     IfOk-weaker c.rebuild.result (λ path. IsTraced (raw_of c.in-Ok.packets c.args.dump.now c.args.from) path.skipped path.steps) (IsTracePath (crash_of c.args.dump.now) c.args.trace.now c.args.from)
     (λ path is. (file, ok.1, subst (λ (s : Stream). IsTraced (run_by c.args.dump.now c.args.from s) path.skipped path.steps) ok.2 is)) c.rebuild.ensures.path
+
+pub returns-in-Ok-clause-refusal : goal.returns-in-Ok-clause-refusal
+returns-in-Ok-clause-refusal c =
+    let ok = c.in-Ok.ensures.ok in
+    let file : TraceFile = record { halves = ok.0; bytes = (rest_of c.in-Ok.packets).bytes } in
+    IfErr-weaker c.rebuild.result (λ e. (e ≡ OutOfMemory) ⊎ IsUntraced (raw_of c.in-Ok.packets c.args.dump.now c.args.from) (number_of c.in-Ok.packets) e) (λ e. (e ≡ OutOfMemory) ⊎ HasNoPath (crash_of c.args.dump.now) c.args.trace.now c.args.from e)
+    (refused_by c.args.dump.now c.in-Ok.packets c.args.from c.args.trace.now file ok.1 ok.2 ok.3) c.rebuild.ensures.refusal
 
 pub returns-in-Ok-clause-only_path : goal.returns-in-Ok-clause-only_path
 returns-in-Ok-clause-only_path c = λ other is.

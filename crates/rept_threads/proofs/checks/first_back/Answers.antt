@@ -10,11 +10,11 @@ time_back-requires c =
 
 pub returns-in-Some : goal.returns-in-Some
 returns-in-Some c = λ from streams lists a.
-    one_fails time_back from lists c.window-item.result (drop (c.loop-window.window-index + 1) c.args.windows.now) c.loop-window.window-index c.in-Some.fault (rest_at time_back from lists c.args.windows.now c.loop-window.window-index c.window-item.result c.loop-window-test.true c.window-item.is (c.loop-window.invariant from streams lists a)) (λ k bytes packets is. back_of c.loop-window.window-index k from bytes packets c.window-item.result (Some c.in-Some.fault) is c.in-Some.ensures)
+    one_fails time_back from lists c.window-item.result (drop (c.loop-window.window-index + 1) c.args.windows.now) c.loop-window.window-index c.in-Some.fault (rest_at time_back from lists c.args.windows.now c.loop-window.window-index c.window-item.result c.loop-window-test.true c.window-item.is (c.loop-window.invariant from streams lists a)) (λ k stream packets is. back_of c.loop-window.window-index k from stream packets c.window-item.result (Some c.in-Some.fault) is c.in-Some.ensures)
 
 pub loop-window-preserved : goal.loop-window-preserved
 loop-window-preserved c = λ from streams lists a.
-    one_passes time_back from lists c.window-item.result (drop (c.loop-window.window-index + 1) c.args.windows.now) c.loop-window.window-index (rest_at time_back from lists c.args.windows.now c.loop-window.window-index c.window-item.result c.loop-window-test.true c.window-item.is (c.loop-window.invariant from streams lists a)) (λ k bytes packets is. sym (back_of c.loop-window.window-index k from bytes packets c.window-item.result None is c.in_default.ensures))
+    one_passes time_back from lists c.window-item.result (drop (c.loop-window.window-index + 1) c.args.windows.now) c.loop-window.window-index (rest_at time_back from lists c.args.windows.now c.loop-window.window-index c.window-item.result c.loop-window-test.true c.window-item.is (c.loop-window.invariant from streams lists a)) (λ k stream packets is. sym (back_of c.loop-window.window-index k from stream packets c.window-item.result None is c.in_default.ensures))
 
 pub returns : goal.returns
 returns c = λ from streams lists a.

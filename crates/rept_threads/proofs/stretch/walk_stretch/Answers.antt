@@ -1,7 +1,7 @@
 use Rattle.std.proofs.Common.{◌≡◌, ◌⊎◌, ◌∷◌, List, reverse, refl, subst, arith, ◌∙◌, false}
 use Rattle.std.proofs.lemmas.Result.{err_from_is_err_and}
-use Rattle.rept_elf.specs.Segments.{ElfSegment}
-use Rattle.rept_dump.specs.Dump.{exe_of}
+use Rattle.rept_path.specs.Code.{Code}
+use Rattle.rept_path.specs.Program.{code_of}
 use Rattle.rept_isa.specs.declared.row.StepRow.{StepRow}
 use Rattle.rept_trace.specs.declared.packet.Packet.{Packet}
 use Rattle.rept_trace.specs.Packets.{rest_of, number_of}
@@ -16,7 +16,7 @@ use Rattle.rept_threads.proofs.stretch.walk_stretch.Goals as goal
 
 pub returns-in_err-follow-clause-err : goal.returns-in_err-follow-clause-err
 returns-in_err-follow-clause-err c = λ later h.
-    let code = exe_of c.args.dump.now in
+    let code = code_of c.args.program.now in
     let b = c.args.head in
     let origin : Origin = record { number = b.number; room = c.args.room } in
     let i = c.loop-packet.invariant in
@@ -25,12 +25,12 @@ returns-in_err-follow-clause-err c = λ later h.
     let a = rw c.in-Some.is at c.next_of_stretch.ensures.some in
     let same = rw c.in-Some.is at c.next_of_stretch.ensures.same in
     let e = c.in_err-follow.field-0.0 in
-    let s = stops_or code origin head c.loop-packet.number (rest_of c.loop-packet.rest) c.loop-packet.walk i.4 (number_of c.loop-packet.rest) (number_of c.next_of_stretch.new.rest) (rest_of c.next_of_stretch.new.rest) c.in-Some.packet a same e (subst (λ (cs : List ElfSegment). (e ≡ OutOfMemory) ⊎ FaultBy cs c.in-Some.packet (met c.loop-packet.number c.loop-packet.walk) e) (c.near_code-near.ensures.exe ∙ i.0) c.in_err-follow.ensures.err) in
+    let s = stops_or code origin head c.loop-packet.number (rest_of c.loop-packet.rest) c.loop-packet.walk i.4 (number_of c.loop-packet.rest) (number_of c.next_of_stretch.new.rest) (rest_of c.next_of_stretch.new.rest) c.in-Some.packet a same e (subst (λ (cs : Code). (e ≡ OutOfMemory) ⊎ FaultBy cs c.in-Some.packet (met c.loop-packet.number c.loop-packet.walk) e) (c.near-near.ensures.code ∙ i.0) c.in_err-follow.ensures.err) in
     rw (p.1, p.2) (subst (λ (l : List Packet). (e ≡ OutOfMemory) ⊎ StopsAt code origin (b.first ∷ same_stretch false l) e) (one_list (rest_of b.later) i.1 later i.2 h) s)
 
 pub overflow_add-number-in-Some : goal.overflow_add-number-in-Some
 overflow_add-number-in-Some c =
-    let code = exe_of c.args.dump.now in
+    let code = code_of c.args.program.now in
     let b = c.args.head in
     let i = c.loop-packet.invariant in
     let a = rw c.in-Some.is at c.next_of_stretch.ensures.some in
@@ -41,16 +41,16 @@ overflow_add-number-in-Some c =
 
 pub loop-packet-preserved : goal.loop-packet-preserved
 loop-packet-preserved c =
-    let code = exe_of c.args.dump.now in
+    let code = code_of c.args.program.now in
     let b = c.args.head in
     let i = c.loop-packet.invariant in
     let a = rw c.in-Some.is at c.next_of_stretch.ensures.some in
     let same = rw c.in-Some.is at c.next_of_stretch.ensures.same in
-    (c.near_code-near.ensures.exe ∙ i.0, i.1, i.2, i.3, goes_on code (record { number = b.number; room = c.args.room }) (record { first = b.first; later = i.1 }) c.loop-packet.number (rest_of c.loop-packet.rest) c.loop-packet.walk i.4 (number_of c.loop-packet.rest) (number_of c.next_of_stretch.new.rest) (rest_of c.next_of_stretch.new.rest) c.in-Some.packet a same c.follow.new.self (subst (λ (cs : List ElfSegment). Followed cs c.in-Some.packet (from_to c.loop-packet.number c.loop-packet.walk c.follow.new.self)) (c.near_code-near.ensures.exe ∙ i.0) c.in_ok-follow.ensures.ok))
+    (c.near-near.ensures.code ∙ i.0, i.1, i.2, i.3, goes_on code (record { number = b.number; room = c.args.room }) (record { first = b.first; later = i.1 }) c.loop-packet.number (rest_of c.loop-packet.rest) c.loop-packet.walk i.4 (number_of c.loop-packet.rest) (number_of c.next_of_stretch.new.rest) (rest_of c.next_of_stretch.new.rest) c.in-Some.packet a same c.follow.new.self (subst (λ (cs : Code). Followed cs c.in-Some.packet (from_to c.loop-packet.number c.loop-packet.walk c.follow.new.self)) (c.near-near.ensures.code ∙ i.0) c.in_ok-follow.ensures.ok))
 
 pub returns-clause-ok : goal.returns-clause-ok
 returns-clause-ok c = λ later h.
-    let code = exe_of c.args.dump.now in
+    let code = code_of c.args.program.now in
     let b = c.args.head in
     let origin : Origin = record { number = b.number; room = c.args.room } in
     let i = c.loop-packet.invariant in
@@ -66,4 +66,4 @@ loop-packet-init c =
     let b = c.args.head in
     let f = c.requires.few in
     let s = c.in_ok-walk.ensures.ok in
-    (refl, f.0, f.1, f.2, goes_first (exe_of c.args.dump.now) (record { number = b.number; room = c.args.room }) b.first f.0 (rest_of b.later) c.in_ok-walk.walk s.0 c.requires.starts f.1 s.1)
+    (refl, f.0, f.1, f.2, goes_first (code_of c.args.program.now) (record { number = b.number; room = c.args.room }) b.first f.0 (rest_of b.later) c.in_ok-walk.walk s.0 c.requires.starts f.1 s.1)
