@@ -25,7 +25,7 @@ pub record Stepping (code : Code) (here next : StepRow) : Type 0 where
   pub placed : CarriesCode code here
   pub there : CarriesCode code next
   pub linked : here.next ≡ next.at
-  pub step : IsStepped here
+  pub step : IsStepped code.halves here
 
 rows_along : (code : Code) (p : Place) (leg : List StepRow) → (along code p leg).rows ≡ leg ++ p.rows
 rows_along code p [] = refl

@@ -6,6 +6,7 @@ use Rattle.std.proofs.lemmas.List.Folds.{list_any-append}
 use Rattle.rept_path.specs.Code.{Code}
 use Rattle.rept_isa.specs.declared.row.StepRow.{StepRow}
 use Rattle.rept_isa.specs.Numbers.{plus, following}
+use Rattle.rept_isa.specs.Rows.{Addresses, from_of}
 use Rattle.rept_trace.specs.declared.packet.Packet.{Packet}
 use Rattle.rept_trace.specs.declared.packet.Packet.TheVariants.{Start, Support}
 use Rattle.rept_trace.specs.declared.packet.Qual.TheVariants.{EndedRep}
@@ -60,34 +61,33 @@ by_next code e next h =
     let one : (next >>= f) ≡ (Ok e.to >>= f) = ap (λ (x : Result ℕ PathFault). x >>= f) h in
     one ∙ rw t refl
 
--- a multiple of 4 is one of 2 too
-aligned_by : (halves : Bool) (a : ℕ) → a % 4 ≡ 0 → a % cond halves 2 4 ≡ 0
-aligned_by true a h = omega arith
-aligned_by false a h = h
+-- the addresses of a row at an edge, by what lies four bytes before what follows it
+abbrev pub edge_addresses : Edge → ℕ → Addresses
+edge_addresses e from = record { at = e.at; from = from; next = e.to }
 
-pub crosses : (code : Code) (n : ℕ) (e : Edge) (bit : Option Bool) (flow : Flow) → after_instruction code e.at ≡ following e.at → MayLead flow e.at e.to → (branches flow ≡ true → bit ≡ Some (passed_by flow e.at e.to)) → by_flow code e (successor n (site code e.at) flow (way_by bit None)) flow ≡ Ok (row e e.to (calls flow) ∷ [])
-crosses code n e bit Plain on l b = by_next code e (Ok (after_instruction code e.at)) (ap (λ (x : ℕ). Ok x) (on ∙ sym l))
-crosses code n e bit (Jump imm) on l b = by_next code e (Ok (plus e.at imm)) (ap (λ (x : ℕ). Ok x) (sym l))
-crosses code n e bit (Fixed to) on l b = by_next code e (Ok to) (ap (λ (x : ℕ). Ok x) (sym l))
-crosses code n e bit (Branch imm) on l b =
+pub crosses : (code : Code) (n from : ℕ) (e : Edge) (bit : Option Bool) (flow : Flow) → after_instruction code e.at ≡ following from → MayLead code.halves flow (edge_addresses e from) → (branches flow ≡ true → bit ≡ Some (passed_by flow e.at e.to)) → by_flow code e (successor n (site code e.at) flow (way_by bit None)) flow ≡ Ok (row e e.to (calls flow) ∷ [])
+crosses code n from e bit Plain on l b = by_next code e (Ok (after_instruction code e.at)) (ap (λ (x : ℕ). Ok x) (on ∙ sym l))
+crosses code n from e bit (Jump imm) on l b = by_next code e (Ok (plus e.at imm)) (ap (λ (x : ℕ). Ok x) (sym l))
+crosses code n from e bit (Fixed to) on l b = by_next code e (Ok to) (ap (λ (x : ℕ). Ok x) (sym l))
+crosses code n from e bit (Branch imm) on l b =
     let h = b refl in
-    by_next code e (by_bit n (site code e.at) imm bit) (rw h (branch_to n (site code e.at) e.to (plus e.at imm) imm (e.to == plus e.at imm) refl (eqb_tells e.to (plus e.at imm)) (either_onward (site code e.at) e.to (plus e.at imm) on l)))
-crosses code n e bit Far on l b = let t : (e.to % alignment code == 0) ≡ true = at_there (e.to % alignment code) 0 (aligned_by code.halves e.to l) in rw t refl
-crosses code n e bit Call on l b = let t : (e.to == after_instruction code e.at) ≡ true = at_there e.to (after_instruction code e.at) (l ∙ sym on) in rw t refl
-crosses code n e bit Stop on l b = elim l [ ]
+    by_next code e (by_bit n (site code e.at) imm bit) (rw h (branch_to n (site code e.at) e.to (plus e.at imm) imm (e.to == plus e.at imm) refl (eqb_tells e.to (plus e.at imm)) (either_onward (after_instruction code e.at) from e.to (plus e.at imm) on l)))
+crosses code n from e bit Far on l b = let t : (e.to % alignment code == 0) ≡ true = at_there (e.to % alignment code) 0 l in rw t refl
+crosses code n from e bit Call on l b = let t : (e.to == after_instruction code e.at) ≡ true = at_there e.to (after_instruction code e.at) (l ∙ sym on) in rw t refl
+crosses code n from e bit Stop on l b = elim l [ ]
 
 -- the gap after a row
-pub gap_row : (code : Code) (s : Stand) (otherwise : PathFault) (r : StepRow) → s.place.at ≡ r.at → CarriesCode code r → IsStepped r → (branch_row r ≡ true → slice_get s.bits s.place.branches ≡ Some (passed r)) → length s.place.rows < s.room → gap code s (record { address = r.next; otherwise = otherwise }) ≡ Ok (r ∷ [])
+pub gap_row : (code : Code) (s : Stand) (otherwise : PathFault) (r : StepRow) → s.place.at ≡ r.at → CarriesCode code r → IsStepped code.halves r → (branch_row r ≡ true → slice_get s.bits s.place.branches ≡ Some (passed r)) → length s.place.rows < s.room → gap code s (record { address = r.next; otherwise = otherwise }) ≡ Ok (r ∷ [])
 gap_row code s otherwise r at here h b lt =
     let p = s.place in
     let called = h.call in
     let short = here.short in
-    let on : after_instruction code p.at ≡ following p.at = rw at (onward_is code r here.short h.long) in
-    let lead : MayLead (flow_of r.instr) p.at r.next = rw at h.lead in
+    let on : after_instruction code p.at ≡ following (from_of r) = rw at (onward_is code r here.short) in
+    let lead : MayLead code.halves (flow_of r.instr) (record { at = p.at; from = from_of r; next = r.next }) = rw at h.lead in
     let bit : branches (flow_of r.instr) ≡ true → slice_get s.bits p.branches ≡ Some (passed_by (flow_of r.instr) p.at r.next) = rw at b in
     let goal : Goal = record { address = r.next; otherwise = otherwise } in
     let edge : Edge = record { at = p.at; instr = r.instr; short = is_short code p.at; to = r.next; otherwise = otherwise } in
-    let x : crossing code s goal r.instr ≡ Ok (row edge r.next (calls (flow_of r.instr)) ∷ []) = crosses code s.packet edge (slice_get s.bits p.branches) (flow_of r.instr) on lead bit in
+    let x : crossing code s goal r.instr ≡ Ok (row edge r.next (calls (flow_of r.instr)) ∷ []) = crosses code s.packet (from_of r) edge (slice_get s.bits p.branches) (flow_of r.instr) on lead bit in
     let same : row edge r.next (calls (flow_of r.instr)) ≡ r = rw (at, ← called, ← short) refl in
     let y : crossing code s goal r.instr ≡ Ok (r ∷ []) = x ∙ ap (λ (w : StepRow). Ok (w ∷ [])) same in
     gap_ok code s goal r.instr (rw at here.instr) (r ∷ []) y (omega arith)
@@ -158,7 +158,7 @@ begun_on packets packet b keeps =
     subst (λ (xs : List Packet). Begun xs) (sym (reverse-cons packet packets)) one
 
 -- A trace that stands at the last row is one of all rows.
-pub ends : (code : Code) (packets : List Packet) (here : StepRow) (rows : List StepRow) → Coded code packets [] [] here rows → CarriesCode code here → IsStepped here → length rows < 65536 → Begun (reverse packets) → IsPath (record { code = code; packets = reverse packets; from = 0; pc = here.next }) 0 (reverse (here ∷ rows))
+pub ends : (code : Code) (packets : List Packet) (here : StepRow) (rows : List StepRow) → Coded code packets [] [] here rows → CarriesCode code here → IsStepped code.halves here → length rows < 65536 → Begun (reverse packets) → IsPath (record { code = code; packets = reverse packets; from = 0; pc = here.next }) 0 (reverse (here ∷ rows))
 ends code packets here rows c h s lt b =
     let back : reverse (reverse packets) ≡ packets = reverse-reverse packets in
     let seen : rows ≡ (place code packets c.legs).rows = c.seen in

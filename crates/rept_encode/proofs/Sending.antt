@@ -1,5 +1,5 @@
 -- What each thing that is sent makes of the packets before it.
-use Rattle.std.proofs.Common.{◌≡◌, ℕ, zero, suc, ◌+◌, ◌*◌, ◌/◌, ◌%◌, ◌^◌, ◌<◌, ◌≤◌, List, [], ◌∷◌, ◌++◌, length, reverse, take, get_or, slice_get, Option, Some, Bool, true, false, Ok, refl, sym, ◌∙◌, ap, subst, arith, inl, inr, length-append, append_assoc}
+use Rattle.std.proofs.Common.{◌≡◌, ℕ, zero, suc, ◌+◌, ◌*◌, ◌%◌, ◌^◌, ◌<◌, ◌≤◌, List, [], ◌∷◌, ◌++◌, length, reverse, take, get_or, slice_get, Option, Some, Bool, true, false, Ok, refl, sym, ◌∙◌, ap, subst, arith, inl, inr, length-append, append_assoc}
 use Rattle.std.specs.List.{All}
 use Rattle.std.proofs.lemmas.List.{append-nil, reverse-append, length-reverse, reverse-reverse, take_more, length-take}
 use Rattle.std.proofs.lemmas.List.Elements.{All-get_or}
@@ -16,17 +16,17 @@ use Rattle.rept_trace.specs.declared.packet.Qual.TheVariants.{EndedRep}
 use Rattle.rept_trace.specs.Stream.{header, plain, Hold}
 use Rattle.rept_path.specs.declared.flow.Flow.{Flow}
 use Rattle.rept_path.specs.declared.flow.Flow.TheVariants.{Plain, Branch, Jump, Fixed, Far, Call, Stop}
-use Rattle.rept_path.specs.Code.{words, look, flow_of, sum, branches, jumps_far}
+use Rattle.rept_path.specs.Code.{look, flow_of, sum, branches, jumps_far}
 use Rattle.rept_path.specs.Packets.{low_bits, reported}
-use Rattle.rept_path.specs.Rows.{CarriesCode, CarryCode}
+use Rattle.rept_path.specs.Rows.{CarriesCode}
 use Rattle.rept_path.specs.Trace.{loses, IsPath}
 use Rattle.rept_encode.specs.declared.bits.Bits.{Bits}
 use Rattle.rept_encode.specs.declared.sender.Sender.{Sender}
 use Rattle.rept_encode.specs.Bits.{branch_row, bit_list}
-use Rattle.rept_encode.specs.Walkable.{calls, IsStepped}
+use Rattle.rept_encode.specs.Walkable.{alignment_by, calls, IsStepped}
 use Rattle.rept_encode.specs.Written.{Appends}
-use Rattle.rept_encode.specs.Encoded.{Tells}
-use Rattle.rept_encode.specs.State.{Coded, start_at, report_packet, Begun, said, waiting_bits, IsText, LeadTo, IsNear, Sent, Stood, tail_bytes, AreSendable, IsBegun, IsReported, IsSent, IsRestarted, IsWaiting, IsMapped}
+use Rattle.rept_encode.specs.Encoded.{Tells, coded}
+use Rattle.rept_encode.specs.State.{Coded, start_at, report_packet, Begun, said, waiting_bits, IsText, Run, run_of, Carries, LeadTo, IsNear, Sent, Stood, tail_bytes, AreSendable, IsBegun, IsReported, IsSent, IsRestarted, IsWaiting, IsMapped}
 use Rattle.rept_encode.proofs.Coding.{Stepping, onward, report_reported, by_report, by_branch, by_call, by_map, by_jump}
 use Rattle.rept_encode.proofs.Ends.{starts_at, by_start, begun_on, reverse-cons, ends}
 use Rattle.rept_encode.proofs.Maps.{no_low, length_low}
@@ -69,21 +69,21 @@ call_straight Call h = refl
 call_straight Stop h = refl
 
 -- the text with one packet more
-pub text_on : (text new : List ℕ) (packets : List Packet) (packet : Packet) → IsText text packets → Appends text new packet → IsText new (packet ∷ packets)
-text_on text new packets packet t a =
+pub text_on : (halves : Bool) (text new : List ℕ) (packets : List Packet) (packet : Packet) → IsText halves text packets → Appends halves text new packet → IsText halves new (packet ∷ packets)
+text_on halves text new packets packet t a =
     let frame : List ℕ = length a.payload ∷ a.payload in
     record {
       rest = t.rest ++ length a.payload ∷ a.payload;
-      layout = a.appended ∙ ap (λ (xs : List ℕ). xs ++ length a.payload ∷ a.payload) t.layout ∙ append_assoc (header false) t.rest (length a.payload ∷ a.payload);
+      layout = a.appended ∙ ap (λ (xs : List ℕ). xs ++ length a.payload ∷ a.payload) t.layout ∙ append_assoc (header halves) t.rest (length a.payload ∷ a.payload);
       holds = λ later more h.
-          let one : Hold (plain false (t.rest ++ (length a.payload ∷ (a.payload ++ later)))) (reverse packets ++ packet ∷ more) = t.holds (length a.payload ∷ (a.payload ++ later)) (packet ∷ more) (plain false later, (a.payload, (a.some, record { zeros = 0; layout = refl }), a.spells, refl), h) in
+          let one : Hold (plain halves (t.rest ++ (length a.payload ∷ (a.payload ++ later)))) (reverse packets ++ packet ∷ more) = t.holds (length a.payload ∷ (a.payload ++ later)) (packet ∷ more) (plain halves later, (a.payload, (a.some, record { zeros = 0; layout = refl }), a.spells, refl), h) in
           let e : (t.rest ++ length a.payload ∷ a.payload) ++ later ≡ t.rest ++ (length a.payload ∷ (a.payload ++ later)) = append_assoc t.rest (length a.payload ∷ a.payload) later in
           let f : reverse (packet ∷ packets) ++ more ≡ reverse packets ++ packet ∷ more = ap (λ (xs : List Packet). xs ++ more) (reverse-cons packet packets) ∙ append_assoc (reverse packets) (packet ∷ []) more in
-          subst (λ (xs : List ℕ). Hold (plain false xs) (reverse (packet ∷ packets) ++ more)) (sym e) (subst (λ (ps : List Packet). Hold (plain false (t.rest ++ (length a.payload ∷ (a.payload ++ later)))) ps) (sym f) one);
+          subst (λ (xs : List ℕ). Hold (plain halves xs) (reverse (packet ∷ packets) ++ more)) (sym e) (subst (λ (ps : List Packet). Hold (plain halves (t.rest ++ (length a.payload ∷ (a.payload ++ later)))) ps) (sym f) one);
     }
 
-pub longer : (text new : List ℕ) (packet : Packet) → Appends text new packet → length new ≤ length text + 11
-longer text new packet a =
+pub longer : (halves : Bool) (text new : List ℕ) (packet : Packet) → Appends halves text new packet → length new ≤ length text + 11
+longer halves text new packet a =
     let e = ap (length {A = ℕ}) a.appended in
     let few = a.few in
     omega (arith, e, length-append text (length a.payload ∷ a.payload))
@@ -95,14 +95,11 @@ report_keeps (suc count) map report = refl
 nothing_waits : (b : Bits) → b.count ≡ 0 → waiting_bits b ≡ []
 nothing_waits b h = rw h (no_low b.map)
 
-quarter : (a : ℕ) → a % 4 ≡ 0 → (m : ℕ) × (a ≡ 4 * m)
-quarter a h = (a / 4, omega arith)
-
 -- A walk that stands has sent all.
-pub stood_sent : (rows : List StepRow) (n : ℕ) (s : Sender) → Stood rows n s (30 + 22 * n) → Sent rows n s
-stood_sent rows n s t =
+pub stood_sent : (run : Run) (n : ℕ) (s : Sender) → Stood run n s (30 + 22 * n) → Sent run n s
+stood_sent run n s t =
     let w : waiting_bits s.bits ≡ [] = nothing_waits s.bits t.count in
-    let lead : LeadTo rows t.packets s.bits [] n = λ code here carry get. rw w (t.lead code here carry get) in
+    let lead : LeadTo run t.packets s.bits [] n = λ code here carry get. rw w (t.lead code here carry get) in
     let walked = t.walked in
     let base = t.base in
     let count = t.count in
@@ -137,150 +134,150 @@ unfolding reported
 map_reported map packets = refl
 
 -- A report was added, after which the walk stands.
-reported_stood : (rows : List StepRow) (n most : ℕ) (old new : Sender) (b : Bits) (row : StepRow) (notify : Bool) (packets : List Packet) → IsText old.text packets → length old.text + 11 ≤ most → Begun (reverse packets) → reported packets ≡ old.reported → row.at % 4 ≡ 0 → slice_get rows n ≡ Some row → (r : IsReported old b new row.at notify n) → ((code : Code) → CarryCode code rows → sum (reported packets) r.difference ≡ row.at → Coded code (report_packet b.count b.map (said r.difference notify) ∷ packets) [] [] row (reverse (take n rows))) → Stood rows n new most
-reported_stood rows n most old new b row notify packets text few begun last even get r lead =
+reported_stood : (run : Run) (n most : ℕ) (old new : Sender) (b : Bits) (row : StepRow) (notify : Bool) (packets : List Packet) → IsText run.halves old.text packets → length old.text + 11 ≤ most → Begun (reverse packets) → reported packets ≡ old.reported → row.at % alignment_by run.halves ≡ 0 → slice_get run.rows n ≡ Some row → (r : IsReported run.halves old b new row.at notify n) → ((code : Code) → Carries run code → sum (reported packets) r.difference ≡ row.at → Coded code (report_packet b.count b.map (said r.difference notify) ∷ packets) [] [] row (reverse (take n run.rows))) → Stood run n new most
+reported_stood run n most old new b row notify packets text few begun last even get r lead =
     let to : sum (reported packets) r.difference ≡ row.at = rw last r.there in
-    let more = longer old.text new.text (report_packet b.count b.map (said r.difference notify)) r.text in
-    let q = quarter row.at even in
+    let more = longer run.halves old.text new.text (report_packet b.count b.map (said r.difference notify)) r.text in
+    let reported_is = r.stands.reported in
     record {
       packets = report_packet b.count b.map (said r.difference notify) ∷ packets;
-      text = text_on old.text new.text packets (report_packet b.count b.map (said r.difference notify)) text r.text;
+      text = text_on run.halves old.text new.text packets (report_packet b.count b.map (said r.difference notify)) text r.text;
       few = omega arith;
       begun = begun_on packets (report_packet b.count b.map (said r.difference notify)) begun (report_keeps b.count b.map (said r.difference notify));
       last = report_reported b.count b.map (said r.difference notify) packets ∙ to ∙ sym r.stands.reported;
-      even = (q.0, r.stands.reported ∙ q.1);
+      even = rw reported_is even;
       count = r.stands.count;
       map = r.stands.map;
       walked = r.stands.walked;
       base = r.stands.base;
       lead = λ code here carry there.
           let same : row ≡ here = (let e : ◌≡◌ {A = Option StepRow} (Some row) (Some here) = sym get ∙ there in cc) in
-          subst (λ (x : StepRow). Coded code (report_packet b.count b.map (said r.difference notify) ∷ packets) [] [] x (reverse (take n rows))) same (lead code carry to);
+          subst (λ (x : StepRow). Coded code (report_packet b.count b.map (said r.difference notify) ∷ packets) [] [] x (reverse (take n run.rows))) same (lead code carry to);
     }
 
-module _ (rows : List StepRow) (given : AreSendable rows) (i : ℕ) (here next : StepRow) (get : slice_get rows i ≡ Some here) (then : slice_get rows (i + 1) ≡ Some next) where
-  step_here : IsStepped here
-  step_here = all_at IsStepped rows i here get given.walkable.steps
+module _ (run : Run) (given : AreSendable run) (i : ℕ) (here next : StepRow) (get : slice_get run.rows i ≡ Some here) (then : slice_get run.rows (i + 1) ≡ Some next) where
+  step_here : IsStepped run.halves here
+  step_here = all_at (IsStepped run.halves) run.rows i here get given.walkable.steps
 
-  step_next : IsStepped next
-  step_next = all_at IsStepped rows (i + 1) next then given.walkable.steps
+  step_next : IsStepped run.halves next
+  step_next = all_at (IsStepped run.halves) run.rows (i + 1) next then given.walkable.steps
 
-  stepping : (code : Code) → CarryCode code rows → Stepping code here next
-  stepping code carry = record { placed = all_at (CarriesCode code) rows i here get carry; there = all_at (CarriesCode code) rows (i + 1) next then carry; linked = linked_at rows i here next given.linked get then; step = step_here }
+  stepping : (code : Code) → Carries run code → Stepping code here next
+  stepping code carry = record { placed = all_at (CarriesCode code) run.rows i here get carry.placed; there = all_at (CarriesCode code) run.rows (i + 1) next then carry.placed; linked = linked_at run.rows i here next given.linked get then; step = subst (λ (halves : Bool). IsStepped halves here) (sym carry.kind) step_here }
 
-  seen_more : reverse (take (i + 1) rows) ≡ here ∷ reverse (take i rows)
-  seen_more = rows_more rows i here get
+  seen_more : reverse (take (i + 1) run.rows) ≡ here ∷ reverse (take i run.rows)
+  seen_more = rows_more run.rows i here get
 
-  room_here : length (reverse (take i rows)) < 65536
-  room_here = room_at rows i here get given.few
+  room_here : length (reverse (take i run.rows)) < 65536
+  room_here = room_at run.rows i here get given.few
 
   -- after an uninferable jump
-  pub sent_jump : (old new : Sender) → Sent rows i old → jumps_far (flow_of here.instr) ≡ true → IsSent old new next false (i + 1) → Sent rows (i + 1) new
+  pub sent_jump : (old new : Sender) → Sent run i old → jumps_far (flow_of here.instr) ≡ true → IsSent run.halves old new next false (i + 1) → Sent run (i + 1) new
   sent_jump old new s far x =
       let few = s.few in
-      stood_sent rows (i + 1) new (reported_stood rows (i + 1) (30 + 22 * (i + 1)) old new x.b next false s.packets s.text (omega arith) s.begun s.last step_next.aligned then x.report (λ code carry to. rw seen_more (by_jump code s.packets (waiting_bits old.bits) s.kept here next (reverse (take i rows)) (s.lead code here carry get) (stepping code carry) (far_plain (flow_of here.instr) far) room_here x.b.count x.b.map x.list far x.report.difference to)))
+      stood_sent run (i + 1) new (reported_stood run (i + 1) (30 + 22 * (i + 1)) old new x.b next false s.packets s.text (omega arith) s.begun s.last step_next.aligned then x.report (λ code carry to. rw seen_more (by_jump code s.packets (waiting_bits old.bits) s.kept here next (reverse (take i run.rows)) (s.lead code here carry get) (stepping code carry) (far_plain (flow_of here.instr) far) room_here x.b.count x.b.map x.list far x.report.difference to)))
 
   -- a row that is kept
-  kept_on : (old : Sender) (s : Sent rows i old) → calls (flow_of here.instr) ≡ false → jumps_far (flow_of here.instr) ≡ false → (n map : ℕ) → low_bits n map ≡ waiting_bits old.bits ++ bit_list next → (code : Code) → CarryCode code rows → Coded code s.packets (low_bits n map) (here ∷ s.kept) next (here ∷ reverse (take i rows))
+  kept_on : (old : Sender) (s : Sent run i old) → calls (flow_of here.instr) ≡ false → jumps_far (flow_of here.instr) ≡ false → (n map : ℕ) → low_bits n map ≡ waiting_bits old.bits ++ bit_list next → (code : Code) → Carries run code → Coded code s.packets (low_bits n map) (here ∷ s.kept) next (here ∷ reverse (take i run.rows))
   kept_on old s plain near n map list code carry =
-      subst (λ (xs : List Bool). Coded code s.packets xs (here ∷ s.kept) next (here ∷ reverse (take i rows))) (sym list) (onward code s.packets (waiting_bits old.bits) s.kept here (reverse (take i rows)) (s.lead code here carry get) next (stepping code carry) plain room_here near)
+      subst (λ (xs : List Bool). Coded code s.packets xs (here ∷ s.kept) next (here ∷ reverse (take i run.rows))) (sym list) (onward code s.packets (waiting_bits old.bits) s.kept here (reverse (take i run.rows)) (s.lead code here carry get) next (stepping code carry) plain room_here near)
 
   -- before a call
-  pub sent_call : (old new : Sender) → Sent rows i old → calls (flow_of here.instr) ≡ false → jumps_far (flow_of here.instr) ≡ false → calls (flow_of next.instr) ≡ true → IsSent old new next true (i + 1) → Sent rows (i + 1) new
+  pub sent_call : (old new : Sender) → Sent run i old → calls (flow_of here.instr) ≡ false → jumps_far (flow_of here.instr) ≡ false → calls (flow_of next.instr) ≡ true → IsSent run.halves old new next true (i + 1) → Sent run (i + 1) new
   sent_call old new s plain near call x =
       let few = s.few in
-      stood_sent rows (i + 1) new (reported_stood rows (i + 1) (30 + 22 * (i + 1)) old new x.b next true s.packets s.text (omega arith) s.begun s.last step_next.aligned then x.report (λ code carry to. rw seen_more (by_call code s.packets x.b.count x.b.map here s.kept next (here ∷ reverse (take i rows)) (kept_on old s plain near x.b.count x.b.map x.list code carry) (stepping code carry).there.instr call x.report.difference to)))
+      stood_sent run (i + 1) new (reported_stood run (i + 1) (30 + 22 * (i + 1)) old new x.b next true s.packets s.text (omega arith) s.begun s.last step_next.aligned then x.report (λ code carry to. rw seen_more (by_call code s.packets x.b.count x.b.map here s.kept next (here ∷ reverse (take i run.rows)) (kept_on old s plain near x.b.count x.b.map x.list code carry) (stepping code carry).there.instr call x.report.difference to)))
 
   -- a single row, from where the walk stands
-  pub sent_single : (most : ℕ) (old new : Sender) → Stood rows i old most → calls (flow_of here.instr) ≡ false → jumps_far (flow_of here.instr) ≡ false → IsSent old new next true (i + 1) → Stood rows (i + 1) new (most + 11)
+  pub sent_single : (most : ℕ) (old new : Sender) → Stood run i old most → calls (flow_of here.instr) ≡ false → jumps_far (flow_of here.instr) ≡ false → IsSent run.halves old new next true (i + 1) → Stood run (i + 1) new (most + 11)
   sent_single most old new s plain near x =
       let few = s.few in
       let w : low_bits x.b.count x.b.map ≡ [] ++ bit_list next = x.list ∙ ap (λ (xs : List Bool). xs ++ bit_list next) (nothing_waits old.bits s.count) in
-      reported_stood rows (i + 1) (most + 11) old new x.b next true s.packets s.text (omega arith) s.begun s.last step_next.aligned then x.report (λ code carry to.
-      let c : Coded code s.packets (low_bits x.b.count x.b.map) (here ∷ []) next (here ∷ reverse (take i rows)) = subst (λ (xs : List Bool). Coded code s.packets xs (here ∷ []) next (here ∷ reverse (take i rows))) (sym w) (onward code s.packets [] [] here (reverse (take i rows)) (s.lead code here carry get) next (stepping code carry) plain room_here near) in
-      rw seen_more (by_report code s.packets x.b.count x.b.map here [] next (here ∷ reverse (take i rows)) c (stepping code carry).there.instr x.report.difference to tt))
+      reported_stood run (i + 1) (most + 11) old new x.b next true s.packets s.text (omega arith) s.begun s.last step_next.aligned then x.report (λ code carry to.
+      let c : Coded code s.packets (low_bits x.b.count x.b.map) (here ∷ []) next (here ∷ reverse (take i run.rows)) = subst (λ (xs : List Bool). Coded code s.packets xs (here ∷ []) next (here ∷ reverse (take i run.rows))) (sym w) (onward code s.packets [] [] here (reverse (take i run.rows)) (s.lead code here carry get) next (stepping code carry) plain room_here near) in
+      rw seen_more (by_report code s.packets x.b.count x.b.map here [] next (here ∷ reverse (take i run.rows)) c (stepping code carry).there.instr x.report.difference to tt))
 
   -- after a call
-  pub sent_restart : (old new : Sender) → Sent rows i old → calls (flow_of here.instr) ≡ true → IsRestarted old new next (i + 1) → Sent rows (i + 1) new
+  pub sent_restart : (old new : Sender) → Sent run i old → calls (flow_of here.instr) ≡ true → IsRestarted run.halves old new next (i + 1) → Sent run (i + 1) new
   sent_restart old new s call x =
       let nothing = s.call here get call in
       let few = s.few in
-      let one = longer old.text x.middle (Support false EndedRep) x.end in
-      let two = longer x.middle new.text (start_at next) x.start in
-      let q = quarter next.at step_next.aligned in
+      let one = longer run.halves old.text x.middle (Support false EndedRep) x.end in
+      let two = longer run.halves x.middle new.text (start_at next) x.start in
       let stands = x.stands in
-      stood_sent rows (i + 1) new (record {
+      let reported_is = stands.reported in
+      stood_sent run (i + 1) new (record {
         packets = start_at next ∷ Support false EndedRep ∷ s.packets;
-        text = text_on x.middle new.text (Support false EndedRep ∷ s.packets) (start_at next) (text_on old.text x.middle s.packets (Support false EndedRep) s.text x.end) x.start;
+        text = text_on run.halves x.middle new.text (Support false EndedRep ∷ s.packets) (start_at next) (text_on run.halves old.text x.middle s.packets (Support false EndedRep) s.text x.end) x.start;
         few = omega arith;
         begun = begun_on (Support false EndedRep ∷ s.packets) (start_at next) (begun_on s.packets (Support false EndedRep) s.begun refl) refl;
         last = start_reported next (Support false EndedRep ∷ s.packets) ∙ sym stands.reported;
-        even = (q.0, stands.reported ∙ q.1);
+        even = rw reported_is step_next.aligned;
         count = stands.count;
         map = stands.map;
         walked = stands.walked;
         base = stands.base;
         lead = λ code to carry there.
             let same : next ≡ to = (let e : ◌≡◌ {A = Option StepRow} (Some next) (Some to) = sym then ∙ there in cc) in
-            let c : Coded code s.packets (waiting_bits old.bits) s.kept here (reverse (take i rows)) = s.lead code here carry get in
+            let c : Coded code s.packets (waiting_bits old.bits) s.kept here (reverse (take i run.rows)) = s.lead code here carry get in
             let w : waiting_bits old.bits ≡ [] = nothing_waits old.bits nothing.1 in
-            let d : Coded code s.packets [] [] here (reverse (take i rows)) = subst (λ (xs : List Bool). Coded code s.packets xs [] here (reverse (take i rows))) w (subst (λ (k : List StepRow). Coded code s.packets (waiting_bits old.bits) k here (reverse (take i rows))) nothing.0 c) in
-            subst (λ (y : StepRow). Coded code (start_at next ∷ Support false EndedRep ∷ s.packets) [] [] y (reverse (take (i + 1) rows))) same (rw seen_more (by_start code s.packets here next (reverse (take i rows)) d (stepping code carry) call room_here));
+            let d : Coded code s.packets [] [] here (reverse (take i run.rows)) = subst (λ (xs : List Bool). Coded code s.packets xs [] here (reverse (take i run.rows))) w (subst (λ (k : List StepRow). Coded code s.packets (waiting_bits old.bits) k here (reverse (take i run.rows))) nothing.0 c) in
+            subst (λ (y : StepRow). Coded code (start_at next ∷ Support false EndedRep ∷ s.packets) [] [] y (reverse (take (i + 1) run.rows))) same (rw seen_more (by_start code s.packets here next (reverse (take i run.rows)) d (stepping code carry) call room_here));
       })
 
   -- a map that the row filled
-  pub sent_map : (old new : Sender) → Sent rows i old → calls (flow_of here.instr) ≡ false → jumps_far (flow_of here.instr) ≡ false → IsMapped old new next (i + 1) → Sent rows (i + 1) new
+  pub sent_map : (old new : Sender) → Sent run i old → calls (flow_of here.instr) ≡ false → jumps_far (flow_of here.instr) ≡ false → IsMapped run.halves old new next (i + 1) → Sent run (i + 1) new
   sent_map old new s plain near x =
       let few = s.few in
-      let one = longer old.text new.text (Map x.map) x.text in
+      let one = longer run.halves old.text new.text (Map x.map) x.text in
       let stands = x.stands in
-      stood_sent rows (i + 1) new (record {
+      stood_sent run (i + 1) new (record {
         packets = Map x.map ∷ s.packets;
-        text = text_on old.text new.text s.packets (Map x.map) s.text x.text;
+        text = text_on run.halves old.text new.text s.packets (Map x.map) s.text x.text;
         few = omega arith;
         begun = begun_on s.packets (Map x.map) s.begun refl;
         last = map_reported x.map s.packets ∙ s.last ∙ sym stands.reported;
-        even = (s.even.0, stands.reported ∙ s.even.1);
+        even = (let e = stands.reported in rw e s.even);
         count = stands.count;
         map = stands.map;
         walked = stands.walked;
         base = stands.base;
         lead = λ code to carry there.
             let same : next ≡ to = (let e : ◌≡◌ {A = Option StepRow} (Some next) (Some to) = sym then ∙ there in cc) in
-            subst (λ (y : StepRow). Coded code (Map x.map ∷ s.packets) [] [] y (reverse (take (i + 1) rows))) same (rw seen_more (by_map code s.packets 31 x.map here s.kept next (here ∷ reverse (take i rows)) (kept_on old s plain near 31 x.map x.list code carry) (stepping code carry).there.instr refl x.branch));
+            subst (λ (y : StepRow). Coded code (Map x.map ∷ s.packets) [] [] y (reverse (take (i + 1) run.rows))) same (rw seen_more (by_map code s.packets 31 x.map here s.kept next (here ∷ reverse (take i run.rows)) (kept_on old s plain near 31 x.map x.list code carry) (stepping code carry).there.instr refl x.branch));
       })
 
   -- a row that is kept, and whose bit waits
-  pub sent_keep : (old new : Sender) → Sent rows i old → calls (flow_of here.instr) ≡ false → jumps_far (flow_of here.instr) ≡ false → calls (flow_of next.instr) ≡ false → IsWaiting old new next (i + 1) → Sent rows (i + 1) new
+  pub sent_keep : (old new : Sender) → Sent run i old → calls (flow_of here.instr) ≡ false → jumps_far (flow_of here.instr) ≡ false → calls (flow_of next.instr) ≡ false → IsWaiting old new next (i + 1) → Sent run (i + 1) new
   sent_keep old new s plain near straight x = go (branch_row next) refl where
-    lead_on : LeadTo rows s.packets new.bits (here ∷ s.kept) (i + 1)
+    lead_on : LeadTo run s.packets new.bits (here ∷ s.kept) (i + 1)
     lead_on = λ code to carry there.
         let same : next ≡ to = (let e : ◌≡◌ {A = Option StepRow} (Some next) (Some to) = sym then ∙ there in cc) in
-        subst (λ (y : StepRow). Coded code s.packets (waiting_bits new.bits) (here ∷ s.kept) y (reverse (take (i + 1) rows))) same (rw seen_more (kept_on old s plain near new.bits.count new.bits.map x.list code carry))
+        subst (λ (y : StepRow). Coded code s.packets (waiting_bits new.bits) (here ∷ s.kept) y (reverse (take (i + 1) run.rows))) same (rw seen_more (kept_on old s plain near new.bits.count new.bits.map x.list code carry))
 
-    text_same : IsText new.text s.packets
+    text_same : IsText run.halves new.text s.packets
     text_same = let e = x.text in rw e s.text
 
     few_same : length new.text ≤ 30 + 22 * (i + 1)
     few_same = let e = ap (length {A = ℕ}) x.text in let few = s.few in omega arith
 
-    no_call : (row : StepRow) → slice_get rows (i + 1) ≡ Some row → calls (flow_of row.instr) ≡ true → (here ∷ s.kept ≡ []) × (new.bits.count ≡ 0)
+    no_call : (row : StepRow) → slice_get run.rows (i + 1) ≡ Some row → calls (flow_of row.instr) ≡ true → (here ∷ s.kept ≡ []) × (new.bits.count ≡ 0)
     no_call row there call =
         let e : ◌≡◌ {A = Option StepRow} (Some next) (Some row) = sym then ∙ there in
         let same : next ≡ row = (cc) in
         let c : calls (flow_of next.instr) ≡ calls (flow_of row.instr) = ap (λ (y : StepRow). calls (flow_of y.instr)) same in
         absurd (cc)
 
-    calm_here : (j : ℕ) (row : StepRow) → j ≡ i → slice_get rows j ≡ Some row → (calls (flow_of row.instr) ≡ false) × (jumps_far (flow_of row.instr) ≡ false)
+    calm_here : (j : ℕ) (row : StepRow) → j ≡ i → slice_get run.rows j ≡ Some row → (calls (flow_of row.instr) ≡ false) × (jumps_far (flow_of row.instr) ≡ false)
     calm_here j row e there =
-        let f : ◌≡◌ {A = Option StepRow} (Some here) (Some row) = sym get ∙ sym (ap (λ (k : ℕ). slice_get rows k) e) ∙ there in
+        let f : ◌≡◌ {A = Option StepRow} (Some here) (Some row) = sym get ∙ sym (ap (λ (k : ℕ). slice_get run.rows k) e) ∙ there in
         let same : here ≡ row = (cc) in
         subst (λ (y : StepRow). (calls (flow_of y.instr) ≡ false) × (jumps_far (flow_of y.instr) ≡ false)) same (plain, near)
 
     span_more : length (here ∷ s.kept) + new.walked ≡ i + 1
     span_more = let e = x.walked in let span = s.span in omega arith
 
-    go : (b : Bool) → branch_row next ≡ b → Sent rows (i + 1) new
+    go : (b : Bool) → branch_row next ≡ b → Sent run (i + 1) new
     go true branch =
         let base : new.base ≡ i + 1 = x.base ∙ rw branch refl in
         record {
@@ -289,7 +286,7 @@ module _ (rows : List StepRow) (given : AreSendable rows) (i : ℕ) (here next :
           few = few_same;
           begun = s.begun;
           last = s.last ∙ sym x.reported;
-          even = (s.even.0, x.reported ∙ s.even.1);
+          even = (let e = x.reported in rw e s.even);
           bits = x.bits;
           kept = here ∷ s.kept;
           lead = lead_on;
@@ -317,7 +314,7 @@ module _ (rows : List StepRow) (given : AreSendable rows) (i : ℕ) (here next :
           few = few_same;
           begun = s.begun;
           last = s.last ∙ sym x.reported;
-          even = (s.even.0, x.reported ∙ s.even.1);
+          even = (let e = x.reported in rw e s.even);
           bits = x.bits;
           kept = here ∷ s.kept;
           lead = lead_on;
@@ -338,19 +335,19 @@ module _ (rows : List StepRow) (given : AreSendable rows) (i : ℕ) (here next :
         }
 
 -- The first row.
-pub begun_stood : (rows : List StepRow) (s : Sender) (first : StepRow) → slice_get rows 0 ≡ Some first → first.at % 4 ≡ 0 → IsBegun s first → Stood rows 0 s 30
-begun_stood rows s first get even x =
+pub begun_stood : (run : Run) (s : Sender) (first : StepRow) → slice_get run.rows 0 ≡ Some first → first.at % alignment_by run.halves ≡ 0 → IsBegun run.halves s first → Stood run 0 s 30
+begun_stood run s first get even x =
     let stands = x.stands in
-    let q = quarter first.at even in
-    let empty : IsText (header false) [] = record { rest = []; layout = refl; holds = λ later more h. h } in
-    let more = longer (header false) s.text (start_at first) x.text in
+    let reported_is = stands.reported in
+    let empty : IsText run.halves (header run.halves) [] = record { rest = []; layout = refl; holds = λ later more h. h } in
+    let more = longer run.halves (header run.halves) s.text (start_at first) x.text in
     record {
       packets = start_at first ∷ [];
-      text = text_on (header false) s.text [] (start_at first) empty x.text;
+      text = text_on run.halves (header run.halves) s.text [] (start_at first) empty x.text;
       few = omega arith;
       begun = record { start = refl; whole = refl };
       last = start_reported first [] ∙ sym stands.reported;
-      even = (q.0, stands.reported ∙ q.1);
+      even = rw reported_is even;
       count = stands.count;
       map = stands.map;
       walked = stands.walked;
@@ -358,23 +355,23 @@ begun_stood rows s first get even x =
       lead = λ code here carry there.
           let e : ◌≡◌ {A = Option StepRow} (Some first) (Some here) = sym get ∙ there in
           let same : first ≡ here = (cc) in
-          subst (λ (y : StepRow). Coded code (start_at first ∷ []) [] [] y []) same (starts_at code first (all_at (CarriesCode code) rows 0 first get carry).instr);
+          subst (λ (y : StepRow). Coded code (start_at first ∷ []) [] [] y []) same (starts_at code first (all_at (CarriesCode code) run.rows 0 first get carry.placed).instr);
     }
 
 -- The last branch is reported, if the walk hasn't come to it.
-pub sent_base : (rows : List StepRow) (i : ℕ) (old new : Sender) (row : StepRow) → AreSendable rows → Sent rows i old → old.walked < old.base → slice_get rows old.base ≡ Some row → IsReported old old.bits new row.at true old.base → Stood rows old.base new (41 + 22 * i)
-sent_base rows i old new row given s after get x =
-    let step = all_at IsStepped rows old.base row get given.walkable.steps in
+pub sent_base : (run : Run) (i : ℕ) (old new : Sender) (row : StepRow) → AreSendable run → Sent run i old → old.walked < old.base → slice_get run.rows old.base ≡ Some row → IsReported run.halves old old.bits new row.at true old.base → Stood run old.base new (41 + 22 * i)
+sent_base run i old new row given s after get x =
+    let step = all_at (IsStepped run.halves) run.rows old.base row get given.walkable.steps in
     let few = s.few in
-    reported_stood rows old.base (41 + 22 * i) old new old.bits row true s.packets s.text (omega arith) s.begun s.last step.aligned get x (λ code carry to. held s.held (let size = s.size in omega arith) code (s.base code row carry get) (all_at (CarriesCode code) rows old.base row get carry).instr (s.branch row after get) to)
+    reported_stood run old.base (41 + 22 * i) old new old.bits row true s.packets s.text (omega arith) s.begun s.last step.aligned get x (λ code carry to. held s.held (let size = s.size in omega arith) code (s.base code row carry get) (all_at (CarriesCode code) run.rows old.base row get carry.placed).instr (s.branch row after get) to)
   where
-    held : (kept : List StepRow) → 0 < length kept → (code : Code) → Coded code s.packets (waiting_bits old.bits) kept row (reverse (take old.base rows)) → look code row.at ≡ Ok row.instr → branch_row row ≡ true → sum (reported s.packets) x.difference ≡ row.at → Coded code (report_packet old.bits.count old.bits.map (said x.difference true) ∷ s.packets) [] [] row (reverse (take old.base rows))
+    held : (kept : List StepRow) → 0 < length kept → (code : Code) → Coded code s.packets (waiting_bits old.bits) kept row (reverse (take old.base run.rows)) → look code row.at ≡ Ok row.instr → branch_row row ≡ true → sum (reported s.packets) x.difference ≡ row.at → Coded code (report_packet old.bits.count old.bits.map (said x.difference true) ∷ s.packets) [] [] row (reverse (take old.base run.rows))
     held [] some code c placed branch to = absurd (omega arith)
-    held (k ∷ kept) some code c placed branch to = by_branch code s.packets old.bits.count old.bits.map k kept row (reverse (take old.base rows)) c placed branch x.difference to
+    held (k ∷ kept) some code c placed branch to = by_branch code s.packets old.bits.count old.bits.map k kept row (reverse (take old.base run.rows)) c placed branch x.difference to
 
 -- The walk may have come to the base already.
-pub sent_there : (rows : List StepRow) (i : ℕ) (s : Sender) → Sent rows i s → s.base ≤ s.walked → Stood rows s.base s (41 + 22 * i)
-sent_there rows i s t there =
+pub sent_there : (run : Run) (i : ℕ) (s : Sender) → Sent run i s → s.base ≤ s.walked → Stood run s.base s (41 + 22 * i)
+sent_there run i s t there =
     let none : s.bits.count ≡ 0 = t.none there in
     let few = t.few in
     let size = t.size in
@@ -391,10 +388,10 @@ sent_there rows i s t there =
       map = omega arith;
       walked = omega arith;
       base = refl;
-      lead = λ code here carry get. subst (λ (xs : List Bool). Coded code t.packets xs [] here (reverse (take s.base rows))) w (empty t.held (omega arith) code here (t.base code here carry get));
+      lead = λ code here carry get. subst (λ (xs : List Bool). Coded code t.packets xs [] here (reverse (take s.base run.rows))) w (empty t.held (omega arith) code here (t.base code here carry get));
     }
   where
-    empty : (kept : List StepRow) → length kept ≤ 0 → (code : Code) (here : StepRow) → Coded code t.packets (waiting_bits s.bits) kept here (reverse (take s.base rows)) → Coded code t.packets (waiting_bits s.bits) [] here (reverse (take s.base rows))
+    empty : (kept : List StepRow) → length kept ≤ 0 → (code : Code) (here : StepRow) → Coded code t.packets (waiting_bits s.bits) kept here (reverse (take s.base run.rows)) → Coded code t.packets (waiting_bits s.bits) [] here (reverse (take s.base run.rows))
     empty [] none code here c = c
     empty (k ∷ kept) none code here c = absurd (omega arith)
 
@@ -406,43 +403,44 @@ end_is (r ∷ (q ∷ rows)) zero last pc get size end = absurd (omega arith)
 end_is (r ∷ (q ∷ rows)) (suc n) last pc get size end = end_is (q ∷ rows) n last pc get (omega arith) end
 
 -- The walk stands at the last row.
-pub stood_tells : (rows : List StepRow) (n most : ℕ) (s : Sender) (last : StepRow) → AreSendable rows → Stood rows n s most → slice_get rows n ≡ Some last → n + 1 ≡ length rows → Tells s.text rows
-stood_tells rows n most s last given t get size = record {
+pub stood_tells : (run : Run) (n most : ℕ) (s : Sender) (last : StepRow) → AreSendable run → Stood run n s most → slice_get run.rows n ≡ Some last → n + 1 ≡ length run.rows → Tells run.halves s.text run.rows
+stood_tells run n most s last given t get size = record {
   rest = t.text.rest;
   layout = t.text.layout;
   path = λ segments pc carry end.
-      let code : Code = words segments in
-      let held : Hold (plain false (t.text.rest ++ [])) (reverse t.packets ++ []) = t.text.holds [] [] (record { zeros = 0; layout = refl }) in
-      let whole : Hold (plain false t.text.rest) (reverse t.packets) = subst (λ (xs : List ℕ). Hold (plain false xs) (reverse t.packets)) (append-nil t.text.rest) (subst (λ (ps : List Packet). Hold (plain false (t.text.rest ++ [])) ps) (append-nil (reverse t.packets)) held) in
-      let c = t.lead code last carry get in
-      let step = all_at IsStepped rows n last get given.walkable.steps in
-      let p = ends code t.packets last (reverse (take n rows)) c (all_at (CarriesCode code) rows n last get carry) step (room_at rows n last get given.few) t.begun in
-      let all : reverse (last ∷ reverse (take n rows)) ≡ rows = ap (reverse {A = StepRow}) (sym (rows_more rows n last get)) ∙ reverse-reverse (take (n + 1) rows) ∙ rw size (take-length rows) in
-      let there : last.next ≡ pc = end_is rows n last pc get size end in
-      (reverse t.packets, whole, subst (λ (a : ℕ). IsPath (record { code = code; packets = reverse t.packets; from = 0; pc = a }) 0 rows) there (subst (λ (xs : List StepRow). IsPath (record { code = code; packets = reverse t.packets; from = 0; pc = last.next }) 0 xs) all p));
+      let code : Code = coded run.halves segments in
+      let carries : Carries run (coded run.halves segments) = record { kind = refl; placed = carry } in
+      let held : Hold (plain run.halves (t.text.rest ++ [])) (reverse t.packets ++ []) = t.text.holds [] [] (record { zeros = 0; layout = refl }) in
+      let whole : Hold (plain run.halves t.text.rest) (reverse t.packets) = subst (λ (xs : List ℕ). Hold (plain run.halves xs) (reverse t.packets)) (append-nil t.text.rest) (subst (λ (ps : List Packet). Hold (plain run.halves (t.text.rest ++ [])) ps) (append-nil (reverse t.packets)) held) in
+      let c = t.lead code last carries get in
+      let step = all_at (IsStepped run.halves) run.rows n last get given.walkable.steps in
+      let p = ends code t.packets last (reverse (take n run.rows)) c (all_at (CarriesCode code) run.rows n last get carry) step (room_at run.rows n last get given.few) t.begun in
+      let all : reverse (last ∷ reverse (take n run.rows)) ≡ run.rows = ap (reverse {A = StepRow}) (sym (rows_more run.rows n last get)) ∙ reverse-reverse (take (n + 1) run.rows) ∙ rw size (take-length run.rows) in
+      let there : last.next ≡ pc = end_is run.rows n last pc get size end in
+      (reverse t.packets, whole, subst (λ (a : ℕ). IsPath (record { code = code; packets = reverse t.packets; from = 0; pc = a }) 0 run.rows) there (subst (λ (xs : List StepRow). IsPath (record { code = code; packets = reverse t.packets; from = 0; pc = last.next }) 0 xs) all p));
 }
 
 pub get_at : (rows : List StepRow) (i : ℕ) (row : StepRow) → row ≡ get_or rows i row → i < length rows → slice_get rows i ≡ Some row
 get_at rows i row is lt = slice_get-get_or rows i row lt ∙ ap (λ (x : StepRow). Some x) (sym is)
 
-pub calls_is : (rows : List StepRow) (i : ℕ) (row : StepRow) (b : Bool) → AreSendable rows → slice_get rows i ≡ Some row → row.call ≡ b → calls (flow_of row.instr) ≡ b
-calls_is rows i row b given get h = let s = all_at IsStepped rows i row get given.walkable.steps in sym s.call ∙ h
+pub calls_is : (run : Run) (i : ℕ) (row : StepRow) (b : Bool) → AreSendable run → slice_get run.rows i ≡ Some row → row.call ≡ b → calls (flow_of row.instr) ≡ b
+calls_is run i row b given get h = let s = all_at (IsStepped run.halves) run.rows i row get given.walkable.steps in sym s.call ∙ h
 
-pub stood_more : (rows : List StepRow) (n few most : ℕ) (s : Sender) → Stood rows n s few → few ≤ most → Stood rows n s most
-stood_more rows n few most s t le = record { packets = t.packets; text = t.text; few = (let f = t.few in omega arith); begun = t.begun; last = t.last; even = t.even; count = t.count; map = t.map; walked = t.walked; base = t.base; lead = t.lead }
+pub stood_more : (run : Run) (n few most : ℕ) (s : Sender) → Stood run n s few → few ≤ most → Stood run n s most
+stood_more run n few most s t le = record { packets = t.packets; text = t.text; few = (let f = t.few in omega arith); begun = t.begun; last = t.last; even = t.even; count = t.count; map = t.map; walked = t.walked; base = t.base; lead = t.lead }
 
-pub aligned_at : (rows : List StepRow) (i : ℕ) (row : StepRow) → AreSendable rows → slice_get rows i ≡ Some row → row.at % 4 ≡ 0
-aligned_at rows i row given get = let s = all_at IsStepped rows i row get given.walkable.steps in s.aligned
+pub aligned_at : (run : Run) (i : ℕ) (row : StepRow) → AreSendable run → slice_get run.rows i ≡ Some row → row.at % alignment_by run.halves ≡ 0
+aligned_at run i row given get = let s = all_at (IsStepped run.halves) run.rows i row get given.walkable.steps in s.aligned
 
-pub single_on : (rows : List StepRow) (i : ℕ) (next : StepRow) → AreSendable rows → i + 1 < length rows → next ≡ get_or rows (i + 1) next → IsNear rows i → (old new : Sender) → Stood rows i old (tail_bytes rows i) → IsSent old new next true (i + 1) → Stood rows (i + 1) new (tail_bytes rows (i + 1))
-single_on rows i next given lt is near old new s x =
-    let here : StepRow = get_or rows i next in
-    let get : slice_get rows i ≡ Some (get_or rows i next) = slice_get-get_or rows i next (omega arith) in
-    let n = near (get_or rows i next) get in
-    stood_more rows (i + 1) (tail_bytes rows i + 11) (tail_bytes rows (i + 1)) new (sent_single rows given i (get_or rows i next) next get (get_at rows (i + 1) next is lt) (tail_bytes rows i) old new s n.0 n.1 x) (omega arith)
+pub single_on : (run : Run) (i : ℕ) (next : StepRow) → AreSendable run → i + 1 < length run.rows → next ≡ get_or run.rows (i + 1) next → IsNear run.rows i → (old new : Sender) → Stood run i old (tail_bytes run.rows i) → IsSent run.halves old new next true (i + 1) → Stood run (i + 1) new (tail_bytes run.rows (i + 1))
+single_on run i next given lt is near old new s x =
+    let here : StepRow = get_or run.rows i next in
+    let get : slice_get run.rows i ≡ Some (get_or run.rows i next) = slice_get-get_or run.rows i next (omega arith) in
+    let n = near (get_or run.rows i next) get in
+    stood_more run (i + 1) (tail_bytes run.rows i + 11) (tail_bytes run.rows (i + 1)) new (sent_single run given i (get_or run.rows i next) next get (get_at run.rows (i + 1) next is lt) (tail_bytes run.rows i) old new s n.0 n.1 x) (omega arith)
 
-pub stood_all : (rows : List StepRow) (n most : ℕ) (s : Sender) → AreSendable rows → Stood rows n s most → n + 1 ≡ length rows → Tells s.text rows
-stood_all rows n most s given t size = go rows given t size where
-  go : (rows : List StepRow) → AreSendable rows → Stood rows n s most → n + 1 ≡ length rows → Tells s.text rows
+pub stood_all : (halves : Bool) (rows : List StepRow) (n most : ℕ) (s : Sender) → AreSendable (run_of halves rows) → Stood (run_of halves rows) n s most → n + 1 ≡ length rows → Tells halves s.text rows
+stood_all halves rows n most s given t size = go rows given t size where
+  go : (rows : List StepRow) → AreSendable (run_of halves rows) → Stood (run_of halves rows) n s most → n + 1 ≡ length rows → Tells halves s.text rows
   go [] given t size = absurd (omega arith)
-  go (r ∷ rows) given t size = stood_tells (r ∷ rows) n most s (get_or (r ∷ rows) n r) given t (slice_get-get_or (r ∷ rows) n r (omega arith)) size
+  go (r ∷ rows) given t size = stood_tells (run_of halves (r ∷ rows)) n most s (get_or (r ∷ rows) n r) given t (slice_get-get_or (r ∷ rows) n r (omega arith)) size

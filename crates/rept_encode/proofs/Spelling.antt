@@ -11,8 +11,8 @@ use Rattle.rept_trace.specs.declared.packet.Qual.TheVariants.{NoChange, EndedRep
 use Rattle.rept_trace.specs.declared.packet.Packet.{Packet}
 use Rattle.rept_trace.specs.declared.packet.Packet.TheVariants.{Start, Context, Support, Address, Map, MapAddress}
 use Rattle.rept_trace.specs.Fits.{IsSendable, StampFits, FieldsFit}
-use Rattle.rept_trace.specs.Grammar.{changes, map_width, qual_number, untimed, stamp_of, IsReport, IsStamp, IsPacket}
-use Rattle.rept_encode.specs.Written.{bit, copies, differ, high, notify_bit, updiscon_bit, report_number, number_of, ten_bytes, IsSilent}
+use Rattle.rept_trace.specs.Grammar.{address_lsb, address_width, changes, map_width, qual_number, untimed, stamp_of, IsReport, IsStamp, IsPacket}
+use Rattle.rept_encode.specs.Written.{bit, copies, differ, high, sent, past_address, notify_bit, updiscon_bit, report_number, number_of, ten_bytes, IsSilent}
 
 byte_there : (n j : ℕ) → j < 10 → get_or (ten_bytes n) j 0 ≡ n / 2 ^ (8 * j) % 256
 byte_there n zero lt = let e : n / 1 ≡ n = omega arith in rw e refl
@@ -94,8 +94,37 @@ copies_half : (b : Bool) → (copies b / 2 % 2 == 1) ≡ b
 copies_half true = refl
 copies_half false = refl
 
-high_bit : (d x : ℕ) → d < 2 ^ 30 → ((d / 2 ^ 29 + 2 * x) % 2 == 1) ≡ high d
-high_bit d x lt = grind (arith, nat_tests)
+-- an address that is sent, and what stands past it
+abbrev width : Bool → ℕ
+width halves = address_width (untimed halves)
+
+width_is : (halves : Bool) → (1 ≤ width halves) × (width halves ≤ 31)
+width_is true = (omega arith, omega arith)
+width_is false = (omega arith, omega arith)
+
+small_sent : (halves : Bool) (a : ℕ) → a < 2 ^ 32 → sent halves a < 2 ^ width halves
+small_sent true a lt = omega arith
+small_sent false a lt = omega arith
+
+low_part : (halves : Bool) (d x : ℕ) → d < 2 ^ width halves → (d + past_address halves x) % 2 ^ width halves ≡ d
+low_part true d x lt = omega arith
+low_part false d x lt = omega arith
+
+past_part : (halves : Bool) (d x : ℕ) → d < 2 ^ width halves → (d + past_address halves x) / 2 ^ width halves ≡ x
+past_part true d x lt = omega arith
+past_part false d x lt = omega arith
+
+top_part : (halves : Bool) (d x : ℕ) → (d + past_address halves x) / 2 ^ (width halves - 1) ≡ d / 2 ^ (width halves - 1) + 2 * x
+top_part true d x = omega arith
+top_part false d x = omega arith
+
+high_bit : (halves : Bool) (a x : ℕ) → a < 2 ^ 32 → ((sent halves a / 2 ^ (width halves - 1) + 2 * x) % 2 == 1) ≡ high a
+high_bit true a x lt = grind (arith, nat_tests)
+high_bit false a x lt = grind (arith, nat_tests)
+
+whole_address : (halves : Bool) (a : ℕ) → a % 2 ^ address_lsb (untimed halves) ≡ 0 → a ≡ 2 ^ address_lsb (untimed halves) * sent halves a
+whole_address true a h = omega arith
+whole_address false a h = omega arith
 
 differ_of : (a b : Bool) → a ≡ cond (differ a b) (not b) b
 differ_of true true = refl
@@ -111,64 +140,66 @@ change_of : (payload : List ℕ) (i : ℕ) (a b : Bool) → bit_of payload i ≡
 change_of payload i a b x y = rw (x, y) refl
 
 -- the number goes on with a report from bit i on
-reports : (number i : ℕ) (r : Report) → number / 2 ^ i ≡ report_number r → i + 33 ≤ 80 → IsSendable (untimed false) r.difference → r.irreport ≡ false → IsReport (untimed false) (ten_bytes number) i r
-reports number i r part le word silent =
-    let d : ℕ = r.difference / 4 in
-    let n = notify_bit r in
-    let u = updiscon_bit r in
-    let small : r.difference / 4 < 2 ^ 30 = (let w = word.0 in omega arith) in
+reports : (halves : Bool) (number i : ℕ) (r : Report) → number / 2 ^ i ≡ report_number halves r → i + 34 ≤ 80 → IsSendable (untimed halves) r.difference → r.irreport ≡ false → IsReport (untimed halves) (ten_bytes number) i r
+reports halves number i r part le word silent =
+    let w : ℕ = width halves in
+    let bounds = width_is halves in
+    let some = bounds.0 in
+    let few = bounds.1 in
+    let d : ℕ = sent halves r.difference in
+    let small : sent halves r.difference < 2 ^ width halves = small_sent halves r.difference word.0 in
     let x : ℕ = bit (notify_bit r) + 2 * copies (updiscon_bit r) in
-    let p29 = later number i (report_number r) part 29 (r.difference / 4 / 2 ^ 29 + 2 * (bit (notify_bit r) + 2 * copies (updiscon_bit r))) (i + 29) (omega arith) refl in
-    let p30 = later number i (report_number r) part 30 (bit (notify_bit r) + 2 * copies (updiscon_bit r)) (i + 30) (omega arith) refl in
     let bound = bit_small (notify_bit r) in
-    let p31 = later number i (report_number r) part 31 (copies (updiscon_bit r)) (i + 31) (omega arith) refl in
-    let p32 = later number i (report_number r) part 32 (copies (updiscon_bit r) / 2) (i + 32) (omega arith) refl in
-    let b29 : bit_of (ten_bytes number) (i + 29) ≡ high (r.difference / 4) = bit_at number (i + 29) _ p29 (omega arith) ∙ high_bit (r.difference / 4) (bit (notify_bit r) + 2 * copies (updiscon_bit r)) small in
-    let b30 : bit_of (ten_bytes number) (i + 30) ≡ notify_bit r = bit_at number (i + 30) _ p30 (omega arith) ∙ odd_bit (notify_bit r) (copies (updiscon_bit r)) in
-    let b31 : bit_of (ten_bytes number) (i + 31) ≡ updiscon_bit r = bit_at number (i + 31) _ p31 (omega arith) ∙ copies_odd (updiscon_bit r) in
-    let b32 : bit_of (ten_bytes number) (i + 32) ≡ updiscon_bit r = bit_at number (i + 32) _ p32 (omega arith) ∙ copies_half (updiscon_bit r) in
-    let e30 : i + 30 - 1 ≡ i + 29 = omega arith in
-    let e31 : i + 31 - 1 ≡ i + 30 = omega arith in
-    let e32 : i + 32 - 1 ≡ i + 31 = omega arith in
-    let value : field (ten_bytes number) i 30 ≡ r.difference / 4 = field_at number i (report_number r) part 30 (omega arith) ∙ omega arith in
+    let top = later number i (report_number halves r) part (width halves - 1) (sent halves r.difference / 2 ^ (width halves - 1) + 2 * (bit (notify_bit r) + 2 * copies (updiscon_bit r))) (i + (width halves - 1)) (top_part halves (sent halves r.difference) (bit (notify_bit r) + 2 * copies (updiscon_bit r))) refl in
+    let past = later number i (report_number halves r) part (width halves) (bit (notify_bit r) + 2 * copies (updiscon_bit r)) (i + width halves) (past_part halves (sent halves r.difference) (bit (notify_bit r) + 2 * copies (updiscon_bit r)) small) refl in
+    let one = later number (i + width halves) (bit (notify_bit r) + 2 * copies (updiscon_bit r)) past 1 (copies (updiscon_bit r)) (i + (width halves + 1)) (omega arith) (omega arith) in
+    let two = later number (i + width halves) (bit (notify_bit r) + 2 * copies (updiscon_bit r)) past 2 (copies (updiscon_bit r) / 2) (i + (width halves + 2)) (omega arith) (omega arith) in
+    let b0 : bit_of (ten_bytes number) (i + (width halves - 1)) ≡ high r.difference = bit_at number (i + (width halves - 1)) _ top (omega arith) ∙ high_bit halves r.difference (bit (notify_bit r) + 2 * copies (updiscon_bit r)) word.0 in
+    let b1 : bit_of (ten_bytes number) (i + width halves) ≡ notify_bit r = bit_at number (i + width halves) _ past (omega arith) ∙ odd_bit (notify_bit r) (copies (updiscon_bit r)) in
+    let b2 : bit_of (ten_bytes number) (i + (width halves + 1)) ≡ updiscon_bit r = bit_at number (i + (width halves + 1)) _ one (omega arith) ∙ copies_odd (updiscon_bit r) in
+    let b3 : bit_of (ten_bytes number) (i + (width halves + 2)) ≡ updiscon_bit r = bit_at number (i + (width halves + 2)) _ two (omega arith) ∙ copies_half (updiscon_bit r) in
+    let e0 : i + width halves - 1 ≡ i + (width halves - 1) = omega arith in
+    let e1 : i + (width halves + 1) - 1 ≡ i + width halves = omega arith in
+    let e2 : i + (width halves + 2) - 1 ≡ i + (width halves + 1) = omega arith in
+    let value : field (ten_bytes number) i (width halves) ≡ sent halves r.difference = field_at number i (report_number halves r) part (width halves) (omega arith) ∙ low_part halves (sent halves r.difference) (bit (notify_bit r) + 2 * copies (updiscon_bit r)) small in
     record {
-      address = (let w : r.difference % 4 ≡ 0 = word.1 in omega (arith, value));
-      asked = differ_of r.notify (high (r.difference / 4)) ∙ sym (change_of (ten_bytes number) (i + 30) (notify_bit r) (high (r.difference / 4)) b30 (rw e30 b29));
-      discontinuity = differ_of r.updiscon (notify_bit r) ∙ sym (change_of (ten_bytes number) (i + 31) (updiscon_bit r) (notify_bit r) b31 (rw e31 b30));
-      returned = silent ∙ same_bits (updiscon_bit r) ∙ sym (change_of (ten_bytes number) (i + 32) (updiscon_bit r) (updiscon_bit r) b32 (rw e32 b31));
+      address = whole_address halves r.difference word.1 ∙ sym (ap (λ (v : ℕ). 2 ^ address_lsb (untimed halves) * v) value);
+      asked = differ_of r.notify (high r.difference) ∙ sym (change_of (ten_bytes number) (i + width halves) (notify_bit r) (high r.difference) b1 (rw e0 b0));
+      discontinuity = differ_of r.updiscon (notify_bit r) ∙ sym (change_of (ten_bytes number) (i + (width halves + 1)) (updiscon_bit r) (notify_bit r) b2 (rw e1 b1));
+      returned = silent ∙ same_bits (updiscon_bit r) ∙ sym (change_of (ten_bytes number) (i + (width halves + 2)) (updiscon_bit r) (updiscon_bit r) b3 (rw e2 b2));
     }
 
 whole_number : (number : ℕ) → number / 2 ^ 0 ≡ number
 whole_number number = let e : number / 1 ≡ number = omega arith in e
 
 -- a trace without times and contexts has them as 0
-no_stamp : (p : List ℕ) (i time context : ℕ) → StampFits (untimed false) time context → IsStamp (untimed false) p i (stamp_of time context)
-no_stamp p i time context fits =
+no_stamp : (halves : Bool) (p : List ℕ) (i time context : ℕ) → StampFits (untimed halves) time context → IsStamp (untimed halves) p i (stamp_of time context)
+no_stamp halves p i time context fits =
     let t = fits.0 in
     let c = fits.1 in
     let time_is : time ≡ 0 = omega arith in
     let context_is : context ≡ 0 = omega arith in
     record { clock = time_is ∙ sym (field_zero p i); process = context_is ∙ sym (field_zero p (i + 0)) }
 
-start_spells : (branch : Bool) (privilege a time context : ℕ) → privilege < 4 → IsSendable (untimed false) a → StampFits (untimed false) time context → IsPacket (untimed false) (ten_bytes (number_of (Start branch privilege a time context))) (Start branch privilege a time context)
-start_spells branch privilege a time context small word stamped =
-    let number : ℕ = number_of (Start branch privilege a time context) in
+start_spells : (halves : Bool) (branch : Bool) (privilege a time context : ℕ) → privilege < 4 → IsSendable (untimed halves) a → StampFits (untimed halves) time context → IsPacket (untimed halves) (ten_bytes (number_of halves (Start branch privilege a time context))) (Start branch privilege a time context)
+start_spells halves branch privilege a time context small word stamped =
+    let number : ℕ = number_of halves (Start branch privilege a time context) in
     let b = bit_small branch in
-    let w = word.0 in
-    let even : a % 4 ≡ 0 = word.1 in
-    let p0 = whole_number (number_of (Start branch privilege a time context)) in
-    let p2 : number_of (Start branch privilege a time context) / 2 ^ 2 ≡ 4 * bit branch + 8 * privilege + 32 * (a / 4 + 2 ^ 30 * copies (high (a / 4))) = omega arith in
-    let p4 : number_of (Start branch privilege a time context) / 2 ^ 4 ≡ bit branch + 2 * (privilege + 4 * (a / 4 + 2 ^ 30 * copies (high (a / 4)))) = omega arith in
-    let p5 : number_of (Start branch privilege a time context) / 2 ^ 5 ≡ privilege + 4 * (a / 4 + 2 ^ 30 * copies (high (a / 4))) = omega arith in
-    let p7 : number_of (Start branch privilege a time context) / 2 ^ 7 ≡ a / 4 + 2 ^ 30 * copies (high (a / 4)) = omega arith in
-    let f7 : field (ten_bytes (number_of (Start branch privilege a time context))) 7 30 ≡ a / 4 = field_at number 7 _ p7 30 (omega arith) ∙ omega arith in
+    let w = width_is halves in
+    let few = w.1 in
+    let p0 = whole_number (number_of halves (Start branch privilege a time context)) in
+    let p2 : number_of halves (Start branch privilege a time context) / 2 ^ 2 ≡ 4 * bit branch + 8 * privilege + 32 * (sent halves a + past_address halves (copies (high a))) = omega arith in
+    let p4 : number_of halves (Start branch privilege a time context) / 2 ^ 4 ≡ bit branch + 2 * (privilege + 4 * (sent halves a + past_address halves (copies (high a)))) = omega arith in
+    let p5 : number_of halves (Start branch privilege a time context) / 2 ^ 5 ≡ privilege + 4 * (sent halves a + past_address halves (copies (high a))) = omega arith in
+    let p7 : number_of halves (Start branch privilege a time context) / 2 ^ 7 ≡ sent halves a + past_address halves (copies (high a)) = omega arith in
+    let f7 : field (ten_bytes (number_of halves (Start branch privilege a time context))) 7 (width halves) ≡ sent halves a = field_at number 7 _ p7 (width halves) (omega arith) ∙ low_part halves (sent halves a) (copies (high a)) (small_sent halves a word.0) in
     record {
       format = field_at number 0 _ p0 2 (omega arith) ∙ omega arith;
       subformat = field_at number 2 _ p2 2 (omega arith) ∙ omega arith;
-      branch_bit = sym (bit_at number 4 _ p4 (omega arith) ∙ odd_bit branch (privilege + 4 * (a / 4 + 2 ^ 30 * copies (high (a / 4)))));
+      branch_bit = sym (bit_at number 4 _ p4 (omega arith) ∙ odd_bit branch (privilege + 4 * (sent halves a + past_address halves (copies (high a)))));
       level = sym (field_at number 5 _ p5 2 (omega arith) ∙ omega arith);
-      stamp = no_stamp (ten_bytes (number_of (Start branch privilege a time context))) 7 time context stamped;
-      place = omega (arith, f7);
+      stamp = no_stamp halves (ten_bytes (number_of halves (Start branch privilege a time context))) 7 time context stamped;
+      place = whole_address halves a word.1 ∙ sym (ap (λ (v : ℕ). 2 ^ address_lsb (untimed halves) * v) f7);
     }
 
 qual_small : (status : Qual) → qual_number status < 4
@@ -177,17 +208,17 @@ qual_small EndedRep = omega arith
 qual_small TraceLost = omega arith
 qual_small EndedNtr = omega arith
 
-support_spells : (enabled : Bool) (status : Qual) → IsPacket (untimed false) (ten_bytes (number_of (Support enabled status))) (Support enabled status)
-support_spells enabled status =
-    let number : ℕ = number_of (Support enabled status) in
+support_spells : (halves : Bool) (enabled : Bool) (status : Qual) → IsPacket (untimed halves) (ten_bytes (number_of halves (Support enabled status))) (Support enabled status)
+support_spells halves enabled status =
+    let number : ℕ = number_of halves (Support enabled status) in
     let b = bit_small enabled in
     let q = qual_small status in
-    let p0 = whole_number (number_of (Support enabled status)) in
-    let p2 : number_of (Support enabled status) / 2 ^ 2 ≡ 3 + 4 * bit enabled + 16 * qual_number status = omega arith in
-    let p4 : number_of (Support enabled status) / 2 ^ 4 ≡ bit enabled + 2 * (2 * qual_number status) = omega arith in
-    let p5 : number_of (Support enabled status) / 2 ^ 5 ≡ 2 * qual_number status = omega arith in
-    let p6 : number_of (Support enabled status) / 2 ^ 6 ≡ qual_number status = omega arith in
-    let p8 : number_of (Support enabled status) / 2 ^ 8 ≡ 0 = omega arith in
+    let p0 = whole_number (number_of halves (Support enabled status)) in
+    let p2 : number_of halves (Support enabled status) / 2 ^ 2 ≡ 3 + 4 * bit enabled + 16 * qual_number status = omega arith in
+    let p4 : number_of halves (Support enabled status) / 2 ^ 4 ≡ bit enabled + 2 * (2 * qual_number status) = omega arith in
+    let p5 : number_of halves (Support enabled status) / 2 ^ 5 ≡ 2 * qual_number status = omega arith in
+    let p6 : number_of halves (Support enabled status) / 2 ^ 6 ≡ qual_number status = omega arith in
+    let p8 : number_of halves (Support enabled status) / 2 ^ 8 ≡ 0 = omega arith in
     record {
       format = field_at number 0 _ p0 2 (omega arith) ∙ omega arith;
       subformat = field_at number 2 _ p2 2 (omega arith) ∙ omega arith;
@@ -197,69 +228,69 @@ support_spells enabled status =
       options = field_at number 8 _ p8 5 (omega arith) ∙ omega arith;
     }
 
-context_spells : (privilege time context : ℕ) → privilege < 4 → StampFits (untimed false) time context → IsPacket (untimed false) (ten_bytes (number_of (Context privilege time context))) (Context privilege time context)
-context_spells privilege time context small stamped =
-    let number : ℕ = number_of (Context privilege time context) in
-    let p0 = whole_number (number_of (Context privilege time context)) in
-    let p2 : number_of (Context privilege time context) / 2 ^ 2 ≡ 2 + 4 * privilege = omega arith in
-    let p4 : number_of (Context privilege time context) / 2 ^ 4 ≡ privilege = omega arith in
+context_spells : (halves : Bool) (privilege time context : ℕ) → privilege < 4 → StampFits (untimed halves) time context → IsPacket (untimed halves) (ten_bytes (number_of halves (Context privilege time context))) (Context privilege time context)
+context_spells halves privilege time context small stamped =
+    let number : ℕ = number_of halves (Context privilege time context) in
+    let p0 = whole_number (number_of halves (Context privilege time context)) in
+    let p2 : number_of halves (Context privilege time context) / 2 ^ 2 ≡ 2 + 4 * privilege = omega arith in
+    let p4 : number_of halves (Context privilege time context) / 2 ^ 4 ≡ privilege = omega arith in
     record {
       format = field_at number 0 _ p0 2 (omega arith) ∙ omega arith;
       subformat = field_at number 2 _ p2 2 (omega arith) ∙ omega arith;
       level = sym (field_at number 4 _ p4 2 (omega arith) ∙ omega arith);
-      stamp = no_stamp (ten_bytes (number_of (Context privilege time context))) 6 time context stamped;
+      stamp = no_stamp halves (ten_bytes (number_of halves (Context privilege time context))) 6 time context stamped;
     }
 
-map_spells : (map : ℕ) → map < 2 ^ 31 → IsPacket (untimed false) (ten_bytes (number_of (Map map))) (Map map)
-map_spells map small =
-    let number : ℕ = number_of (Map map) in
-    let p0 = whole_number (number_of (Map map)) in
-    let p2 : number_of (Map map) / 2 ^ 2 ≡ 32 * (map + 2 ^ 31 * copies (nat_le (2 ^ 30) map)) = omega arith in
-    let p7 : number_of (Map map) / 2 ^ 7 ≡ map + 2 ^ 31 * copies (nat_le (2 ^ 30) map) = omega arith in
+map_spells : (halves : Bool) (map : ℕ) → map < 2 ^ 31 → IsPacket (untimed halves) (ten_bytes (number_of halves (Map map))) (Map map)
+map_spells halves map small =
+    let number : ℕ = number_of halves (Map map) in
+    let p0 = whole_number (number_of halves (Map map)) in
+    let p2 : number_of halves (Map map) / 2 ^ 2 ≡ 32 * (map + 2 ^ 31 * copies (nat_le (2 ^ 30) map)) = omega arith in
+    let p7 : number_of halves (Map map) / 2 ^ 7 ≡ map + 2 ^ 31 * copies (nat_le (2 ^ 30) map) = omega arith in
     record {
       format = field_at number 0 _ p0 2 (omega arith) ∙ omega arith;
       count = field_at number 2 _ p2 5 (omega arith) ∙ omega arith;
       bits = sym (field_at number 7 _ p7 31 (omega arith) ∙ omega arith);
     }
 
-address_spells : (report : Report) → IsSendable (untimed false) report.difference → report.irreport ≡ false → IsPacket (untimed false) (ten_bytes (number_of (Address report))) (Address report)
-address_spells report word silent =
-    let number : ℕ = number_of (Address report) in
-    let p0 = whole_number (number_of (Address report)) in
-    let p2 : number_of (Address report) / 2 ^ 2 ≡ report_number report = omega arith in
+address_spells : (halves : Bool) (report : Report) → IsSendable (untimed halves) report.difference → report.irreport ≡ false → IsPacket (untimed halves) (ten_bytes (number_of halves (Address report))) (Address report)
+address_spells halves report word silent =
+    let number : ℕ = number_of halves (Address report) in
+    let p0 = whole_number (number_of halves (Address report)) in
+    let p2 : number_of halves (Address report) / 2 ^ 2 ≡ report_number halves report = omega arith in
     record {
       format = field_at number 0 _ p0 2 (omega arith) ∙ omega arith;
-      fields = reports number 2 report p2 (omega arith) word silent;
+      fields = reports halves number 2 report p2 (omega arith) word silent;
     }
 
 narrow : (count : ℕ) → map_width count ≤ 31
 narrow count = grind (arith, nat_tests)
 
-map_address_spells : (count map : ℕ) (report : Report) → 0 < count → count ≤ 31 → map < 2 ^ map_width count → IsSendable (untimed false) report.difference → report.irreport ≡ false → IsPacket (untimed false) (ten_bytes (number_of (MapAddress count map report))) (MapAddress count map report)
-map_address_spells count map report some few small word silent =
-    let number : ℕ = number_of (MapAddress count map report) in
+map_address_spells : (halves : Bool) (count map : ℕ) (report : Report) → 0 < count → count ≤ 31 → map < 2 ^ map_width count → IsSendable (untimed halves) report.difference → report.irreport ≡ false → IsPacket (untimed halves) (ten_bytes (number_of halves (MapAddress count map report))) (MapAddress count map report)
+map_address_spells halves count map report some few small word silent =
+    let number : ℕ = number_of halves (MapAddress count map report) in
     let w : ℕ = map_width count in
-    let y : ℕ = map + 2 ^ map_width count * report_number report in
+    let y : ℕ = map + 2 ^ map_width count * report_number halves report in
     let thin = narrow count in
-    let p0 = whole_number (number_of (MapAddress count map report)) in
-    let p2 : number_of (MapAddress count map report) / 2 ^ 2 ≡ count + 32 * (map + 2 ^ map_width count * report_number report) = omega arith in
-    let p7 : number_of (MapAddress count map report) / 2 ^ 7 ≡ map + 2 ^ map_width count * report_number report = omega arith in
-    let swap : map + 2 ^ map_width count * report_number report ≡ report_number report * 2 ^ map_width count + map = omega arith in
-    let rest : (map + 2 ^ map_width count * report_number report) / 2 ^ map_width count ≡ report_number report = ap (λ (k : ℕ). k / 2 ^ map_width count) swap ∙ div-mul-add (report_number report) (2 ^ map_width count) map small in
-    let low : (map + 2 ^ map_width count * report_number report) % 2 ^ map_width count ≡ map = add-mul-mod_self_left map (2 ^ map_width count) (report_number report) ∙ mod-eq_of_lt small in
-    let pw : number_of (MapAddress count map report) / 2 ^ (7 + map_width count) ≡ report_number report = later number 7 _ p7 (map_width count) (report_number report) (7 + map_width count) rest refl in
+    let p0 = whole_number (number_of halves (MapAddress count map report)) in
+    let p2 : number_of halves (MapAddress count map report) / 2 ^ 2 ≡ count + 32 * (map + 2 ^ map_width count * report_number halves report) = omega arith in
+    let p7 : number_of halves (MapAddress count map report) / 2 ^ 7 ≡ map + 2 ^ map_width count * report_number halves report = omega arith in
+    let swap : map + 2 ^ map_width count * report_number halves report ≡ report_number halves report * 2 ^ map_width count + map = omega arith in
+    let rest : (map + 2 ^ map_width count * report_number halves report) / 2 ^ map_width count ≡ report_number halves report = ap (λ (k : ℕ). k / 2 ^ map_width count) swap ∙ div-mul-add (report_number halves report) (2 ^ map_width count) map small in
+    let low : (map + 2 ^ map_width count * report_number halves report) % 2 ^ map_width count ≡ map = add-mul-mod_self_left map (2 ^ map_width count) (report_number halves report) ∙ mod-eq_of_lt small in
+    let pw : number_of halves (MapAddress count map report) / 2 ^ (7 + map_width count) ≡ report_number halves report = later number 7 _ p7 (map_width count) (report_number halves report) (7 + map_width count) rest refl in
     record {
       format = field_at number 0 _ p0 2 (omega arith) ∙ omega arith;
       some = some;
       number = sym (field_at number 2 _ p2 5 (omega arith) ∙ omega arith);
       bits = sym (field_at number 7 _ p7 (map_width count) (omega arith) ∙ low);
-      fields = reports number (7 + map_width count) report pw (omega arith) word silent;
+      fields = reports halves number (7 + map_width count) report pw (omega arith) word silent;
     }
 
-pub spells : (packet : Packet) → FieldsFit (untimed false) packet → IsSilent packet → IsPacket (untimed false) (ten_bytes (number_of packet)) packet
-spells (Start branch privilege a time context) f s = start_spells branch privilege a time context f.0 f.1 f.2
-spells (Context privilege time context) f s = context_spells privilege time context f.0 f.1
-spells (Support enabled status) f s = support_spells enabled status
-spells (Address report) f s = address_spells report f s
-spells (Map map) f s = map_spells map f
-spells (MapAddress count map report) f s = map_address_spells count map report f.0 f.1 f.2 f.3 s
+pub spells : (halves : Bool) (packet : Packet) → FieldsFit (untimed halves) packet → IsSilent packet → IsPacket (untimed halves) (ten_bytes (number_of halves packet)) packet
+spells halves (Start branch privilege a time context) f s = start_spells halves branch privilege a time context f.0 f.1 f.2
+spells halves (Context privilege time context) f s = context_spells halves privilege time context f.0 f.1
+spells halves (Support enabled status) f s = support_spells halves enabled status
+spells halves (Address report) f s = address_spells halves report f s
+spells halves (Map map) f s = map_spells halves map f
+spells halves (MapAddress count map report) f s = map_address_spells halves count map report f.0 f.1 f.2 f.3 s

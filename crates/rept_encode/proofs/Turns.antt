@@ -5,6 +5,7 @@ use Rattle.rept_path.specs.Code.{Code}
 use Rattle.rept_isa.specs.declared.instr.Instr.{Instr}
 use Rattle.rept_isa.specs.declared.row.StepRow.{StepRow}
 use Rattle.rept_isa.specs.Numbers.{plus, following}
+use Rattle.rept_isa.specs.Rows.{Addresses, from_of, addresses_of}
 use Rattle.rept_path.specs.declared.flow.Flow.{Flow}
 use Rattle.rept_path.specs.declared.flow.Flow.TheVariants.{Plain, Branch, Jump, Fixed, Far, Call, Stop}
 use Rattle.rept_path.specs.declared.fault.PathFault.{PathFault}
@@ -48,22 +49,23 @@ pub branch_to : (k : ℕ) (p : Site) (next to : ℕ) (imm : ℤ) (b : Bool) → 
 branch_to k p next to imm true same t l = elim t [ inl e ↦ ap (λ (n : ℕ). Ok n) (sym same ∙ sym e.1) | inr e ↦ absurd (cc) ]
 branch_to k p next to imm false same t l = elim t [ inl e ↦ absurd (cc) | inr e ↦ elim l [ inl m ↦ absurd (e.1 m) | inr m ↦ ap (λ (n : ℕ). Ok n) (sym m) ] ]
 
--- what follows a row that isn't short
-pub onward_is : (code : Code) (row : StepRow) → row.short ≡ is_short code row.at → row.short ≡ false → after_instruction code row.at ≡ following row.at
+-- what follows a row
+pub onward_is : (code : Code) (row : StepRow) → row.short ≡ is_short code row.at → after_instruction code row.at ≡ following (from_of row)
 unfolding after_instruction
-onward_is code row short long = rw (← short, long) refl
+onward_is code row short = rw (← short) refl
 
-pub either_onward : (p : Site) (next to : ℕ) → p.onward ≡ following p.at → (next ≡ to) ⊎ (next ≡ following p.at) → (next ≡ to) ⊎ (next ≡ p.onward)
-either_onward p next to on l = elim l [ inl m ↦ inl m | inr m ↦ inr (m ∙ sym on) ]
+pub either_onward : (onward from next to : ℕ) → onward ≡ following from → (next ≡ to) ⊎ (next ≡ following from) → (next ≡ to) ⊎ (next ≡ onward)
+either_onward onward from next to on l = elim l [ inl m ↦ inl m | inr m ↦ inr (m ∙ sym on) ]
 
-pub leads : (k : ℕ) (p : Site) (next : ℕ) (flow : Flow) (bit : Option Bool) (target : Option ℕ) → p.onward ≡ following p.at → MayLead flow p.at next → calls flow ≡ false → (branches flow ≡ true → bit ≡ Some (passed_by flow p.at next)) → (jumps_far flow ≡ true → target ≡ Some next) → successor k p flow (way_by bit target) ≡ Ok next
-leads k p next Plain bit target on l c b t = ap (λ (n : ℕ). Ok n) (on ∙ sym l)
-leads k p next (Jump imm) bit target on l c b t = ap (λ (n : ℕ). Ok n) (sym l)
-leads k p next (Fixed to) bit target on l c b t = ap (λ (n : ℕ). Ok n) (sym l)
-leads k p next (Branch imm) bit target on l c b t = let e = b refl in rw e (branch_to k p next (plus p.at imm) imm (next == plus p.at imm) refl (eqb_tells next (plus p.at imm)) (either_onward p next (plus p.at imm) on l))
-leads k p next Far bit target on l c b t = let e = t refl in rw e refl
-leads k p next Call bit target on l c b t = cc
-leads k p next Stop bit target on l c b t = elim l [ ]
+-- the site of an instruction with these addresses
+pub leads : (halves : Bool) (k onward : ℕ) (a : Addresses) (flow : Flow) (bit : Option Bool) (target : Option ℕ) → onward ≡ following a.from → MayLead halves flow a → calls flow ≡ false → (branches flow ≡ true → bit ≡ Some (passed_by flow a.at a.next)) → (jumps_far flow ≡ true → target ≡ Some a.next) → successor k (record { at = a.at; onward = onward }) flow (way_by bit target) ≡ Ok a.next
+leads halves k onward a Plain bit target on l c b t = ap (λ (n : ℕ). Ok n) (on ∙ sym l)
+leads halves k onward a (Jump imm) bit target on l c b t = ap (λ (n : ℕ). Ok n) (sym l)
+leads halves k onward a (Fixed to) bit target on l c b t = ap (λ (n : ℕ). Ok n) (sym l)
+leads halves k onward a (Branch imm) bit target on l c b t = let e = b refl in rw e (branch_to k (record { at = a.at; onward = onward }) a.next (plus a.at imm) imm (a.next == plus a.at imm) refl (eqb_tells a.next (plus a.at imm)) (either_onward onward a.from a.next (plus a.at imm) on l))
+leads halves k onward a Far bit target on l c b t = let e = t refl in rw e refl
+leads halves k onward a Call bit target on l c b t = cc
+leads halves k onward a Stop bit target on l c b t = elim l [ ]
 
 pub room : (most n k : ℕ) (r : Result ℕ PathFault) → n < most → cond (nat_le most n) (Err (TooLong k)) r ≡ r
 room most n k r lt = elim (leb_tells most n) [ inl t ↦ absurd (omega arith) | inr t ↦ rw t.0 refl ]
@@ -87,7 +89,7 @@ pub move_is : (code : Code) (how : Lead) (p : Place) (row : StepRow) → how.roo
 move_is code how p row limit m t =
     let lead = m.step.lead in
     let here : look code p.at ≡ Ok row.instr = rw m.at m.here in
-    let s : successor how.packet (site code p.at) (flow_of row.instr) (way_by (slice_get how.bits p.branches) how.target) ≡ Ok row.next = rw m.at (leads how.packet (site code row.at) row.next (flow_of row.instr) (slice_get how.bits p.branches) how.target (onward_is code row m.short m.step.long) lead m.plain m.bit t) in
+    let s : successor how.packet (site code p.at) (flow_of row.instr) (way_by (slice_get how.bits p.branches) how.target) ≡ Ok row.next = rw m.at (leads code.halves how.packet (after_instruction code row.at) (addresses_of row) (flow_of row.instr) (slice_get how.bits p.branches) how.target (onward_is code row m.short) lead m.plain m.bit t) in
     record {
       next = next_is code how p row.instr m.goes row.next here m.there s (rw limit m.room);
       at = sym m.at;

@@ -1,5 +1,5 @@
 -- What the writer keeps: packets that lead to a row, and how they stand in the text. These definitions speak of the code's own values.
-use Rattle.std.specs.Prelude.{◌≡◌, ℕ, zero, suc, ◌+◌, ◌*◌, ◌^◌, ◌<◌, ◌≤◌, List, [], ◌∷◌, ◌++◌, length, reverse, take, slice_get, Some, Ok, Bool, true, false, not, if◌then◌else◌}
+use Rattle.std.specs.Prelude.{◌≡◌, ℕ, zero, suc, ◌+◌, ◌*◌, ◌%◌, ◌^◌, ◌<◌, ◌≤◌, List, [], ◌∷◌, ◌++◌, length, reverse, take, slice_get, Some, Ok, Bool, true, false, not, if◌then◌else◌}
 use Rattle.std.specs.List.{list_any}
 use Rattle.rept_path.specs.Code.{Code}
 use Rattle.rept_isa.specs.declared.instr.Instr.{Instr}
@@ -19,7 +19,7 @@ use Rattle.rept_path.specs.Trace.{starts, loses}
 use Rattle.rept_encode.specs.declared.bits.Bits.{Bits}
 use Rattle.rept_encode.specs.declared.sender.Sender.{Sender}
 use Rattle.rept_encode.specs.Bits.{passed, branch_row, count, bit_list, start_bit}
-use Rattle.rept_encode.specs.Walkable.{calls, IsStepped, IsWalkable, IsJumpEnd}
+use Rattle.rept_encode.specs.Walkable.{alignment_by, calls, IsStepped, IsWalkable, IsJumpEnd}
 use Rattle.rept_encode.specs.Written.{Appends}
 
 -- The row is the step from a place, where so many bits are known.
@@ -29,7 +29,7 @@ pub record Moved (code : Code) (all : List Bool) (p : Place) (row : StepRow) : T
   pub short : row.short ≡ is_short code row.at
   pub goes : Instr
   pub there : look code row.next ≡ Ok goes
-  pub step : IsStepped row
+  pub step : IsStepped code.halves row
   pub plain : calls (flow_of row.instr) ≡ false
   pub bit : branch_row row ≡ true → slice_get all p.branches ≡ Some (passed row)
   pub room : length p.rows < 65536
@@ -84,36 +84,49 @@ abbrev pub waiting_bits : Bits → List Bool
 waiting_bits b = low_bits b.count b.map
 
 -- The text is a header and these packets, newest first, and nothing more.
-pub record IsText (text : List ℕ) (packets : List Packet) : Type 0 where
+pub record IsText (halves : Bool) (text : List ℕ) (packets : List Packet) : Type 0 where
   pub rest : List ℕ
-  pub layout : text ≡ header false ++ rest
-  pub holds : (later : List ℕ) (more : List Packet) → Hold (plain false later) more → Hold (plain false (rest ++ later)) (reverse packets ++ more)
+  pub layout : text ≡ header halves ++ rest
+  pub holds : (later : List ℕ) (more : List Packet) → Hold (plain halves later) more → Hold (plain halves (rest ++ later)) (reverse packets ++ more)
+
+-- rows, and whether their code may be compressed
+pub record Run : Type 0 where
+  pub halves : Bool
+  pub rows : List StepRow
+
+abbrev pub run_of : Bool → List StepRow → Run
+run_of halves rows = record { halves = halves; rows = rows }
+
+-- The code may be compressed as that of the rows, and has their instructions.
+pub record Carries (run : Run) (code : Code) : Type 0 where
+  pub kind : code.halves ≡ run.halves
+  pub placed : CarryCode code run.rows
 
 -- The packets lead to row i, and from so many rows before it, in each code that has the rows' instructions.
-abbrev pub LeadTo : List StepRow → List Packet → Bits → List StepRow → ℕ → Type 0
-LeadTo rows packets b kept i = (code : Code) (here : StepRow) → CarryCode code rows → slice_get rows i ≡ Some here → Coded code packets (waiting_bits b) kept here (reverse (take i rows))
+abbrev pub LeadTo : Run → List Packet → Bits → List StepRow → ℕ → Type 0
+LeadTo run packets b kept i = (code : Code) (here : StepRow) → Carries run code → slice_get run.rows i ≡ Some here → Coded code packets (waiting_bits b) kept here (reverse (take i run.rows))
 
 -- What was sent where row i comes next. The walk that reads it stands at row `walked`. Row `base` is the last one up to row i that is a
 -- branch, or that at which the walk stands; from there on no row is a call or an uninferable jump.
-pub record Sent (rows : List StepRow) (i : ℕ) (s : Sender) : Type 0 where
+pub record Sent (run : Run) (i : ℕ) (s : Sender) : Type 0 where
   pub packets : List Packet
-  pub text : IsText s.text packets
+  pub text : IsText run.halves s.text packets
   pub few : length s.text ≤ 30 + 22 * i
   pub begun : Begun (reverse packets)
   pub last : reported packets ≡ s.reported
-  pub even : (n : ℕ) × (s.reported ≡ 4 * n)
+  pub even : s.reported % alignment_by run.halves ≡ 0
   pub bits : AreBits s.bits 30
   pub kept : List StepRow
-  pub lead : LeadTo rows packets s.bits kept i
+  pub lead : LeadTo run packets s.bits kept i
   pub held : List StepRow
-  pub base : LeadTo rows packets s.bits held s.base
+  pub base : LeadTo run packets s.bits held s.base
   pub size : length held + s.walked ≡ s.base
   pub span : length kept + s.walked ≡ i
   pub below : s.base ≤ i
   pub none : s.base ≤ s.walked → s.bits.count ≡ 0
-  pub branch : (row : StepRow) → s.walked < s.base → slice_get rows s.base ≡ Some row → branch_row row ≡ true
-  pub calm : (j : ℕ) (row : StepRow) → s.base ≤ j → j < i → slice_get rows j ≡ Some row → (calls (flow_of row.instr) ≡ false) × (jumps_far (flow_of row.instr) ≡ false)
-  pub call : (row : StepRow) → slice_get rows i ≡ Some row → calls (flow_of row.instr) ≡ true → (kept ≡ []) × (s.bits.count ≡ 0)
+  pub branch : (row : StepRow) → s.walked < s.base → slice_get run.rows s.base ≡ Some row → branch_row row ≡ true
+  pub calm : (j : ℕ) (row : StepRow) → s.base ≤ j → j < i → slice_get run.rows j ≡ Some row → (calls (flow_of row.instr) ≡ false) × (jumps_far (flow_of row.instr) ≡ false)
+  pub call : (row : StepRow) → slice_get run.rows i ≡ Some row → calls (flow_of row.instr) ≡ true → (kept ≡ []) × (s.bits.count ≡ 0)
 
 -- No bits wait, and the walk stands at row n, whose address was reported.
 pub record StandsAt (s : Sender) (a n : ℕ) : Type 0 where
@@ -124,28 +137,28 @@ pub record StandsAt (s : Sender) (a n : ℕ) : Type 0 where
   pub base : s.base ≡ n
 
 -- The text has the header and the start packet of a row.
-pub record IsBegun (s : Sender) (first : StepRow) : Type 0 where
-  pub text : Appends (header false) s.text (start_at first)
+pub record IsBegun (halves : Bool) (s : Sender) (first : StepRow) : Type 0 where
+  pub text : Appends halves (header halves) s.text (start_at first)
   pub stands : StandsAt s first.at 0
 
 -- The report of an address was added, with these bits, after so much text and so an address.
-pub record IsReported (old : Sender) (b : Bits) (new : Sender) (to : ℕ) (notify : Bool) (n : ℕ) : Type 0 where
+pub record IsReported (halves : Bool) (old : Sender) (b : Bits) (new : Sender) (to : ℕ) (notify : Bool) (n : ℕ) : Type 0 where
   pub difference : ℕ
   pub there : sum old.reported difference ≡ to
-  pub text : Appends old.text new.text (report_packet b.count b.map (said difference notify))
+  pub text : Appends halves old.text new.text (report_packet b.count b.map (said difference notify))
   pub stands : StandsAt new to n
 
 -- The report of a row's address was added, with the bits that wait and its own.
-pub record IsSent (old new : Sender) (next : StepRow) (notify : Bool) (n : ℕ) : Type 0 where
+pub record IsSent (halves : Bool) (old new : Sender) (next : StepRow) (notify : Bool) (n : ℕ) : Type 0 where
   pub b : Bits
   pub list : waiting_bits b ≡ waiting_bits old.bits ++ bit_list next
-  pub report : IsReported old b new next.at notify n
+  pub report : IsReported halves old b new next.at notify n
 
 -- A stretch was ended, and another one begun at a row.
-pub record IsRestarted (old new : Sender) (next : StepRow) (n : ℕ) : Type 0 where
+pub record IsRestarted (halves : Bool) (old new : Sender) (next : StepRow) (n : ℕ) : Type 0 where
   pub middle : List ℕ
-  pub end : Appends old.text middle (Support false EndedRep)
-  pub start : Appends middle new.text (start_at next)
+  pub end : Appends halves old.text middle (Support false EndedRep)
+  pub start : Appends halves middle new.text (start_at next)
   pub stands : StandsAt new next.at n
 
 -- A row was kept: its bit waits, or goes out with a map that it fills.
@@ -157,11 +170,11 @@ pub record IsWaiting (old new : Sender) (next : StepRow) (n : ℕ) : Type 0 wher
   pub list : waiting_bits new.bits ≡ waiting_bits old.bits ++ bit_list next
   pub base : new.base ≡ (if branch_row next then n else old.base)
 
-pub record IsMapped (old new : Sender) (next : StepRow) (n : ℕ) : Type 0 where
+pub record IsMapped (halves : Bool) (old new : Sender) (next : StepRow) (n : ℕ) : Type 0 where
   pub map : ℕ
   pub branch : branch_row next ≡ true
   pub list : low_bits 31 map ≡ waiting_bits old.bits ++ bit_list next
-  pub text : Appends old.text new.text (Map map)
+  pub text : Appends halves old.text new.text (Map map)
   pub stands : StandsAt new old.reported n
 
 -- The walk stands at row n from now on.
@@ -170,25 +183,25 @@ pub record IsStanding (old new : Sender) (a n : ℕ) : Type 0 where
   pub stands : StandsAt new a n
 
 -- The same where the walk stands at row n, no bits wait and the text has at most so many bytes.
-pub record Stood (rows : List StepRow) (n : ℕ) (s : Sender) (most : ℕ) : Type 0 where
+pub record Stood (run : Run) (n : ℕ) (s : Sender) (most : ℕ) : Type 0 where
   pub packets : List Packet
-  pub text : IsText s.text packets
+  pub text : IsText run.halves s.text packets
   pub few : length s.text ≤ most
   pub begun : Begun (reverse packets)
   pub last : reported packets ≡ s.reported
-  pub even : (m : ℕ) × (s.reported ≡ 4 * m)
+  pub even : s.reported % alignment_by run.halves ≡ 0
   pub count : s.bits.count ≡ 0
   pub map : s.bits.map ≡ 0
   pub walked : s.walked ≡ n
   pub base : s.base ≡ n
-  pub lead : (code : Code) (here : StepRow) → CarryCode code rows → slice_get rows n ≡ Some here → Coded code packets [] [] here (reverse (take n rows))
+  pub lead : (code : Code) (here : StepRow) → Carries run code → slice_get run.rows n ≡ Some here → Coded code packets [] [] here (reverse (take n run.rows))
 
 -- Rows that are sent: steps that are linked, of which no call directly follows an uninferable jump.
-pub record AreSendable (rows : List StepRow) : Type 0 where
-  pub walkable : IsWalkable rows
-  pub linked : AreLinked rows
-  pub few : length rows ≤ 65536
-  pub free : (i : ℕ) → IsJumpEnd rows i → ⊥
+pub record AreSendable (run : Run) : Type 0 where
+  pub walkable : IsWalkable run.halves run.rows
+  pub linked : AreLinked run.rows
+  pub few : length run.rows ≤ 65536
+  pub free : (i : ℕ) → IsJumpEnd run.rows i → ⊥
 
 -- The row is no call and no uninferable jump.
 abbrev pub IsNear : List StepRow → ℕ → Type 0

@@ -5,7 +5,7 @@ use Rattle.std.specs.Int.{w128, to_le_bytes}
 use Rattle.rept_trace.specs.declared.packet.Report.{Report}
 use Rattle.rept_trace.specs.declared.packet.Packet.{Packet}
 use Rattle.rept_trace.specs.declared.packet.Packet.TheVariants.{Start, Context, Support, Address, Map, MapAddress}
-use Rattle.rept_trace.specs.Grammar.{untimed, map_width, qual_number, IsPacket}
+use Rattle.rept_trace.specs.Grammar.{untimed, address_lsb, address_width, map_width, qual_number, IsPacket}
 
 abbrev pub bit : Bool → ℕ
 bit b = if b then 1 else 0
@@ -17,29 +17,37 @@ copies b = if b then 2 ^ 47 - 1 else 0
 abbrev pub differ : Bool → Bool → Bool
 differ a b = if a then not b else b
 
--- the highest bit of 30
+-- the highest bit of 32, which is the last one of an address that is sent
 abbrev pub high : ℕ → Bool
-high difference = nat_le (2 ^ 29) difference
+high a = nat_le (2 ^ 31) a
+
+-- an address without its lowest bits, which aren't sent; fewer of them where code may be compressed
+abbrev pub sent : Bool → ℕ → ℕ
+sent halves a = a / 2 ^ address_lsb (untimed halves)
+
+-- what stands past an address
+abbrev pub past_address : Bool → ℕ → ℕ
+past_address halves rest = 2 ^ address_width (untimed halves) * rest
 
 -- the bits of notify and updiscon
 abbrev pub notify_bit : Report → Bool
-notify_bit r = differ r.notify (high (r.difference / 4))
+notify_bit r = differ r.notify (high r.difference)
 
 abbrev pub updiscon_bit : Report → Bool
 updiscon_bit r = differ r.updiscon (notify_bit r)
 
 -- a difference and its flags, of which irreport says nothing
-abbrev pub report_number : Report → ℕ
-report_number r = r.difference / 4 + 2 ^ 30 * (bit (notify_bit r) + 2 * copies (updiscon_bit r))
+abbrev pub report_number : Bool → Report → ℕ
+report_number halves r = sent halves r.difference + past_address halves (bit (notify_bit r) + 2 * copies (updiscon_bit r))
 
 -- Times and contexts aren't written.
-abbrev pub number_of : Packet → ℕ
-number_of (Start branch privilege a time context) = 3 + 16 * bit branch + 32 * privilege + 128 * (a / 4 + 2 ^ 30 * copies (high (a / 4)))
-number_of (Context privilege time context) = 11 + 16 * privilege
-number_of (Support enabled status) = 15 + 16 * bit enabled + 64 * qual_number status
-number_of (Address report) = 2 + 4 * report_number report
-number_of (Map map) = 1 + 128 * (map + 2 ^ 31 * copies (nat_le (2 ^ 30) map))
-number_of (MapAddress count map report) = 1 + 4 * (count + 32 * (map + 2 ^ map_width count * report_number report))
+abbrev pub number_of : Bool → Packet → ℕ
+number_of halves (Start branch privilege a time context) = 3 + 16 * bit branch + 32 * privilege + 128 * (sent halves a + past_address halves (copies (high a)))
+number_of halves (Context privilege time context) = 11 + 16 * privilege
+number_of halves (Support enabled status) = 15 + 16 * bit enabled + 64 * qual_number status
+number_of halves (Address report) = 2 + 4 * report_number halves report
+number_of halves (Map map) = 1 + 128 * (map + 2 ^ 31 * copies (nat_le (2 ^ 30) map))
+number_of halves (MapAddress count map report) = 1 + 4 * (count + 32 * (map + 2 ^ map_width count * report_number halves report))
 
 -- the lowest ten bytes
 abbrev pub ten_bytes : ℕ → List ℕ
@@ -54,12 +62,12 @@ abbrev pub IsCut : List ℕ → Type 0
 IsCut payload = (i : ℕ) → i + 2 ≡ length payload → slice_index payload (i + 1) ≢ fill_after (slice_index payload i)
 
 -- A packet's length and its payload, which is cut short, were added.
-pub record Appends (old new : List ℕ) (packet : Packet) : Type 0 where
+pub record Appends (halves : Bool) (old new : List ℕ) (packet : Packet) : Type 0 where
   pub payload : List ℕ
   pub appended : new ≡ old ++ length payload ∷ payload
   pub some : 0 < length payload
   pub few : length payload ≤ 10
-  pub spells : IsPacket (untimed false) payload packet
+  pub spells : IsPacket (untimed halves) payload packet
   pub cut : IsCut payload
 
 -- A report of the packet says nothing by irreport.

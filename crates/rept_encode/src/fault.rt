@@ -16,7 +16,8 @@ pub enum EncodeFault {
 /// Why a step isn't added to others.
 #[derive(Clone, Copy, Debug, PartialEq, Eq, Error)]
 pub enum StepFault {
-    /// The instruction can't lead to the next address, or stands at no multiple of 4.
+    /// The instruction can't lead to the next address, stands at no multiple of 4 (of 2 where code may be compressed), or is short where code
+    /// may not be compressed.
     #[error("no step of this instruction leads there")]
     NoStep,
     /// There are 65,536 steps already.

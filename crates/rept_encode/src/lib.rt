@@ -10,7 +10,7 @@ mod step;
 mod writer;
 
 pub use fault::{EncodeFault, StepFault};
-pub use step::{push_step, step_between};
+pub use step::{Site, push_step, step_between};
 pub use writer::encode;
 
 #[cfg(test)]

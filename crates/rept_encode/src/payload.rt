@@ -1,10 +1,10 @@
 //! The payloads of packets, as short as the format allows.
 
-ghost use Rattle.std.specs.Prelude.{◌≡◌, ◌+◌, ◌<◌, ◌≤◌, ◌^◌, ◌*◌, List, ℕ, length, ◌∷◌, [], true, false, IfOk, OnOk, OnErr};
+ghost use Rattle.std.specs.Prelude.{◌≡◌, ◌+◌, ◌<◌, ◌≤◌, ◌^◌, ◌*◌, Bool, List, ℕ, length, ◌∷◌, [], true, false, IfOk, OnOk, OnErr};
 ghost use Rattle.rept_trace.specs.declared.packet.Packet.{Packet};
 ghost use Rattle.rept_trace.specs.Fits.{FieldsFit};
 ghost use Rattle.rept_trace.specs.Grammar.{untimed, map_width, qual_number, IsPacket};
-ghost use Rattle.rept_encode.specs.Written.{bit, copies, high, report_number, number_of, fill_after, IsSilent, IsCut, Appends};
+ghost use Rattle.rept_encode.specs.Written.{bit, copies, high, sent, past_address, report_number, number_of, fill_after, IsSilent, IsCut, Appends};
 
 use rept_trace::{Packet, Qual, Report};
 use rept_word::{OutOfMemory, Text};
@@ -23,16 +23,43 @@ fn copies(value: bool) -> u128
     if value { 0x7fff_ffff_ffff } else { 0 }
 }
 
-/// A difference and its flags, of which `irreport` says nothing.
-fn report_number(report: &Report) -> u128
-    ensures number { result ≡ report_number report.now }
-    ensures below { result < 2 ^ 78 }
+/// An address without its lowest bits, which aren't sent: one where code may be compressed, else two.
+fn sent(halves: bool, address: u32) -> u128
+    ensures number { result ≡ sent halves address }
+    ensures below { result < 2 ^ 31 }
 {
-    let difference = u128::from(report.difference / 4);
-    let high = difference >= 0x2000_0000;
-    let notify = high != report.notify;
+    u128::from(if halves { address / 2 } else { address / 4 })
+}
+
+/// What stands past an address.
+fn past_address(halves: bool, rest: u128) -> u128
+    requires { rest < 2 ^ 49 }
+    ensures number { result ≡ past_address halves rest }
+    ensures below { result < 2 ^ 80 }
+{
+    if halves {
+        0x8000_0000 * rest
+    } else {
+        0x4000_0000 * rest
+    }
+}
+
+/// Whether the highest bit of 32 is set, which is the last one of an address that is sent.
+fn high(address: u32) -> bool
+    ensures { result ≡ high address }
+{
+    address >= 0x8000_0000
+}
+
+/// A difference and its flags, of which `irreport` says nothing.
+fn report_number(halves: bool, report: &Report) -> u128
+    ensures number { result ≡ report_number halves report.now }
+    ensures below { result < 2 ^ 81 }
+{
+    let notify = high(report.difference) != report.notify;
     let updiscon = notify != report.updiscon;
-    difference + 0x4000_0000 * (bit(notify) + 2 * copies(updiscon))
+    let flags = bit(notify) + 2 * copies(updiscon);
+    sent(halves, report.difference) + past_address(halves, flags)
 }
 
 /// The number of a status.
@@ -50,9 +77,9 @@ fn status_number(status: Qual) -> u128
 /// A map of so many branches, and a report after it.
 fn joined(count: u8, map: u32, report: u128) -> u128
     requires map { map < 2 ^ 31 }
-    requires report { report < 2 ^ 78 }
+    requires report { report < 2 ^ 81 }
     ensures number { result ≡ map + 2 ^ map_width count * report }
-    ensures below { result < 2 ^ 110 }
+    ensures below { result < 2 ^ 113 }
 {
     let map = u128::from(map);
     if count < 2 {
@@ -69,9 +96,9 @@ fn joined(count: u8, map: u32, report: u128) -> u128
 }
 
 /// The number that is a packet's payload. No report says `irreport`.
-fn number_of(packet: &Packet) -> u128
-    requires { FieldsFit (untimed false) packet.now }
-    ensures { result ≡ number_of packet.now }
+fn number_of(halves: bool, packet: &Packet) -> u128
+    requires { FieldsFit (untimed halves) packet.now }
+    ensures { result ≡ number_of halves packet.now }
 {
     match *packet {
         Packet::Start {
@@ -80,18 +107,17 @@ fn number_of(packet: &Packet) -> u128
             address,
             ..
         } => {
-            let place = u128::from(address / 4);
-            let rest = place + 0x4000_0000 * copies(place >= 0x2000_0000);
+            let rest = sent(halves, address) + past_address(halves, copies(high(address)));
             3 + 16 * bit(branch) + 32 * u128::from(privilege) + 128 * rest
         }
         Packet::Context { privilege, .. } => 11 + 16 * u128::from(privilege),
         Packet::Support { enabled, status } => 15 + 16 * bit(enabled) + 64 * status_number(status),
-        Packet::Address { report } => 2 + 4 * report_number(&report),
+        Packet::Address { report } => 2 + 4 * report_number(halves, &report),
         Packet::Map { map } => {
             1 + 128 * (u128::from(map) + 0x8000_0000 * copies(map >= 0x4000_0000))
         }
         Packet::MapAddress { count, map, report } => {
-            let rest = joined(count, map, report_number(&report));
+            let rest = joined(count, map, report_number(halves, &report));
             1 + 4 * (u128::from(count) + 32 * rest)
         }
     }
@@ -109,7 +135,7 @@ fn cut(payload: &[u8]) -> &[u8]
     requires { 0 < length payload.now }
     ensures some { 0 < length result.now }
     ensures few { length result.now ≤ length payload.now }
-    ensures spells { (packet : Packet) → IsPacket (untimed false) payload.now packet → IsPacket (untimed false) result.now packet }
+    ensures spells { (halves : Bool) (packet : Packet) → IsPacket (untimed halves) payload.now packet → IsPacket (untimed halves) result.now packet }
     ensures cut { IsCut result.now }
 {
     let mut size = payload.len();
@@ -120,12 +146,12 @@ fn cut(payload: &[u8]) -> &[u8]
 }
 
 /// Adds a packet: its length, and its payload, cut as short as may be.
-pub fn push_packet(out: &mut Text, packet: &Packet) -> Result<(), OutOfMemory>
-    requires fits { FieldsFit (untimed false) packet.now }
+pub fn push_packet(out: &mut Text, halves: bool, packet: &Packet) -> Result<(), OutOfMemory>
+    requires fits { FieldsFit (untimed halves) packet.now }
     requires silent { IsSilent packet.now }
-    ensures ok { OnOk result (Appends out.old out.new packet.now) }
+    ensures ok { OnOk result (Appends halves out.old out.new packet.now) }
 {
-    let bytes = number_of(packet).to_le_bytes();
+    let bytes = number_of(halves, packet).to_le_bytes();
     let payload = cut(&bytes[..10]);
     out.push(&[payload.len() as u8])?;
     out.push(payload)?;

@@ -1,12 +1,13 @@
 //! A trace that is being written, packet by packet.
 
-ghost use Rattle.std.specs.Prelude.{◌≡◌, ℕ, ◌≤◌, ◌*◌, ◌%◌, ◌⊎◌, false, OnOk, IfOk};
+ghost use Rattle.std.specs.Prelude.{◌≡◌, ◌≤◌, ◌%◌, ◌⊎◌, Bool, OnOk, IfOk};
 ghost use Rattle.rept_trace.specs.declared.packet.Packet.{Packet};
 ghost use Rattle.rept_trace.specs.declared.packet.Qual.TheVariants.{EndedRep};
 ghost use Rattle.rept_trace.specs.Fits.{FieldsFit};
 ghost use Rattle.rept_trace.specs.Grammar.{untimed};
 ghost use Rattle.rept_trace.specs.Stream.{header};
 ghost use Rattle.rept_encode.specs.State.{AreBits, said, start_at, report_packet, IsBegun, IsReported, IsSent, IsRestarted, IsWaiting, IsMapped, IsStanding};
+ghost use Rattle.rept_encode.specs.Walkable.{alignment_by};
 ghost use Rattle.rept_encode.specs.Written.{IsSilent, Appends};
 
 use crate::bits::{Bits, no_bits, with_row};
@@ -35,10 +36,9 @@ pub struct Sender {
 /// A report of an address that lies so far from the one before, with the bits. It notifies, or says that an uninferable jump
 /// led there.
 fn report_packet(bits: Bits, difference: u32, notify: bool) -> Packet
-    requires bits { AreBits bits 31 }
-    requires even { difference % 4 ≡ 0 }
+    requires { AreBits bits 31 }
     ensures packet { result ≡ report_packet bits.count bits.map (said difference notify) }
-    ensures fits { FieldsFit (untimed false) result }
+    ensures fits { (halves : Bool) → difference % alignment_by halves ≡ 0 → FieldsFit (untimed halves) result }
     ensures silent { IsSilent result }
 {
     let report = Report {
@@ -59,9 +59,8 @@ fn report_packet(bits: Bits, difference: u32, notify: bool) -> Packet
 
 /// A start packet in user mode.
 fn start_packet(branch: bool, address: u32) -> Packet
-    requires { address % 4 ≡ 0 }
     ensures packet { result ≡ Packet.Start branch 0 address 0 0 }
-    ensures fits { FieldsFit (untimed false) result }
+    ensures fits { (halves : Bool) → address % alignment_by halves ≡ 0 → FieldsFit (untimed halves) result }
     ensures silent { IsSilent result }
 {
     Packet::Start {
@@ -74,22 +73,30 @@ fn start_packet(branch: bool, address: u32) -> Packet
 }
 
 /// Adds a start packet at the row.
-fn push_start(text: &mut Text, row: &StepRow) -> Result<(), OutOfMemory>
-    requires { row.now.at % 4 ≡ 0 }
-    ensures { OnOk result (Appends text.old text.new (start_at row.now)) }
+fn push_start(text: &mut Text, halves: bool, row: &StepRow) -> Result<(), OutOfMemory>
+    requires { row.now.at % alignment_by halves ≡ 0 }
+    ensures { OnOk result (Appends halves text.old text.new (start_at row.now)) }
 {
     let packet = start_packet(start_bit(row), row.at);
-    push_packet(text, &packet)
+    push_packet(text, halves, &packet)
+}
+
+/// The header of a trace.
+fn header(alloc: Global, halves: bool) -> Result<Text, OutOfMemory>
+    ensures { IfOk result (λ text. text ≡ header halves) }
+{
+    let mut text = Text::new(alloc);
+    text.push(&[0x52, 0x54, 0x52, 0x31, 1, u8::from(halves), 0, 0])?;
+    Ok(text)
 }
 
 /// A trace that begins at the row.
-pub fn begin(alloc: Global, first: &StepRow) -> Result<Sender, OutOfMemory>
-    requires { first.now.at % 4 ≡ 0 }
-    ensures { IfOk result (λ sender. IsBegun sender first.now) }
+pub fn begin(alloc: Global, halves: bool, first: &StepRow) -> Result<Sender, OutOfMemory>
+    requires { first.now.at % alignment_by halves ≡ 0 }
+    ensures { IfOk result (λ sender. IsBegun halves sender first.now) }
 {
-    let mut text = Text::new(alloc);
-    text.push(&[0x52, 0x54, 0x52, 0x31, 1, 0, 0, 0])?;
-    push_start(&mut text, first)?;
+    let mut text = header(alloc, halves)?;
+    push_start(&mut text, halves, first)?;
     Ok(Sender {
         text,
         reported: first.at,
@@ -111,53 +118,70 @@ impl Sender {
     }
 
     /// Reports the address of a row, with all bits that wait.
-    pub fn report(&mut self, to: u32, notify: bool, number: usize) -> Result<(), OutOfMemory>
+    pub fn report(
+        &mut self,
+        halves: bool,
+        to: u32,
+        notify: bool,
+        number: usize,
+    ) -> Result<(), OutOfMemory>
         requires bits { AreBits self.old.bits 31 }
-        requires even { (n : ℕ) × (self.old.reported ≡ 4 * n) }
-        requires to { to % 4 ≡ 0 }
-        ensures { OnOk result (IsReported self.old self.old.bits self.new to notify number) }
+        requires even { self.old.reported % alignment_by halves ≡ 0 }
+        requires to { to % alignment_by halves ≡ 0 }
+        ensures { OnOk result (IsReported halves self.old self.old.bits self.new to notify number) }
     {
         let difference = to.wrapping_sub(self.reported);
         let packet = report_packet(self.bits, difference, notify);
-        push_packet(&mut self.text, &packet)?;
+        push_packet(&mut self.text, halves, &packet)?;
         self.stand(to, number);
         Ok(())
     }
 
     /// Reports the address of a row, with all bits that wait and its own.
-    pub fn send(&mut self, next: &StepRow, notify: bool, number: usize) -> Result<(), OutOfMemory>
+    pub fn send(
+        &mut self,
+        halves: bool,
+        next: &StepRow,
+        notify: bool,
+        number: usize,
+    ) -> Result<(), OutOfMemory>
         requires bits { AreBits self.old.bits 30 }
-        requires even { (n : ℕ) × (self.old.reported ≡ 4 * n) }
-        requires to { next.now.at % 4 ≡ 0 }
-        ensures { OnOk result (IsSent self.old self.new next.now notify number) }
+        requires even { self.old.reported % alignment_by halves ≡ 0 }
+        requires to { next.now.at % alignment_by halves ≡ 0 }
+        ensures { OnOk result (IsSent halves self.old self.new next.now notify number) }
     {
         self.bits = with_row(self.bits, next);
-        self.report(next.at, notify, number)
+        self.report(halves, next.at, notify, number)
     }
 
     /// Ends the stretch after a call, and begins another one at the row.
-    pub fn restart(&mut self, next: &StepRow, number: usize) -> Result<(), OutOfMemory>
-        requires { next.now.at % 4 ≡ 0 }
-        ensures { OnOk result (IsRestarted self.old self.new next.now number) }
+    pub fn restart(
+        &mut self,
+        halves: bool,
+        next: &StepRow,
+        number: usize,
+    ) -> Result<(), OutOfMemory>
+        requires { next.now.at % alignment_by halves ≡ 0 }
+        ensures { OnOk result (IsRestarted halves self.old self.new next.now number) }
     {
         let packet = Packet::Support {
             enabled: false,
             status: Qual::EndedRep,
         };
-        push_packet(&mut self.text, &packet)?;
-        push_start(&mut self.text, next)?;
+        push_packet(&mut self.text, halves, &packet)?;
+        push_start(&mut self.text, halves, next)?;
         self.stand(next.at, number);
         Ok(())
     }
 
     /// Keeps a row: its bit waits, or goes out with the map that it fills.
-    pub fn keep(&mut self, next: &StepRow, number: usize) -> Result<(), OutOfMemory>
+    pub fn keep(&mut self, halves: bool, next: &StepRow, number: usize) -> Result<(), OutOfMemory>
         requires { AreBits self.old.bits 30 }
-        ensures { OnOk result (IsWaiting self.old self.new next.now number ⊎ IsMapped self.old self.new next.now number) }
+        ensures { OnOk result (IsWaiting self.old self.new next.now number ⊎ IsMapped halves self.old self.new next.now number) }
     {
         let bits = with_row(self.bits, next);
         if bits.count == 31 {
-            push_packet(&mut self.text, &Packet::Map { map: bits.map })?;
+            push_packet(&mut self.text, halves, &Packet::Map { map: bits.map })?;
             let address = self.reported;
             self.stand(address, number);
             return Ok(());

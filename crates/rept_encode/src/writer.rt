@@ -4,7 +4,7 @@ ghost use Rattle.std.specs.Prelude.{◌≡◌, ◌+◌, ◌-◌, ◌*◌, ◌<�
 ghost use Rattle.rept_path.specs.Code.{flow_of, jumps_far};
 ghost use Rattle.rept_encode.specs.Walkable.{IsWalkable, IsJumpEnd, IsFirstJumpEnd};
 ghost use Rattle.rept_encode.specs.Encoded.{Tells, IsRefusal};
-ghost use Rattle.rept_encode.specs.State.{AreSendable, IsNear, Sent, Stood, tail_bytes};
+ghost use Rattle.rept_encode.specs.State.{AreSendable, IsNear, Sent, Stood, run_of, tail_bytes};
 
 use crate::fault::EncodeFault;
 use crate::sender::{Sender, begin};
@@ -35,90 +35,101 @@ fn first_jump_end(rows: &[StepRow]) -> Option<usize>
 }
 
 /// Sends what leads from a row to the one after it.
-fn pass(sender: &mut Sender, rows: &[StepRow], i: usize) -> Result<(), OutOfMemory>
+fn pass(sender: &mut Sender, halves: bool, rows: &[StepRow], i: usize) -> Result<(), OutOfMemory>
     requires within { i + 1 < length rows.now }
-    requires given { AreSendable rows.now }
-    requires sent { Sent rows.now i sender.old }
-    ensures { OnOk result (Sent rows.now (i + 1) sender.new) }
+    requires given { AreSendable (run_of halves rows.now) }
+    requires sent { Sent (run_of halves rows.now) i sender.old }
+    ensures { OnOk result (Sent (run_of halves rows.now) (i + 1) sender.new) }
 {
     let here = &rows[i];
     let next = &rows[i + 1];
     if here.call {
-        sender.restart(next, i + 1)?;
+        sender.restart(halves, next, i + 1)?;
     } else if jumps_far(&here.instr) {
-        sender.send(next, false, i + 1)?;
+        sender.send(halves, next, false, i + 1)?;
     } else if next.call {
-        sender.send(next, true, i + 1)?;
+        sender.send(halves, next, true, i + 1)?;
     } else {
-        sender.keep(next, i + 1)?;
+        sender.keep(halves, next, i + 1)?;
     }
     Ok(())
 }
 
 /// Sends a row alone, from the one before it.
-fn single(sender: &mut Sender, rows: &[StepRow], i: usize) -> Result<(), OutOfMemory>
+fn single(sender: &mut Sender, halves: bool, rows: &[StepRow], i: usize) -> Result<(), OutOfMemory>
     requires within { i + 1 < length rows.now }
-    requires given { AreSendable rows.now }
+    requires given { AreSendable (run_of halves rows.now) }
     requires near { IsNear rows.now i }
-    requires stood { Stood rows.now i sender.old (tail_bytes rows.now i) }
-    ensures { OnOk result (Stood rows.now (i + 1) sender.new (tail_bytes rows.now (i + 1))) }
+    requires stood { Stood (run_of halves rows.now) i sender.old (tail_bytes rows.now i) }
+    ensures { OnOk result (Stood (run_of halves rows.now) (i + 1) sender.new (tail_bytes rows.now (i + 1))) }
 {
-    sender.send(&rows[i + 1], true, i + 1)?;
+    sender.send(halves, &rows[i + 1], true, i + 1)?;
     Ok(())
 }
 
 /// Sends what leads to the last branch, if the walk hasn't come to it.
-fn send_base(sender: &mut Sender, rows: &[StepRow], last: usize) -> Result<(), OutOfMemory>
+fn send_base(
+    sender: &mut Sender,
+    halves: bool,
+    rows: &[StepRow],
+    last: usize,
+) -> Result<(), OutOfMemory>
     requires last { last + 1 ≡ length rows.now }
-    requires given { AreSendable rows.now }
-    requires sent { Sent rows.now last sender.old }
-    ensures { OnOk result (Stood rows.now sender.old.base sender.new (tail_bytes rows.now sender.old.base)) }
+    requires given { AreSendable (run_of halves rows.now) }
+    requires sent { Sent (run_of halves rows.now) last sender.old }
+    ensures { OnOk result (Stood (run_of halves rows.now) sender.old.base sender.new (tail_bytes rows.now sender.old.base)) }
 {
     let base = sender.base;
     if base <= sender.walked {
         return Ok(());
     }
-    sender.report(rows[base].at, true, base)?;
+    sender.report(halves, rows[base].at, true, base)?;
     Ok(())
 }
 
 /// Sends the rows up to the last one.
-fn finish(sender: &mut Sender, rows: &[StepRow], last: usize) -> Result<(), OutOfMemory>
+fn finish(
+    sender: &mut Sender,
+    halves: bool,
+    rows: &[StepRow],
+    last: usize,
+) -> Result<(), OutOfMemory>
     requires last { last + 1 ≡ length rows.now }
-    requires given { AreSendable rows.now }
-    requires sent { Sent rows.now last sender.old }
-    ensures { OnOk result (Stood rows.now last sender.new (tail_bytes rows.now last)) }
+    requires given { AreSendable (run_of halves rows.now) }
+    requires sent { Sent (run_of halves rows.now) last sender.old }
+    ensures { OnOk result (Stood (run_of halves rows.now) last sender.new (tail_bytes rows.now last)) }
 {
     let base = sender.base;
-    send_base(sender, rows, last)?;
+    send_base(sender, halves, rows, last)?;
     for i in base..last {
-        single(sender, rows, i)?;
+        single(sender, halves, rows, i)?;
     }
     Ok(())
 }
 
 /// A trace of the rows.
-fn send_all(alloc: Global, rows: &[StepRow]) -> Result<Text, OutOfMemory>
-    requires given { AreSendable rows.now }
-    ensures tells { IfOk result (λ trace. Tells trace rows.now) }
+fn send_all(alloc: Global, halves: bool, rows: &[StepRow]) -> Result<Text, OutOfMemory>
+    requires given { AreSendable (run_of halves rows.now) }
+    ensures tells { IfOk result (λ trace. Tells halves trace rows.now) }
     ensures few { IfOk result (λ trace. length trace < 2 ^ 32) }
 {
     let last = rows.len() - 1;
-    let mut sender = begin(alloc, &rows[0])?;
+    let mut sender = begin(alloc, halves, &rows[0])?;
     for i in 0..last {
-        pass(&mut sender, rows, i)?;
+        pass(&mut sender, halves, rows, i)?;
     }
-    finish(&mut sender, rows, last)?;
+    finish(&mut sender, halves, rows, last)?;
     Ok(sender.text)
 }
 
 /// A trace of the steps, as the bytes of a file: `rept_path::rebuild` reads it back as these steps, over each dump whose code has
-/// their instructions and whose program counter is where they end. There must be a step, and each must be one that a hart can
-/// make, by an instruction of four bytes; `JumpEnds` comes exactly at the first call that directly follows an uninferable jump. Branches are sent 31 at a time, where
-/// nothing else need be told; payloads are cut short (Efficient Trace for RISC-V 2.0).
-pub fn encode(alloc: Global, steps: &Steps) -> Result<Text, EncodeFault>
-    requires { IsWalkable steps.now }
-    ensures tells { IfOk result (λ trace. Tells trace steps.now) }
+/// their instructions and whose program counter is where they end. `halves` says whether that code may be compressed: byte 5 of the header
+/// is 1 then, and addresses are sent with 31 bits in place of 30. There must be a step, and each must be one that a hart can make, short only
+/// where code may be compressed; `JumpEnds` comes exactly at the first call that directly follows an uninferable jump. Branches are sent 31 at
+/// a time, where nothing else need be told; payloads are cut short (Efficient Trace for RISC-V 2.0).
+pub fn encode(alloc: Global, halves: bool, steps: &Steps) -> Result<Text, EncodeFault>
+    requires { IsWalkable halves steps.now }
+    ensures tells { IfOk result (λ trace. Tells halves trace steps.now) }
     ensures few { IfOk result (λ trace. length trace < 2 ^ 32) }
     ensures refusal { IfErr result (λ fault. IsRefusal steps.now fault) }
     ensures jump_ends { (i : ℕ) → IsFirstJumpEnd steps.now i → result ≡ Err (EncodeFault.JumpEnds i) }
@@ -126,7 +137,7 @@ pub fn encode(alloc: Global, steps: &Steps) -> Result<Text, EncodeFault>
     let rows = steps.rows();
     match first_jump_end(rows) {
         Some(i) => Err(EncodeFault::JumpEnds(i as u32)),
-        None => match send_all(alloc, rows) {
+        None => match send_all(alloc, halves, rows) {
             Ok(trace) => Ok(trace),
             Err(_) => Err(EncodeFault::OutOfMemory),
         },

@@ -104,7 +104,7 @@ executes seed end words registers bytes last code rows run made next saved size 
   bytes_end = λ a v h. byte_there words registers bytes (run (length rows)).memory code.size saved.size saved.bytes a v h;
 }
 
-pub made_is : (seed : ℕ) (words : List ℕ) (m : Machine) (rows : List StepRow) → IsCode seed words → ((i : ℕ) → get_or words i 0 < 2 ^ 32) → Ran seed words m rows → (exe core trace registers bytes : List ℕ) → exe ≡ executable words → core ≡ core_file registers bytes → length registers ≡ 32 → get_or registers 0 0 ≡ pc_of m → ((r : ℕ) → 0 < r → r < 32 → get_or registers r 0 ≡ (state_of m).register r) → length bytes ≡ 1024 → ((i : ℕ) → i < 1024 → get_or bytes i 0 ≡ (state_of m).memory (131072 + i)) → Tells trace rows → length trace < 2 ^ 32 → IsMade seed (length rows) (record { exe = exe; core = core; trace = trace })
+pub made_is : (seed : ℕ) (words : List ℕ) (m : Machine) (rows : List StepRow) → IsCode seed words → ((i : ℕ) → get_or words i 0 < 2 ^ 32) → Ran seed words m rows → (exe core trace registers bytes : List ℕ) → exe ≡ executable words → core ≡ core_file registers bytes → length registers ≡ 32 → get_or registers 0 0 ≡ pc_of m → ((r : ℕ) → 0 < r → r < 32 → get_or registers r 0 ≡ (state_of m).register r) → length bytes ≡ 1024 → ((i : ℕ) → i < 1024 → get_or bytes i 0 ≡ (state_of m).memory (131072 + i)) → Tells false trace rows → length trace < 2 ^ 32 → IsMade seed (length rows) (record { exe = exe; core = core; trace = trace })
 made_is seed words m rows code small ran exe core trace registers bytes exe_is core_is count pc regs size held tells few =
     let now = ran.now in
     let saved : AreSaved registers bytes (pc_of m) (ran.run (length rows)) = record {

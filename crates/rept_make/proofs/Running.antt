@@ -64,7 +64,7 @@ either_way : (b : Bool) (next x y : ℕ) → next ≡ cond b x y → (next ≡ x
 either_way true next x y e = inl e
 either_way false next x y e = inr e
 
-tame_leads : (instr : Instr) (e at next : ℕ) (s t : State) → IsTame instr → HasEffect instr e (of_word at next) s t → MayLead (flow_of instr) at next
+tame_leads : (instr : Instr) (e at next : ℕ) (s t : State) → IsTame instr → HasEffect instr e (of_word at next) s t → MayLead false (flow_of instr) (of_word at next)
 tame_leads (Imm op rd rs1 imm) e at next s t f h = h.onward
 tame_leads (Op op rd rs1 rs2) e at next s t f h = h.onward
 tame_leads (Load op rd rs1 imm) e at next s t f h = h.onward
@@ -79,15 +79,15 @@ tame_leads Ecall e at next s t f h = absurd f
 tame_leads Ebreak e at next s t f h = absurd f
 tame_leads (Counter rd csr) e at next s t f h = absurd f
 
-leads : (slot : ℕ) (instr : Instr) (e at next : ℕ) (s t : State) → IsPlaced slot instr → next % 4 ≡ 0 → HasEffect instr e (of_word at next) s t → MayLead (flow_of instr) at next
+leads : (slot : ℕ) (instr : Instr) (e at next : ℕ) (s t : State) → IsPlaced slot instr → next % 4 ≡ 0 → HasEffect instr e (of_word at next) s t → MayLead false (flow_of instr) (of_word at next)
 leads slot instr e at next s t p even h = elim (cases_eq slot 64) [
-  | inl x ↦ let i = p.jump x in subst (λ (y : Instr). MayLead (flow_of y) at next) (sym i) even
+  | inl x ↦ let i = p.jump x in subst (λ (y : Instr). MayLead false (flow_of y) (of_word at next)) (sym i) even
   | inr a ↦ elim (cases_eq slot 191) [
-    | inl x ↦ let i = p.number x in subst (λ (y : Instr). MayLead (flow_of y) at next) (sym i) (let k = subst (λ (y : Instr). HasEffect y e (of_word at next) s t) i h in k.onward)
+    | inl x ↦ let i = p.number x in subst (λ (y : Instr). MayLead false (flow_of y) (of_word at next)) (sym i) (let k = subst (λ (y : Instr). HasEffect y e (of_word at next) s t) i h in k.onward)
     | inr b ↦ elim (cases_eq slot 192) [
-      | inl x ↦ let i = p.call x in subst (λ (y : Instr). MayLead (flow_of y) at next) (sym i) (let k = subst (λ (y : Instr). HasEffect y e (of_word at next) s t) i h in k.onward)
+      | inl x ↦ let i = p.call x in subst (λ (y : Instr). MayLead false (flow_of y) (of_word at next)) (sym i) (let k = subst (λ (y : Instr). HasEffect y e (of_word at next) s t) i h in k.onward)
       | inr c ↦ elim (cases_eq slot 255) [
-        | inl x ↦ let i = p.back x in subst (λ (y : Instr). MayLead (flow_of y) at next) (sym i) (let k = subst (λ (y : Instr). HasEffect y e (of_word at next) s t) i h in k.onward)
+        | inl x ↦ let i = p.back x in subst (λ (y : Instr). MayLead false (flow_of y) (of_word at next)) (sym i) (let k = subst (λ (y : Instr). HasEffect y e (of_word at next) s t) i h in k.onward)
         | inr d ↦ tame_leads instr e at next s t (p.tame a b c d) h
       ]
     ]
@@ -214,15 +214,15 @@ module _ (seed : ℕ) (words : List ℕ) (code : IsCode seed words) (old new : M
   calls_so : row.call ≡ calls (flow_of row.instr)
   calls_so = called row.call row.instr call
 
-  stepped : IsStepped row
+  stepped : IsStepped false row
   stepped =
       let there_is = there in
       let to = goes.1 in
       record {
         aligned = omega arith;
-        lead = leads ran.slot.0 row.instr 0 row.at row.next (state_of old) (state_of new) placed (let e = to.2 in omega arith) (effect 0);
+        lead = subst (λ (a : Addresses). MayLead false (flow_of row.instr) a) (sym (of_long row long)) (leads ran.slot.0 row.instr 0 row.at row.next (state_of old) (state_of new) placed (let e = to.2 in omega arith) (effect 0));
         call = calls_so;
-        long = long;
+        long = λ words. long;
       }
 
   made_row : IsMadeRow seed row (state_of old) (state_of new)
@@ -308,7 +308,7 @@ module _ (seed : ℕ) (words : List ℕ) (code : IsCode seed words) (old new : M
     slot = (goes.1.0, goes.1.1, next ∙ goes.1.2);
     start = λ none. absurd (push_some rows none);
     ends = rw next ends;
-    steps = All-push IsStepped rows row ran.steps stepped;
+    steps = All-push (IsStepped false) rows row ran.steps stepped;
     landed = landed_on;
     entered = entered_on;
   }
@@ -326,7 +326,7 @@ ran_first seed words m code base pc registers memory state = record {
   slot = (0, omega arith, pc ∙ refl);
   start = λ none. pc;
   ends = tt;
-  steps = All-nil IsStepped;
+  steps = All-nil (IsStepped false);
   landed = λ before last size. omega arith;
   entered = λ i end. let get = end.jumps in cc;
 }

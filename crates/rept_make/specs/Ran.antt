@@ -1,5 +1,5 @@
 -- A machine that has made the steps of a made run so far. It stands in private contracts alone.
-use Rattle.std.specs.Prelude.{◌≡◌, ℕ, ◌+◌, ◌*◌, ◌<◌, List, [], length, slice_get, Some, true}
+use Rattle.std.specs.Prelude.{◌≡◌, ℕ, ◌+◌, ◌*◌, ◌<◌, List, [], length, slice_get, Some, false, true}
 use Rattle.std.specs.List.{All}
 use Rattle.rept_isa.specs.declared.row.StepRow.{StepRow}
 use Rattle.rept_steps.specs.Linked.{EndBefore}
@@ -22,7 +22,7 @@ pub record Ran (seed : ℕ) (words : List ℕ) (m : Machine) (rows : List StepRo
   pub slot : (j : ℕ) × (j < 256) × (pc_of m ≡ 65536 + 4 * j)
   pub start : rows ≡ [] → pc_of m ≡ 65536
   pub ends : EndBefore rows (pc_of m)
-  pub steps : All IsStepped rows
+  pub steps : All (IsStepped false) rows
   -- the only uninferable jump leads to slot 66, where no call stands
   pub landed : (before : ℕ) (last : StepRow) → length rows ≡ before + 1 → slice_get rows before ≡ Some last → jumps_far (flow_of last.instr) ≡ true → pc_of m ≡ 65800
   pub entered : (i : ℕ) → IsJumpEnd rows i → ⊥

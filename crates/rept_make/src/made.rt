@@ -1,6 +1,6 @@
 //! A made crash as a whole.
 
-ghost use Rattle.std.specs.Prelude.{◌≡◌, ◌+◌, ◌^◌, ◌<◌, ◌≤◌, ℕ, length, slice_index, IfOk};
+ghost use Rattle.std.specs.Prelude.{◌≡◌, ◌+◌, ◌^◌, ◌<◌, ◌≤◌, ℕ, false, length, slice_index, IfOk};
 ghost use Rattle.rept_machine.specs.Machine.{state_of, pc_of};
 ghost use Rattle.rept_encode.specs.Walkable.{IsWalkable, IsJumpEnd};
 ghost use Rattle.rept_encode.specs.Encoded.{Tells};
@@ -56,12 +56,12 @@ fn saved_bytes(alloc: Global, machine: &Machine<'_>) -> Result<Vec<u8>, AllocErr
 
 /// The trace of steps of which no call directly follows an uninferable jump, so that nothing but memory can be wanting.
 fn trace_of(alloc: Global, steps: &Steps) -> Result<Text, OutOfMemory>
-    requires walkable { IsWalkable steps.now }
+    requires walkable { IsWalkable false steps.now }
     requires entered { (i : ℕ) → IsJumpEnd steps.now i → ⊥ }
-    ensures tells { IfOk result (λ trace. Tells trace steps.now) }
+    ensures tells { IfOk result (λ trace. Tells false trace steps.now) }
     ensures few { IfOk result (λ trace. length trace < 2 ^ 32) }
 {
-    match encode(alloc, steps) {
+    match encode(alloc, false, steps) {
         Ok(trace) => Ok(trace),
         Err(fault) => match fault {
             EncodeFault::OutOfMemory => Err(AllocError),

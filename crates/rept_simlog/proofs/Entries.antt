@@ -5,19 +5,21 @@ use Rattle.std.proofs.lemmas.List.Elements.{All-from_get_or}
 use Rattle.std.proofs.lemmas.Option.{slice_get_within, slice_get-get_or}
 use Rattle.rept_isa.specs.declared.instr.Instr.TheVariants.{Fence}
 use Rattle.rept_isa.specs.declared.row.StepRow.{StepRow}
-use Rattle.rept_elf.specs.Segments.{ElfSegment}
 use Rattle.rept_steps.specs.Linked.{EndBefore}
-use Rattle.rept_path.specs.Code.{words}
+use Rattle.rept_path.specs.Code.{Code}
 use Rattle.rept_path.specs.Rows.{CarriesCode, CarryCode}
-use Rattle.rept_path.proofs.LongRows.{never_short}
 use Rattle.rept_encode.specs.Walkable.{IsFirstJumpEnd}
 use Rattle.rept_encode.specs.Encoded.{Tells}
+use Rattle.rept_encode.specs.Added as added
+use Rattle.rept_encode.specs.Added.{asked_of}
+use Rattle.rept_encode.specs.declared.step.Site.{Site}
 use Rattle.rept_simlog.specs.declared.log.Entry.{Entry}
 use Rattle.rept_simlog.specs.declared.refusal.Refusal.{Refusal}
 use Rattle.rept_simlog.specs.declared.refusal.Refusal.TheVariants.{Executable, NoNumber, NoInstruction, NoStep, JumpEnds, NoSteps, OutOfMemory}
 use Rattle.rept_simlog.specs.Log.{IsNumber, IsLine, AreEntriesThen}
+use Rattle.rept_simlog.specs.Program.{site_of}
 use Rattle.rept_simlog.specs.Recorded.{IsStepRefused, IsWalkFault}
-use Rattle.rept_simlog.specs.Walk.{IsStepBetween, AddsRow, Along, GoAlong, MayStep, MayGo, EndsJump, Records}
+use Rattle.rept_simlog.specs.Walk.{step_asked, IsStepBetween, AddsRow, Along, GoAlong, MayStep, MayGo, EndsJump, Records}
 
 -- one entry more
 pub entries_push : (before : ℕ) (bytes rest line after : List ℕ) (entries : List Entry) (entry : Entry) → AreEntriesThen before bytes entries rest → 0 < length rest → IsLine rest line after → entry.line ≡ before + length entries + 1 → IsNumber line entry.address → AreEntriesThen before bytes (entries ++ entry ∷ []) after
@@ -31,7 +33,7 @@ pub size_push : (old new : List Entry) (entry : Entry) → new ≡ old ++ entry 
 size_push old new entry e = ap (length {A = Entry}) e ∙ length-append old (entry ∷ [])
 
 -- a fault between two entries is one of all
-pub lift_fault : (code : List ElfSegment) (entries : List Entry) (i : ℕ) (from to : Entry) (r : Refusal) → MayGo code entries i → slice_get entries i ≡ Some from → slice_get entries (i + 1) ≡ Some to → IsStepRefused code from to r → IsWalkFault code entries r
+pub lift_fault : (code : Code) (entries : List Entry) (i : ℕ) (from to : Entry) (r : Refusal) → MayGo code entries i → slice_get entries i ≡ Some from → slice_get entries (i + 1) ≡ Some to → IsStepRefused code from to r → IsWalkFault code entries r
 lift_fault code entries i from to (NoInstruction k fault) go a b h =
     let w = slice_get_within entries (i + 1) to b in
     record { i = i; entry = from; there = a; early = w; first = go; line = h.0; looked = h.1 }
@@ -53,8 +55,12 @@ same_entry entries i j a b e x y =
     let f : ◌≡◌ {A = Option Entry} (Some a) (Some b) = sym x ∙ ap (λ (k : ℕ). slice_get entries k) e ∙ y in
     cc
 
+-- a step that was refused can't be made
+pub none_goes : (code : Code) (from to : Entry) (site : Site) → site ≡ site_of code from.address site.instr → (added.MayStep (asked_of code.halves site to.address) → ⊥) → added.MayStep (step_asked code site.instr from to) → ⊥
+none_goes code from to site is none m = none (subst (λ (s : Site). added.MayStep (asked_of code.halves s to.address)) (sym is) m)
+
 -- one step more along the entries
-pub along_push : (code : List ElfSegment) (entries : List Entry) (old new : List StepRow) (i : ℕ) (from to : Entry) → Along code entries old → length old ≡ i → slice_get entries i ≡ Some from → slice_get entries (i + 1) ≡ Some to → AddsRow code old new from to → Along code entries new
+pub along_push : (code : Code) (entries : List Entry) (old new : List StepRow) (i : ℕ) (from to : Entry) → Along code entries old → length old ≡ i → slice_get entries i ≡ Some from → slice_get entries (i + 1) ≡ Some to → AddsRow code old new from to → Along code entries new
 along_push code entries old new i from to before size a b x = λ j row f t get get_f get_t.
     let g : slice_get (old ++ x.row ∷ []) j ≡ Some row = subst (λ (rows : List StepRow). slice_get rows j ≡ Some row) x.rows get in
     elim (get_push old x.row j row g) [
@@ -67,7 +73,7 @@ along_push code entries old new i from to before size a b x = λ j row f t get g
           subst (λ (u : Entry). IsStepBetween code f u row) same_to (subst (λ (u : Entry). IsStepBetween code u to row) same_from s)
     ]
 
-pub go_push : (code : List ElfSegment) (entries : List Entry) (i : ℕ) (from to : Entry) → MayGo code entries i → slice_get entries i ≡ Some from → slice_get entries (i + 1) ≡ Some to → MayStep code from to → MayGo code entries (i + 1)
+pub go_push : (code : Code) (entries : List Entry) (i : ℕ) (from to : Entry) → MayGo code entries i → slice_get entries i ≡ Some from → slice_get entries (i + 1) ≡ Some to → MayStep code from to → MayGo code entries (i + 1)
 go_push code entries i from to before a b step = λ j f t lt get_f get_t. elim (cases_eq j i) [
   | inl e ↦
       let same_from : from ≡ f = same_entry entries i j from f (sym e) a get_f in
@@ -76,7 +82,7 @@ go_push code entries i from to before a b step = λ j f t lt get_f get_t. elim (
   | inr ne ↦ before j f t (omega arith) get_f get_t
 ]
 
-pub rows_size : (code : List ElfSegment) (old new : List StepRow) (from to : Entry) → AddsRow code old new from to → length new ≡ length old + 1
+pub rows_size : (code : Code) (old new : List StepRow) (from to : Entry) → AddsRow code old new from to → length new ≡ length old + 1
 rows_size code old new from to x = ap (length {A = StepRow}) x.rows ∙ length-append old (x.row ∷ [])
 
 pub ends_at : (entries : List Entry) (i : ℕ) (to : Entry) (rows : List StepRow) → slice_get entries (i + 1) ≡ Some to → EndBefore rows to.address → (last : Entry) → slice_get entries (i + 1) ≡ Some last → EndBefore rows last.address
@@ -94,31 +100,31 @@ abbrev pub no_entry : Entry
 no_entry = record { line = 0; address = 0 }
 
 -- what is told of the rows
-pub records_is : (code : List ElfSegment) (entries : List Entry) (rows : List StepRow) (trace : List ℕ) → GoAlong code entries rows → Tells trace rows → Records code entries trace
+pub records_is : (code : Code) (entries : List Entry) (rows : List StepRow) (trace : List ℕ) → GoAlong code entries rows → Tells code.halves trace rows → Records code entries trace
 records_is code entries rows trace g t = record {
   rows = rows;
   along = g;
   rest = t.rest;
   layout = t.layout;
-  path = λ last get. t.path code last.address carry (g.ends last get);
+  path = λ last get. t.path code.segments last.address carry (g.ends last get);
 }
   where
-    carry : CarryCode (words code) rows
-    carry = All-from_get_or (CarriesCode (words code)) rows no_row (λ i lt.
+    carry : CarryCode code rows
+    carry = All-from_get_or (CarriesCode code) rows no_row (λ i lt.
         let count = g.count in
         let row : slice_get rows i ≡ Some (get_or rows i no_row) = slice_get-get_or rows i no_row lt in
         let from : slice_get entries i ≡ Some (get_or entries i no_entry) = slice_get-get_or entries i no_entry (omega arith) in
         let to : slice_get entries (i + 1) ≡ Some (get_or entries (i + 1) no_entry) = slice_get-get_or entries (i + 1) no_entry (omega arith) in
         let s = g.along i (get_or rows i no_row) (get_or entries i no_entry) (get_or entries (i + 1) no_entry) row from to in
-        record { instr = s.instr; short = s.long ∙ sym (never_short code (get_or rows i no_row).at) })
+        record { instr = s.instr; short = s.short })
 
-pub within_entries : (code : List ElfSegment) (entries : List Entry) (rows : List StepRow) (i : ℕ) → GoAlong code entries rows → IsFirstJumpEnd rows i → i < length entries
+pub within_entries : (code : Code) (entries : List Entry) (rows : List StepRow) (i : ℕ) → GoAlong code entries rows → IsFirstJumpEnd rows i → i < length entries
 within_entries code entries rows i g f =
     let w = slice_get_within rows i f.there.call f.there.follows in
     let count = g.count in
     omega arith
 
-pub ends_jump : (code : List ElfSegment) (entries : List Entry) (rows : List StepRow) (i line : ℕ) → GoAlong code entries rows → IsFirstJumpEnd rows i → ((entry : Entry) → slice_get entries i ≡ Some entry → entry.line ≡ line) → EndsJump code entries line
+pub ends_jump : (code : Code) (entries : List Entry) (rows : List StepRow) (i line : ℕ) → GoAlong code entries rows → IsFirstJumpEnd rows i → ((entry : Entry) → slice_get entries i ≡ Some entry → entry.line ≡ line) → EndsJump code entries line
 ends_jump code entries rows i line g f is =
     let w = within_entries code entries rows i g f in
     let get = slice_get-get_or entries i no_entry w in

@@ -1,3 +1,4 @@
 pub mod Log
+pub mod Program
 pub mod Recorded
 pub mod Walk

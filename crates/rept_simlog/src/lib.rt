@@ -2,8 +2,8 @@
 #![tactic(auto)]
 
 mod address;
-mod code;
 mod log;
+mod program;
 mod recorder;
 pub mod refusal;
 mod walk;

@@ -1,13 +1,14 @@
 //! The trace of a log.
 
 ghost use Rattle.std.specs.Prelude.{◌≡◌, ◌<◌, ◌≤◌, ◌^◌, length, slice_get, Some, IfOk, IfErr};
-ghost use Rattle.rept_elf.specs.Image.{segments_of};
 ghost use Rattle.rept_simlog.specs.declared.log.Entry.{Entry};
 ghost use Rattle.rept_simlog.specs.Log.{last_entries};
+ghost use Rattle.rept_simlog.specs.Program.{program_of};
 ghost use Rattle.rept_simlog.specs.Recorded.{IsWalkFault, IsRecorded, IsRefused};
 ghost use Rattle.rept_simlog.specs.Walk.{Records};
 
 use crate::log::{Entry, entries_of};
+use crate::program::Program;
 use crate::refusal::Refusal;
 use crate::walk::steps_of;
 use rept_elf::{Image, Want};
@@ -30,16 +31,16 @@ fn last_entries(entries: &[Entry]) -> &[Entry]
 }
 
 /// The trace of the steps of entries.
-fn record_entries(alloc: Global, image: &Image<'_>, entries: &[Entry]) -> Result<Text, Refusal>
+fn record_entries(alloc: Global, program: &Program<'_>, entries: &[Entry]) -> Result<Text, Refusal>
     requires { length entries.now ≤ 65537 }
-    ensures ok { IfOk result (λ trace. Records (segments_of image.now) entries.now trace) }
-    ensures err { IfErr result (λ refusal. IsWalkFault (segments_of image.now) entries.now refusal) }
+    ensures ok { IfOk result (λ trace. Records (program_of program.now) entries.now trace) }
+    ensures err { IfErr result (λ refusal. IsWalkFault (program_of program.now) entries.now refusal) }
 {
     if entries.len() < 2 {
         return Err(Refusal::NoSteps);
     }
-    let steps = steps_of(alloc, image, entries)?;
-    match encode(alloc, &steps) {
+    let steps = steps_of(alloc, program, entries)?;
+    match encode(alloc, program.halves, &steps) {
         Ok(trace) => Ok(trace),
         Err(fault) => match fault {
             EncodeFault::JumpEnds(i) => Err(Refusal::JumpEnds(line_of(entries, i))),
@@ -57,7 +58,8 @@ fn line_of(entries: &[Entry], i: u32) -> u32
 }
 
 /// The trace of the last 65,536 steps of a log over an executable. The log gives one executed address a line, of which the last is where
-/// the program stopped. What is written is read back as exactly these steps, with none skipped. A refusal names the first line that is
+/// the program stopped. Code may be compressed where bit 0 of the executable's `e_flags` says so (`EF_RISCV_RVC`); byte 5 of the trace is 1 then,
+/// and addresses are sent with 31 bits. What is written is read back as exactly these steps, with none skipped. A refusal names the first line that is
 /// no number, from which the code can't go on, to which it can't come, or that is a call after an uninferable jump; or it is a want of
 /// memory and no other fault.
 pub fn record(alloc: Global, exe: &[u8], log: &[u8]) -> Result<Text, Refusal>
@@ -70,5 +72,6 @@ pub fn record(alloc: Global, exe: &[u8], log: &[u8]) -> Result<Text, Refusal>
         Err(fault) => return Err(Refusal::Executable(fault)),
     };
     let entries = entries_of(alloc, log)?;
-    record_entries(alloc, &image, last_entries(entries.as_slice()))
+    let program = Program::new(&image);
+    record_entries(alloc, &program, last_entries(entries.as_slice()))
 }

@@ -16,12 +16,12 @@ use rept_isa::{Instr, Reg, StepRow, decode};
 use rept_partial::{Flat, Partial, Range};
 use rept_report::{Counts, Writer};
 use rept_rules::Base;
-use test_files::executable;
 use rept_steps::Steps;
 use rept_versions::{ByteFacts, PlainFacts, SpanFacts};
 use std::alloc::{AllocError, Global};
 use std::process::Abort;
 use std::test::Fail;
+use test_files::executable;
 
 // The code of the executable, at 0x10000: 12 bytes that can't be written.
 const CODE: [u32; 3] = [0x0070_0293, 0x0032_8313, 0x0062_83b3];

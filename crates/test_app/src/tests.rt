@@ -8,9 +8,9 @@ mod traces;
 
 use rept_app::{Status, rept, tell_no_memory};
 use rept_ports::{CalmShelf, CalmSource, MemShelf, MemSink, MemSource};
-use test_files::{core_file, executable};
 use std::alloc::{AllocError, Global};
 use std::test::Fail;
+use test_files::{core_file, executable};
 
 /// A trace of so many steps after the first one, by Efficient Trace: a start packet, an address packet and a support packet.
 fn trace_file(alloc: Global, difference: u8) -> Result<Vec<u8>, AllocError> {

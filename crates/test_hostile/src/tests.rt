@@ -3,8 +3,8 @@
 mod damages;
 mod ports;
 
-use test_files::executable;
 use std::alloc::{AllocError, Global};
+use test_files::executable;
 
 // The header and program headers of a core file whose only segment is the note at 84.
 const NOTE_ALONE: &[u8] = b"\x7fELF\x01\x01\x01\0\0\0\0\0\0\0\0\0\

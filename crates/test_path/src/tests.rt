@@ -14,7 +14,6 @@ use rept_dump::Dump;
 use rept_elf::{Image, Want};
 use rept_isa::{Instr, StepRow, decode};
 use rept_path::{PathFault, rebuild};
-use test_files::{core_file, executable};
 use rept_trace::Packets;
 use sent::{Sent, push_sent};
 use std::alloc::{AllocError, Global};
@@ -22,6 +21,7 @@ use std::process::Abort;
 use std::test::Fail;
 use stops::{MAPS, PHASES, STOPS};
 use stretches::{ENDS, JOINS, STARTS, WAITING};
+use test_files::{core_file, executable};
 
 /// The skipped packets and the steps of a path, or why there is none.
 type Outcome = Result<(u32, Vec<StepRow>), PathFault>;

@@ -8,11 +8,11 @@ use rept_isa::Reg;
 use rept_partial::{Partial, Range};
 use rept_reason::{Cell, Fact, Reason};
 use rept_rules::Base;
-use test_files::executable;
 use rept_versions::{ByteFacts, PlainFacts, SpanFacts};
 use std::alloc::Global;
 use std::process::Abort;
 use std::test::Fail;
+use test_files::executable;
 
 // `lui x5, 0x20`, `sw x6, 0(x5)`, `sw x7, 0(x5)`: the second store hides the first one.
 const HIDDEN: [(u32, u32, u32); 3] = [

@@ -3,9 +3,9 @@
 use super::{OPEN, THREE, trace_file, word_list};
 use rept_app::{Status, rept};
 use rept_ports::{CalmShelf, CalmSource, MemSink};
-use test_files::{core_file, executable};
 use std::alloc::{AllocError, Global};
 use std::test::Fail;
+use test_files::{core_file, executable};
 
 /// A file of the first crash with some bytes replaced, and the line that it brings.
 struct Damage {

@@ -3,8 +3,8 @@
 use super::{THREE, word_list};
 use rept_app::{Status, rept};
 use rept_ports::{CalmShelf, CalmSource, MemSink};
-use test_files::{core_file, executable};
 use std::test::Fail;
+use test_files::{core_file, executable};
 
 /// A program with each kind of instruction that a path may meet.
 ///

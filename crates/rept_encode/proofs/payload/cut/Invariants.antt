@@ -1,4 +1,4 @@
-use Rattle.std.proofs.Common.{◌<◌, ◌≤◌, length, take, false}
+use Rattle.std.proofs.Common.{◌<◌, ◌≤◌, length, take, Bool}
 use Rattle.rept_trace.specs.declared.packet.Packet.{Packet}
 use Rattle.rept_trace.specs.Grammar.{untimed, IsPacket}
 use Rattle.rept_encode.proofs.payload.cut.Given as goal
@@ -7,7 +7,7 @@ abbrev pub invariant-loop-size : goal.invariant-loop-size
 invariant-loop-size l = record {
   some : 0 < l.size;
   within : l.size ≤ length l.payload;
-  spells : (packet : Packet) → IsPacket (untimed false) l.payload packet → IsPacket (untimed false) (take l.size l.payload) packet;
+  spells : (halves : Bool) (packet : Packet) → IsPacket (untimed halves) l.payload packet → IsPacket (untimed halves) (take l.size l.payload) packet;
 }
 
 abbrev pub decreases-loop-size : goal.decreases-loop-size

@@ -1,3 +1,4 @@
+use Rattle.std.proofs.Common.{false}
 use Rattle.std.specs.List.{All}
 use Rattle.rept_steps.specs.Linked.{EndBefore}
 use Rattle.rept_encode.specs.Walkable.{IsStepped}
@@ -5,6 +6,6 @@ use Rattle.rept_encode.proofs.tests.trace_of.Given as goal
 
 abbrev pub invariant-loop-next : goal.invariant-loop-next
 invariant-loop-next l = record {
-  steps : All IsStepped l.steps;
+  steps : All (IsStepped false) l.steps;
   ends : EndBefore l.steps l.at;
 }

@@ -1,7 +1,6 @@
 use Rattle.std.proofs.Common.{◌≡◌, length, slice_get, Some}
 use Rattle.std.specs.List.{All}
-use Rattle.rept_elf.specs.Image.{segments_of}
-use Rattle.rept_dump.specs.Code.{code_of}
+use Rattle.rept_simlog.specs.Program.{program_of}
 use Rattle.rept_steps.specs.Linked.{EndBefore}
 use Rattle.rept_encode.specs.Walkable.{IsStepped}
 use Rattle.rept_simlog.specs.declared.log.Entry.{Entry}
@@ -10,10 +9,10 @@ use Rattle.rept_simlog.proofs.walk.steps_of.Given as goal
 
 abbrev pub invariant-loop-i : goal.invariant-loop-i
 invariant-loop-i l = record {
-  code : code_of l.code ≡ segments_of l.image;
+  code : program_of l.program ≡ program_of l.initial.program;
   count : length l.steps ≡ l.i;
-  along : Along (segments_of l.image) l.entries l.steps;
-  steps : All IsStepped l.steps;
-  leads : MayGo (segments_of l.image) l.entries l.i;
+  along : Along (program_of l.initial.program) l.entries l.steps;
+  steps : All (IsStepped l.program.halves) l.steps;
+  leads : MayGo (program_of l.initial.program) l.entries l.i;
   ends : (last : Entry) → slice_get l.entries l.i ≡ Some last → EndBefore l.steps last.address;
 }
