@@ -246,8 +246,8 @@ fn saved_core(alloc: Global) -> Result<Vec<u8>, AllocError> {
     Ok(file)
 }
 
-// The executable's segment with each choice of PF_X (1) and PF_W (2), its bytes being 93 02 70 00 13: those of a segment that may be
-// written aren't of memory, those of one that may be executed are code. The core file's two bytes come first.
+// The executable's segment with each choice of PF_X (1) and PF_W (2), its bytes beginning with 93 02 70 00 13: those of a segment that may be
+// written aren't of memory, those of one that may be executed are code; it ends after 0x1000b. The core file's two bytes come first.
 #[test]
 fn segments_and_their_flags(rt: HostRuntime) -> Result<(), Fail> {
     let core = saved_core(rt.alloc())?;
@@ -275,7 +275,7 @@ fn segments_and_their_flags(rt: HostRuntime) -> Result<(), Fail> {
         assert_eq!(rt; dump.word_of_code(0x10000), word, "{flags}");
         assert_eq!(rt; dump.half_of_code(0x10000), half, "{flags}");
         assert_eq!(rt; dump.half_of_code(0x10003), end, "{flags}");
-        assert_eq!(rt; dump.half_of_code(0x10004), None, "{flags}");
+        assert_eq!(rt; dump.half_of_code(0x1000b), None, "{flags}");
     }
     Ok(())
 }
