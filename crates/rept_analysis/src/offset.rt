@@ -20,6 +20,7 @@ fn offset(instr: &Instr) -> i32
         | Instr::Branch { .. }
         | Instr::Imm { .. }
         | Instr::Op { .. }
+        | Instr::Amo { .. }
         | Instr::Fence
         | Instr::Ecall
         | Instr::Ebreak

@@ -22,6 +22,7 @@ pub fn is_wrong_turn(row: &StepRow, first: Flat, second: Flat) -> bool
         | Instr::Store { .. }
         | Instr::Imm { .. }
         | Instr::Op { .. }
+        | Instr::Amo { .. }
         | Instr::Fence
         | Instr::Ecall
         | Instr::Ebreak

@@ -20,7 +20,7 @@ use Rattle.rept_known.specs.Both.{both_sets}
 use Rattle.rept_known.specs.BothMoves.{both_moves}
 use Rattle.rept_known.specs.declared.both.Both.{Both}
 use Rattle.rept_known.proofs.BothFiner.{both_finer}
-use Rattle.rept_rules.specs.Base.{base_rules}
+use Rattle.rept_amo.specs.Atomic.{atomic_rules}
 use Rattle.rept_found.proofs.Truths.{uses_here}
 use Rattle.rept_session.specs.Shown.{Told as ToldOf}
 use Rattle.rept_found.specs.Crash.{Crash, Means, setting, route}
@@ -598,7 +598,7 @@ module _ (r : Result Asked Refusal) (a : Asked) where
 -- what is known by ranges is known by ranges with known bits, of one path and crash
 abbrev pub FinerLaw : Type 0
 FinerLaw =
-    (S : Setting Both) (es : List Entry) (tracked : ℕ → Bool) (K : Knowledge) → Uses S both_sets both_moves base_rules → IsFiner (kind both_sets both_moves) (kind range_sets range_moves) → HasEnded S es tracked
+    (S : Setting Both) (es : List Entry) (tracked : ℕ → Bool) (K : Knowledge) → Uses S both_sets both_moves atomic_rules → IsFiner (kind both_sets both_moves) (kind range_sets range_moves) → HasEnded S es tracked
     → IsReport (beside S range_sets range_moves) K → Extends K (known_at_end S es tracked)
 
 pub bits_know : (words : List (List ℕ)) (files : Files) → FinerLaw → BitsKnowMore words files

@@ -5,7 +5,7 @@ use Rattle.rept_span.specs.RangeMoves.{range_moves}
 use Rattle.rept_known.specs.Both.{both_sets}
 use Rattle.rept_known.specs.BothMoves.{both_moves}
 use Rattle.rept_known.specs.declared.both.Both.{Both}
-use Rattle.rept_rules.specs.Base.{base_rules}
+use Rattle.rept_amo.specs.Atomic.{atomic_rules}
 use Rattle.rept_found.specs.Crash.{Means, means}
 use Rattle.rept_words.specs.declared.request.Domain.{Domain}
 use Rattle.rept_words.specs.declared.request.Domain.TheVariants as domain
@@ -17,5 +17,5 @@ SetsOf domain.KnownBits = Both
 
 -- with what the instructions do to them, and what is drawn from the rows
 abbrev pub means_of : (d : Domain) → Means (SetsOf d)
-means_of domain.Ranges = means range_sets range_moves base_rules
-means_of domain.KnownBits = means both_sets both_moves base_rules
+means_of domain.Ranges = means range_sets range_moves atomic_rules
+means_of domain.KnownBits = means both_sets both_moves atomic_rules

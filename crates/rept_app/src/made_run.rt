@@ -11,11 +11,11 @@ use crate::examine::examine;
 use crate::load::Manner;
 use crate::status::Status;
 use crate::tell::tell_no_memory;
+use rept_amo::Atomic;
 use rept_make::{Made, make};
 use rept_partial::Range;
 use rept_ports::{CalmSource, Sink};
 use rept_report::reports_are_sound;
-use rept_rules::Base;
 use rept_words::Domain;
 use std::alloc::Global;
 
@@ -40,7 +40,7 @@ fn answer_summary<K: Sink>(alloc: Global, made: &Made, out: &mut K) -> Status
     ensures yields { (seed steps : ℕ) → IsMade seed steps made.now → Yields Status.Ok result }
     ensures ports { (seed steps : ℕ) → IsMade seed steps made.now → (source : Port) → PortsEnd (move source source) (move (K.port out.old) (K.port out.new)) result }
 {
-    reports_are_sound::<Range, Base>();
+    reports_are_sound::<Range, Atomic>();
     let exe = made.exe.bytes();
     let core = made.core.bytes();
     let trace = made.trace.bytes();

@@ -6,7 +6,7 @@ ghost use Rattle.rept_ports.specs.Port.{move};
 ghost use Rattle.rept_found.specs.Truth.{HasNoExecution};
 ghost use Rattle.rept_steps.specs.Linked.{EndBefore};
 ghost use Rattle.rept_found.specs.Crash.{crash_of, end_pc, means};
-ghost use Rattle.rept_rules.specs.Base.{base_rules};
+ghost use Rattle.rept_amo.specs.Atomic.{atomic_rules};
 ghost use Rattle.rept_app.specs.Delivered.{Delivers};
 ghost use Rattle.rept_app.specs.Domains.{means_of};
 ghost use Rattle.rept_app.specs.Study.{Studies, IsStudied, StudyHolds};
@@ -16,13 +16,13 @@ use crate::hold::hold;
 use crate::refusal::Refusal;
 use crate::status::Status;
 use crate::tell::tell;
+use rept_amo::Atomic;
 use rept_dump::Dump;
 use rept_found::{Stop, search};
 use rept_known::Both;
 use rept_partial::Range;
 use rept_path::Path;
 use rept_ports::{Sink, Source};
-use rept_rules::Base;
 use rept_span::Transfer;
 use rept_words::Domain;
 use std::alloc::Global;
@@ -59,12 +59,12 @@ fn study_by<W: Transfer, S: Source, K: Sink>(
 ) -> Status
     requires some { 0 < length path.now.steps }
     requires ends { EndBefore path.now.steps (end_pc (registers_of dump.now)) }
-    ensures text { IfSome (S.port input.old).bytes (λ bytes. Delivers (Studies (crash_path (means W.sets W.moves base_rules) (crash_of dump.now) path.now) (record { input = bytes; left = (S.port input.new).bytes })) (move (K.port out.old) (K.port out.new)) result) }
-    ensures causes { IsStudied (crash_path (means W.sets W.moves base_rules) (crash_of dump.now) path.now) (move (S.port input.old) (S.port input.new)) (move (K.port out.old) (K.port out.new)) result }
-    ensures stays { (input.new ≡ input.old) ⊎ StudyHolds (crash_path (means W.sets W.moves base_rules) (crash_of dump.now) path.now) result }
-    ensures impossible { result ≡ Status.Inconsistent → HasNoExecution (route_of (crash_path (means W.sets W.moves base_rules) (crash_of dump.now) path.now)) }
+    ensures text { IfSome (S.port input.old).bytes (λ bytes. Delivers (Studies (crash_path (means W.sets W.moves atomic_rules) (crash_of dump.now) path.now) (record { input = bytes; left = (S.port input.new).bytes })) (move (K.port out.old) (K.port out.new)) result) }
+    ensures causes { IsStudied (crash_path (means W.sets W.moves atomic_rules) (crash_of dump.now) path.now) (move (S.port input.old) (S.port input.new)) (move (K.port out.old) (K.port out.new)) result }
+    ensures stays { (input.new ≡ input.old) ⊎ StudyHolds (crash_path (means W.sets W.moves atomic_rules) (crash_of dump.now) path.now) result }
+    ensures impossible { result ≡ Status.Inconsistent → HasNoExecution (route_of (crash_path (means W.sets W.moves atomic_rules) (crash_of dump.now) path.now)) }
 {
-    match search::<W, Base>(alloc, &path.steps, dump, Base::new()) {
+    match search::<W, Atomic>(alloc, &path.steps, dump, Atomic::new()) {
         Ok(mut found) => hold(alloc, &mut found, path.skipped, input, out),
         Err(Stop::Conflict(kind)) => tell(alloc, out, &Refusal::Inconsistent(kind)),
         Err(Stop::OutOfMemory) => tell(alloc, out, &Refusal::OutOfMemory),

@@ -15,12 +15,12 @@ use crate::load::{Asked, load_files};
 use crate::made_run::tell_made_run;
 use crate::status::Status;
 use crate::tell::tell;
+use rept_amo::Atomic;
 use rept_found::reports_are_true;
 use rept_known::Both;
 use rept_partial::Range;
 use rept_ports::{Shelf, Sink, Source};
 use rept_report::finer_sets_know_more;
-use rept_rules::Base;
 use std::alloc::Global;
 
 /// Opens the crash that the words name, and answers the commands of the input; or sums up a made run.
@@ -82,9 +82,9 @@ pub fn rept<H: Shelf, S: Source, K: Sink>(
     // Each fact of the report of `open` is told by `bits` of the same files.
     ensures bits { IfSome (H.port shelf.old).files (λ files. BitsKnowMore (map string_bytes words.now) files) }
 {
-    reports_are_true::<Range, Base>();
-    reports_are_true::<Both, Base>();
-    finer_sets_know_more::<Both, Range, Base>();
+    reports_are_true::<Range, Atomic>();
+    reports_are_true::<Both, Atomic>();
+    finer_sets_know_more::<Both, Range, Atomic>();
     match load_files(alloc, words, shelf) {
         Ok(Asked::Files(files)) => {
             let exe = files.exe.as_slice();

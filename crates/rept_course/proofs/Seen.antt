@@ -5,19 +5,21 @@ use Rattle.std.proofs.lemmas.Bool.{false≢true, cases_lt, lt-ltb, le-ltb, and_f
 use Rattle.std.proofs.lemmas.Option.{slice_get_cases}
 use mathlib.Core.Path.{fun_ext}
 use Rattle.rept_isa.specs.declared.instr.Instr.{Instr}
-use Rattle.rept_isa.specs.declared.instr.Instr.TheVariants.{Store, Ecall}
+use Rattle.rept_isa.specs.declared.instr.Instr.TheVariants.{Ecall}
 use Rattle.rept_isa.specs.declared.row.StepRow.{StepRow}
 use Rattle.rept_machine.specs.State.{State}
 use Rattle.rept_machine.specs.Step.{IsStep}
 use Rattle.rept_steps.specs.declared.threads.ThreadRows.{ThreadRows}
 use Rattle.rept_steps.specs.Course.{no_thread, Course, Row, rows_of, IsRow, row_at, is_call, is_call_row, calls, IsSound}
-use Rattle.rept_order.specs.Moments.{Moment, IsMoment, Act, IsAct, Stretch, stretch, Falls, writes_memory, is_writing, stores}
+use Rattle.rept_order.specs.Moments.{Moment, IsMoment, Act, IsAct, Stretch, stretch, Falls, is_writing, stores}
 use Rattle.rept_order.specs.Moments.Moment.{before, after, at_end}
 use Rattle.rept_order.specs.Moments.Act.{row, dark}
 use Rattle.rept_order.specs.History.{Ending}
 use Rattle.rept_order.specs.Points.{state_from}
 use Rattle.rept_order.specs.Legs.{points_before, point_in, number_of, point_at, row_from, leg_row}
 use Rattle.rept_order.specs.Times.{falls_between}
+use Rattle.rept_machine.proofs.StepLaws.{written_by_registers}
+use Rattle.rept_order.proofs.Points.{writes_store}
 use Rattle.rept_order.specs.Writing.{WritesBy}
 use Rattle.rept_order.specs.Interleaved as interleaved
 use Rattle.rept_order.specs.Interleaved.{IsRun, leg_of, WritesIn}
@@ -26,7 +28,6 @@ use Rattle.rept_order.proofs.Legs.{number_point, point_number, thread_inside}
 use Rattle.rept_partial.specs.Sets.{Sets}
 use Rattle.rept_span.specs.Moves.{Moves}
 use Rattle.rept_view.specs.Rules.{Rules}
-use Rattle.rept_view.specs.Written.{WritesBy as WritesByRow}
 use Rattle.rept_report.specs.Setting.{Setting, IsLast}
 use Rattle.rept_report.specs.Runs.{Run, Runs, StepWrites, is_call as calls_out}
 use Rattle.rept_report.specs.Runs as runs
@@ -43,17 +44,6 @@ call_same _ = refl
 
 some_none : {A : Type 0} {x : A} → Some x ≡ None → ⊥
 some_none e = cc
-
--- what is written is told by registers alone
-writes_to : (instr : Instr) (image_end : ℕ) (s t u v : State) (a : ℕ) → s.register ≡ u.register → t.register ≡ v.register → WritesBy instr image_end s t a → WritesByRow instr image_end u v a
-writes_to (Store op rs1 rs2 imm) image_end s t u v a one other w = subst (λ (f : ℕ → ℕ). WritesByRow (Store op rs1 rs2 imm) image_end (record { register = f; memory = u.memory }) v a) one w
-writes_to Ecall image_end s t u v a one other w = subst (λ (f : ℕ → ℕ). WritesByRow Ecall image_end (record { register = f; memory = u.memory }) v a) one (subst (λ (f : ℕ → ℕ). WritesByRow Ecall image_end s (record { register = f; memory = v.memory }) a) other w)
-writes_to _ image_end s t u v a one other w = absurd w
-
-writes_can : (instr : Instr) (image_end : ℕ) (s t : State) (a : ℕ) → WritesBy instr image_end s t a → writes_memory instr ≡ true
-writes_can (Store op rs1 rs2 imm) image_end s t a w = refl
-writes_can Ecall image_end s t a w = refl
-writes_can _ image_end s t a w = absurd w
 
 match_is : (o : Option StepRow) (P : StepRow → Type 0) → MatchOption o ⊥ P → (x : StepRow) × (o ≡ Some x) × P x
 match_is None P h = absurd h
@@ -119,12 +109,12 @@ module _ {W : Type 0} (sets : Sets W) (moves : Moves W) (rules : Rules) (C : Cou
   still a m w s found link light none (row r) is falls writes =
       let its = match_is (row_at C r) (λ its_row. WritesBy its_row.instr D.image_end (interleaved.state_before C run r) (interleaved.state_after C run r) a) writes in
       let same : row_on C (leg_of C r) ≡ r = ap row_from (point_number C r.thread r.step (thread_inside C r is) (omega arith)) in
-      let stored : stores C r ≡ true = ap is_writing its.1 ∙ writes_can its.0.instr D.image_end (interleaved.state_before C run r) (interleaved.state_after C run r) a its.2 in
+      let stored : stores C r ≡ true = ap is_writing its.1 ∙ writes_store its.0.instr D.image_end (interleaved.state_before C run r) (interleaved.state_after C run r) a its.2 in
       let between = falls_from C sound (row r) s.from s.to is link.from link.to falls in
       none (leg_of C r) (ap (λ (q : Row). falls_by C q (N.link m w)) same ∙ ap (falls_by C r) found ∙ and_from (stores C r) (falls_between C (row r) s.from s.to) stored between) (record {
         row = its.0;
         is_row = ap (row_at C) same ∙ its.1;
-        writes = writes_to its.0.instr D.image_end (interleaved.state_before C run r) (interleaved.state_after C run r) (runs.state_before S (run_seen N run) (leg_of C r)) (runs.state_after S (run_seen N run) (leg_of C r) its.0) a refl (ap run.register (one_more (leg_of C r))) its.2;
+        writes = written_by_registers its.0.instr D.image_end (interleaved.state_before C run r) (interleaved.state_after C run r) (runs.state_before S (run_seen N run) (leg_of C r)) (runs.state_after S (run_seen N run) (leg_of C r) its.0) a refl (ap run.register (one_more (leg_of C r))) its.2;
       })
 
   quiet : (a m w : ℕ) → S.moments.next m w ≡ true → S.moments.dark m w ≡ false → ((i : ℕ) → S.moments.falls i m w ≡ true → StepWrites S (run_seen N run) i a → ⊥) → run.memory (N.last w) a ≡ run.memory (N.last m) a

@@ -1,9 +1,9 @@
 -- What a word spells is in range.
-use Rattle.std.specs.Prelude.{◌≡◌, ℕ, suc, ◌+◌, ◌-◌, ◌*◌, ◌%◌, ◌^◌, ◌<◌, Bool, true, false, nat_lt, if◌then◌else◌, ℤ, pos, negsuc, Option, Some, None, IfSome}
+use Rattle.std.specs.Prelude.{◌≡◌, ℕ, suc, ◌+◌, ◌-◌, ◌*◌, ◌%◌, ◌^◌, ◌<◌, Bool, true, false, nat_lt, if◌then◌else◌, ℤ, pos, negsuc, Option, Some, None, IfSome, IfNone}
 use Rattle.std.proofs.Common.{arith, refl, sym, subst}
 use Rattle.std.proofs.lemmas.Bool.Decides.{nat_tests}
 use Rattle.rept_isa.specs.declared.instr.Instr.{Instr}
-use Rattle.rept_isa.specs.declared.instr.Instr.TheVariants.{Lui, Auipc, Jal, Jalr, Branch, Load, Store, Imm, Op, Fence, Ecall, Ebreak, Counter}
+use Rattle.rept_isa.specs.declared.instr.Instr.TheVariants.{Lui, Auipc, Jal, Jalr, Branch, Load, Store, Imm, Op, Amo, Fence, Ecall, Ebreak, Counter}
 use Rattle.rept_isa.specs.declared.instr.ImmOp.TheVariants.{Addi, Slti, Sltiu, Xori, Ori, Andi, Slli, Srli, Srai}
 use Rattle.rept_isa.specs.Words.{IsWord, field, signed, i_immediate, s_immediate, b_immediate, u_immediate, j_immediate, rs2_field}
 use Rattle.rept_isa.specs.Range.{InRange, InBits, IsEven, IsAmount, IsUpperPart}
@@ -73,6 +73,7 @@ in_range word (Imm Slli rd rs1 imm) h = amount_fits word imm h.amount
 in_range word (Imm Srli rd rs1 imm) h = amount_fits word imm h.amount
 in_range word (Imm Srai rd rs1 imm) h = amount_fits word imm h.amount
 in_range word (Op op rd rs1 rs2) h = tt
+in_range word (Amo op rd rs1 rs2) h = h.source
 in_range word Fence h = tt
 in_range word Ecall h = tt
 in_range word Ebreak h = tt
@@ -81,3 +82,8 @@ in_range word (Counter rd csr) h = h.counter
 pub in_range_some : (word : ℕ) (r : Option Instr) → IfSome r (λ i. IsWord word i) → IfSome r (λ i. InRange i)
 in_range_some word None h = h
 in_range_some word (Some i) h = in_range word i h
+
+-- where nothing is read the word spells nothing
+pub spells_none : (word : ℕ) (r : Option Instr) → ((i : Instr) → IsWord word i → r ≡ Some i) → IfNone r ((i : Instr) → IsWord word i → ⊥)
+spells_none word None h = λ i w. (let e = h i w in absurd (cc))
+spells_none word (Some i) h = tt

@@ -3,7 +3,9 @@ use Rattle.std.specs.Prelude.{◌≡◌, ℕ, ◌<◌, true, false, Some, ◌||�
 use Rattle.std.proofs.Common.{arith, refl, sym, ◌∙◌, subst, inl, inr}
 use Rattle.std.proofs.lemmas.Bool.Decides.{nat_tests}
 use Rattle.rept_isa.specs.declared.instr.Instr.{Instr}
-use Rattle.rept_isa.specs.declared.instr.Instr.TheVariants.{Lui, Auipc, Jal, Jalr, Branch, Load, Store, Imm, Op, Fence, Ecall, Ebreak, Counter}
+use Rattle.rept_isa.specs.declared.instr.Instr.TheVariants.{Lui, Auipc, Jal, Jalr, Branch, Load, Store, Imm, Op, Amo, Fence, Ecall, Ebreak, Counter}
+use Rattle.rept_isa.specs.declared.instr.AmoOp.{AmoOp}
+use Rattle.rept_isa.specs.declared.instr.AmoOp.TheVariants as atomic
 use Rattle.rept_isa.specs.declared.instr.BranchOp.{BranchOp}
 use Rattle.rept_isa.specs.declared.instr.BranchOp.TheVariants.{Beq, Bne, Blt, Bge, Bltu, Bgeu}
 use Rattle.rept_isa.specs.declared.instr.LoadOp.{LoadOp}
@@ -14,8 +16,8 @@ use Rattle.rept_isa.specs.declared.instr.ImmOp.{ImmOp}
 use Rattle.rept_isa.specs.declared.instr.ImmOp.TheVariants.{Addi, Slti, Sltiu, Xori, Ori, Andi, Slli, Srli, Srai}
 use Rattle.rept_isa.specs.declared.instr.RegOp.{RegOp}
 use Rattle.rept_isa.specs.declared.instr.RegOp.TheVariants.{Add, Sub, Sll, Slt, Sltu, Xor, Srl, Sra, Or, And, Mul, Mulh, Mulhsu, Mulhu, Div, Divu, Rem, Remu}
-use Rattle.rept_isa.specs.Words.{IsWord, IsCounter, IsUpper, IsJal, IsIForm, IsBranch, IsStore, IsShift, IsRegister, IsFence, IsCounterRead, opcode, field, funct3, branch_funct3, load_funct3, store_funct3, op_funct3, op_funct7}
-use Rattle.rept_isa.specs.Reading.{branch_named, load_named, store_named, register_named, wide_named, shift_named, is_counter, read_by}
+use Rattle.rept_isa.specs.Words.{IsWord, IsCounter, IsUpper, IsJal, IsIForm, IsBranch, IsStore, IsShift, IsRegister, IsAmo, HasSource, IsFence, IsCounterRead, opcode, field, funct3, branch_funct3, load_funct3, store_funct3, op_funct3, op_funct7, amo_funct5}
+use Rattle.rept_isa.specs.Reading.{branch_named, load_named, store_named, register_named, amo_named, wide_named, shift_named, is_counter, read_by}
 
 branch_named-funct3 : (op : BranchOp) → branch_named (branch_funct3 op) ≡ Some op
 branch_named-funct3 Beq = refl
@@ -57,6 +59,19 @@ register_named-functs Divu = refl
 register_named-functs Rem = refl
 register_named-functs Remu = refl
 
+amo_named-funct5 : (op : AmoOp) (second : ℕ) → HasSource op second → amo_named (amo_funct5 op) second ≡ Some op
+amo_named-funct5 atomic.Lr second h = rw h refl
+amo_named-funct5 atomic.Sc second h = refl
+amo_named-funct5 atomic.Swap second h = refl
+amo_named-funct5 atomic.Add second h = refl
+amo_named-funct5 atomic.Xor second h = refl
+amo_named-funct5 atomic.And second h = refl
+amo_named-funct5 atomic.Or second h = refl
+amo_named-funct5 atomic.Min second h = refl
+amo_named-funct5 atomic.Max second h = refl
+amo_named-funct5 atomic.Minu second h = refl
+amo_named-funct5 atomic.Maxu second h = refl
+
 -- what is read at a known opcode
 at_opcode : (word code : ℕ) (i : Instr) → opcode word ≡ code → read_by code word ≡ Some i → read_by (opcode word) word ≡ Some i
 at_opcode word code i e h = rw e h
@@ -90,6 +105,9 @@ wide op function word rd rs1 imm h named other = rw (h.target, h.source, h.numbe
 
 shift : (op : ImmOp) (function seven : ℕ) (word rd rs1 : ℕ) (imm : ℤ) → IsShift function seven word rd rs1 imm → shift_named seven function ≡ Some op → (function == 1 || function == 5) ≡ true → read_by 19 word ≡ Some (Imm op rd rs1 imm)
 shift op function seven word rd rs1 imm h named one = rw (h.target, h.source, h.amount, h.operation, one, h.high, named) refl
+
+amo : (op : AmoOp) (word rd rs1 rs2 : ℕ) → IsAmo op word rd rs1 rs2 → read_by 47 word ≡ Some (Amo op rd rs1 rs2)
+amo op word rd rs1 rs2 h = rw (h.operation, h.high, ← h.second, ← h.target, ← h.first, amo_named-funct5 op rs2 h.source) refl
 
 fence : (word : ℕ) → IsFence word → read_by 15 word ≡ Some Fence
 fence word h = let lt : funct3 word < 2 = h.operation in grind (arith, nat_tests)
@@ -132,6 +150,7 @@ reads word (Imm Slli rd rs1 imm) h = at_opcode word 19 _ h.form (shift Slli 1 0 
 reads word (Imm Srli rd rs1 imm) h = at_opcode word 19 _ h.form (shift Srli 5 0 word rd rs1 imm h refl refl)
 reads word (Imm Srai rd rs1 imm) h = at_opcode word 19 _ h.form (shift Srai 5 32 word rd rs1 imm h refl refl)
 reads word (Op op rd rs1 rs2) h = at_opcode word 51 _ h.form (register op word rd rs1 rs2 h)
+reads word (Amo op rd rs1 rs2) h = at_opcode word 47 _ h.form (amo op word rd rs1 rs2 h)
 reads word Fence h = at_opcode word 15 _ h.form (fence word h)
 reads word Ecall h = rw h refl
 reads word Ebreak h = rw h refl

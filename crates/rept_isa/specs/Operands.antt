@@ -1,8 +1,10 @@
 -- Which registers an instruction reads and writes, its kind, and which way a branch went (RISC-V unprivileged manual
--- 20191213, chapters 2.2, 2.4 to 2.6 and 7; RISC-V psABI, for the register of a call's answer).
+-- 20191213, chapters 2.2, 2.4 to 2.6, 7 and 8; RISC-V psABI, for the register of a call's answer).
 use Rattle.std.specs.Prelude.{ℕ, ◌==◌, Option, Some, None, if◌then◌else◌}
 use Rattle.rept_isa.specs.declared.instr.Instr.{Instr}
-use Rattle.rept_isa.specs.declared.instr.Instr.TheVariants.{Lui, Auipc, Jal, Jalr, Branch, Load, Store, Imm, Op, Fence, Ecall, Ebreak, Counter}
+use Rattle.rept_isa.specs.declared.instr.Instr.TheVariants.{Lui, Auipc, Jal, Jalr, Branch, Load, Store, Imm, Op, Amo, Fence, Ecall, Ebreak, Counter}
+use Rattle.rept_isa.specs.declared.instr.AmoOp.{AmoOp}
+use Rattle.rept_isa.specs.declared.instr.AmoOp.TheVariants as atomic
 use Rattle.rept_isa.specs.declared.row.StepRow.{StepRow}
 use Rattle.rept_isa.specs.declared.class.Kind.{Kind}
 use Rattle.rept_isa.specs.declared.class.Kind as kinds
@@ -26,6 +28,7 @@ written_by (Load op rd rs1 imm) = unless_zero rd
 written_by (Store op rs1 rs2 imm) = None
 written_by (Imm op rd rs1 imm) = unless_zero rd
 written_by (Op op rd rs1 rs2) = unless_zero rd
+written_by (Amo op rd rs1 rs2) = unless_zero rd
 written_by Fence = None
 written_by Ecall = Some 10
 written_by Ebreak = None
@@ -39,13 +42,29 @@ first_read (Load op rd rs1 imm) = Some rs1
 first_read (Store op rs1 rs2 imm) = Some rs1
 first_read (Imm op rd rs1 imm) = Some rs1
 first_read (Op op rd rs1 rs2) = Some rs1
+first_read (Amo op rd rs1 rs2) = Some rs1
 first_read _ = None
+
+-- the source of an atomic instruction
+abbrev pub source_of : AmoOp → ℕ → Option ℕ
+source_of atomic.Lr rs2 = None
+source_of atomic.Sc rs2 = Some rs2
+source_of atomic.Swap rs2 = Some rs2
+source_of atomic.Add rs2 = Some rs2
+source_of atomic.Xor rs2 = Some rs2
+source_of atomic.And rs2 = Some rs2
+source_of atomic.Or rs2 = Some rs2
+source_of atomic.Min rs2 = Some rs2
+source_of atomic.Max rs2 = Some rs2
+source_of atomic.Minu rs2 = Some rs2
+source_of atomic.Maxu rs2 = Some rs2
 
 -- the register in the place of rs2
 abbrev pub second_read : Instr → Option ℕ
 second_read (Branch op rs1 rs2 imm) = Some rs2
 second_read (Store op rs1 rs2 imm) = Some rs2
 second_read (Op op rd rs1 rs2) = Some rs2
+second_read (Amo op rd rs1 rs2) = source_of op rs2
 second_read _ = None
 
 -- The kind. A JALR from x0 goes to an address that its word gives; from any other register it is a far jump.
@@ -59,6 +78,7 @@ kind_of (Load op rd rs1 imm) = kinds.TheVariants.Load
 kind_of (Store op rs1 rs2 imm) = kinds.TheVariants.Store
 kind_of (Imm op rd rs1 imm) = kinds.TheVariants.Plain
 kind_of (Op op rd rs1 rs2) = kinds.TheVariants.Plain
+kind_of (Amo op rd rs1 rs2) = kinds.TheVariants.Plain
 kind_of Fence = kinds.TheVariants.Plain
 kind_of Ecall = kinds.TheVariants.Call
 kind_of Ebreak = kinds.TheVariants.Stop

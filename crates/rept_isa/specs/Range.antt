@@ -1,11 +1,11 @@
 -- Which instructions have a word: each immediate is one that its format can hold (RISC-V unprivileged manual 20191213,
--- chapters 2.2 to 2.6; chapter 10 for the counters).
+-- chapters 2.2 to 2.6; chapter 8 for the source of LR, 10 for the counters).
 use Rattle.std.specs.Prelude.{◌≡◌, ℕ, ◌-◌, ◌%◌, ◌^◌, ◌<◌, ℤ, pos, negsuc}
 use Rattle.rept_isa.specs.declared.instr.Instr.{Instr}
-use Rattle.rept_isa.specs.declared.instr.Instr.TheVariants.{Lui, Auipc, Jal, Jalr, Branch, Load, Store, Imm, Op, Fence, Ecall, Ebreak, Counter}
+use Rattle.rept_isa.specs.declared.instr.Instr.TheVariants.{Lui, Auipc, Jal, Jalr, Branch, Load, Store, Imm, Op, Amo, Fence, Ecall, Ebreak, Counter}
 use Rattle.rept_isa.specs.declared.instr.ImmOp.{ImmOp}
 use Rattle.rept_isa.specs.declared.instr.ImmOp.TheVariants.{Addi, Slti, Sltiu, Xori, Ori, Andi, Slli, Srli, Srai}
-use Rattle.rept_isa.specs.Words.{IsCounter}
+use Rattle.rept_isa.specs.Words.{IsCounter, HasSource}
 
 -- a signed number of so many bits in two's complement; negsuc n is -(n + 1)
 abbrev pub InBits : ℕ → ℤ → Type 0
@@ -46,6 +46,7 @@ InRange (Load op rd rs1 imm) = InBits 12 imm
 InRange (Store op rs1 rs2 imm) = InBits 12 imm
 InRange (Imm op rd rs1 imm) = HoldsImmediate op imm
 InRange (Op op rd rs1 rs2) = Unit {0}
+InRange (Amo op rd rs1 rs2) = HasSource op rs2
 InRange Fence = Unit {0}
 InRange Ecall = Unit {0}
 InRange Ebreak = Unit {0}

@@ -2,7 +2,9 @@
 -- opcode. What a word means is told by `Words`.
 use Rattle.std.specs.Prelude.{ℕ, ◌==◌, nat_lt, Bool, ◌||◌, ◌&&◌, Option, Some, None, option_map, if◌then◌else◌, pos}
 use Rattle.rept_isa.specs.declared.instr.Instr.{Instr}
-use Rattle.rept_isa.specs.declared.instr.Instr.TheVariants.{Lui, Auipc, Jal, Jalr, Branch, Load, Store, Imm, Op, Fence, Ecall, Ebreak, Counter}
+use Rattle.rept_isa.specs.declared.instr.Instr.TheVariants.{Lui, Auipc, Jal, Jalr, Branch, Load, Store, Imm, Op, Amo, Fence, Ecall, Ebreak, Counter}
+use Rattle.rept_isa.specs.declared.instr.AmoOp.{AmoOp}
+use Rattle.rept_isa.specs.declared.instr.AmoOp.TheVariants as atomic
 use Rattle.rept_isa.specs.declared.instr.BranchOp.{BranchOp}
 use Rattle.rept_isa.specs.declared.instr.BranchOp.TheVariants.{Beq, Bne, Blt, Bge, Bltu, Bgeu}
 use Rattle.rept_isa.specs.declared.instr.LoadOp.{LoadOp}
@@ -13,7 +15,7 @@ use Rattle.rept_isa.specs.declared.instr.ImmOp.{ImmOp}
 use Rattle.rept_isa.specs.declared.instr.ImmOp.TheVariants.{Addi, Slti, Sltiu, Xori, Ori, Andi, Slli, Srli, Srai}
 use Rattle.rept_isa.specs.declared.instr.RegOp.{RegOp}
 use Rattle.rept_isa.specs.declared.instr.RegOp.TheVariants.{Add, Sub, Sll, Slt, Sltu, Xor, Srl, Sra, Or, And, Mul, Mulh, Mulhsu, Mulhu, Div, Divu, Rem, Remu}
-use Rattle.rept_isa.specs.Words.{field, rd_field, funct3, rs1_field, rs2_field, funct7, i_immediate, s_immediate, b_immediate, u_immediate, j_immediate}
+use Rattle.rept_isa.specs.Words.{field, rd_field, funct3, rs1_field, rs2_field, funct5, funct7, i_immediate, s_immediate, b_immediate, u_immediate, j_immediate}
 
 abbrev pub branch_named : ℕ → Option BranchOp
 branch_named n = if n == 0 then Some Beq else if n == 1 then Some Bne else if n == 4 then Some Blt else if n == 5 then Some Bge else if n == 6 then Some Bltu else if n == 7 then Some Bgeu else None
@@ -44,6 +46,10 @@ wide_named n = if n == 0 then Some Addi else if n == 2 then Some Slti else if n 
 abbrev pub shift_named : ℕ → ℕ → Option ImmOp
 shift_named seven n = if n == 1 then (if seven == 0 then Some Slli else None) else if n == 5 then (if seven == 0 then Some Srli else if seven == 32 then Some Srai else None) else None
 
+-- the operation of bits 27 to 31; the second number is in the place of rs2
+abbrev pub amo_named : ℕ → ℕ → Option AmoOp
+amo_named five second = if five == 0 then Some atomic.Add else if five == 1 then Some atomic.Swap else if five == 2 then (if second == 0 then Some atomic.Lr else None) else if five == 3 then Some atomic.Sc else if five == 4 then Some atomic.Xor else if five == 8 then Some atomic.Or else if five == 12 then Some atomic.And else if five == 16 then Some atomic.Min else if five == 20 then Some atomic.Max else if five == 24 then Some atomic.Minu else if five == 28 then Some atomic.Maxu else None
+
 abbrev pub read_jalr : ℕ → Option Instr
 read_jalr word = if funct3 word == 0 then Some (Jalr (rd_field word) (rs1_field word) (i_immediate word)) else None
 
@@ -68,6 +74,9 @@ read_immediate word = if funct3 word == 1 || funct3 word == 5 then read_shift wo
 abbrev pub read_register : ℕ → Option Instr
 read_register word = option_map (λ op. Op op (rd_field word) (rs1_field word) (rs2_field word)) (register_named (funct7 word) (funct3 word))
 
+abbrev pub read_amo : ℕ → Option Instr
+read_amo word = if funct3 word == 2 then option_map (λ op. Amo op (rd_field word) (rs1_field word) (rs2_field word)) (amo_named (funct5 word) (rs2_field word)) else None
+
 abbrev pub read_fence : ℕ → Option Instr
 read_fence word = if nat_lt (funct3 word) 2 then Some Fence else None
 
@@ -82,4 +91,4 @@ read_system word = if word == 115 then Some Ecall else if word == 1048691 then S
 
 -- the instruction of a word with this opcode
 abbrev pub read_by : ℕ → ℕ → Option Instr
-read_by code word = if code == 55 then Some (Lui (rd_field word) (u_immediate word)) else if code == 23 then Some (Auipc (rd_field word) (u_immediate word)) else if code == 111 then Some (Jal (rd_field word) (j_immediate word)) else if code == 103 then read_jalr word else if code == 99 then read_branch word else if code == 3 then read_load word else if code == 35 then read_store word else if code == 19 then read_immediate word else if code == 51 then read_register word else if code == 15 then read_fence word else if code == 115 then read_system word else None
+read_by code word = if code == 55 then Some (Lui (rd_field word) (u_immediate word)) else if code == 23 then Some (Auipc (rd_field word) (u_immediate word)) else if code == 111 then Some (Jal (rd_field word) (j_immediate word)) else if code == 103 then read_jalr word else if code == 99 then read_branch word else if code == 3 then read_load word else if code == 35 then read_store word else if code == 19 then read_immediate word else if code == 51 then read_register word else if code == 47 then read_amo word else if code == 15 then read_fence word else if code == 115 then read_system word else None

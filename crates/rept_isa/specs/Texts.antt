@@ -4,7 +4,9 @@ use Rattle.std.specs.Prelude.{ℕ, ◌+◌, ◌/◌, ◌%◌, ◌^◌, List, [],
 use Rattle.std.specs.Fmt.{decimal, signed_decimal, digits}
 use Rattle.std.specs.Prelude.{false}
 use Rattle.rept_isa.specs.declared.instr.Instr.{Instr}
-use Rattle.rept_isa.specs.declared.instr.Instr.TheVariants.{Lui, Auipc, Jal, Jalr, Branch, Load, Store, Imm, Op, Fence, Ecall, Ebreak, Counter}
+use Rattle.rept_isa.specs.declared.instr.Instr.TheVariants.{Lui, Auipc, Jal, Jalr, Branch, Load, Store, Imm, Op, Amo, Fence, Ecall, Ebreak, Counter}
+use Rattle.rept_isa.specs.declared.instr.AmoOp.{AmoOp}
+use Rattle.rept_isa.specs.declared.instr.AmoOp.TheVariants as atomic
 use Rattle.rept_isa.specs.declared.instr.BranchOp.{BranchOp}
 use Rattle.rept_isa.specs.declared.instr.BranchOp.TheVariants.{Beq, Bne, Blt, Bge, Bltu, Bgeu}
 use Rattle.rept_isa.specs.declared.instr.LoadOp.{LoadOp}
@@ -82,6 +84,37 @@ op_name Divu = codes "divu"
 op_name Rem = codes "rem"
 op_name Remu = codes "remu"
 
+abbrev pub amo_name : AmoOp → List ℕ
+amo_name atomic.Lr = codes "lr.w"
+amo_name atomic.Sc = codes "sc.w"
+amo_name atomic.Swap = codes "amoswap.w"
+amo_name atomic.Add = codes "amoadd.w"
+amo_name atomic.Xor = codes "amoxor.w"
+amo_name atomic.And = codes "amoand.w"
+amo_name atomic.Or = codes "amoor.w"
+amo_name atomic.Min = codes "amomin.w"
+amo_name atomic.Max = codes "amomax.w"
+amo_name atomic.Minu = codes "amominu.w"
+amo_name atomic.Maxu = codes "amomaxu.w"
+
+-- the name of an atomic instruction, its result, its source and its address
+abbrev pub with_source : List ℕ → ℕ → ℕ → ℕ → List ℕ
+with_source name rd rs1 rs2 = name ++ codes " " ++ register_text rd ++ codes "," ++ register_text rs2 ++ codes ",(" ++ register_text rs1 ++ codes ")"
+
+-- LR has no source
+abbrev pub amo_text : AmoOp → ℕ → ℕ → ℕ → List ℕ
+amo_text atomic.Lr rd rs1 rs2 = amo_name atomic.Lr ++ codes " " ++ register_text rd ++ codes ",(" ++ register_text rs1 ++ codes ")"
+amo_text atomic.Sc rd rs1 rs2 = with_source (amo_name atomic.Sc) rd rs1 rs2
+amo_text atomic.Swap rd rs1 rs2 = with_source (amo_name atomic.Swap) rd rs1 rs2
+amo_text atomic.Add rd rs1 rs2 = with_source (amo_name atomic.Add) rd rs1 rs2
+amo_text atomic.Xor rd rs1 rs2 = with_source (amo_name atomic.Xor) rd rs1 rs2
+amo_text atomic.And rd rs1 rs2 = with_source (amo_name atomic.And) rd rs1 rs2
+amo_text atomic.Or rd rs1 rs2 = with_source (amo_name atomic.Or) rd rs1 rs2
+amo_text atomic.Min rd rs1 rs2 = with_source (amo_name atomic.Min) rd rs1 rs2
+amo_text atomic.Max rd rs1 rs2 = with_source (amo_name atomic.Max) rd rs1 rs2
+amo_text atomic.Minu rd rs1 rs2 = with_source (amo_name atomic.Minu) rd rs1 rs2
+amo_text atomic.Maxu rd rs1 rs2 = with_source (amo_name atomic.Maxu) rd rs1 rs2
+
 -- an address that a register and an immediate give
 abbrev pub place_text : ℤ → ℕ → List ℕ
 place_text imm rs1 = signed_decimal imm ++ codes "(" ++ register_text rs1 ++ codes ")"
@@ -103,6 +136,7 @@ instruction_text address (Load op rd rs1 imm) = load_name op ++ codes " " ++ reg
 instruction_text address (Store op rs1 rs2 imm) = store_name op ++ codes " " ++ register_text rs2 ++ codes "," ++ place_text imm rs1
 instruction_text address (Imm op rd rs1 imm) = imm_name op ++ codes " " ++ register_text rd ++ codes "," ++ register_text rs1 ++ codes "," ++ signed_decimal imm
 instruction_text address (Op op rd rs1 rs2) = op_name op ++ codes " " ++ register_text rd ++ codes "," ++ register_text rs1 ++ codes "," ++ register_text rs2
+instruction_text address (Amo op rd rs1 rs2) = amo_text op rd rs1 rs2
 instruction_text address Fence = codes "fence"
 instruction_text address Ecall = codes "ecall"
 instruction_text address Ebreak = codes "ebreak"

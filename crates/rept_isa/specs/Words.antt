@@ -1,8 +1,10 @@
--- Which instruction a word spells: RV32I, M, Zifencei and the counters of Zicsr (RISC-V unprivileged manual 20191213,
--- chapters 2.2 and 2.3 for the formats, 24 for the listing). Bit 0 is the least significant.
+-- Which instruction a word spells: RV32I, M, A, Zifencei and the counters of Zicsr (RISC-V unprivileged manual 20191213,
+-- chapters 2.2 and 2.3 for the formats, 8 for A, 24 for the listing). Bit 0 is the least significant.
 use Rattle.std.specs.Prelude.{◌≡◌, ℕ, suc, ◌+◌, ◌-◌, ◌*◌, ◌/◌, ◌%◌, ◌^◌, ◌<◌, nat_lt, ◌⊎◌, if◌then◌else◌, ℤ, pos, negsuc}
 use Rattle.rept_isa.specs.declared.instr.Instr.{Instr}
-use Rattle.rept_isa.specs.declared.instr.Instr.TheVariants.{Lui, Auipc, Jal, Jalr, Branch, Load, Store, Imm, Op, Fence, Ecall, Ebreak, Counter}
+use Rattle.rept_isa.specs.declared.instr.Instr.TheVariants.{Lui, Auipc, Jal, Jalr, Branch, Load, Store, Imm, Op, Amo, Fence, Ecall, Ebreak, Counter}
+use Rattle.rept_isa.specs.declared.instr.AmoOp.{AmoOp}
+use Rattle.rept_isa.specs.declared.instr.AmoOp.TheVariants as atomic
 use Rattle.rept_isa.specs.declared.instr.BranchOp.{BranchOp}
 use Rattle.rept_isa.specs.declared.instr.BranchOp.TheVariants.{Beq, Bne, Blt, Bge, Bltu, Bgeu}
 use Rattle.rept_isa.specs.declared.instr.LoadOp.{LoadOp}
@@ -115,6 +117,37 @@ op_funct7 Divu = 1
 op_funct7 Rem = 1
 op_funct7 Remu = 1
 
+-- bits 27 to 31 of an atomic instruction
+abbrev pub funct5 : ℕ → ℕ
+funct5 word = field word 27 5
+
+abbrev pub amo_funct5 : AmoOp → ℕ
+amo_funct5 atomic.Lr = 2
+amo_funct5 atomic.Sc = 3
+amo_funct5 atomic.Swap = 1
+amo_funct5 atomic.Add = 0
+amo_funct5 atomic.Xor = 4
+amo_funct5 atomic.And = 12
+amo_funct5 atomic.Or = 8
+amo_funct5 atomic.Min = 16
+amo_funct5 atomic.Max = 20
+amo_funct5 atomic.Minu = 24
+amo_funct5 atomic.Maxu = 28
+
+-- LR has no source: 0 is in the place of rs2
+abbrev pub HasSource : AmoOp → ℕ → Type 0
+HasSource atomic.Lr rs2 = rs2 ≡ 0
+HasSource atomic.Sc rs2 = Unit {0}
+HasSource atomic.Swap rs2 = Unit {0}
+HasSource atomic.Add rs2 = Unit {0}
+HasSource atomic.Xor rs2 = Unit {0}
+HasSource atomic.And rs2 = Unit {0}
+HasSource atomic.Or rs2 = Unit {0}
+HasSource atomic.Min rs2 = Unit {0}
+HasSource atomic.Max rs2 = Unit {0}
+HasSource atomic.Minu rs2 = Unit {0}
+HasSource atomic.Maxu rs2 = Unit {0}
+
 -- LUI (opcode 0x37) and AUIPC (0x17)
 pub record IsUpper (code : ℕ) (word rd imm : ℕ) : Type 0 where
   pub form : opcode word ≡ code
@@ -169,6 +202,20 @@ pub record IsRegister (function seven : ℕ) (word rd rs1 rs2 : ℕ) : Type 0 wh
   pub first : rs1 ≡ rs1_field word
   pub second : rs2 ≡ rs2_field word
 
+-- opcode 0x2f, and funct3 2 for words of 32 bits. Bits 25 and 26 tell an order of memory accesses, and may be anything.
+pub record IsAmo (op : AmoOp) (word rd rs1 rs2 : ℕ) : Type 0 where
+  pub form : opcode word ≡ 47
+  pub operation : funct3 word ≡ 2
+  pub high : funct5 word ≡ amo_funct5 op
+  pub target : rd ≡ rd_field word
+  pub first : rs1 ≡ rs1_field word
+  pub second : rs2 ≡ rs2_field word
+  pub source : HasSource op rs2
+
+-- the word asks for no order of memory accesses
+abbrev pub IsUnordered : ℕ → Type 0
+IsUnordered word = field word 25 2 ≡ 0
+
 -- FENCE and FENCE.I (opcode 0x0f): the other bits tell an order of memory accesses, or are reserved and ignored
 pub record IsFence (word : ℕ) : Type 0 where
   pub form : opcode word ≡ 15
@@ -214,6 +261,7 @@ IsWord word (Load op rd rs1 imm) = IsIForm 3 (load_funct3 op) word rd rs1 imm
 IsWord word (Store op rs1 rs2 imm) = IsStore (store_funct3 op) word rs1 rs2 imm
 IsWord word (Imm op rd rs1 imm) = IsImmediate op word rd rs1 imm
 IsWord word (Op op rd rs1 rs2) = IsRegister (op_funct3 op) (op_funct7 op) word rd rs1 rs2
+IsWord word (Amo op rd rs1 rs2) = IsAmo op word rd rs1 rs2
 IsWord word Fence = IsFence word
 IsWord word Ecall = word ≡ 115
 IsWord word Ebreak = word ≡ 1048691

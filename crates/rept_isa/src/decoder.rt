@@ -4,18 +4,18 @@ ghost use Rattle.std.specs.Prelude.{◌≡◌, IfSome, IfNone, IsTrue};
 ghost use Rattle.rept_isa.specs.declared.instr.Instr.{Instr};
 ghost use Rattle.rept_isa.specs.Words.{IsWord, IsCounter, opcode};
 ghost use Rattle.rept_isa.specs.Range.{InRange};
-ghost use Rattle.rept_isa.specs.Reading.{read_by, read_jalr, read_branch, read_load, read_store, read_wide, read_shift, read_immediate, read_register, read_fence, read_counter, read_system, is_counter};
+ghost use Rattle.rept_isa.specs.Reading.{read_by, read_jalr, read_branch, read_load, read_store, read_wide, read_shift, read_immediate, read_register, read_amo, read_fence, read_counter, read_system, is_counter};
 
 use crate::field::{
-    b_immediate, csr, funct3, funct7, i_immediate, j_immediate, opcode, rd, rs1, rs2, s_immediate,
-    u_immediate,
+    b_immediate, csr, funct3, funct5, funct7, i_immediate, j_immediate, opcode, rd, rs1, rs2,
+    s_immediate, u_immediate,
 };
 use crate::instr::Instr;
 use crate::operation::{
-    branch_named, load_named, register_named, shift_named, store_named, wide_named,
+    amo_named, branch_named, load_named, register_named, shift_named, store_named, wide_named,
 };
 
-/// The instruction that the word spells. None exactly where it spells none of RV32IM, Zifencei and the reads of counters.
+/// The instruction that the word spells. None exactly where it spells none of RV32IMA, Zifencei and the reads of counters.
 pub fn decode(word: u32) -> Option<Instr>
     ensures some { IfSome result (λ i. IsWord word i) }
     ensures only { (i : Instr) → IsWord word i → result ≡ Some i }
@@ -48,6 +48,7 @@ fn by_opcode(word: u32) -> Option<Instr>
         0x23 => store(word),
         0x13 => immediate(word),
         0x33 => register(word),
+        0x2f => amo(word),
         0x0f => fence(word),
         0x73 => system(word),
         _ => None,
@@ -158,6 +159,23 @@ fn register(word: u32) -> Option<Instr>
 {
     let op = register_named(funct7(word), funct3(word))?;
     Some(Instr::Op {
+        op,
+        rd: rd(word),
+        rs1: rs1(word),
+        rs2: rs2(word),
+    })
+}
+
+fn amo(word: u32) -> Option<Instr>
+    requires { opcode word ≡ 47 }
+    ensures value { result ≡ read_amo word }
+    ensures some { IfSome result (λ i. IsWord word i) }
+{
+    if funct3(word) != 2 {
+        return None;
+    }
+    let op = amo_named(funct5(word), rs2(word).number())?;
+    Some(Instr::Amo {
         op,
         rd: rd(word),
         rs1: rs1(word),

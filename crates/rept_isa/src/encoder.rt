@@ -1,21 +1,24 @@
 //! From instructions to words.
 
-ghost use Rattle.std.specs.Prelude.{◌≡◌, ◌<◌, ◌^◌};
+ghost use Rattle.std.specs.Prelude.{◌≡◌, ◌<◌, ◌^◌, ℕ};
 ghost use Rattle.rept_isa.specs.declared.instr.Instr.{Instr};
 ghost use Rattle.rept_isa.specs.declared.instr.ImmOp.{ImmOp};
-ghost use Rattle.rept_isa.specs.Words.{IsWord, IsUpper, IsJal, IsIForm, IsBranch, IsStore, IsRegister, IsImmediate, IsShift, IsCounterRead, IsCounter, full_fence, opcode, rd_field, funct3, rs1_field, rs2_field, funct7, field, branch_funct3, load_funct3, store_funct3, op_funct3, op_funct7};
+ghost use Rattle.rept_isa.specs.declared.instr.AmoOp.{AmoOp};
+ghost use Rattle.rept_isa.specs.Words.{IsWord, IsUpper, IsJal, IsIForm, IsBranch, IsStore, IsRegister, IsAmo, IsUnordered, HasSource, IsImmediate, IsShift, IsCounterRead, IsCounter, full_fence, opcode, rd_field, funct3, rs1_field, rs2_field, funct7, field, branch_funct3, load_funct3, store_funct3, op_funct3, op_funct7, amo_funct5};
 ghost use Rattle.rept_isa.specs.Range.{InRange, InBits, IsEven, IsUpperPart, HoldsImmediate, IsAmount};
 
-use crate::instr::{BranchOp, ImmOp, Instr, LoadOp, RegOp, StoreOp};
+use crate::instr::{AmoOp, BranchOp, ImmOp, Instr, LoadOp, RegOp, StoreOp};
 use crate::number::word;
 use crate::reg::Reg;
 
-/// The word that spells the instruction, and no other one. A fence is written as the full one, `fence iorw, iorw`: 0x0ff0000f.
+/// The word that spells the instruction, and no other one. A fence is written as the full one, `fence iorw, iorw`: 0x0ff0000f, and an
+/// atomic instruction without an order of memory accesses.
 /// Each immediate must be one that the instruction's format holds.
 pub fn encode(instr: &Instr) -> u32
     requires { InRange instr.now }
     ensures spelled { IsWord result instr.now }
     ensures only { (i : Instr) → IsWord result i → i ≡ instr.now }
+    ensures unordered { (op : AmoOp) (rd rs1 rs2 : ℕ) → instr.now ≡ Instr.Amo op rd rs1 rs2 → IsUnordered result }
     ensures fence { instr.now ≡ Instr.Fence → result ≡ full_fence }
 {
     match *instr {
@@ -28,6 +31,7 @@ pub fn encode(instr: &Instr) -> u32
         Instr::Store { op, rs1, rs2, imm } => store(store_number(op), rs1, rs2, imm),
         Instr::Imm { op, rd, rs1, imm } => immediate(op, rd, rs1, imm),
         Instr::Op { op, rd, rs1, rs2 } => register(op, rd, rs1, rs2),
+        Instr::Amo { op, rd, rs1, rs2 } => amo(op, rd, rs1, rs2),
         Instr::Fence => 0x0ff0_000f,
         Instr::Ecall => 0x0000_0073,
         Instr::Ebreak => 0x0010_0073,
@@ -186,6 +190,21 @@ fn register(op: RegOp, rd: Reg, rs1: Reg, rs2: Reg) -> u32
     )
 }
 
+fn amo(op: AmoOp, rd: Reg, rs1: Reg, rs2: Reg) -> u32
+    requires { HasSource op rs2 }
+    ensures spelled { IsAmo op result rd rs1 rs2 }
+    ensures unordered { IsUnordered result }
+{
+    fields(
+        0x2f,
+        u32::from(rd.number()),
+        2,
+        u32::from(rs1.number()),
+        u32::from(rs2.number()),
+        4 * amo_number(op),
+    )
+}
+
 /// The CSRRS that reads the counter.
 fn counter(rd: Reg, csr: u16) -> u32
     requires { IsCounter csr }
@@ -259,5 +278,25 @@ fn register_numbers(op: RegOp) -> (u32, u32)
         RegOp::Divu => (5, 1),
         RegOp::Rem => (6, 1),
         RegOp::Remu => (7, 1),
+    }
+}
+
+/// Bits 27 to 31.
+fn amo_number(op: AmoOp) -> u32
+    ensures value { result ≡ amo_funct5 op }
+    ensures small { result < 2 ^ 5 }
+{
+    match op {
+        AmoOp::Lr => 2,
+        AmoOp::Sc => 3,
+        AmoOp::Swap => 1,
+        AmoOp::Add => 0,
+        AmoOp::Xor => 4,
+        AmoOp::And => 12,
+        AmoOp::Or => 8,
+        AmoOp::Min => 16,
+        AmoOp::Max => 20,
+        AmoOp::Minu => 24,
+        AmoOp::Maxu => 28,
     }
 }

@@ -1,7 +1,7 @@
 //! The fields of a word of code.
 
 ghost use Rattle.std.specs.Prelude.{◌≡◌, ◌<◌, ◌≤◌, ◌*◌, ◌-◌, ◌^◌, suc, nat_lt, if◌then◌else◌, pos, negsuc};
-ghost use Rattle.rept_isa.specs.Words.{opcode, rd_field, funct3, rs1_field, rs2_field, funct7, field, i_immediate, s_immediate, b_immediate, u_immediate, j_immediate};
+ghost use Rattle.rept_isa.specs.Words.{opcode, rd_field, funct3, rs1_field, rs2_field, funct5, funct7, field, i_immediate, s_immediate, b_immediate, u_immediate, j_immediate};
 
 use crate::reg::Reg;
 
@@ -22,6 +22,12 @@ pub fn funct7(word: u32) -> u32
     ensures { result ≡ funct7 word }
 {
     word >> 25
+}
+
+pub fn funct5(word: u32) -> u32
+    ensures { result ≡ funct5 word }
+{
+    word >> 27
 }
 
 pub fn rd(word: u32) -> Reg

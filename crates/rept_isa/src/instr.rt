@@ -68,7 +68,24 @@ pub enum RegOp {
     Remu,
 }
 
-/// An instruction of RV32IM. `imm` is the immediate as the instruction uses it: a signed number, or for
+/// An operation on a word of memory (chapter 8): a load that reserves and a store that is conditional on the reservation, and the atomic memory
+/// operations, which read a word, write another one and leave no step between.
+#[derive(Clone, Copy, PartialEq, Eq, Debug)]
+pub enum AmoOp {
+    Lr,
+    Sc,
+    Swap,
+    Add,
+    Xor,
+    And,
+    Or,
+    Min,
+    Max,
+    Minu,
+    Maxu,
+}
+
+/// An instruction of RV32IMA. `imm` is the immediate as the instruction uses it: a signed number, or for
 /// `Lui` and `Auipc` the upper 20 bits in place; for the three shifts it is the amount, 0 to 31.
 #[derive(Clone, Copy, PartialEq, Eq, Debug)]
 pub enum Instr {
@@ -115,6 +132,13 @@ pub enum Instr {
     },
     Op {
         op: RegOp,
+        rd: Reg,
+        rs1: Reg,
+        rs2: Reg,
+    },
+    /// On the word at the address in `rs1`. The source `rs2` of an LR is x0.
+    Amo {
+        op: AmoOp,
         rd: Reg,
         rs1: Reg,
         rs2: Reg,

@@ -1,4 +1,4 @@
-//! The instructions of RV32IM: their words, their registers and their texts.
+//! The instructions of RV32IMA: their words, their registers and their texts.
 #![tactic(auto)]
 
 pub mod class;
@@ -16,7 +16,7 @@ pub mod shown;
 pub use class::{Kind, Turn};
 pub use decoder::decode;
 pub use encoder::encode;
-pub use instr::{BranchOp, ImmOp, Instr, LoadOp, RegOp, StoreOp};
+pub use instr::{AmoOp, BranchOp, ImmOp, Instr, LoadOp, RegOp, StoreOp};
 pub use operands::{kind, reads, turn, writes};
 pub use reg::Reg;
 pub use row::{StepRow, from_address};

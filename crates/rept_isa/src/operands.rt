@@ -1,10 +1,10 @@
 //! What an instruction reads and writes, and where it may lead.
 
 ghost use Rattle.std.specs.Prelude.{◌≡◌};
-ghost use Rattle.rept_isa.specs.Operands.{unless_zero, written_by, first_read, second_read, kind_of, way, turn_of};
+ghost use Rattle.rept_isa.specs.Operands.{unless_zero, written_by, first_read, source_of, second_read, kind_of, way, turn_of};
 
 use crate::class::{Kind, Turn};
-use crate::instr::Instr;
+use crate::instr::{AmoOp, Instr};
 use crate::number::{following, plus};
 use crate::reg::Reg;
 use crate::row::StepRow;
@@ -22,6 +22,7 @@ pub fn writes(instr: &Instr) -> Option<Reg>
         | Instr::Load { rd, .. }
         | Instr::Imm { rd, .. }
         | Instr::Op { rd, .. }
+        | Instr::Amo { rd, .. }
         | Instr::Counter { rd, .. } => destination(rd),
         Instr::Ecall => Reg::new(10),
         Instr::Branch { .. } | Instr::Store { .. } | Instr::Fence | Instr::Ebreak => None,
@@ -34,7 +35,8 @@ fn destination(rd: Reg) -> Option<Reg>
     if rd.number() == 0 { None } else { Some(rd) }
 }
 
-/// The registers in the places of rs1 and rs2, x0 too. None where the instruction's form has no such place.
+/// The registers in the places of rs1 and rs2, x0 too. None where the instruction's form has no such place,
+/// as that of an LR has none for rs2.
 pub fn reads(instr: &Instr) -> (Option<Reg>, Option<Reg>)
     ensures first { result.0 ≡ first_read instr.now }
     ensures second { result.1 ≡ second_read instr.now }
@@ -43,6 +45,7 @@ pub fn reads(instr: &Instr) -> (Option<Reg>, Option<Reg>)
         Instr::Branch { rs1, rs2, .. }
         | Instr::Store { rs1, rs2, .. }
         | Instr::Op { rs1, rs2, .. } => { (Some(rs1), Some(rs2)) }
+        Instr::Amo { op, rs1, rs2, .. } => (Some(rs1), source(op, rs2)),
         Instr::Jalr { rs1, .. } | Instr::Load { rs1, .. } | Instr::Imm { rs1, .. } => (
             Some(rs1),
             None,
@@ -57,6 +60,15 @@ pub fn reads(instr: &Instr) -> (Option<Reg>, Option<Reg>)
     }
 }
 
+fn source(op: AmoOp, rs2: Reg) -> Option<Reg>
+    ensures { result ≡ source_of op rs2 }
+{
+    match op {
+        AmoOp::Lr => None,
+        _ => Some(rs2),
+    }
+}
+
 /// What the instruction does to the path.
 pub fn kind(instr: &Instr) -> Kind
     ensures { result ≡ kind_of instr.now }
@@ -66,6 +78,7 @@ pub fn kind(instr: &Instr) -> Kind
         | Instr::Auipc { .. }
         | Instr::Imm { .. }
         | Instr::Op { .. }
+        | Instr::Amo { .. }
         | Instr::Fence => Kind::Plain,
         Instr::Jal { .. } => Kind::Jump,
         Instr::Jalr { rs1, .. } => {

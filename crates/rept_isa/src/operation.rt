@@ -1,10 +1,10 @@
 //! The operation that a word's function fields name.
 
 ghost use Rattle.std.specs.Prelude.{◌≡◌, IfSome};
-ghost use Rattle.rept_isa.specs.Words.{branch_funct3, load_funct3, store_funct3, op_funct3, op_funct7};
-ghost use Rattle.rept_isa.specs.Reading.{branch_named, load_named, store_named, base_named, other_named, multiply_named, register_named, wide_named, shift_named};
+ghost use Rattle.rept_isa.specs.Words.{branch_funct3, load_funct3, store_funct3, op_funct3, op_funct7, amo_funct5, HasSource};
+ghost use Rattle.rept_isa.specs.Reading.{branch_named, load_named, store_named, base_named, other_named, multiply_named, register_named, amo_named, wide_named, shift_named};
 
-use crate::instr::{BranchOp, ImmOp, LoadOp, RegOp, StoreOp};
+use crate::instr::{AmoOp, BranchOp, ImmOp, LoadOp, RegOp, StoreOp};
 
 pub fn branch_named(funct3: u32) -> Option<BranchOp>
     ensures value { result ≡ branch_named funct3 }
@@ -128,4 +128,32 @@ fn multiply_named(funct3: u32) -> Option<RegOp>
         7 => Some(RegOp::Remu),
         _ => None,
     }
+}
+
+/// The operation of bits 27 to 31. The number in the place of rs2 is `second`, which is 0 for an LR.
+pub fn amo_named(funct5: u32, second: u8) -> Option<AmoOp>
+    ensures value { result ≡ amo_named funct5 second }
+    ensures some { IfSome result (λ op. (funct5 ≡ amo_funct5 op) × HasSource op second) }
+{
+    match funct5 {
+        0 => Some(AmoOp::Add),
+        1 => Some(AmoOp::Swap),
+        2 => load_reserved(second),
+        3 => Some(AmoOp::Sc),
+        4 => Some(AmoOp::Xor),
+        8 => Some(AmoOp::Or),
+        12 => Some(AmoOp::And),
+        16 => Some(AmoOp::Min),
+        20 => Some(AmoOp::Max),
+        24 => Some(AmoOp::Minu),
+        28 => Some(AmoOp::Maxu),
+        _ => None,
+    }
+}
+
+fn load_reserved(second: u8) -> Option<AmoOp>
+    ensures value { result ≡ amo_named 2 second }
+    ensures some { IfSome result (λ op. (2 ≡ amo_funct5 op) × HasSource op second) }
+{
+    if second == 0 { Some(AmoOp::Lr) } else { None }
 }

@@ -3,9 +3,9 @@
 ghost use Rattle.std.specs.Prelude.{◌≡◌, ◌+◌, ◌/◌, ◌%◌, ◌^◌, ◌<◌, ◌++◌, codes, Some};
 ghost use Rattle.std.specs.Fmt.{digits, signed_decimal, DisplaysOnOk};
 ghost use Rattle.rept_isa.specs.Numbers.{plus};
-ghost use Rattle.rept_isa.specs.Texts.{offset_of, register_text, hex_digit, hex_text, place_text, address_text, branch_name, load_name, store_name, imm_name, op_name, instruction_text};
+ghost use Rattle.rept_isa.specs.Texts.{offset_of, register_text, hex_digit, hex_text, place_text, address_text, branch_name, load_name, store_name, imm_name, op_name, amo_name, amo_text, with_source, instruction_text};
 
-use crate::instr::{BranchOp, ImmOp, Instr, LoadOp, RegOp, StoreOp};
+use crate::instr::{AmoOp, BranchOp, ImmOp, Instr, LoadOp, RegOp, StoreOp};
 use crate::number::plus;
 use crate::reg::Reg;
 use std::fmt;
@@ -54,6 +54,7 @@ impl fmt::Display for Shown {
             Instr::Store { op, rs1, rs2, imm } => show_place(f, store_name(op), rs2, (rs1, imm)),
             Instr::Imm { op, rd, rs1, imm } => show_immediate(f, imm_name(op), (rd, rs1), imm),
             Instr::Op { op, rd, rs1, rs2 } => show_registers(f, op_name(op), (rd, rs1, rs2)),
+            Instr::Amo { op, rd, rs1, rs2 } => show_amo(f, op, (rd, rs1, rs2)),
             Instr::Fence => f.write_str("fence"),
             Instr::Ecall => f.write_str("ecall"),
             Instr::Ebreak => f.write_str("ebreak"),
@@ -130,6 +131,33 @@ fn show_registers<W: fmt::Write>(
 {
     let (rd, rs1, rs2) = registers;
     write!(f, "{name} {rd},{rs1},{rs2}")
+}
+
+/// An atomic instruction. LR has no source.
+fn show_amo<W: fmt::Write>(
+    f: &mut fmt::Formatter<W>,
+    op: AmoOp,
+    registers: (Reg, Reg, Reg),
+) -> fmt::Result
+    ensures { DisplaysOnOk W.Write.write_str_gives f.old result (Some (amo_text op registers.0 registers.1 registers.2)) f.new }
+{
+    let (rd, rs1, _) = registers;
+    match op {
+        AmoOp::Lr => write!(f, "lr.w {rd},({rs1})"),
+        _ => show_with_source(f, amo_name(op), registers),
+    }
+}
+
+/// The name, two registers and the one that has the address.
+fn show_with_source<W: fmt::Write>(
+    f: &mut fmt::Formatter<W>,
+    name: &str,
+    registers: (Reg, Reg, Reg),
+) -> fmt::Result
+    ensures { DisplaysOnOk W.Write.write_str_gives f.old result (Some (with_source name.now registers.0 registers.1 registers.2)) f.new }
+{
+    let (rd, rs1, rs2) = registers;
+    write!(f, "{name} {rd},{rs2},({rs1})")
 }
 
 /// A read of a counter.
@@ -254,5 +282,23 @@ fn op_name(op: RegOp) -> &'static str
         RegOp::Divu => "divu",
         RegOp::Rem => "rem",
         RegOp::Remu => "remu",
+    }
+}
+
+fn amo_name(op: AmoOp) -> &'static str
+    ensures { result.now ≡ amo_name op }
+{
+    match op {
+        AmoOp::Lr => "lr.w",
+        AmoOp::Sc => "sc.w",
+        AmoOp::Swap => "amoswap.w",
+        AmoOp::Add => "amoadd.w",
+        AmoOp::Xor => "amoxor.w",
+        AmoOp::And => "amoand.w",
+        AmoOp::Or => "amoor.w",
+        AmoOp::Min => "amomin.w",
+        AmoOp::Max => "amomax.w",
+        AmoOp::Minu => "amominu.w",
+        AmoOp::Maxu => "amomaxu.w",
     }
 }

@@ -3,7 +3,7 @@
 -- in the RISC-V unprivileged manual 20191213, chapters 2.4 to 2.6 and 7.
 use Rattle.std.specs.Prelude.{ℕ, ◌+◌, ◌-◌, ◌*◌, ◌/◌, ◌%◌, ◌^◌, Bool, true, false, ◌==◌, bit_and, bit_or, bit_xor, if◌then◌else◌, Option, Some, None}
 use Rattle.rept_isa.specs.declared.instr.Instr.{Instr}
-use Rattle.rept_isa.specs.declared.instr.Instr.TheVariants.{Lui, Auipc, Jal, Jalr, Branch, Load, Store, Imm, Op, Fence, Ecall, Ebreak, Counter}
+use Rattle.rept_isa.specs.declared.instr.Instr.TheVariants.{Lui, Auipc, Jal, Jalr, Branch, Load, Store, Imm, Op, Amo, Fence, Ecall, Ebreak, Counter}
 use Rattle.rept_isa.specs.declared.instr.RegOp.{RegOp}
 use Rattle.rept_isa.specs.declared.instr.RegOp.TheVariants.{Add, Sub, Sll, Slt, Sltu, Xor, Srl, Sra, Or, And, Mul, Mulh, Mulhsu, Mulhu, Div, Divu, Rem, Remu}
 use Rattle.rept_isa.specs.declared.instr.LoadOp.{LoadOp}
@@ -112,6 +112,7 @@ applied_bits (Imm op rd rs1 imm) from a b = operation_bits (register_form op) a 
 applied_bits (Op op rd rs1 rs2) from a b = operation_bits op a b
 applied_bits (Branch op rs1 rs2 imm) from a b = all_open
 applied_bits (Store op rs1 rs2 imm) from a b = all_open
+applied_bits (Amo op rd rs1 rs2) from a b = all_open
 applied_bits Fence from a b = all_open
 applied_bits Ecall from a b = all_open
 applied_bits Ebreak from a b = all_open

@@ -37,6 +37,7 @@ impl Transfer for Both {
             | Instr::Store { .. }
             | Instr::Imm { .. }
             | Instr::Op { .. }
+            | Instr::Amo { .. }
             | Instr::Fence
             | Instr::Ecall
             | Instr::Ebreak

@@ -31,6 +31,7 @@ impl Transfer for Bits {
             Instr::Op { op, .. } => operation_bits(op, a, b),
             Instr::Branch { .. }
             | Instr::Store { .. }
+            | Instr::Amo { .. }
             | Instr::Fence
             | Instr::Ecall
             | Instr::Ebreak
@@ -55,6 +56,7 @@ impl Transfer for Bits {
             | Instr::Store { .. }
             | Instr::Imm { .. }
             | Instr::Op { .. }
+            | Instr::Amo { .. }
             | Instr::Fence
             | Instr::Ecall
             | Instr::Ebreak

@@ -1,8 +1,10 @@
--- What the operations compute (RISC-V unprivileged manual 20191213, chapters 2.4 to 2.6 for RV32I, 7 for M). Operands and
+-- What the operations compute (RISC-V unprivileged manual 20191213, chapters 2.4 to 2.6 for RV32I, 7 for M, 8 for A). Operands and
 -- results are 32-bit words. `cast_signed w32 a` is a word's signed number in two's complement, `word z` the word of a number.
 use Rattle.std.specs.Prelude.{ℕ, ◌+◌, ◌-◌, ◌*◌, ◌/◌, ◌%◌, ◌^◌, nat_lt, ◌==◌, Bool, not, if◌then◌else◌, ℤ, pos, ◌*ℤ◌, bit_and, bit_or, bit_xor, int_div, int_rem, int_lt}
 use Rattle.std.specs.Int.{cast_signed, cast_unsigned, int_shr}
 use mir.Syntax.{w32, w64}
+use Rattle.rept_isa.specs.declared.instr.AmoOp.{AmoOp}
+use Rattle.rept_isa.specs.declared.instr.AmoOp.TheVariants as atomic
 use Rattle.rept_isa.specs.declared.instr.BranchOp.{BranchOp}
 use Rattle.rept_isa.specs.declared.instr.BranchOp.TheVariants.{Beq, Bne, Blt, Bge, Bltu, Bgeu}
 use Rattle.rept_isa.specs.declared.instr.LoadOp.{LoadOp}
@@ -62,6 +64,21 @@ register_form Srai = Sra
 
 abbrev pub computed_imm : ImmOp → ℕ → ℤ → ℕ
 computed_imm op a imm = computed (register_form op) a (word imm)
+
+-- What an atomic instruction leaves in memory where it writes, by the word that was there and the value of its source (chapter 8.4): the minimum and maximum of
+-- signed numbers for MIN and MAX, of unsigned ones for MINU and MAXU. An SC writes its source (chapter 8.2), and an LR leaves the word as it is.
+abbrev pub combined : AmoOp → ℕ → ℕ → ℕ
+combined atomic.Lr held source = held
+combined atomic.Sc held source = source
+combined atomic.Swap held source = source
+combined atomic.Add held source = (held + source) % 2 ^ 32
+combined atomic.Xor held source = bit_xor held source
+combined atomic.And held source = bit_and held source
+combined atomic.Or held source = bit_or held source
+combined atomic.Min held source = if below_signed held source then held else source
+combined atomic.Max held source = if below_signed held source then source else held
+combined atomic.Minu held source = if nat_lt held source then held else source
+combined atomic.Maxu held source = if nat_lt held source then source else held
 
 -- the condition of a branch
 abbrev pub branch_holds : BranchOp → ℕ → ℕ → Bool

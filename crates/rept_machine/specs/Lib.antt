@@ -9,3 +9,4 @@ pub mod Runs
 pub mod State
 pub mod Step
 pub mod Ways
+pub mod Writes

@@ -1,14 +1,16 @@
--- What one instruction does to the state (RISC-V unprivileged manual 20191213, chapters 2.4 to 2.8, 7, 10 and 24). Memory
+-- What one instruction does to the state (RISC-V unprivileged manual 20191213, chapters 2.4 to 2.8, 7, 8, 10 and 24). Memory
 -- is little-endian, and an access goes byte by byte, modulo 2 ^ 32. Only what is written changes.
-use Rattle.std.specs.Prelude.{◌≡◌, ◌≢◌, ℕ, ◌*◌, ◌/◌, ◌<◌, ℤ, Bool, if◌then◌else◌}
+use Rattle.std.specs.Prelude.{◌≡◌, ◌≢◌, ◌⊎◌, ℕ, ◌*◌, ◌/◌, ◌<◌, ℤ, Bool, if◌then◌else◌}
 use Rattle.rept_isa.specs.declared.instr.Instr.{Instr}
-use Rattle.rept_isa.specs.declared.instr.Instr.TheVariants.{Lui, Auipc, Jal, Jalr, Branch, Load, Store, Imm, Op, Fence, Ecall, Ebreak, Counter}
+use Rattle.rept_isa.specs.declared.instr.Instr.TheVariants.{Lui, Auipc, Jal, Jalr, Branch, Load, Store, Imm, Op, Amo, Fence, Ecall, Ebreak, Counter}
+use Rattle.rept_isa.specs.declared.instr.AmoOp.{AmoOp}
+use Rattle.rept_isa.specs.declared.instr.AmoOp.TheVariants as atomic
 use Rattle.rept_isa.specs.declared.instr.StoreOp.{StoreOp}
 use Rattle.rept_isa.specs.declared.row.StepRow.{StepRow}
 use Rattle.rept_isa.specs.Numbers.{plus, following}
 use Rattle.rept_isa.specs.Rows.{Addresses, addresses_of}
 use Rattle.rept_machine.specs.State.{State}
-use Rattle.rept_machine.specs.Arithmetic.{computed, computed_imm, branch_holds, beside, loaded, store_width, byte_of}
+use Rattle.rept_machine.specs.Arithmetic.{computed, computed_imm, branch_holds, beside, word_at, combined, loaded, store_width, byte_of}
 use Rattle.rept_machine.specs.Calls.{MayChange}
 
 abbrev pub SameRegisters : State → State → Type 0
@@ -48,6 +50,47 @@ pub record Stores (op : StoreOp) (value base : ℕ) (a : Addresses) (s t : State
   pub others : (b : ℕ) → ((k : ℕ) → k < store_width op → b ≢ beside base k) → t.memory b ≡ s.memory b
   pub onward : a.next ≡ following a.from
 
+-- the word stands from base on, and no other byte changes
+pub record PutsWord (value base : ℕ) (s t : State) : Type 0 where
+  pub written : (k : ℕ) → k < 4 → t.memory (beside base k) ≡ byte_of value k
+  pub others : (b : ℕ) → ((k : ℕ) → k < 4 → b ≢ beside base k) → t.memory b ≡ s.memory b
+
+-- in one step a register takes an answer and the memory at base a word; both are made of what was there before
+pub record Exchanges (rd answer : ℕ) (value base : ℕ) (a : Addresses) (s t : State) : Type 0 where
+  pub result : Sets rd answer s t
+  pub memory : PutsWord value base s t
+  pub onward : a.next ≡ following a.from
+
+-- an SC that fails writes no byte, and answers by another value than 0
+pub record Fails (rd : ℕ) (a : Addresses) (s t : State) : Type 0 where
+  pub code : rd ≢ 0 → t.register rd ≢ 0
+  pub lost : rd ≡ 0 → t.register 0 ≡ s.register 0
+  pub others : (r : ℕ) → r ≢ rd → t.register r ≡ s.register r
+  pub memory : SameMemory s t
+  pub onward : a.next ≡ following a.from
+
+-- Reservations aren't modelled: an SC may succeed, with 0, or fail, whatever was before (chapter 8.2 lets it fail at any time).
+abbrev pub Tries : ℕ → ℕ → ℕ → Addresses → State → State → Type 0
+Tries rd value base a s t = Exchanges rd 0 value base a s t ⊎ Fails rd a s t
+
+-- an atomic memory operation answers by the word that was there
+abbrev pub Combines : AmoOp → ℕ → ℕ → ℕ → Addresses → State → State → Type 0
+Combines op rd value base a s t = Exchanges rd (word_at s.memory base) (combined op (word_at s.memory base) value) base a s t
+
+-- what an atomic instruction with this destination, value of its source, and address does
+abbrev pub Acts : AmoOp → ℕ → ℕ → ℕ → Addresses → State → State → Type 0
+Acts atomic.Lr rd value base a s t = Computes rd (word_at s.memory base) a s t
+Acts atomic.Sc rd value base a s t = Tries rd value base a s t
+Acts atomic.Swap rd value base a s t = Combines atomic.Swap rd value base a s t
+Acts atomic.Add rd value base a s t = Combines atomic.Add rd value base a s t
+Acts atomic.Xor rd value base a s t = Combines atomic.Xor rd value base a s t
+Acts atomic.And rd value base a s t = Combines atomic.And rd value base a s t
+Acts atomic.Or rd value base a s t = Combines atomic.Or rd value base a s t
+Acts atomic.Min rd value base a s t = Combines atomic.Min rd value base a s t
+Acts atomic.Max rd value base a s t = Combines atomic.Max rd value base a s t
+Acts atomic.Minu rd value base a s t = Combines atomic.Minu rd value base a s t
+Acts atomic.Maxu rd value base a s t = Combines atomic.Maxu rd value base a s t
+
 -- nothing changes
 pub record Orders (a : Addresses) (s t : State) : Type 0 where
   pub registers : SameRegisters s t
@@ -83,6 +126,7 @@ HasEffect (Load op rd rs1 imm) image_end a s t = Computes rd (loaded op s.memory
 HasEffect (Store op rs1 rs2 imm) image_end a s t = Stores op (s.register rs2) (plus (s.register rs1) imm) a s t
 HasEffect (Imm op rd rs1 imm) image_end a s t = Computes rd (computed_imm op (s.register rs1) imm) a s t
 HasEffect (Op op rd rs1 rs2) image_end a s t = Computes rd (computed op (s.register rs1) (s.register rs2)) a s t
+HasEffect (Amo op rd rs1 rs2) image_end a s t = Acts op rd (s.register rs2) (s.register rs1) a s t
 HasEffect Fence image_end a s t = Orders a s t
 HasEffect Ecall image_end a s t = Calls image_end a s t
 HasEffect Ebreak image_end a s t = ⊥

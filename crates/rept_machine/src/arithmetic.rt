@@ -1,13 +1,13 @@
-//! What the operations compute (RISC-V unprivileged manual 20191213, chapters 2.4, 2.5 and 7).
+//! What the operations compute (RISC-V unprivileged manual 20191213, chapters 2.4, 2.5, 7 and 8).
 
 ghost use Rattle.std.specs.Prelude.{◌≡◌, ◌*◌, ◌*ℤ◌, ◌+◌, ◌-◌, ◌/◌, ◌%◌, ◌^◌, ◌==◌, ◌<◌, pos, IsTrue, ◌↔◌, if◌then◌else◌, int_div, int_rem, FitsSigned};
 ghost use mir.Syntax.{w32};
 ghost use Rattle.std.specs.Int.{int_shr};
 ghost use Rattle.rept_isa.specs.Numbers.{word};
-ghost use Rattle.rept_machine.specs.Arithmetic.{computed, computed_imm, register_form, branch_holds, below_signed, signed_word, high_word};
+ghost use Rattle.rept_machine.specs.Arithmetic.{computed, computed_imm, register_form, branch_holds, below_signed, signed_word, high_word, combined};
 
 use rept_isa::number::word;
-use rept_isa::{BranchOp, ImmOp, RegOp};
+use rept_isa::{AmoOp, BranchOp, ImmOp, RegOp};
 
 /// The result of an operation on two registers.
 pub fn computed(op: RegOp, a: u32, b: u32) -> u32
@@ -57,6 +57,31 @@ pub fn register_form(op: ImmOp) -> RegOp
         ImmOp::Srli => RegOp::Srl,
         ImmOp::Srai => RegOp::Sra,
     }
+}
+
+/// What an atomic instruction leaves in memory where it writes, by the word that was there and the value of its source. An SC writes its source, and an LR
+/// leaves the word as it is.
+pub fn combined(op: AmoOp, held: u32, source: u32) -> u32
+    ensures { result ≡ combined op held source }
+{
+    match op {
+        AmoOp::Lr => held,
+        AmoOp::Sc | AmoOp::Swap => source,
+        AmoOp::Add => held.wrapping_add(source),
+        AmoOp::Xor => held ^ source,
+        AmoOp::And => held & source,
+        AmoOp::Or => held | source,
+        AmoOp::Min => chosen(below_signed(held, source), held, source),
+        AmoOp::Max => chosen(below_signed(held, source), source, held),
+        AmoOp::Minu => chosen(held < source, held, source),
+        AmoOp::Maxu => chosen(held < source, source, held),
+    }
+}
+
+fn chosen(first: bool, a: u32, b: u32) -> u32
+    ensures { result ≡ (if first then a else b) }
+{
+    if first { a } else { b }
 }
 
 /// The condition of a branch.

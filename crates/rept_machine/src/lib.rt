@@ -1,4 +1,4 @@
-//! The states and steps of RV32IM, and a machine that makes them.
+//! The states and steps of RV32IMA, and a machine that makes them.
 #![tactic(auto)]
 
 pub mod arithmetic;

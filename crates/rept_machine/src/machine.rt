@@ -18,14 +18,14 @@ pub enum Halt {
     /// No code word stands at the pc.
     #[error("no code at {0:#010x}")]
     NotCode(u32),
-    /// The word at the pc spells no instruction of RV32IM, or is EBREAK.
+    /// The word at the pc spells no instruction of RV32IMA, or is EBREAK.
     #[error("no instruction to run at {0:#010x}")]
     NotRunnable(u32),
     #[error("out of memory")]
     OutOfMemory,
 }
 
-/// A hart of RV32IM with code that doesn't change. Memory has bytes at all 32-bit addresses, 0 at first, and takes room
+/// A hart of RV32IMA with code that doesn't change. Memory has bytes at all 32-bit addresses, 0 at first, and takes room
 /// only where a store wrote.
 #[derive(Drop)]
 pub struct Machine<'a> {

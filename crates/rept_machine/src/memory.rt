@@ -60,7 +60,8 @@ impl Memory {
         u32::from(self.byte(base)) + 256 * u32::from(self.byte(base.wrapping_add(1)))
     }
 
-    fn word(&self, base: u32) -> u32
+    /// The word at this address.
+    pub fn word(&self, base: u32) -> u32
         ensures { result ≡ word_at (byte_at self.now) base }
     {
         let low = self.half(base);

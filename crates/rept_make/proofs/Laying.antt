@@ -3,7 +3,7 @@ use Rattle.std.proofs.Common.{◌≡◌, ℕ, ◌≤◌, List, nat_lt, ℤ, pos,
 use Rattle.std.proofs.Math.Bool.{and-false}
 use Rattle.std.proofs.lemmas.Bool.Decides.{nat_tests}
 use Rattle.rept_isa.specs.declared.instr.Instr.{Instr}
-use Rattle.rept_isa.specs.declared.instr.Instr.TheVariants.{Lui, Auipc, Jal, Jalr, Branch, Load, Store, Imm, Op, Fence, Ecall, Ebreak, Counter}
+use Rattle.rept_isa.specs.declared.instr.Instr.TheVariants.{Lui, Auipc, Jal, Jalr, Branch, Load, Store, Imm, Op, Amo, Fence, Ecall, Ebreak, Counter}
 use Rattle.rept_isa.specs.declared.instr.LoadOp.TheVariants.{Lw}
 use Rattle.rept_isa.specs.declared.instr.StoreOp.{StoreOp}
 use Rattle.rept_isa.specs.declared.instr.ImmOp.TheVariants.{Addi}
@@ -71,6 +71,7 @@ module _ (body : List ℕ) (place : Addresses) (s t : State) (n : Near s) where
   laid_effect (Auipc rd imm) e f h = absurd f
   laid_effect (Jal rd imm) e f h = absurd f
   laid_effect (Jalr rd rs1 imm) e f h = absurd f
+  laid_effect (Amo op rd rs1 rs2) e f h = absurd f
   laid_effect Fence e f h = absurd f
   laid_effect Ecall e f h = absurd f
   laid_effect Ebreak e f h = absurd f

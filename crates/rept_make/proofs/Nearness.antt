@@ -3,7 +3,7 @@ use Rattle.std.proofs.Common.{◌≡◌, ◌≢◌, ℕ, ◌+◌, ◌*◌, ◌%�
 use Rattle.std.proofs.lemmas.Bool.{cases_eq}
 use Rattle.std.proofs.lemmas.Nat.{and_le_r}
 use Rattle.rept_isa.specs.declared.instr.Instr.{Instr}
-use Rattle.rept_isa.specs.declared.instr.Instr.TheVariants.{Lui, Auipc, Jal, Jalr, Branch, Load, Store, Imm, Op, Fence, Ecall, Ebreak, Counter}
+use Rattle.rept_isa.specs.declared.instr.Instr.TheVariants.{Lui, Auipc, Jal, Jalr, Branch, Load, Store, Imm, Op, Amo, Fence, Ecall, Ebreak, Counter}
 use Rattle.rept_isa.specs.declared.instr.ImmOp.{ImmOp}
 use Rattle.rept_isa.specs.declared.instr.ImmOp.TheVariants.{Addi, Andi}
 use Rattle.rept_isa.specs.Numbers.{word, plus, following}
@@ -97,6 +97,7 @@ module _ (at slot next : ℕ) (s t : State) (here : at ≡ 65536 + 4 * slot) (n 
   tame (Auipc rd imm) e f lt straight h = absurd f
   tame (Jal rd imm) e f lt straight h = absurd f
   tame (Jalr rd rs1 imm) e f lt straight h = absurd f
+  tame (Amo op rd rs1 rs2) e f lt straight h = absurd f
   tame Fence e f lt straight h = absurd f
   tame Ecall e f lt straight h = absurd f
   tame Ebreak e f lt straight h = absurd f

@@ -5,7 +5,7 @@ use Rattle.std.proofs.lemmas.Bool.Decides.{nat_tests}
 use Rattle.std.proofs.lemmas.List.Elements.{All-nil, All-push}
 use Rattle.std.proofs.lemmas.Option.{slice_get_within, slice_get-get_or}
 use Rattle.rept_isa.specs.declared.instr.Instr.{Instr}
-use Rattle.rept_isa.specs.declared.instr.Instr.TheVariants.{Lui, Auipc, Jal, Jalr, Branch, Load, Store, Imm, Op, Fence, Ecall, Ebreak, Counter}
+use Rattle.rept_isa.specs.declared.instr.Instr.TheVariants.{Lui, Auipc, Jal, Jalr, Branch, Load, Store, Imm, Op, Amo, Fence, Ecall, Ebreak, Counter}
 use Rattle.rept_isa.specs.declared.instr.ImmOp.TheVariants.{Addi}
 use Rattle.rept_isa.specs.declared.row.StepRow.{StepRow}
 use Rattle.rept_isa.specs.Words.{IsWord}
@@ -54,6 +54,7 @@ called b (Load op rd rs1 imm) f = not_call b _ f (λ e. cc)
 called b (Store op rs1 rs2 imm) f = not_call b _ f (λ e. cc)
 called b (Imm op rd rs1 imm) f = not_call b _ f (λ e. cc)
 called b (Op op rd rs1 rs2) f = not_call b _ f (λ e. cc)
+called b (Amo op rd rs1 rs2) f = not_call b _ f (λ e. cc)
 called b Fence f = not_call b _ f (λ e. cc)
 called b Ecall f = is_call b f
 called b Ebreak f = not_call b _ f (λ e. cc)
@@ -74,6 +75,7 @@ tame_leads (Lui rd imm) e at next s t f h = absurd f
 tame_leads (Auipc rd imm) e at next s t f h = absurd f
 tame_leads (Jal rd imm) e at next s t f h = absurd f
 tame_leads (Jalr rd rs1 imm) e at next s t f h = absurd f
+tame_leads (Amo op rd rs1 rs2) e at next s t f h = absurd f
 tame_leads Fence e at next s t f h = absurd f
 tame_leads Ecall e at next s t f h = absurd f
 tame_leads Ebreak e at next s t f h = absurd f
@@ -105,6 +107,7 @@ tame_stays (Lui rd imm) f = absurd f
 tame_stays (Auipc rd imm) f = absurd f
 tame_stays (Jal rd imm) f = absurd f
 tame_stays (Jalr rd rs1 imm) f = absurd f
+tame_stays (Amo op rd rs1 rs2) f = absurd f
 tame_stays Fence f = absurd f
 tame_stays Ecall f = absurd f
 tame_stays Ebreak f = absurd f
@@ -120,6 +123,7 @@ tame_runs (Lui rd imm) f = absurd f
 tame_runs (Auipc rd imm) f = absurd f
 tame_runs (Jal rd imm) f = absurd f
 tame_runs (Jalr rd rs1 imm) f = absurd f
+tame_runs (Amo op rd rs1 rs2) f = absurd f
 tame_runs Fence f = absurd f
 tame_runs Ecall f = absurd f
 tame_runs Ebreak f = absurd f

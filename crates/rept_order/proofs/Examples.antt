@@ -1,12 +1,14 @@
 -- The order of two harts, worked out by hand. Thread 0 runs row 0 from time 1 to 3, rows 1 and 2 from 5 to 9, and row 3 from 9 on; thread 1
 -- runs row 0, a call, from 1 to 4, and row 1 from 4 to 8. What happened until 1 isn't told.
-use Rattle.std.proofs.Common.{◌≡◌, ℕ, ◌+◌, ◌-◌, ◌^◌, List, [], ◌∷◌, Some, true, false, refl}
+use Rattle.std.proofs.Common.{◌≡◌, ℕ, ◌+◌, ◌-◌, ◌^◌, List, [], ◌∷◌, Some, None, true, false, refl}
 use Rattle.rept_isa.specs.declared.row.StepRow.{StepRow}
 use Rattle.rept_isa.specs.declared.instr.Instr.{Instr}
-use Rattle.rept_isa.specs.declared.instr.Instr.TheVariants.{Fence, Ecall}
+use Rattle.rept_isa.specs.declared.instr.Instr.TheVariants.{Amo, Fence, Ecall}
+use Rattle.rept_isa.specs.declared.instr.AmoOp.TheVariants.{Lr, Sc, Swap}
 use Rattle.rept_steps.specs.declared.slice.Slice.{Slice}
 use Rattle.rept_steps.specs.declared.threads.ThreadRows.{ThreadRows}
 use Rattle.rept_steps.specs.Course.{Course, row_of}
+use Rattle.rept_order.specs.Moments.{stores}
 use Rattle.rept_order.specs.Moments.Moment.{before, after, at_end}
 use Rattle.rept_order.specs.Moments.Act.{row, dark}
 use Rattle.rept_order.specs.Times.{is_earlier, falls_between}
@@ -81,3 +83,39 @@ dark_falls = refl
 
 dark_ended : falls_between two_harts dark (before (row_of 0 1)) at_end ≡ false
 dark_ended = refl
+
+-- beside the first thread another one executes one instruction between 5 and 9
+abbrev one_row : Instr → ThreadRows
+one_row instr = record { steps = a_row 0 instr ∷ []; slices = slice_from 5 9 0 1 ∷ [] }
+
+abbrev pub beside : Instr → Course
+beside instr = record { threads = first_thread ∷ one_row instr ∷ []; dark = None }
+
+-- lr.w x5,(x7), sc.w x5,x6,(x7), sc.w x0,x6,(x7) and amoswap.w x5,x6,(x7)
+abbrev pub reserve : Instr
+reserve = Amo Lr 5 7 0
+
+abbrev pub try : Instr
+try = Amo Sc 5 7 6
+
+abbrev pub blind_try : Instr
+blind_try = Amo Sc 0 7 6
+
+abbrev pub swap : Instr
+swap = Amo Swap 5 7 6
+
+-- it falls between rows 1 and 2 of the first thread; there an LR writes nothing, and an SC may, whatever is known of its answer
+atomic_falls : falls_between (beside reserve) (row (row_of 1 0)) (after (row_of 0 1)) (before (row_of 0 2)) ≡ true
+atomic_falls = refl
+
+reserve_writes_nothing : stores (beside reserve) (row_of 1 0) ≡ false
+reserve_writes_nothing = refl
+
+try_may_write : stores (beside try) (row_of 1 0) ≡ true
+try_may_write = refl
+
+blind_try_may_write : stores (beside blind_try) (row_of 1 0) ≡ true
+blind_try_may_write = refl
+
+swap_writes : stores (beside swap) (row_of 1 0) ≡ true
+swap_writes = refl

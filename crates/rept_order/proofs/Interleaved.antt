@@ -2,8 +2,6 @@
 use Rattle.std.proofs.Common.{◌≡◌, ℕ, suc, ◌<◌, ◌≤◌, if◌then◌else◌, cond, Bool, true, false, length, Option, Some, None, MatchOption, refl, sym, ap, ◌∙◌, subst, arith}
 use Rattle.std.proofs.lemmas.Option.{slice_get_within}
 use Rattle.rept_isa.specs.declared.row.StepRow.{StepRow}
-use Rattle.rept_isa.specs.declared.instr.Instr.{Instr}
-use Rattle.rept_isa.specs.declared.instr.Instr.TheVariants.{Store, Ecall}
 use Rattle.rept_machine.specs.State.{State}
 use Rattle.rept_machine.specs.Step.{IsStep}
 use Rattle.rept_steps.specs.Course.{Course, Row, rows_of, IsRow, row_at, calls}
@@ -13,17 +11,12 @@ use Rattle.rept_order.specs.Moments.Act.{row, dark}
 use Rattle.rept_order.specs.History.{History, Ending, IsExecution, state_at}
 use Rattle.rept_order.specs.Points.{registers_at, memory_at, state_from}
 use Rattle.rept_order.specs.Legs.{Point, number_of, point_at, registers_on}
+use Rattle.rept_machine.proofs.StepLaws.{written_by_registers}
 use Rattle.rept_order.specs.Writing.{WritesBy, ActWrites}
 use Rattle.rept_order.specs.Interleaved.{run_of, leg_of, state_before, state_after, WritesIn, IsRun}
 use Rattle.rept_order.proofs.Legs.{point_number, thread_inside}
 use Rattle.rept_order.proofs.Points.{plain_step, call_step, registers_saved, point_state, registers_after, registers_before, one_memory}
 use Rattle.rept_order.proofs.Quiet.{still_stays}
-
--- what is written depends on the registers before, and on x10 after
-writes_by : (instr : Instr) (image_end : ℕ) (s t u v : State) (a : ℕ) → s.register ≡ u.register → t.register ≡ v.register → WritesBy instr image_end s t a → WritesBy instr image_end u v a
-writes_by (Store op rs1 rs2 imm) image_end s t u v a one other w = subst (λ (f : ℕ → ℕ). WritesBy (Store op rs1 rs2 imm) image_end (record { register = f; memory = u.memory }) v a) one w
-writes_by Ecall image_end s t u v a one other w = subst (λ (f : ℕ → ℕ). WritesBy Ecall image_end (record { register = f; memory = u.memory }) v a) one (subst (λ (f : ℕ → ℕ). WritesBy Ecall image_end s (record { register = f; memory = v.memory }) a) other w)
-writes_by _ image_end s t u v a one other w = absurd w
 
 module _ (C : Course) (D : Ending) (h : History) (x : IsExecution C D h) where
   registers_here : (t p : ℕ) → t < length C.threads → p ≤ length (rows_of C t) → registers_on C h (number_of C t p) ≡ registers_at C h t p
@@ -50,7 +43,7 @@ module _ (C : Course) (D : Ending) (h : History) (x : IsExecution C D h) where
 
   written_at : (place : Option StepRow) (r : Row) (a : ℕ) → IsRow C r → MatchOption place ⊥ (λ its_row. WritesBy its_row.instr D.image_end (state_at C h r.thread (before r)) (state_at C h r.thread (after r)) a) → MatchOption place ⊥ (λ its_row. WritesBy its_row.instr D.image_end (state_before C (run_of C h) r) (state_after C (run_of C h) r) a)
   written_at None r a is w = absurd w
-  written_at (Some its_row) r a is w = writes_by its_row.instr D.image_end (state_at C h r.thread (before r)) (state_at C h r.thread (after r)) (state_before C (run_of C h) r) (state_after C (run_of C h) r) a (sym (before_leg r is ∙ registers_before C D h x r.thread r.step is)) (sym (after_leg r is ∙ registers_after C D h x r.thread r.step is)) w
+  written_at (Some its_row) r a is w = written_by_registers its_row.instr D.image_end (state_at C h r.thread (before r)) (state_at C h r.thread (after r)) (state_before C (run_of C h) r) (state_after C (run_of C h) r) a (sym (before_leg r is ∙ registers_before C D h x r.thread r.step is)) (sym (after_leg r is ∙ registers_after C D h x r.thread r.step is)) w
 
   act_writes : (act : Act) (a : ℕ) → IsAct C act → ActWrites C D h act a → WritesIn C D (run_of C h) act a
   act_writes (row r) a is w = written_at (row_at C r) r a is w

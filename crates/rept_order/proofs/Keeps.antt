@@ -2,12 +2,12 @@
 use Rattle.std.proofs.Common.{◌≡◌, ℕ, suc, ◌<◌, ◌≤◌, true, false, Option, Some, None, MatchOption, refl, sym, ap, ◌∙◌, subst, arith}
 use Rattle.std.proofs.lemmas.Bool.{false≢true}
 use Rattle.rept_isa.specs.declared.instr.Instr.{Instr}
-use Rattle.rept_isa.specs.declared.instr.Instr.TheVariants.{Lui, Auipc, Jal, Jalr, Branch, Load, Store, Imm, Op, Fence, Ecall, Ebreak, Counter}
+use Rattle.rept_isa.specs.declared.instr.Instr.TheVariants.{Ecall}
 use Rattle.rept_isa.specs.declared.row.StepRow.{StepRow}
 use Rattle.rept_isa.specs.Rows.{Addresses, addresses_of}
 use Rattle.rept_machine.specs.Calls.{MayChange}
 use Rattle.rept_machine.specs.State.{State}
-use Rattle.rept_machine.specs.Step.{HasEffect}
+use Rattle.rept_machine.proofs.StepLaws.{effect_keeps_byte}
 use Rattle.rept_steps.specs.Course.{Course, Row, IsRow, row_at, is_call, is_call_row, calls}
 use Rattle.rept_order.specs.Events.{Part, Event, FitsRow, first_event, last_event, Before, DarkPrecedes}
 use Rattle.rept_order.specs.Events.Part.{whole, entry, return}
@@ -20,21 +20,6 @@ use Rattle.rept_order.specs.History.Happening.{event, change, nothing}
 use Rattle.rept_order.specs.Writing.{WritesBy, RowWrites, ActWrites, By}
 use Rattle.rept_order.proofs.Sequence.{part_of, first_whole, last_whole, first_entry, last_return}
 use Rattle.rept_order.proofs.Ticks.{order_kept, or_kept}
-
-effect_keeps : (instr : Instr) (image_end : ℕ) (place : Addresses) (s t : State) (a : ℕ) → HasEffect instr image_end place s t → (WritesBy instr image_end s t a → ⊥) → t.memory a ≡ s.memory a
-effect_keeps (Lui rd imm) image_end place s t a h out = h.memory a
-effect_keeps (Auipc rd imm) image_end place s t a h out = h.memory a
-effect_keeps (Jal rd imm) image_end place s t a h out = h.memory a
-effect_keeps (Jalr rd rs1 imm) image_end place s t a h out = h.memory a
-effect_keeps (Branch op rs1 rs2 imm) image_end place s t a h out = h.memory a
-effect_keeps (Load op rd rs1 imm) image_end place s t a h out = h.memory a
-effect_keeps (Store op rs1 rs2 imm) image_end place s t a h out = h.others a (λ k below e. out (k, below, e))
-effect_keeps (Imm op rd rs1 imm) image_end place s t a h out = h.memory a
-effect_keeps (Op op rd rs1 rs2) image_end place s t a h out = h.memory a
-effect_keeps Fence image_end place s t a h out = h.memory a
-effect_keeps Ecall image_end place s t a h out = h.memory a out
-effect_keeps Ebreak image_end place s t a h out = absurd h
-effect_keeps (Counter rd csr) image_end place s t a h out = h.memory a
 
 call_writes_by : (instr : Instr) (image_end : ℕ) (s t : State) (a : ℕ) → is_call instr ≡ true → MayChange image_end s.register (t.register 10) a → WritesBy instr image_end s t a
 call_writes_by Ecall image_end s t a e k = k
@@ -141,7 +126,7 @@ module _ (C : Course) (D : Ending) (h : History) (x : IsExecution C D h) where
     executed_keeps : (r : Row) (k : ℕ) → k < h.ticks → h.happening k ≡ event (part_of r whole) → Executes C D r (record { old = h.world k; new = h.world (suc k) }) → (RowWrites C D h r a → ⊥) → (h.world (suc k)).memory a ≡ (h.world k).memory a
     executed_keeps r k below is does out =
         let own = x.once k (part_of r whole) below is in
-        effect_keeps does.its_row.instr D.image_end (addresses_of does.its_row) (seen_by r.thread (h.world k)) (seen_by r.thread (h.world (suc k))) a does.step (λ writes. out (whole_writes r k does.its_row does.is_row (whole_ticks r k own.0.part own.1) writes))
+        effect_keeps_byte does.its_row.instr D.image_end (addresses_of does.its_row) (seen_by r.thread (h.world k)) (seen_by r.thread (h.world (suc k))) a does.step (λ writes. out (whole_writes r k does.its_row does.is_row (whole_ticks r k own.0.part own.1) writes))
 
     event_keeps : (r : Row) (p : Part) (k : ℕ) → k < h.ticks → h.happening k ≡ event (part_of r p) → Occurs C D r (record { old = h.world k; new = h.world (suc k) }) p → (RowWrites C D h r a → ⊥) → (h.world (suc k)).memory a ≡ (h.world k).memory a
     event_keeps r whole k below is does out = executed_keeps r k below is does out

@@ -3,7 +3,9 @@ use Rattle.std.proofs.Common.{◌≡◌, ◌≢◌, ℕ, zero, suc, ◌+◌, ◌
 use Rattle.std.proofs.Math.Path.{fun_ext}
 use Rattle.std.proofs.lemmas.Bool.{false≢true, cases_lt, cases_order, lt-ltb, le-ltb}
 use Rattle.rept_isa.specs.declared.instr.Instr.{Instr}
-use Rattle.rept_isa.specs.declared.instr.Instr.TheVariants.{Store, Ecall}
+use Rattle.rept_isa.specs.declared.instr.Instr.TheVariants.{Store, Amo, Ecall}
+use Rattle.rept_isa.specs.declared.instr.AmoOp.{AmoOp}
+use Rattle.rept_isa.specs.declared.instr.AmoOp.TheVariants as atomic
 use Rattle.rept_isa.specs.declared.row.StepRow.{StepRow}
 use Rattle.rept_isa.specs.Numbers.{following}
 use Rattle.rept_isa.specs.Rows.{Addresses, from_of, addresses_of}
@@ -13,12 +15,13 @@ use Rattle.rept_steps.specs.Course.{Course, Row, row_of, rows_of, IsRow, row_at,
 use Rattle.rept_order.specs.Events.{Part, Event, FitsRow, first_event, last_event}
 use Rattle.rept_order.specs.Events.Part.{whole, entry, return}
 use Rattle.rept_order.specs.Events.IsBefore.{by_row}
-use Rattle.rept_order.specs.Moments.{Moment, IsMoment, Act, IsAct, Stretch, stretch, Falls, IsQuiet, may_by, writes_memory, is_writing, stores, ArePause, AreOne}
+use Rattle.rept_order.specs.Moments.{Moment, IsMoment, Act, IsAct, Stretch, stretch, Falls, IsQuiet, may_by, atomic_writes, writes_memory, is_writing, stores, ArePause, AreOne}
 use Rattle.rept_order.specs.Moments.Moment.{before, after, at_end}
 use Rattle.rept_order.specs.Moments.Act.{row, dark}
 use Rattle.rept_order.specs.Moments.ArePause.{between, last}
 use Rattle.rept_order.specs.History.{Happening, History, Ending, IsExecution, tick, seen_by, state_at, Occurs, Does}
 use Rattle.rept_order.specs.History.Happening.{event, change, nothing}
+use Rattle.rept_machine.specs.Writes.{WritesAtomic}
 use Rattle.rept_order.specs.Writing.{WritesBy, Covers}
 use Rattle.rept_order.specs.Points.{moment_of, registers_at, memory_at, state_from}
 use Rattle.rept_order.proofs.Sequence.{first_is_event, last_is_event, part_of, directly}
@@ -26,9 +29,23 @@ use Rattle.rept_order.proofs.Ticks.{order_kept, early}
 use Rattle.rept_order.proofs.Keeps.{event_within, whole_ticks, call_ticks}
 use Rattle.rept_order.proofs.Quiet.{quiet_stays}
 
--- stores and calls are all that writes
-writes_store : (instr : Instr) (image_end : ℕ) (s t : State) (a : ℕ) → WritesBy instr image_end s t a → writes_memory instr ≡ true
+-- stores, calls and atomic instructions are all that writes
+atomic_writing : (op : AmoOp) (rd base : ℕ) (after : ℕ → ℕ) (a : ℕ) → WritesAtomic op rd base after a → atomic_writes op ≡ true
+atomic_writing atomic.Lr rd base registers a w = absurd w
+atomic_writing atomic.Sc rd base registers a w = refl
+atomic_writing atomic.Swap rd base registers a w = refl
+atomic_writing atomic.Add rd base registers a w = refl
+atomic_writing atomic.Xor rd base registers a w = refl
+atomic_writing atomic.And rd base registers a w = refl
+atomic_writing atomic.Or rd base registers a w = refl
+atomic_writing atomic.Min rd base registers a w = refl
+atomic_writing atomic.Max rd base registers a w = refl
+atomic_writing atomic.Minu rd base registers a w = refl
+atomic_writing atomic.Maxu rd base registers a w = refl
+
+pub writes_store : (instr : Instr) (image_end : ℕ) (s t : State) (a : ℕ) → WritesBy instr image_end s t a → writes_memory instr ≡ true
 writes_store (Store op rs1 rs2 imm) image_end s t a w = refl
+writes_store (Amo op rd rs1 rs2) image_end s t a w = atomic_writing op rd (s.register rs1) t.register a w
 writes_store Ecall image_end s t a w = refl
 writes_store _ image_end s t a w = absurd w
 

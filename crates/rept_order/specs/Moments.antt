@@ -1,7 +1,9 @@
 -- The moments of a run, which of them are earlier than others, and who may write between two of them. This project's own.
 use Rattle.std.specs.Prelude.{◌≡◌, ◌≢◌, ℕ, suc, ◌<◌, ◌⊎◌, Bool, true, false, List, [], ◌∷◌, length, Option, Some, None}
 use Rattle.rept_isa.specs.declared.instr.Instr.{Instr}
-use Rattle.rept_isa.specs.declared.instr.Instr.TheVariants.{Store, Ecall}
+use Rattle.rept_isa.specs.declared.instr.Instr.TheVariants.{Store, Amo, Ecall}
+use Rattle.rept_isa.specs.declared.instr.AmoOp.{AmoOp}
+use Rattle.rept_isa.specs.declared.instr.AmoOp.TheVariants as atomic
 use Rattle.rept_isa.specs.declared.row.StepRow.{StepRow}
 use Rattle.rept_steps.specs.declared.slice.Slice.{Slice}
 use Rattle.rept_steps.specs.Course.{Course, Row, row_of, rows_of, slices_of, slice_of, IsRow, calls, row_at}
@@ -101,9 +103,23 @@ abbrev pub Joined : Course → (Row → ℕ → Bool) → ℕ → Moment → Lis
 Joined C may a m [] w = m ≡ w
 Joined C may a m (x ∷ xs) w = IsMoment C x × (IsQuietStep C may (stretch m x) a ⊎ IsQuietStep C may (stretch x m) a) × Joined C may a x xs w
 
--- whether a row writes memory, whatever is known of it: a store or a call
+-- whether a row writes memory, whatever is known of it: a store, a call, an SC, which may fail, and an atomic memory operation
+abbrev pub atomic_writes : AmoOp → Bool
+atomic_writes atomic.Lr = false
+atomic_writes atomic.Sc = true
+atomic_writes atomic.Swap = true
+atomic_writes atomic.Add = true
+atomic_writes atomic.Xor = true
+atomic_writes atomic.And = true
+atomic_writes atomic.Or = true
+atomic_writes atomic.Min = true
+atomic_writes atomic.Max = true
+atomic_writes atomic.Minu = true
+atomic_writes atomic.Maxu = true
+
 abbrev pub writes_memory : Instr → Bool
 writes_memory (Store op rs1 rs2 imm) = true
+writes_memory (Amo op rd rs1 rs2) = atomic_writes op
 writes_memory Ecall = true
 writes_memory _ = false
 
@@ -119,7 +135,7 @@ pub data ArePause (C : Course) (x : Stretch) : Type 0 where
   between : (t i : ℕ) → suc i < length (rows_of C t) → x ≡ stretch (after (row_of t i)) (before (row_of t (suc i))) → ArePause C x
   last : (t i : ℕ) → suc i ≡ length (rows_of C t) → x ≡ stretch (after (row_of t i)) at_end → ArePause C x
 
--- They are one moment where no store, no call and no dark falls between them.
+-- They are one moment where no store, no call, no SC, no atomic memory operation and no dark falls between them.
 pub record AreOne (C : Course) (x : Stretch) : Type 0 where
   pub pause : ArePause C x
   pub still : (act : Act) → IsAct C act → Falls C act x → may_by (λ r a. stores C r) act 0 ≡ false

@@ -1,24 +1,12 @@
--- Which bytes a row writes in an execution, whatever they were before (RISC-V unprivileged manual 20191213, chapter 2.6; for calls
--- the table of calls).
-use Rattle.std.specs.Prelude.{◌≡◌, ℕ, ◌<◌, Bool, true, MatchOption}
-use Rattle.rept_isa.specs.declared.instr.Instr.{Instr}
-use Rattle.rept_isa.specs.declared.instr.Instr.TheVariants.{Store, Ecall}
-use Rattle.rept_isa.specs.Numbers.{plus}
-use Rattle.rept_machine.specs.Arithmetic.{beside, store_width}
-use Rattle.rept_machine.specs.Calls.{MayChange}
-use Rattle.rept_machine.specs.State.{State}
+-- Which bytes a row writes in an execution, whatever they were before. This project's own.
+use Rattle.std.specs.Prelude.{◌≡◌, ℕ, Bool, true, MatchOption}
+pub use Rattle.rept_machine.specs.Writes.{WritesBy}
 use Rattle.rept_steps.specs.Course.{Course, Row, IsRow, row_at}
 use Rattle.rept_order.specs.Moments.{Act, IsAct, Stretch, Falls}
 use Rattle.rept_order.specs.Moments.Act.{row, dark}
 use Rattle.rept_order.specs.Moments.Moment.{before, after}
 use Rattle.rept_order.specs.History.{Happening, Ending, History, state_at}
 use Rattle.rept_order.specs.History.Happening.{event, change, nothing}
-
--- a store writes each of its bytes; a call writes the bytes that its number lets it change
-abbrev pub WritesBy : Instr → ℕ → State → State → ℕ → Type 0
-WritesBy (Store op rs1 rs2 imm) image_end s t a = (k : ℕ) × (k < store_width op) × (a ≡ beside (plus (s.register rs1) imm) k)
-WritesBy Ecall image_end s t a = MayChange image_end s.register (t.register 10) a
-WritesBy _ image_end s t a = ⊥
 
 -- the row writes the byte in the execution
 abbrev pub RowWrites : Course → Ending → History → Row → ℕ → Type 0

@@ -3,7 +3,9 @@ use Rattle.std.specs.Prelude.{◌≡◌, ℕ, pos, ◌<◌, ◌==◌, nat_lt, Bo
 use Rattle.std.proofs.Common.{arith, refl, sym, ◌∙◌, subst, cond, ◌⊎◌, inl, inr}
 use Rattle.std.proofs.lemmas.Bool.Decides.{nat_tests}
 use Rattle.rept_isa.specs.declared.instr.Instr.{Instr}
-use Rattle.rept_isa.specs.declared.instr.Instr.TheVariants.{Branch, Load, Store, Imm, Op, Fence, Ecall, Ebreak, Counter}
+use Rattle.rept_isa.specs.declared.instr.Instr.TheVariants.{Branch, Load, Store, Imm, Op, Amo, Fence, Ecall, Ebreak, Counter}
+use Rattle.rept_isa.specs.declared.instr.AmoOp.{AmoOp}
+use Rattle.rept_isa.specs.declared.instr.AmoOp.TheVariants as atomic
 use Rattle.rept_isa.specs.declared.instr.BranchOp.{BranchOp}
 use Rattle.rept_isa.specs.declared.instr.BranchOp.TheVariants.{Beq, Bne, Blt, Bge, Bltu, Bgeu}
 use Rattle.rept_isa.specs.declared.instr.LoadOp.{LoadOp}
@@ -14,8 +16,8 @@ use Rattle.rept_isa.specs.declared.instr.ImmOp.{ImmOp}
 use Rattle.rept_isa.specs.declared.instr.ImmOp.TheVariants.{Addi, Slti, Sltiu, Xori, Ori, Andi, Slli, Srli, Srai}
 use Rattle.rept_isa.specs.declared.instr.RegOp.{RegOp}
 use Rattle.rept_isa.specs.declared.instr.RegOp.TheVariants.{Add, Sub, Sll, Slt, Sltu, Xor, Srl, Sra, Or, And, Mul, Mulh, Mulhsu, Mulhu, Div, Divu, Rem, Remu}
-use Rattle.rept_isa.specs.Words.{IsWord, IsCounter, IsImmediate, opcode, field, funct3, funct7, rd_field, rs1_field, rs2_field, i_immediate, s_immediate, b_immediate, branch_funct3, load_funct3, store_funct3, op_funct3, op_funct7}
-use Rattle.rept_isa.specs.Reading.{branch_named, load_named, store_named, base_named, other_named, multiply_named, register_named, wide_named, shift_named, is_counter, read_jalr, read_branch, read_load, read_store, read_shift, read_wide, read_immediate, read_register, read_fence, read_system}
+use Rattle.rept_isa.specs.Words.{IsWord, IsCounter, IsImmediate, opcode, field, funct3, funct5, funct7, rd_field, rs1_field, rs2_field, i_immediate, s_immediate, b_immediate, branch_funct3, load_funct3, store_funct3, op_funct3, op_funct7, amo_funct5, HasSource}
+use Rattle.rept_isa.specs.Reading.{branch_named, load_named, store_named, base_named, other_named, multiply_named, register_named, amo_named, wide_named, shift_named, is_counter, read_jalr, read_branch, read_load, read_store, read_shift, read_wide, read_immediate, read_register, read_amo, read_fence, read_system}
 use Rattle.rept_isa.proofs.WordLemmas.{reads}
 use Rattle.rept_path.specs.Code.{instruction}
 
@@ -239,6 +241,54 @@ immediate_word word i e h = elim (pick (funct3 word == 1 || funct3 word == 5) (r
       subst (λ (j : Instr). IsWord word j) m.2 (wide_back word m.0 e m.1)
 ]
 
+amo_back : (five second : ℕ) (op : AmoOp) → amo_named five second ≡ Some op → (five ≡ amo_funct5 op) × HasSource op second
+amo_back five second op h = elim (pick (five == 0) _ _ op h) [
+  | inl q0 ↦ subst (λ (o : AmoOp). (five ≡ amo_funct5 o) × HasSource o second) (inside q0.1) (same five 0 q0.0, tt)
+  | inr q0 ↦ elim (pick (five == 1) _ _ op q0.1) [
+    | inl q1 ↦ subst (λ (o : AmoOp). (five ≡ amo_funct5 o) × HasSource o second) (inside q1.1) (same five 1 q1.0, tt)
+    | inr q1 ↦ elim (pick (five == 2) _ _ op q1.1) [
+      | inl q2 ↦ elim (pick (second == 0) (Some atomic.Lr) None op q2.1) [
+        | inl r ↦ subst (λ (o : AmoOp). (five ≡ amo_funct5 o) × HasSource o second) (inside r.1) (same five 2 q2.0, same second 0 r.0)
+        | inr r ↦ absurd (nothing r.1)
+      ]
+      | inr q2 ↦ elim (pick (five == 3) _ _ op q2.1) [
+        | inl q3 ↦ subst (λ (o : AmoOp). (five ≡ amo_funct5 o) × HasSource o second) (inside q3.1) (same five 3 q3.0, tt)
+        | inr q3 ↦ elim (pick (five == 4) _ _ op q3.1) [
+          | inl q4 ↦ subst (λ (o : AmoOp). (five ≡ amo_funct5 o) × HasSource o second) (inside q4.1) (same five 4 q4.0, tt)
+          | inr q4 ↦ elim (pick (five == 8) _ _ op q4.1) [
+            | inl q5 ↦ subst (λ (o : AmoOp). (five ≡ amo_funct5 o) × HasSource o second) (inside q5.1) (same five 8 q5.0, tt)
+            | inr q5 ↦ elim (pick (five == 12) _ _ op q5.1) [
+              | inl q6 ↦ subst (λ (o : AmoOp). (five ≡ amo_funct5 o) × HasSource o second) (inside q6.1) (same five 12 q6.0, tt)
+              | inr q6 ↦ elim (pick (five == 16) _ _ op q6.1) [
+                | inl q7 ↦ subst (λ (o : AmoOp). (five ≡ amo_funct5 o) × HasSource o second) (inside q7.1) (same five 16 q7.0, tt)
+                | inr q7 ↦ elim (pick (five == 20) _ _ op q7.1) [
+                  | inl q8 ↦ subst (λ (o : AmoOp). (five ≡ amo_funct5 o) × HasSource o second) (inside q8.1) (same five 20 q8.0, tt)
+                  | inr q8 ↦ elim (pick (five == 24) _ _ op q8.1) [
+                    | inl q9 ↦ subst (λ (o : AmoOp). (five ≡ amo_funct5 o) × HasSource o second) (inside q9.1) (same five 24 q9.0, tt)
+                    | inr q9 ↦ elim (pick (five == 28) _ _ op q9.1) [
+                      | inl q10 ↦ subst (λ (o : AmoOp). (five ≡ amo_funct5 o) × HasSource o second) (inside q10.1) (same five 28 q10.0, tt)
+                      | inr q10 ↦ absurd (nothing q10.1)
+                    ]
+                  ]
+                ]
+              ]
+            ]
+          ]
+        ]
+      ]
+    ]
+  ]
+]
+
+amo_word : (word : ℕ) (i : Instr) → opcode word ≡ 47 → read_amo word ≡ Some i → IsWord word i
+amo_word word i e h = elim (pick (funct3 word == 2) _ _ i h) [
+  | inl p ↦
+      let m = mapped (λ op. Amo op (rd_field word) (rs1_field word) (rs2_field word)) (amo_named (funct5 word) (rs2_field word)) i p.1 in
+      let b = amo_back (funct5 word) (rs2_field word) m.0 m.1 in
+      subst (λ (j : Instr). IsWord word j) m.2 (record { form = e; operation = same (funct3 word) 2 p.0; high = b.0; target = refl; first = refl; second = refl; source = b.1 })
+  | inr p ↦ absurd (nothing p.1)
+]
+
 fence_word : (word : ℕ) (i : Instr) → opcode word ≡ 15 → read_fence word ≡ Some i → IsWord word i
 fence_word word i e h = elim (pick (nat_lt (funct3 word) 2) (Some Fence) _ i h) [
   | inl p ↦ let lt : funct3 word < 2 = (let t = p.0 in grind (arith, nat_tests)) in subst (λ (j : Instr). IsWord word j) (inside p.1) (record { form = e; operation = lt })
@@ -296,11 +346,14 @@ spells word i h = elim (pick (opcode word == 55) _ _ i h) [
                 | inl p7 ↦ immediate_word word i (same (opcode word) 19 p7.0) p7.1
                 | inr p7 ↦ elim (pick (opcode word == 51) _ _ i p7.1) [
                   | inl p8 ↦ register_word word i (same (opcode word) 51 p8.0) p8.1
-                  | inr p8 ↦ elim (pick (opcode word == 15) _ _ i p8.1) [
-                    | inl p9 ↦ fence_word word i (same (opcode word) 15 p9.0) p9.1
-                    | inr p9 ↦ elim (pick (opcode word == 115) _ _ i p9.1) [
-                      | inl p10 ↦ system_word word i (same (opcode word) 115 p10.0) p10.1
-                      | inr p10 ↦ absurd (nothing p10.1)
+                  | inr p8 ↦ elim (pick (opcode word == 47) _ _ i p8.1) [
+                    | inl p9 ↦ amo_word word i (same (opcode word) 47 p9.0) p9.1
+                    | inr p9 ↦ elim (pick (opcode word == 15) _ _ i p9.1) [
+                      | inl p10 ↦ fence_word word i (same (opcode word) 15 p10.0) p10.1
+                      | inr p10 ↦ elim (pick (opcode word == 115) _ _ i p10.1) [
+                        | inl p11 ↦ system_word word i (same (opcode word) 115 p11.0) p11.1
+                        | inr p11 ↦ absurd (nothing p11.1)
+                      ]
                     ]
                   ]
                 ]

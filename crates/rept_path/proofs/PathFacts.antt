@@ -55,6 +55,7 @@ called (Ok (instrs.Load op rd rs1 imm)) t = cc
 called (Ok (instrs.Store op rs1 rs2 imm)) t = cc
 called (Ok (instrs.Imm op rd rs1 imm)) t = cc
 called (Ok (instrs.Op op rd rs1 rs2)) t = cc
+called (Ok (instrs.Amo op rd rs1 rs2)) t = cc
 called (Ok instrs.Fence) t = cc
 called (Ok instrs.Ecall) t = refl
 called (Ok instrs.Ebreak) t = cc

@@ -95,6 +95,7 @@ flow_of (instrs.Load op rd rs1 imm) = Plain
 flow_of (instrs.Store op rs1 rs2 imm) = Plain
 flow_of (instrs.Imm op rd rs1 imm) = Plain
 flow_of (instrs.Op op rd rs1 rs2) = Plain
+flow_of (instrs.Amo op rd rs1 rs2) = Plain
 flow_of instrs.Fence = Plain
 flow_of instrs.Ecall = Call
 flow_of instrs.Ebreak = Stop

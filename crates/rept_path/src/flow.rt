@@ -48,6 +48,7 @@ pub fn flow_of(instr: &Instr) -> Flow
         | Instr::Store { .. }
         | Instr::Imm { .. }
         | Instr::Op { .. }
+        | Instr::Amo { .. }
         | Instr::Fence
         | Instr::Counter { .. } => Flow::Plain,
     }

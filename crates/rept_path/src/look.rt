@@ -50,7 +50,7 @@ fn by_half(address: u32, half: u16) -> Result<Instr, PathFault>
 }
 
 /// The instruction at an address of code that isn't compressed, at which this word stands, if one does; or why none can have run there: the address
-/// is no multiple of 4, there is no code, or the word spells no instruction of RV32IM.
+/// is no multiple of 4, there is no code, or the word spells no instruction of RV32IMA.
 pub fn instruction_at(address: u32, word: Option<u32>) -> Result<Instr, PathFault>
     ensures { result ≡ (if address % 4 == 0 then by_word address word else Err (PathFault.Unaligned address)) }
 {

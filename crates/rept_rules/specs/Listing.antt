@@ -1,7 +1,7 @@
 -- The conclusions of a row as a list, in the order in which they are listed. What they are is told by `Conclusions`.
 use Rattle.std.specs.Prelude.{ℕ, suc, zero, ◌+◌, ◌*◌, ◌^◌, nat_lt, ℤ, Bool, ◌&&◌, if◌then◌else◌, Option, Some, None, List, [], ◌∷◌, ◌++◌}
 use Rattle.rept_isa.specs.declared.instr.Instr.{Instr}
-use Rattle.rept_isa.specs.declared.instr.Instr.TheVariants.{Lui, Auipc, Jal, Jalr, Branch, Load, Store, Imm, Op, Fence, Ecall, Ebreak, Counter}
+use Rattle.rept_isa.specs.declared.instr.Instr.TheVariants.{Lui, Auipc, Jal, Jalr, Branch, Load, Store, Imm, Op, Amo, Fence, Ecall, Ebreak, Counter}
 use Rattle.rept_isa.specs.declared.instr.BranchOp.{BranchOp}
 use Rattle.rept_isa.specs.declared.instr.LoadOp.{LoadOp}
 use Rattle.rept_isa.specs.declared.instr.LoadOp.TheVariants.{Lb, Lh, Lw, Lbu, Lhu}
@@ -155,6 +155,7 @@ others_drawn (Lui rd imm) turn s = []
 others_drawn (Auipc rd imm) turn s = []
 others_drawn (Jal rd imm) turn s = []
 others_drawn (Jalr rd rs1 imm) turn s = []
+others_drawn (Amo op rd rs1 rs2) turn s = []
 others_drawn Fence turn s = []
 others_drawn Ecall turn s = []
 others_drawn Ebreak turn s = []

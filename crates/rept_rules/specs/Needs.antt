@@ -2,7 +2,7 @@
 -- since it is known without any fact. This project's own.
 use Rattle.std.specs.Prelude.{ℕ, suc, zero, ◌==◌, ℤ, Bool, false, if◌then◌else◌, Option, Some, None, List, [], ◌∷◌, ◌++◌}
 use Rattle.rept_isa.specs.declared.instr.Instr.{Instr}
-use Rattle.rept_isa.specs.declared.instr.Instr.TheVariants.{Lui, Auipc, Jal, Jalr, Branch, Load, Store, Imm, Op, Fence, Ecall, Ebreak, Counter}
+use Rattle.rept_isa.specs.declared.instr.Instr.TheVariants.{Lui, Auipc, Jal, Jalr, Branch, Load, Store, Imm, Op, Amo, Fence, Ecall, Ebreak, Counter}
 use Rattle.rept_isa.specs.declared.instr.LoadOp.{LoadOp}
 use Rattle.rept_isa.specs.declared.instr.RegOp.{RegOp}
 use Rattle.rept_isa.specs.declared.instr.ImmOp.{ImmOp}
@@ -97,6 +97,7 @@ needs_of (Lui rd imm) s d = []
 needs_of (Auipc rd imm) s d = []
 needs_of (Jal rd imm) s d = []
 needs_of (Jalr rd rs1 imm) s d = []
+needs_of (Amo op rd rs1 rs2) s d = []
 needs_of Fence s d = []
 needs_of Ecall s d = []
 needs_of Ebreak s d = []

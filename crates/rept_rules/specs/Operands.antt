@@ -2,7 +2,7 @@
 -- operand for each result.
 use Rattle.std.specs.Prelude.{ℕ, ◌+◌, ◌-◌, ◌*◌, ◌%◌, ◌^◌, ◌==◌, if◌then◌else◌, ℤ, Option, Some, None, bit_xor, Bool, false}
 use Rattle.rept_isa.specs.declared.instr.Instr.{Instr}
-use Rattle.rept_isa.specs.declared.instr.Instr.TheVariants.{Lui, Auipc, Jal, Jalr, Branch, Load, Store, Imm, Op, Fence, Ecall, Ebreak, Counter}
+use Rattle.rept_isa.specs.declared.instr.Instr.TheVariants.{Lui, Auipc, Jal, Jalr, Branch, Load, Store, Imm, Op, Amo, Fence, Ecall, Ebreak, Counter}
 use Rattle.rept_isa.specs.declared.instr.ImmOp.{ImmOp}
 use Rattle.rept_isa.specs.declared.instr.ImmOp.TheVariants.{Ori, Andi, Slli, Srli, Srai}
 use Rattle.rept_isa.specs.declared.instr.RegOp.{RegOp}
@@ -94,6 +94,7 @@ solve_of (Jalr rd rs1 imm) side v other = Unknown
 solve_of (Branch op rs1 rs2 imm) side v other = Unknown
 solve_of (Load op rd rs1 imm) side v other = Unknown
 solve_of (Store op rs1 rs2 imm) side v other = Unknown
+solve_of (Amo op rd rs1 rs2) side v other = Unknown
 solve_of Fence side v other = Unknown
 solve_of Ecall side v other = Unknown
 solve_of Ebreak side v other = Unknown

@@ -2,7 +2,7 @@
 -- (20191213, chapters 2.4 to 2.6 and 7); that some results are known from one operand alone is this project's own table.
 use Rattle.std.specs.Prelude.{ℕ, ◌-◌, ◌^◌, ◌==◌, if◌then◌else◌, Bool, false, ⊤, ◌≡◌, Option, Some, None}
 use Rattle.rept_isa.specs.declared.instr.Instr.{Instr}
-use Rattle.rept_isa.specs.declared.instr.Instr.TheVariants.{Lui, Auipc, Jal, Jalr, Branch, Load, Store, Imm, Op, Fence, Ecall, Ebreak, Counter}
+use Rattle.rept_isa.specs.declared.instr.Instr.TheVariants.{Lui, Auipc, Jal, Jalr, Branch, Load, Store, Imm, Op, Amo, Fence, Ecall, Ebreak, Counter}
 use Rattle.rept_isa.specs.declared.instr.RegOp.{RegOp}
 use Rattle.rept_isa.specs.declared.instr.RegOp.TheVariants.{And, Or, Mul, Sub, Xor}
 use Rattle.rept_isa.specs.Numbers.{word, following}
@@ -55,6 +55,7 @@ forward_of (Op op rd rs1 rs2) from a b = registers_result op rs1 rs2 a b
 forward_of (Branch op rs1 rs2 imm) from a b = Unknown
 forward_of (Load op rd rs1 imm) from a b = Unknown
 forward_of (Store op rs1 rs2 imm) from a b = Unknown
+forward_of (Amo op rd rs1 rs2) from a b = Unknown
 forward_of Fence from a b = Unknown
 forward_of Ecall from a b = Unknown
 forward_of Ebreak from a b = Unknown

@@ -10,10 +10,11 @@ ghost use Rattle.rept_rules.specs.MayWrite.{IsKnownCall, may_write};
 
 use crate::draw::{draw_others, draw_result, load_width, store_width};
 use crate::rest::add_needs;
+use crate::tell::add_tells;
 use crate::touch::{is_sure, touched};
 use rept_alias::CallAccess;
 use rept_isa::{Instr, StepRow};
-use rept_view::{Drawn, Need, RowRules, RowView};
+use rept_view::{Drawn, Need, RegisterAt, RowRules, RowView};
 use smallvec::SmallVec;
 use std::alloc::Global;
 
@@ -74,6 +75,12 @@ impl RowRules for Base {
         ensures exact { row.now.instr ≡ Instr.Ecall → (register : ℕ → ℕ) (answer a : ℕ) → IsKnownCall (V.seen view.now) register answer → a < 2 ^ 32 → call_hits result a ≡ may_change image_end register answer a }
     {
         touched(&row.instr, view, image_end)
+    }
+
+    fn tells(alloc: Global, row: &StepRow) -> SmallVec<RegisterAt, 8> {
+        let mut tells = SmallVec::new(alloc);
+        add_tells(&mut tells, &row.instr);
+        tells
     }
 
     fn sure<V: RowView>(row: &StepRow, view: &V) -> bool {

@@ -23,7 +23,7 @@ use smallvec::SmallVec;
 pub type Conclusions = SmallVec<Drawn, 16>;
 
 /// A register other than x0 has a known value.
-fn draw_register(drawn: &mut Conclusions, rule: u8, when: When, r: Reg, x: Flat)
+pub fn draw_register(drawn: &mut Conclusions, rule: u8, when: When, r: Reg, x: Flat)
     requires { HasRoomFor drawn.old 1 }
     ensures items { drawn.new.items ≡ drawn.old.items ++ register_drawn rule when r x }
     ensures capacity { drawn.new.capacity ≡ drawn.old.capacity }
@@ -142,6 +142,7 @@ pub fn draw_others<V: RowView>(drawn: &mut Conclusions, row: &StepRow, view: &V)
         | Instr::Auipc { .. }
         | Instr::Jal { .. }
         | Instr::Jalr { .. }
+        | Instr::Amo { .. }
         | Instr::Fence
         | Instr::Ecall
         | Instr::Ebreak

@@ -2,17 +2,18 @@
 #![tactic(auto)]
 
 pub mod base;
-mod draw;
+pub mod draw;
 pub mod laws;
-mod look;
+pub mod look;
 mod number;
 pub mod operand;
 pub mod outcome;
-mod rest;
+pub mod rest;
+mod tell;
 mod touch;
 
 pub use base::Base;
 pub use operand::{Side, solve};
 pub use outcome::forward;
 pub use rept_machine::arithmetic::branch_holds;
-pub use rept_view::{Drawn, Need, RowRules, RowView, When};
+pub use rept_view::{Drawn, Need, RegisterAt, RowRules, RowView, When};

@@ -94,7 +94,8 @@ fn half_from<V: RowView>(view: &V, when: When, base: u32) -> Flat
     )
 }
 
-fn word_from<V: RowView>(view: &V, when: When, base: u32) -> Flat
+/// The word at this address, where its four bytes are known.
+pub fn word_from<V: RowView>(view: &V, when: When, base: u32) -> Flat
     ensures { result ≡ word_from ((V.seen view.now).byte when) base }
 {
     four_bytes(

@@ -45,6 +45,7 @@ pub fn solve(instr: &Instr, which: Side, v: u32, other: Flat) -> Flat
         | Instr::Branch { .. }
         | Instr::Load { .. }
         | Instr::Store { .. }
+        | Instr::Amo { .. }
         | Instr::Fence
         | Instr::Ecall
         | Instr::Ebreak

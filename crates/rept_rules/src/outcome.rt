@@ -29,6 +29,7 @@ pub fn forward(instr: &Instr, from: u32, a: Flat, b: Flat) -> Flat
         Instr::Branch { .. }
         | Instr::Load { .. }
         | Instr::Store { .. }
+        | Instr::Amo { .. }
         | Instr::Fence
         | Instr::Ecall
         | Instr::Ebreak

@@ -25,7 +25,7 @@ use smallvec::SmallVec;
 pub type Needs = SmallVec<Need, 10>;
 
 /// A register, unless it is x0.
-fn need_register(needs: &mut Needs, when: When, r: Reg)
+pub fn need_register(needs: &mut Needs, when: When, r: Reg)
     requires { HasRoomFor needs.old 1 }
     ensures items { needs.new.items ≡ needs.old.items ++ register_need when r }
     ensures capacity { needs.new.capacity ≡ needs.old.capacity }
@@ -40,7 +40,7 @@ fn need_register(needs: &mut Needs, when: When, r: Reg)
 }
 
 /// Two registers before the row, each once.
-fn need_both(needs: &mut Needs, r: Reg, q: Reg)
+pub fn need_both(needs: &mut Needs, r: Reg, q: Reg)
     requires { HasRoomFor needs.old 2 }
     ensures items { needs.new.items ≡ needs.old.items ++ both_needs r q }
     ensures capacity { needs.new.capacity ≡ needs.old.capacity }
@@ -53,7 +53,7 @@ fn need_both(needs: &mut Needs, r: Reg, q: Reg)
 }
 
 /// So many bytes from a base on.
-fn need_bytes(needs: &mut Needs, when: When, base: u32, width: u32)
+pub fn need_bytes(needs: &mut Needs, when: When, base: u32, width: u32)
     requires few { width ≤ 4 }
     requires room { HasRoomFor needs.old width }
     ensures items { needs.new.items ≡ needs.old.items ++ byte_needs when base width }
@@ -97,6 +97,7 @@ pub fn add_needs<V: RowView>(needs: &mut Needs, instr: &Instr, view: &V, drawn: 
         | Instr::Auipc { .. }
         | Instr::Jal { .. }
         | Instr::Jalr { .. }
+        | Instr::Amo { .. }
         | Instr::Fence
         | Instr::Ecall
         | Instr::Ebreak

@@ -1,16 +1,16 @@
 //! Which bytes a row may write, by the ranges of registers around it.
 
-ghost use Rattle.std.specs.Prelude.{◌≡◌, ◌<◌, ◌≤◌, ◌^◌, ◌&&◌, ℕ, is_some};
+ghost use Rattle.std.specs.Prelude.{◌≡◌, ◌<◌, ◌≤◌, ◌^◌, ◌&&◌, ℕ, pos, is_some};
 ghost use Rattle.rept_alias.specs.Accesses.{hits, call_hits, access_of};
 ghost use Rattle.rept_havoc.specs.Havoc.{changed};
 ghost use Rattle.rept_machine.specs.Arithmetic.{store_width};
 ghost use Rattle.rept_partial.specs.declared.flat.Flat.{Flat};
 ghost use Rattle.rept_view.specs.declared.drawn.When.TheVariants.{Before, After};
-ghost use Rattle.rept_rules.specs.MayWrite.{is_register, range_of, only_value, may_write, is_sure};
+ghost use Rattle.rept_rules.specs.MayWrite.{is_register, range_of, only_value, is_failure, has_failed, writes_word, may_write, is_sure};
 
 use rept_alias::{Access, CallAccess, access};
 use rept_havoc::havoc;
-use rept_isa::{Instr, Reg, StoreOp};
+use rept_isa::{AmoOp, Instr, Reg, StoreOp};
 use rept_partial::{Flat, Partial, Range};
 use rept_view::{RowView, When};
 
@@ -20,6 +20,7 @@ pub fn touched<V: RowView>(instr: &Instr, view: &V, image_end: u64) -> CallAcces
 {
     match *instr {
         Instr::Store { op, rs1, imm, .. } => stored(op, range_before(view, rs1), imm),
+        Instr::Amo { op, rd, rs1, .. } => atomic(op, rd, rs1, view),
         Instr::Ecall => called(view, image_end),
         Instr::Lui { .. }
         | Instr::Auipc { .. }
@@ -66,8 +67,55 @@ fn width(op: StoreOp) -> u8
     }
 }
 
+/// The word of an atomic instruction, over the range of its address.
+fn atomic<V: RowView>(op: AmoOp, rd: Reg, rs1: Reg, view: &V) -> CallAccess
+    ensures { (a : ℕ) → call_hits result a ≡ (writes_word op rd (V.seen view.now) && hits (access_of (range_of (V.seen view.now) When.Before rs1) (pos 0) 4) a) }
+{
+    if writes_word(op, rd, view) {
+        CallAccess {
+            first: Some(access(range_before(view, rs1), 0, 4)),
+            second: None,
+        }
+    } else {
+        CallAccess {
+            first: None,
+            second: None,
+        }
+    }
+}
+
+/// Whether an atomic instruction with this destination may write its word.
+fn writes_word<V: RowView>(op: AmoOp, rd: Reg, view: &V) -> bool
+    ensures { result ≡ writes_word op rd (V.seen view.now) }
+{
+    match op {
+        AmoOp::Lr => false,
+        AmoOp::Sc => !has_failed(rd, view),
+        _ => true,
+    }
+}
+
+/// Whether an SC is known to have failed.
+fn has_failed<V: RowView>(rd: Reg, view: &V) -> bool
+    ensures { result ≡ has_failed rd (V.seen view.now) }
+{
+    if rd.number() == 0 {
+        return false;
+    }
+    is_failure(only_value(view.range(When::After, rd)))
+}
+
+fn is_failure(answer: Flat) -> bool
+    ensures { result ≡ is_failure answer }
+{
+    match answer {
+        Flat::Unknown => false,
+        Flat::Known(v) => v != 0,
+    }
+}
+
 /// The register of this number.
-fn register(number: u8) -> Reg
+pub fn register(number: u8) -> Reg
     requires { number < 32 }
     ensures { result ≡ number }
 {

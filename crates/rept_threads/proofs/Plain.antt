@@ -37,6 +37,7 @@ has_successor k p a (instrs.Load op rd rs1 imm) way h = refl
 has_successor k p a (instrs.Store op rs1 rs2 imm) way h = refl
 has_successor k p a (instrs.Imm op rd rs1 imm) way h = refl
 has_successor k p a (instrs.Op op rd rs1 rs2) way h = refl
+has_successor k p a (instrs.Amo op rd rs1 rs2) way h = refl
 has_successor k p a instrs.Fence way h = refl
 has_successor k p a instrs.Ecall way h = absurd (cc)
 has_successor k p a instrs.Ebreak way h = refl

@@ -16,8 +16,9 @@ use Rattle.rept_view.specs.declared.drawn.When.{When}
 use Rattle.rept_view.specs.declared.drawn.When.TheVariants.{Before, After}
 use Rattle.rept_view.specs.declared.drawn.Drawn.{Drawn}
 use Rattle.rept_view.specs.declared.drawn.Need.{Need}
+use Rattle.rept_view.specs.declared.drawn.RegisterAt.{RegisterAt}
 use Rattle.rept_view.specs.Seen.{Seen, IsLawful, KnowsMore, Meets, seen_cell, state_at, held}
-use Rattle.rept_view.specs.Written.{Writes, tells_writes}
+use Rattle.rept_view.specs.Written.{Writes}
 
 pub record Rules : Type 0 where
   -- all that a row lets one conclude from what is seen
@@ -26,6 +27,8 @@ pub record Rules : Type 0 where
   pub needs : StepRow → Seen → Drawn → List Need
   -- whether the row may write the byte at an address, by the end of the program's own memory and the address
   pub touched : StepRow → Seen → ℕ → ℕ → Bool
+  -- the registers whose ranges tell these bytes
+  pub tells : StepRow → List RegisterAt
   -- whether it writes all bytes that it may write
   pub sure : StepRow → Seen → Bool
   -- a bound on how many byte facts it lets one conclude
@@ -95,4 +98,4 @@ pub record AreLawful (rules : Rules) : Type 0 where
   pub touched_less : (image_end : ℕ) (row : StepRow) (s t : Seen) (a : ℕ) → IsLawful s → IsLawful t → KnowsMore s t → a < 2 ^ 32 → rules.touched row t image_end a ≡ true → rules.touched row s image_end a ≡ true
   pub sure_more : (row : StepRow) (s t : Seen) → IsLawful s → IsLawful t → KnowsMore s t → rules.sure row s ≡ true → rules.sure row t ≡ true
   -- the ranges of the registers that tell a row's bytes are all that tells them
-  pub told : (image_end : ℕ) (row : StepRow) (s t : Seen) (a : ℕ) → All (λ x. s.range x.0 x.1 ≡ t.range x.0 x.1) (tells_writes row.instr) → rules.touched row s image_end a ≡ rules.touched row t image_end a
+  pub told : (image_end : ℕ) (row : StepRow) (s t : Seen) (a : ℕ) → All (λ x. s.range x.when x.register ≡ t.range x.when x.register) (rules.tells row) → rules.touched row s image_end a ≡ rules.touched row t image_end a

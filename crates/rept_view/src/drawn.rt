@@ -1,5 +1,8 @@
 //! What the rules of a row conclude, and what a conclusion rests on.
 
+ghost use Rattle.std.specs.Prelude.{◌≡◌};
+
+use rept_isa::Reg;
 use rept_reason::Cell;
 use std::default::Default;
 
@@ -40,4 +43,24 @@ pub struct Need {
     pub when: When,
     /// the register or byte
     pub cell: Cell,
+}
+
+/// A register before or after a row.
+#[derive(Clone, Copy)]
+pub struct RegisterAt {
+    /// before or after the row
+    pub when: When,
+    /// the register
+    pub register: Reg,
+}
+
+impl Default for RegisterAt {
+    fn default() -> RegisterAt
+        ensures register { result.register ≡ 0 }
+    {
+        RegisterAt {
+            when: When::Before,
+            register: Reg::new(0).unwrap(),
+        }
+    }
 }

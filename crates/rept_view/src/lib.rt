@@ -5,6 +5,6 @@ pub mod drawn;
 pub mod rules;
 pub mod view;
 
-pub use drawn::{Drawn, Need, When};
+pub use drawn::{Drawn, Need, RegisterAt, When};
 pub use rules::RowRules;
 pub use view::RowView;

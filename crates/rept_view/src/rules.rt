@@ -4,7 +4,7 @@ ghost use Rattle.std.specs.Prelude.{◌≡◌, ℕ, ◌+◌, ◌<◌, ◌≤◌,
 ghost use Rattle.rept_alias.specs.Accesses.{call_hits};
 ghost use Rattle.rept_view.specs.Rules.{Rules, AreLawful};
 
-use crate::drawn::{Drawn, Need};
+use crate::drawn::{Drawn, Need, RegisterAt};
 use crate::view::RowView;
 use rept_alias::CallAccess;
 use rept_isa::StepRow;
@@ -40,6 +40,11 @@ pub trait RowRules: Drop {
     /// The bytes that the row may write, where the program's own memory ends at `image_end`.
     fn touched<V: RowView>(row: &StepRow, view: &V, image_end: u64) -> CallAccess
         ensures { (a : ℕ) → a < 2 ^ 32 → call_hits result a ≡ rules.touched row.now (V.seen view.now) image_end a };
+
+    /// The registers before and after the row whose ranges tell which bytes it may write.
+    fn tells(alloc: Global, row: &StepRow) -> SmallVec<RegisterAt, 8>
+        ensures list { result.items ≡ rules.tells row.now }
+        ensures inline { result.capacity ≡ 8 };
 
     /// Whether the row writes all bytes that it may write.
     fn sure<V: RowView>(row: &StepRow, view: &V) -> bool

@@ -6,16 +6,17 @@ ghost use Rattle.rept_dump.specs.Status.{IsStatus};
 ghost use Rattle.rept_dump.specs.declared.status.Status.{Status};
 ghost use Rattle.rept_steps.specs.Linked.{EndBefore};
 
+mod atomics;
 mod calls;
 mod reasons;
 
+use rept_amo::Atomic;
 use rept_analysis::Analysis;
 use rept_dump::Dump;
 use rept_elf::{Image, Want};
 use rept_isa::{Instr, Reg, StepRow, decode};
 use rept_partial::{Flat, Partial, Range};
 use rept_report::{Counts, Writer};
-use rept_rules::Base;
 use rept_steps::Steps;
 use rept_versions::{ByteFacts, PlainFacts, SpanFacts};
 use std::alloc::{AllocError, Global};
@@ -147,7 +148,11 @@ fn core(alloc: Global, pc: u32, given: &[(u8, u32)]) -> Result<Vec<u8>, AllocErr
     Ok(file)
 }
 
-fn check_registers<B: ByteFacts>(rt: &impl Abort, analysis: &Analysis<B, Range, Base>, run: &Run) {
+fn check_registers<B: ByteFacts>(
+    rt: &impl Abort,
+    analysis: &Analysis<B, Range, Atomic>,
+    run: &Run,
+) {
     let count = analysis.rows().len();
     for (point, number, wanted) in run.regs {
         assert!(rt; *point as usize <= count);
@@ -166,7 +171,7 @@ fn check_registers<B: ByteFacts>(rt: &impl Abort, analysis: &Analysis<B, Range, 
     }
 }
 
-fn check_bytes<B: ByteFacts>(rt: &impl Abort, analysis: &Analysis<B, Range, Base>, run: &Run) {
+fn check_bytes<B: ByteFacts>(rt: &impl Abort, analysis: &Analysis<B, Range, Atomic>, run: &Run) {
     let count = analysis.rows().len();
     for (point, address, wanted) in run.bytes {
         assert!(rt; *point as usize <= count);
@@ -196,11 +201,11 @@ fn check<B: ByteFacts>(rt: &impl Abort, alloc: Global, run: &Run) -> Result<(), 
         Image::read(file.as_slice(), Want::Core)?,
     )?;
     assert!(rt; ends_in(&steps, &dump));
-    let mut analysis: Analysis<B, Range, Base> = Analysis::prepare(
+    let mut analysis: Analysis<B, Range, Atomic> = Analysis::prepare(
         alloc,
         &steps,
         &dump,
-        Base::new(),
+        Atomic::new(),
     )?;
     assert_eq!(rt; analysis.refine().is_ok(), run.can_be);
     check_registers(rt, &analysis, run);

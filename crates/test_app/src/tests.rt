@@ -1,5 +1,6 @@
 //! The worked crashes, each refusal, and each fault of a port, through the top call.
 
+mod atomics;
 mod damages;
 mod made_runs;
 mod order;

@@ -26,15 +26,8 @@ pub fn executable(alloc: Global, base: u32, code: &[u32]) -> Result<Vec<u8>, All
     Ok(file)
 }
 
-/// A core file of one status note: the program counter, and x5, x6 and x7; all other registers are 0.
-pub fn core_file(alloc: Global, pc: u32, registers: [u32; 3]) -> Result<Vec<u8>, AllocError> {
-    let mut file = Vec::from_slice(
-        alloc,
-        b"\x7fELF\x01\x01\x01\0\0\0\0\0\0\0\0\0\x04\0\xf3\0\x01\0\0\0\0\0\0\0\x34\0\0\0\0\0\0\0\0\0\0\0\x34\0\x20\0\x01\0\0\0\0\0\0\0",
-    )?;
-    file.extend_from_slice(
-        b"\x04\0\0\0\x54\0\0\0\0\0\0\0\0\0\0\0\xe0\0\0\0\0\0\0\0\0\0\0\0\0\0\0\0",
-    )?;
+/// Adds a status note: the program counter, and x5, x6 and x7; all other registers are 0.
+fn add_status(file: &mut Vec<u8>, pc: u32, registers: [u32; 3]) -> Result<(), AllocError> {
     file.extend_from_slice(b"\x05\0\0\0\xcc\0\0\0\x01\0\0\0CORE\0\0\0\0")?;
     file.extend_from_slice(&[0; 12])?;
     file.extend_from_slice(b"\x0b\0\0\0\0\0\0\0\0\0\0\0\x01\0\0\0")?;
@@ -45,5 +38,42 @@ pub fn core_file(alloc: Global, pc: u32, registers: [u32; 3]) -> Result<Vec<u8>,
         file.extend_from_slice(&value.to_le_bytes())?;
     }
     file.extend_from_slice(&[0; 100])?;
+    Ok(())
+}
+
+/// A core file of one status note: the program counter, and x5, x6 and x7; all other registers are 0.
+pub fn core_file(alloc: Global, pc: u32, registers: [u32; 3]) -> Result<Vec<u8>, AllocError> {
+    let mut file = Vec::from_slice(
+        alloc,
+        b"\x7fELF\x01\x01\x01\0\0\0\0\0\0\0\0\0\x04\0\xf3\0\x01\0\0\0\0\0\0\0\x34\0\0\0\0\0\0\0\0\0\0\0\x34\0\x20\0\x01\0\0\0\0\0\0\0",
+    )?;
+    file.extend_from_slice(
+        b"\x04\0\0\0\x54\0\0\0\0\0\0\0\0\0\0\0\xe0\0\0\0\0\0\0\0\0\0\0\0\0\0\0\0",
+    )?;
+    add_status(&mut file, pc, registers)?;
+    Ok(file)
+}
+
+/// A core file of one status note and one segment of four bytes at an address.
+pub fn core_with_word(
+    alloc: Global,
+    pc: u32,
+    registers: [u32; 3],
+    base: u32,
+    word: u32,
+) -> Result<Vec<u8>, AllocError> {
+    let mut file = Vec::from_slice(
+        alloc,
+        b"\x7fELF\x01\x01\x01\0\0\0\0\0\0\0\0\0\x04\0\xf3\0\x01\0\0\0\0\0\0\0\x34\0\0\0\0\0\0\0\0\0\0\0\x34\0\x20\0\x02\0\0\0\0\0\0\0",
+    )?;
+    file.extend_from_slice(
+        b"\x04\0\0\0\x74\0\0\0\0\0\0\0\0\0\0\0\xe0\0\0\0\0\0\0\0\0\0\0\0\0\0\0\0",
+    )?;
+    file.extend_from_slice(b"\x01\0\0\0\x54\x01\0\0")?;
+    file.extend_from_slice(&base.to_le_bytes())?;
+    file.extend_from_slice(&base.to_le_bytes())?;
+    file.extend_from_slice(b"\x04\0\0\0\x04\0\0\0\x06\0\0\0\x04\0\0\0")?;
+    add_status(&mut file, pc, registers)?;
+    file.extend_from_slice(&word.to_le_bytes())?;
     Ok(file)
 }

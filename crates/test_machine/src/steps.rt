@@ -1,10 +1,12 @@
 //! The edges of each instruction.
 
 mod accesses;
+mod atomics;
 mod branches;
 mod operations;
 
 use crate::steps::accesses::ACCESSES;
+use crate::steps::atomics::{ATOMICS, SHARED};
 use crate::steps::branches::BRANCHES;
 use crate::steps::operations::{
     BITWISE, DIVISIONS, EDGES, IMMEDIATES, PRODUCTS, SHIFTS, SUMS_AND_COMPARES,
@@ -112,6 +114,58 @@ fn compare_accesses(
 fn accesses_are_those_of_a_processor_at_any_base(rt: HostRuntime) -> Result<(), Fail> {
     for base in [0x20000, 0x20001, 0xffff_fffd, 0xffff_fffe, 0xffff_ffff, 0] {
         compare_accesses(&rt, rt.alloc(), base, &ACCESSES)?;
+    }
+    Ok(())
+}
+
+/// The word in memory at an address.
+fn stored(machine: &Machine<'_>, base: u32) -> u32 {
+    let mut word = 0;
+    for k in 0..4u32 {
+        word |= u32::from(machine.byte(base.wrapping_add(k))) << (8 * k);
+    }
+    word
+}
+
+// sw x8,0(x7), and then the instruction, at an even address, an odd one, and two that wrap.
+#[test]
+fn atomics_do_what_the_manual_says(rt: HostRuntime) -> Result<(), Fail> {
+    for base in [0x20000, 0x20001, 0xffff_fffe, 0xffff_ffff] {
+        for (word, held, source, left, answer, text) in ATOMICS {
+            let code = [0x0083_a023, word];
+            let mut registers = operands(source, base);
+            registers[8] = held;
+            let mut machine = Machine::new(rt.alloc(), &code, START, START, registers);
+            assert!(rt; machine.step().is_ok());
+            let row = machine.step()?;
+            assert_eq!(rt; (row.next, row.call), (START + 8, false), "{text}");
+            assert_eq!(rt;
+                stored(&machine, base),
+                left,
+                "{text} on {held} and {source}"
+            );
+            assert_eq!(rt;
+                value(&rt, &machine, 5),
+                answer,
+                "{text} on {held} and {source}"
+            );
+        }
+    }
+    Ok(())
+}
+
+#[test]
+fn atomics_read_before_they_write(rt: HostRuntime) -> Result<(), Fail> {
+    for (word, held, source, left, sixth, seventh, text) in SHARED {
+        let code = [0x0083_a023, word];
+        let mut registers = operands(source, 0xffff_fffe);
+        registers[8] = held;
+        let mut machine = Machine::new(rt.alloc(), &code, START, START, registers);
+        assert!(rt; machine.step().is_ok());
+        assert!(rt; machine.step().is_ok());
+        assert_eq!(rt; stored(&machine, 0xffff_fffe), left, "{text}");
+        assert_eq!(rt; value(&rt, &machine, 6), sixth, "{text}");
+        assert_eq!(rt; value(&rt, &machine, 7), seventh, "{text}");
     }
     Ok(())
 }

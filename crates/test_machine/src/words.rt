@@ -1,11 +1,13 @@
 //! Words and texts of other tools.
 
+mod atomic_words;
 mod foreign_words;
 mod jump_words;
 mod memory_words;
 mod operation_words;
 mod upper_words;
 
+use crate::words::atomic_words::{ATOMIC_WORDS, ORDERED_WORDS};
 use crate::words::foreign_words::FOREIGN_WORDS;
 use crate::words::jump_words::JUMP_WORDS;
 use crate::words::memory_words::MEMORY_WORDS;
@@ -34,6 +36,12 @@ fn words_are_those_of_an_assembler(rt: HostRuntime) -> Result<(), Fail> {
     compare(&rt, rt.alloc(), &JUMP_WORDS)?;
     compare(&rt, rt.alloc(), &MEMORY_WORDS)?;
     compare(&rt, rt.alloc(), &OPERATION_WORDS)?;
+    compare(&rt, rt.alloc(), &ATOMIC_WORDS)?;
+    for (word, text) in ORDERED_WORDS {
+        let instr = decode(word).ok_or(text)?;
+        let shown = format!(in rt.alloc(); "{}", Shown { at: 0, instr })?;
+        assert_eq!(rt; shown.as_str(), text);
+    }
     for (word, text) in FOREIGN_WORDS {
         assert_eq!(rt; decode(word), None, "{text}");
     }

@@ -5,7 +5,7 @@ mod operations;
 
 use crate::ranges::jumps::{BRANCHES, FAR_JUMPS};
 use crate::ranges::operations::{BITWISE, DIVISIONS, IMMEDIATES, PRODUCTS, SHIFTS, SUMS};
-use rept_isa::{BranchOp, ImmOp, Instr, LoadOp, Reg, RegOp, StepRow};
+use rept_isa::{AmoOp, BranchOp, ImmOp, Instr, LoadOp, Reg, RegOp, StepRow};
 use rept_partial::{Flat, Partial, Range};
 use rept_reason::{Cell, Fact};
 use rept_span::{EmptyAt, RegFacts, Spans, Transfer};
@@ -82,6 +82,12 @@ fn other_instructions_by_hand(rt: HostRuntime) {
         rs1,
         imm: 0,
     };
+    let swap = Instr::Amo {
+        op: AmoOp::Swap,
+        rd,
+        rs1,
+        rs2: rs1,
+    };
     let full = [0, u32::MAX];
     for (instr, at, result) in [
         (Instr::Lui { rd, imm: 0x1000 }, AT, [0x1000, 0x1000]),
@@ -93,6 +99,7 @@ fn other_instructions_by_hand(rt: HostRuntime) {
         (load(LoadOp::Lw), AT, full),
         (load(LoadOp::Lbu), AT, [0, 0xff]),
         (load(LoadOp::Lhu), AT, [0, 0xffff]),
+        (swap, AT, full),
         (Instr::Counter { rd, csr: 0xc00 }, AT, full),
         (Instr::Ecall, AT, full),
     ] {

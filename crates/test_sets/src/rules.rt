@@ -1,5 +1,6 @@
 //! Each line of the tables of rules.
 
+mod atomics;
 mod sample;
 mod words;
 

@@ -29,9 +29,9 @@ fn is_none(access: &CallAccess) -> bool
     access.first.is_none() && access.second.is_none()
 }
 
-/// Whether it is a store.
+/// Whether it is a store or an atomic instruction.
 pub fn is_store(instr: &Instr) -> bool {
-    matches!(*instr, Instr::Store { .. })
+    matches!(*instr, Instr::Store { .. } | Instr::Amo { .. })
 }
 
 /// Where the value of a stretch begins, or where it ends if it begins at a point or before.

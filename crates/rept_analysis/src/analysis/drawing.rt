@@ -65,12 +65,13 @@ fn one_if(r: Option<Reg>) -> u32
     }
 }
 
-/// The point around which row i's bytes are carried: after it where it stores, and else before it.
+/// The point around which row i's bytes are carried: after it where it stores or is an atomic
+/// instruction, and else before it.
 fn after_store(i: u32, instr: &Instr) -> u32
     requires { i < 65536 }
 {
     match *instr {
-        Instr::Store { .. } => i + 1,
+        Instr::Store { .. } | Instr::Amo { .. } => i + 1,
         _ => i,
     }
 }

@@ -1,7 +1,7 @@
 -- The lists of a row keep within their room.
 use Rattle.std.proofs.Common.{ℕ, zero, suc, ◌+◌, ◌≤◌, true, false, Bool, if◌then◌else◌, arith, Option, Some, None, List, [], ◌∷◌, ◌++◌, length, length-append, ℤ, lit≤, ◌==◌}
 use Rattle.rept_isa.specs.declared.instr.Instr.{Instr}
-use Rattle.rept_isa.specs.declared.instr.Instr.TheVariants.{Lui, Auipc, Jal, Jalr, Branch, Load, Store, Imm, Op, Fence, Ecall, Ebreak, Counter}
+use Rattle.rept_isa.specs.declared.instr.Instr.TheVariants.{Lui, Auipc, Jal, Jalr, Branch, Load, Store, Imm, Op, Amo, Fence, Ecall, Ebreak, Counter}
 use Rattle.rept_isa.specs.declared.instr.LoadOp.{LoadOp}
 use Rattle.rept_isa.specs.declared.instr.LoadOp.TheVariants.{Lb, Lh, Lw, Lbu, Lhu}
 use Rattle.rept_isa.specs.declared.instr.StoreOp.{StoreOp}
@@ -31,17 +31,17 @@ use Rattle.rept_rules.specs.Needs.{register_need, both_needs, byte_needs, known_
 use Rattle.rept_rules.specs.MayWrite.{places_of}
 
 -- two lists of a limited length
-joined : {A : Type 0} (xs ys : List A) (n m : ℕ) → length xs ≤ n → length ys ≤ m → length (xs ++ ys) ≤ n + m
+pub joined : {A : Type 0} (xs ys : List A) (n m : ℕ) → length xs ≤ n → length ys ≤ m → length (xs ++ ys) ≤ n + m
 joined xs ys n m f g = omega (arith, length-append xs ys, f, g)
 
-either_list : {A : Type 0} (b : Bool) (xs ys : List A) (n : ℕ) → length xs ≤ n → length ys ≤ n → length (if b then xs else ys) ≤ n
+pub either_list : {A : Type 0} (b : Bool) (xs ys : List A) (n : ℕ) → length xs ≤ n → length ys ≤ n → length (if b then xs else ys) ≤ n
 either_list true xs ys n f g = f
 either_list false xs ys n f g = g
 
-wider : (k n m : ℕ) → n ≤ m → k ≤ n → k ≤ m
+pub wider : (k n m : ℕ) → n ≤ m → k ≤ n → k ≤ m
 wider k n m h g = omega (arith, h, g)
 
-one_register : (rule : ℕ) (when : When) (r : ℕ) (x : Flat) → length (register_drawn rule when r x) ≤ 1
+pub one_register : (rule : ℕ) (when : When) (r : ℕ) (x : Flat) → length (register_drawn rule when r x) ≤ 1
 one_register rule when r Unknown = lit≤ tt
 one_register rule when r (Known v) = either_list {A = Drawn} (is_named r) (on_register rule when r v ∷ []) [] 1 (lit≤ tt) (lit≤ tt)
 
@@ -100,6 +100,7 @@ five_others (Lui rd imm) turn s = lit≤ tt
 five_others (Auipc rd imm) turn s = lit≤ tt
 five_others (Jal rd imm) turn s = lit≤ tt
 five_others (Jalr rd rs1 imm) turn s = lit≤ tt
+five_others (Amo op rd rs1 rs2) turn s = lit≤ tt
 five_others Fence turn s = lit≤ tt
 five_others Ecall turn s = lit≤ tt
 five_others Ebreak turn s = lit≤ tt
@@ -110,13 +111,13 @@ few_conclusions row s = wider _ 6 16 (lit≤ tt) (joined (result_drawn row s) (o
 
 -- ---- needs
 
-one_need : (when : When) (r : ℕ) → length (register_need when r) ≤ 1
+pub one_need : (when : When) (r : ℕ) → length (register_need when r) ≤ 1
 one_need when r = either_list {A = Need} (r == 0) [] (record { when = when; cell = Register r } ∷ []) 1 (lit≤ tt) (lit≤ tt)
 
-two_needs : (r q : ℕ) → length (both_needs r q) ≤ 2
+pub two_needs : (r q : ℕ) → length (both_needs r q) ≤ 2
 two_needs r q = either_list (r == q) (register_need Before r) (register_need Before r ++ register_need Before q) 2 (wider _ 1 2 (lit≤ tt) (one_need Before r)) (joined (register_need Before r) (register_need Before q) 1 1 (one_need Before r) (one_need Before q))
 
-some_byte_needs : (when : When) (base width : ℕ) → length (byte_needs when base width) ≤ width
+pub some_byte_needs : (when : When) (base width : ℕ) → length (byte_needs when base width) ≤ width
 some_byte_needs when base zero = lit≤ tt
 some_byte_needs when base (suc k) = wider _ (k + 1) (suc k) (omega arith) (joined (byte_needs when base k) _ k 1 (some_byte_needs when base k) (lit≤ tt))
 
@@ -157,6 +158,7 @@ few_needs_of (Lui rd imm) s d = lit≤ tt
 few_needs_of (Auipc rd imm) s d = lit≤ tt
 few_needs_of (Jal rd imm) s d = lit≤ tt
 few_needs_of (Jalr rd rs1 imm) s d = lit≤ tt
+few_needs_of (Amo op rd rs1 rs2) s d = lit≤ tt
 few_needs_of Fence s d = lit≤ tt
 few_needs_of Ecall s d = lit≤ tt
 few_needs_of Ebreak s d = lit≤ tt

@@ -3,7 +3,7 @@ use Rattle.std.proofs.Common.{◌≡◌, ℕ, true, false, inl, inr, refl, sym, 
 use Rattle.std.specs.List.{Contains}
 use Rattle.std.proofs.lemmas.List.Elements.{Contains-append_left, Contains-append_right, Contains-append_cases}
 use Rattle.rept_isa.specs.declared.instr.Instr.{Instr}
-use Rattle.rept_isa.specs.declared.instr.Instr.TheVariants.{Lui, Auipc, Jal, Jalr, Branch, Load, Store, Imm, Op, Fence, Ecall, Ebreak, Counter}
+use Rattle.rept_isa.specs.declared.instr.Instr.TheVariants.{Lui, Auipc, Jal, Jalr, Branch, Load, Store, Imm, Op, Amo, Fence, Ecall, Ebreak, Counter}
 use Rattle.rept_isa.specs.declared.instr.BranchOp.{BranchOp}
 use Rattle.rept_isa.specs.declared.instr.LoadOp.{LoadOp}
 use Rattle.rept_isa.specs.declared.instr.StoreOp.{StoreOp}
@@ -116,6 +116,7 @@ others_listed (Lui rd imm) row s d is has = absurd (nothing d has)
 others_listed (Auipc rd imm) row s d is has = absurd (nothing d has)
 others_listed (Jal rd imm) row s d is has = absurd (nothing d has)
 others_listed (Jalr rd rs1 imm) row s d is has = absurd (nothing d has)
+others_listed (Amo op rd rs1 rs2) row s d is has = absurd (nothing d has)
 others_listed Fence row s d is has = absurd (nothing d has)
 others_listed Ecall row s d is has = absurd (nothing d has)
 others_listed Ebreak row s d is has = absurd (nothing d has)

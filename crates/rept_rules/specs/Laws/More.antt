@@ -27,7 +27,7 @@ again_more row s t d ls lt more has =
     let c = listed row s d has in
     concluded row t d (again_by row s t d ls lt (λ n needed. let g = good_by row s d c n needed in more_cell s t n.when n.cell g.value more g.is_known) c)
 
-byte_small : (v k : ℕ) → byte_of v k < 2 ^ 8
+pub byte_small : (v k : ℕ) → byte_of v k < 2 ^ 8
 byte_small v k = omega arith
 
 byte_value : (d : Drawn) (rule : ℕ) (when : When) (base v k : ℕ) → d ≡ on_byte rule when base v k → d.value < 2 ^ 8
@@ -49,7 +49,7 @@ small_by row s d a e (rules.copy_back rd source v named from value says) = absur
 pub small_bytes : (row : StepRow) (s : Seen) (d : Drawn) (a : ℕ) → Contains (conclusions row s) d → d.cell ≡ Byte a → d.value < 2 ^ 8
 small_bytes row s d a has e = small_by row s d a e (listed row s d has)
 
-fits_if : (c : Cell) (v : ℕ) → ((a : ℕ) → c ≡ Byte a → v < 2 ^ 8) → Fits c v
+pub fits_if : (c : Cell) (v : ℕ) → ((a : ℕ) → c ≡ Byte a → v < 2 ^ 8) → Fits c v
 fits_if (Register r) v small = search
 fits_if (Byte a) v small = small a refl
 

@@ -4,7 +4,7 @@ use Rattle.std.specs.List.{Contains}
 use Rattle.std.proofs.lemmas.List.Elements.{Contains-append_left, Contains-append_right, Contains-append_cases}
 use Rattle.std.proofs.lemmas.Bool.{cases_order}
 use Rattle.rept_isa.specs.declared.instr.Instr.{Instr}
-use Rattle.rept_isa.specs.declared.instr.Instr.TheVariants.{Lui, Auipc, Jal, Jalr, Branch, Load, Store, Imm, Op, Fence, Ecall, Ebreak, Counter}
+use Rattle.rept_isa.specs.declared.instr.Instr.TheVariants.{Lui, Auipc, Jal, Jalr, Branch, Load, Store, Imm, Op, Amo, Fence, Ecall, Ebreak, Counter}
 use Rattle.rept_isa.specs.declared.instr.LoadOp.{LoadOp}
 use Rattle.rept_isa.specs.declared.instr.LoadOp.TheVariants.{Lb, Lh, Lw, Lbu, Lhu}
 use Rattle.rept_isa.specs.declared.instr.StoreOp.{StoreOp}
@@ -43,27 +43,27 @@ use Rattle.rept_rules.specs.Laws.SolveLemmas.{unknown}
 use Rattle.rept_rules.specs.Laws.ListLemmas.{nothing, single, has_single, flat_some}
 use Rattle.rept_rules.specs.Laws.Own.{copied_read}
 
-abbrev need : When → Cell → Need
+abbrev pub need : When → Cell → Need
 need when cell = record { when = when; cell = cell }
 
 -- ---- what stands in the lists
 
-in_need : (when : When) (r : ℕ) (n : Need) → Contains (register_need when r) n → (r ≢ 0) × (n ≡ need when (Register r))
+pub in_need : (when : When) (r : ℕ) (n : Need) → Contains (register_need when r) n → (r ≢ 0) × (n ≡ need when (Register r))
 in_need when zero n has = absurd (nothing n has)
 in_need when (suc r) n has = (λ e. omega (arith, e), single (need when (Register (suc r))) n (subst (λ (b : Bool). Contains (if b then [] else need when (Register (suc r)) ∷ []) n) (over_zero r) has))
 
-need_in : (when : When) (r : ℕ) → r ≢ 0 → Contains (register_need when r) (need when (Register r))
+pub need_in : (when : When) (r : ℕ) → r ≢ 0 → Contains (register_need when r) (need when (Register r))
 need_in when zero named = absurd (named refl)
 need_in when (suc r) named = subst (λ (b : Bool). Contains (if b then [] else need when (Register (suc r)) ∷ []) (need when (Register (suc r)))) (sym (over_zero r)) (has_single (need when (Register (suc r))) _ refl)
 
-in_byte_needs : (when : When) (base width : ℕ) (n : Need) → Contains (byte_needs when base width) n → (k : ℕ) × (k < width) × (n ≡ need when (Byte (beside base k)))
+pub in_byte_needs : (when : When) (base width : ℕ) (n : Need) → Contains (byte_needs when base width) n → (k : ℕ) × (k < width) × (n ≡ need when (Byte (beside base k)))
 in_byte_needs when base zero n has = absurd (nothing n has)
 in_byte_needs when base (suc w) n has = elim (Contains-append_cases (byte_needs when base w) (need when (Byte (beside base w)) ∷ []) n has) [
   | inl h ↦ let i = in_byte_needs when base w n h in (i.0, omega (arith, i.1), i.2)
   | inr h ↦ (w, omega arith, single (need when (Byte (beside base w))) n h)
 ]
 
-byte_needs_in : (when : When) (base width k : ℕ) → k < width → Contains (byte_needs when base width) (need when (Byte (beside base k)))
+pub byte_needs_in : (when : When) (base width k : ℕ) → k < width → Contains (byte_needs when base width) (need when (Byte (beside base k)))
 byte_needs_in when base zero k below = absurd (omega (arith, below))
 byte_needs_in when base (suc w) k below = elim (cases_order k w) [
   | inl e ↦ Contains-append_right (byte_needs when base w) (need when (Byte (beside base w)) ∷ []) _ (has_single (need when (Byte (beside base w))) _ (ap (λ (i : ℕ). need when (Byte (beside base i))) e))
@@ -76,26 +76,26 @@ byte_needs_in when base (suc w) k below = elim (cases_order k w) [
 abbrev pub Agree : Seen → Seen → List Need → Type 0
 Agree s t ns = (n : Need) → Contains ns n → seen_cell t n.when n.cell ≡ seen_cell s n.when n.cell
 
-agree_left : (s t : Seen) (xs ys : List Need) → Agree s t (xs ++ ys) → Agree s t xs
+pub agree_left : (s t : Seen) (xs ys : List Need) → Agree s t (xs ++ ys) → Agree s t xs
 agree_left s t xs ys h n has = h n (Contains-append_left xs ys n has)
 
-agree_right : (s t : Seen) (xs ys : List Need) → Agree s t (xs ++ ys) → Agree s t ys
+pub agree_right : (s t : Seen) (xs ys : List Need) → Agree s t (xs ++ ys) → Agree s t ys
 agree_right s t xs ys h n has = h n (Contains-append_right xs ys n has)
 
-agree_register : (s t : Seen) (when : When) (r : ℕ) → IsLawful s → IsLawful t → Agree s t (register_need when r) → t.register when r ≡ s.register when r
+pub agree_register : (s t : Seen) (when : When) (r : ℕ) → IsLawful s → IsLawful t → Agree s t (register_need when r) → t.register when r ≡ s.register when r
 agree_register s t when zero ls lt h = lt.zero_known when ∙ sym (ls.zero_known when)
 agree_register s t when (suc r) ls lt h = h (need when (Register (suc r))) (need_in when (suc r) (λ e. omega (arith, e)))
 
-agree_byte : (s t : Seen) (when : When) (base width k : ℕ) → k < width → Agree s t (byte_needs when base width) → t.byte when (beside base k) ≡ s.byte when (beside base k)
+pub agree_byte : (s t : Seen) (when : When) (base width k : ℕ) → k < width → Agree s t (byte_needs when base width) → t.byte when (beside base k) ≡ s.byte when (beside base k)
 agree_byte s t when base width k below h = h (need when (Byte (beside base k))) (byte_needs_in when base width k below)
 
-agree_first : (s t : Seen) (r q : ℕ) → IsLawful s → IsLawful t → Agree s t (both_needs r q) → t.register Before r ≡ s.register Before r
+pub agree_first : (s t : Seen) (r q : ℕ) → IsLawful s → IsLawful t → Agree s t (both_needs r q) → t.register Before r ≡ s.register Before r
 agree_first s t r q ls lt h = elim (either_way (r == q)) [
   | inl u ↦ agree_register s t Before r ls lt (subst (λ (b : Bool). Agree s t (if b then register_need Before r else register_need Before r ++ register_need Before q)) u h)
   | inr f ↦ agree_register s t Before r ls lt (agree_left s t (register_need Before r) (register_need Before q) (subst (λ (b : Bool). Agree s t (if b then register_need Before r else register_need Before r ++ register_need Before q)) f h))
 ]
 
-agree_second : (s t : Seen) (r q : ℕ) → IsLawful s → IsLawful t → Agree s t (both_needs r q) → t.register Before q ≡ s.register Before q
+pub agree_second : (s t : Seen) (r q : ℕ) → IsLawful s → IsLawful t → Agree s t (both_needs r q) → t.register Before q ≡ s.register Before q
 agree_second s t r q ls lt h = elim (either_way (r == q)) [
   | inl u ↦ subst (λ (x : ℕ). t.register Before x ≡ s.register Before x) (equal r q u) (agree_first s t r q ls lt h)
   | inr f ↦ agree_register s t Before q ls lt (agree_right s t (register_need Before r) (register_need Before q) (subst (λ (b : Bool). Agree s t (if b then register_need Before r else register_need Before r ++ register_need Before q)) f h))
@@ -191,6 +191,7 @@ good_result (Jalr n rs1 imm) row s rd v is e = good_none row s
 good_result (Branch op rs1 rs2 imm) row s rd v is e = absurd (unknown e)
 good_result (Load op n rs1 imm) row s rd v is e = absurd (unknown e)
 good_result (Store op rs1 rs2 imm) row s rd v is e = absurd (unknown e)
+good_result (Amo op q rs1 rs2) row s rd v is e = absurd (unknown e)
 good_result Fence row s rd v is e = absurd (unknown e)
 good_result Ecall row s rd v is e = absurd (unknown e)
 good_result Ebreak row s rd v is e = absurd (unknown e)
@@ -254,6 +255,7 @@ again_result (Jalr n rs1 imm) row s t rd v ls lt e h = e
 again_result (Branch op rs1 rs2 imm) row s t rd v ls lt e h = e
 again_result (Load op n rs1 imm) row s t rd v ls lt e h = e
 again_result (Store op rs1 rs2 imm) row s t rd v ls lt e h = e
+again_result (Amo op q rs1 rs2) row s t rd v ls lt e h = e
 again_result Fence row s t rd v ls lt e h = e
 again_result Ecall row s t rd v ls lt e h = e
 again_result Ebreak row s t rd v ls lt e h = e

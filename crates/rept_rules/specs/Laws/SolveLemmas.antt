@@ -7,7 +7,7 @@ use Rattle.std.proofs.lemmas.Nat.{and_mask, xor_comm}
 use Rattle.std.proofs.lemmas.Bool.Decides.{nat_tests}
 use Rattle.std.proofs.Math.Nat.{mod-eq_of_lt, mul_comm}
 use Rattle.rept_isa.specs.declared.instr.Instr.{Instr}
-use Rattle.rept_isa.specs.declared.instr.Instr.TheVariants.{Lui, Auipc, Jal, Jalr, Branch, Load, Store, Imm, Op, Fence, Ecall, Ebreak, Counter}
+use Rattle.rept_isa.specs.declared.instr.Instr.TheVariants.{Lui, Auipc, Jal, Jalr, Branch, Load, Store, Imm, Op, Amo, Fence, Ecall, Ebreak, Counter}
 use Rattle.rept_isa.specs.declared.instr.ImmOp.{ImmOp}
 use Rattle.rept_isa.specs.declared.instr.ImmOp.TheVariants.{Ori, Andi, Slli, Srli, Srai}
 use Rattle.rept_isa.specs.declared.instr.RegOp.{RegOp}
@@ -35,10 +35,10 @@ known e = cc
 pub unknown : {x : ℕ} → Unknown ≡ Known x → ⊥
 unknown e = cc
 
-xor_back : (a b : ℕ) → bit_xor (bit_xor a b) b ≡ a
+pub xor_back : (a b : ℕ) → bit_xor (bit_xor a b) b ≡ a
 xor_back a b = xor_assoc a b b ∙ ap (λ (n : ℕ). bit_xor a n) (xor_self b) ∙ xor_zero_r a
 
-xor_back_left : (a b : ℕ) → bit_xor (bit_xor a b) a ≡ b
+pub xor_back_left : (a b : ℕ) → bit_xor (bit_xor a b) a ≡ b
 xor_back_left a b = ap (λ (n : ℕ). bit_xor n a) (xor_comm a b) ∙ xor_back b a
 
 odd_only : (b : Bool) (x w : ℕ) → (if b then Known x else Unknown) ≡ Known w → (b ≡ true) × (x ≡ w)
@@ -152,6 +152,7 @@ solve_sound (Jalr n rs1 imm) side image_end place rd r v w other s t is h named 
 solve_sound (Branch op rs1 rs2 imm) side image_end place rd r v w other s t is h named result read holds e = absurd (unknown e)
 solve_sound (Load op n rs1 imm) side image_end place rd r v w other s t is h named result read holds e = absurd (unknown e)
 solve_sound (Store op rs1 rs2 imm) side image_end place rd r v w other s t is h named result read holds e = absurd (unknown e)
+solve_sound (Amo op q rs1 rs2) side image_end place rd r v w other s t is h named result read holds e = absurd (unknown e)
 solve_sound Fence side image_end place rd r v w other s t is h named result read holds e = absurd (unknown e)
 solve_sound Ecall side image_end place rd r v w other s t is h named result read holds e = absurd (unknown e)
 solve_sound Ebreak side image_end place rd r v w other s t is h named result read holds e = absurd (unknown e)

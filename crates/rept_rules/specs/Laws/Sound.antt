@@ -34,10 +34,10 @@ use Rattle.rept_rules.specs.Laws.ValueLemmas.{either_way, true≢false, same_som
 use Rattle.rept_rules.specs.Laws.SolveLemmas.{neutral_is, copied_is, solve_sound}
 
 -- the conclusion holds
-abbrev Holds : State → State → Drawn → Type 0
+abbrev pub Holds : State → State → Drawn → Type 0
 Holds before after d = held (state_at before after d.when) d.cell ≡ d.value
 
-says_holds : (before after : State) (d : Drawn) (rule : ℕ) (when : When) (r v : ℕ) → Says d rule when r v → (state_at before after when).register r ≡ v → Holds before after d
+pub says_holds : (before after : State) (d : Drawn) (rule : ℕ) (when : When) (r v : ℕ) → Says d rule when r v → (state_at before after when).register r ≡ v → Holds before after d
 says_holds before after d rule when r v says h = subst (λ (x : Drawn). Holds before after x) (sym says.is) h
 
 byte_holds : (before after : State) (d : Drawn) (rule : ℕ) (when : When) (base v k : ℕ) → d ≡ on_byte rule when base v k → (state_at before after when).memory (beside base k) ≡ byte_of v k → Holds before after d
@@ -54,7 +54,7 @@ seen_holds view before after (Some r) meets = admitted (view.register Before r) 
 admits_known : (x : Flat) (v w : ℕ) → x ≡ Known w → Admits x v → v ≡ w
 admits_known x v w e h = let g : Admits (Known w) v = subst (λ (y : Flat). Admits y v) e h in g
 
-over_none : (r : ℕ) → 0 < r → r ≢ 0
+pub over_none : (r : ℕ) → 0 < r → r ≢ 0
 over_none r h e = omega (arith, h, e)
 
 -- a load reads its bytes alone
@@ -84,7 +84,7 @@ extended_second x y small fits = elim (either_way (nat_lt (x + 2 ^ 8 * y) (2 ^ (
 ]
 
 -- the low bytes of what it reads are its bytes
-byte_back : (op : LoadOp) (m : ℕ → ℕ) (base k : ℕ) → ((a : ℕ) → m a < 2 ^ 8) → k < load_width op → m (beside base k) ≡ byte_of (loaded op m base) k
+pub byte_back : (op : LoadOp) (m : ℕ → ℕ) (base k : ℕ) → ((a : ℕ) → m a < 2 ^ 8) → k < load_width op → m (beside base k) ≡ byte_of (loaded op m base) k
 byte_back Lb m base zero small below = let p = small (beside base 0) in extended_low (m (beside base 0)) p ∙ omega arith
 byte_back Lh m base zero small below = let p = small (beside base 0) in let q = small (beside base 1) in extended_first (m (beside base 0)) (m (beside base 1)) p q ∙ omega arith
 byte_back Lh m base (suc zero) small below = let p = small (beside base 0) in let q = small (beside base 1) in extended_second (m (beside base 0)) (m (beside base 1)) p q
@@ -98,10 +98,10 @@ byte_back Lhu m base (suc zero) small below = let p = small (beside base 0) in l
 byte_back _ m base k small below = absurd (omega (arith, below))
 
 -- a word is made of its bytes
-word_back : (w : ℕ) → w < 2 ^ 32 → byte_of w 0 + 2 ^ 8 * byte_of w 1 + 2 ^ 16 * byte_of w 2 + 2 ^ 24 * byte_of w 3 ≡ w
+pub word_back : (w : ℕ) → w < 2 ^ 32 → byte_of w 0 + 2 ^ 8 * byte_of w 1 + 2 ^ 16 * byte_of w 2 + 2 ^ 24 * byte_of w 3 ≡ w
 word_back w small = omega arith
 
-word_at_is : (m n : ℕ → ℕ) (base w : ℕ) → w < 2 ^ 32 → ((k : ℕ) → k < 4 → m (beside base k) ≡ n (beside base k)) → ((k : ℕ) → k < 4 → m (beside base k) ≡ byte_of w k) → w ≡ word_at n base
+pub word_at_is : (m n : ℕ → ℕ) (base w : ℕ) → w < 2 ^ 32 → ((k : ℕ) → k < 4 → m (beside base k) ≡ n (beside base k)) → ((k : ℕ) → k < 4 → m (beside base k) ≡ byte_of w k) → w ≡ word_at n base
 word_at_is m n base w small same bytes =
     let p = sym (bytes 0 (lit< tt)) ∙ same 0 (lit< tt) in
     let q = sym (bytes 1 (lit< tt)) ∙ same 1 (lit< tt) in

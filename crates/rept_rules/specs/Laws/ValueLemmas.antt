@@ -5,7 +5,7 @@ use Rattle.std.proofs.lemmas.Bool.Decides.{nat_tests}
 use Rattle.std.proofs.lemmas.Nat.{or_comm, and_or_self, and_mask, or_of_32}
 use Rattle.std.proofs.Math.Nat.{mod-eq_of_lt}
 use Rattle.rept_isa.specs.declared.instr.Instr.{Instr}
-use Rattle.rept_isa.specs.declared.instr.Instr.TheVariants.{Lui, Auipc, Jal, Jalr, Branch, Load, Store, Imm, Op, Fence, Ecall, Ebreak, Counter}
+use Rattle.rept_isa.specs.declared.instr.Instr.TheVariants.{Lui, Auipc, Jal, Jalr, Branch, Load, Store, Imm, Op, Amo, Fence, Ecall, Ebreak, Counter}
 use Rattle.rept_isa.specs.declared.instr.RegOp.{RegOp}
 use Rattle.rept_isa.specs.declared.instr.RegOp.TheVariants.{Sub, Xor, Or, And, Mul}
 use Rattle.rept_isa.specs.Numbers.{word}
@@ -108,6 +108,7 @@ forward_sound (Op op n rs1 rs2) image_end rd place s t a b is h f g w =
     let d = destination n rd w in
     let e : t.register rd ≡ computed op (s.register rs1) (s.register rs2) = ap t.register (sym d.0) ∙ h.result.written d.1 in
     rw e (registers_sound op rs1 rs2 s a b is f g)
+forward_sound (Amo op q rs1 rs2) image_end rd place s t a b is h f g w = tt
 forward_sound Fence image_end rd place s t a b is h f g w = tt
 forward_sound Ecall image_end rd place s t a b is h f g w = tt
 forward_sound Ebreak image_end rd place s t a b is h f g w = tt

@@ -1,13 +1,13 @@
 //! Reasons, worked out by hand: each of these facts has one reason alone, in whatever order facts are learnt.
 
 use super::{BOUNDED, CODE, STORED, core, ends_in, steps_of};
+use rept_amo::Atomic;
 use rept_analysis::Analysis;
 use rept_dump::Dump;
 use rept_elf::{Image, Want};
 use rept_isa::Reg;
 use rept_partial::{Partial, Range};
 use rept_reason::{Cell, Fact, Reason};
-use rept_rules::Base;
 use rept_versions::{ByteFacts, PlainFacts, SpanFacts};
 use std::alloc::Global;
 use std::process::Abort;
@@ -55,18 +55,18 @@ const CALLED: [(u32, u32, u32); 4] = [
 
 /// A register or a byte.
 #[derive(Clone, Copy)]
-enum At {
+pub enum At {
     X(u8),
     M(u32),
 }
 
 /// A fact, and its reason: rule 0 says that there is none.
 #[derive(Drop)]
-struct Told<'r> {
-    fact: (u32, At, u32),
-    rule: u8,
-    premises: &'r [(u32, At, u32)],
-    ranges: &'r [(u32, u8, u32, u32)],
+pub struct Told<'r> {
+    pub fact: (u32, At, u32),
+    pub rule: u8,
+    pub premises: &'r [(u32, At, u32)],
+    pub ranges: &'r [(u32, u8, u32, u32)],
 }
 
 const OF_STORED: [Told<'static>; 8] = [
@@ -234,11 +234,11 @@ fn check<B: ByteFacts>(
         Image::read(file.as_slice(), Want::Core)?,
     )?;
     assert!(rt; ends_in(&steps, &dump));
-    let mut analysis: Analysis<B, Range, Base> = Analysis::prepare(
+    let mut analysis: Analysis<B, Range, Atomic> = Analysis::prepare(
         alloc,
         &steps,
         &dump,
-        Base::new(),
+        Atomic::new(),
     )?;
     for wanted in told {
         assert!(rt; analysis.refine().is_ok());
@@ -252,7 +252,7 @@ fn check<B: ByteFacts>(
     Ok(())
 }
 
-fn check_both(
+pub fn check_both(
     rt: &impl Abort,
     alloc: Global,
     steps: &[(u32, u32, u32)],

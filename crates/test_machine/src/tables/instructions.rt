@@ -1,5 +1,5 @@
 //! What an instruction does to the path, which registers it writes and reads, and which way a row went. Worked out by hand from the
-//! RISC-V unprivileged manual 20191213, chapters 2.4 to 2.8, 7 and 10: one instruction of each kind and form. That an ECALL answers in
+//! RISC-V unprivileged manual 20191213, chapters 2.4 to 2.8, 7, 8 and 10: one instruction of each kind and form. That an ECALL answers in
 //! x10, and that x0 is read and never written, are the project's own.
 
 use rept_isa::{Kind, Reg, StepRow, Turn, decode, kind, reads, turn, writes};
@@ -14,7 +14,7 @@ type Row = (
     (Option<u8>, Option<u8>),
 );
 
-const ROWS: [Row; 26] = [
+const ROWS: [Row; 29] = [
     (
         0x1234_52b7,
         "lui x5,0x12345",
@@ -142,6 +142,27 @@ const ROWS: [Row; 26] = [
         Kind::Plain,
         Some(5),
         (Some(6), Some(7)),
+    ),
+    (
+        0x1003_a2af,
+        "lr.w x5,(x7)",
+        Kind::Plain,
+        Some(5),
+        (Some(7), None),
+    ),
+    (
+        0x1863_a02f,
+        "sc.w x0,x6,(x7)",
+        Kind::Plain,
+        None,
+        (Some(7), Some(6)),
+    ),
+    (
+        0x0063_a2af,
+        "amoadd.w x5,x6,(x7)",
+        Kind::Plain,
+        Some(5),
+        (Some(7), Some(6)),
     ),
     (0x0ff0_000f, "fence", Kind::Plain, None, (None, None)),
     (0x0000_100f, "fence.i", Kind::Plain, None, (None, None)),

@@ -4,8 +4,8 @@
 //! The words without a text are refused by Debian's LLVM 14 as an invalid encoding:
 //!   llvm-mc -disassemble -triple=riscv32 -mattr=+m
 
-/// Words that are no instruction of RV32IM, no FENCE and no read of a counter.
-pub const FOREIGN_WORDS: [(u32, &str); 88] = [
+/// Words that are no instruction of RV32IMA, no FENCE and no read of a counter.
+pub const FOREIGN_WORDS: [(u32, &str); 87] = [
     (0x0083_3283, "ld x5,8(x6)"),
     (0x0083_6283, "lwu x5,8(x6)"),
     (0x0053_3423, "sd x5,8(x6)"),
@@ -19,11 +19,10 @@ pub const FOREIGN_WORDS: [(u32, &str); 88] = [
     (0x0203_1293, "slli x5,x6,0x20"),
     (0x03f3_5293, "srli x5,x6,0x3f"),
     (0x4213_5293, "srai x5,x6,0x21"),
-    (0x1003_22af, "lr.w x5,(x6)"),
-    (0x1873_22af, "sc.w x5,x7,(x6)"),
-    (0x0073_22af, "amoadd.w x5,x7,(x6)"),
-    (0x0e73_22af, "amoswap.w.aqrl x5,x7,(x6)"),
-    (0xe073_22af, "amomaxu.w x5,x7,(x6)"),
+    (0x1003_b2af, "lr.d x5,(x7)"),
+    (0x0063_b2af, "amoadd.d x5,x6,(x7)"),
+    (0x1013_a2af, "lr.w with another source than x0"),
+    (0x2863_a2af, "bits 27 to 31 of no operation"),
     (0x0043_2287, "flw f5,4(x6)"),
     (0x0053_2227, "fsw f5,4(x6)"),
     (0x0083_3287, "fld f5,8(x6)"),

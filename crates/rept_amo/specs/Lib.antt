@@ -1,0 +1,6 @@
+pub mod Conclusions
+pub mod Listing
+pub mod Needs
+pub mod Writes
+pub mod Atomic
+pub mod Laws

@@ -1,0 +1,134 @@
+//! The rules of RV32IMA.
+
+ghost use Rattle.std.specs.Prelude.{◌≡◌, ℕ, ◌+◌, ◌++◌, ◌^◌, ◌<◌, min, Contains, Some};
+ghost use Rattle.rept_view.specs.declared.drawn.Drawn.{Drawn};
+ghost use Rattle.rept_amo.specs.Conclusions.{Concludes, form_of};
+ghost use Rattle.rept_amo.specs.Listing.{drawn_of, access_drawn};
+ghost use Rattle.rept_amo.specs.Needs.{needs_at};
+ghost use Rattle.rept_amo.specs.declared.form.Form.{Form};
+ghost use Rattle.rept_rules.specs.Listing.{known_at};
+ghost use Rattle.smallvec.specs.SmallVec.{HasRoomFor};
+
+use crate::draw::draw_access;
+use crate::form::{Access, Form, form_of};
+use crate::rest::add_needs;
+use crate::sure::{is_sure, places_by};
+use rept_alias::CallAccess;
+use rept_isa::StepRow;
+use rept_partial::Flat;
+use rept_rules::Base;
+use rept_rules::draw::Conclusions;
+use rept_rules::rest::Needs;
+use rept_view::{Drawn, Need, RegisterAt, RowRules, RowView, When};
+use smallvec::SmallVec;
+use std::alloc::Global;
+
+/// The rules of RV32IMA: of rows of atomic instructions its own, and of all other rows those of RV32IM.
+#[derive(Drop)]
+pub struct Atomic {
+    base: Base,
+    draws: u64,
+}
+
+impl Atomic {
+    /// The rules, which nothing was drawn by yet.
+    pub fn new() -> Self
+        ensures { result.draws ≡ 0 }
+    {
+        Atomic {
+            base: Base::new(),
+            draws: 0,
+        }
+    }
+}
+
+/// All that a row of this form gives, where its address is known.
+fn draw_form<V: RowView>(drawn: &mut Conclusions, form: &Form, view: &V)
+    requires { HasRoomFor drawn.old 14 }
+    ensures items { drawn.new.items ≡ drawn.old.items ++ access_drawn form.now (known_at (V.seen view.now) When.Before form.now.rs1) (V.seen view.now) }
+    ensures capacity { drawn.new.capacity ≡ drawn.old.capacity }
+{
+    match view.reg(When::Before, form.rs1) {
+        Flat::Unknown => {}
+        Flat::Known(base) => draw_access(drawn, &Access { form: *form, base }, view),
+    }
+}
+
+/// What a conclusion of a row of this form rests on.
+fn need_form<V: RowView>(needs: &mut Needs, form: &Form, view: &V, rule: u8)
+    requires { HasRoomFor needs.old 9 }
+    ensures items { needs.new.items ≡ needs.old.items ++ needs_at form.now (known_at (V.seen view.now) When.Before form.now.rs1) rule }
+    ensures capacity { needs.new.capacity ≡ needs.old.capacity }
+{
+    match view.reg(When::Before, form.rs1) {
+        Flat::Unknown => {}
+        Flat::Known(base) => add_needs(needs, &Access { form: *form, base }, rule),
+    }
+}
+
+impl RowRules for Atomic {
+    ghost use Rattle.rept_amo.specs.Atomic.{atomic_rules};
+    ghost use Rattle.rept_amo.specs.Laws.AtomicLaws.{atomic_lawful};
+
+    ghost rules = { atomic_rules };
+
+    ghost draws = { λ a. a.draws };
+
+    ghost lawful = { atomic_lawful };
+
+    fn draw<V: RowView>(&mut self, alloc: Global, row: &StepRow, view: &V) -> SmallVec<Drawn, 16>
+        ensures list { result.items ≡ drawn_of (form_of row.now.instr) row.now (V.seen view.now) }
+        ensures inline { result.capacity ≡ 16 }
+        ensures raised { self.new.draws ≡ min (self.old.draws + 1) 18446744073709551615 }
+        ensures listed { (form : Form) (d : Drawn) → form_of row.now.instr ≡ Some form → Contains result.items d → Concludes row.now (V.seen view.now) d }
+        ensures all { (form : Form) (d : Drawn) → form_of row.now.instr ≡ Some form → Concludes row.now (V.seen view.now) d → Contains result.items d }
+    {
+        self.draws = self.draws.saturating_add(1);
+        match form_of(&row.instr) {
+            None => self.base.draw(alloc, row, view),
+            Some(form) => {
+                let mut drawn = SmallVec::new(alloc);
+                draw_form(&mut drawn, &form, view);
+                drawn
+            }
+        }
+    }
+
+    fn needs<V: RowView>(
+        alloc: Global,
+        row: &StepRow,
+        view: &V,
+        drawn: &Drawn,
+    ) -> SmallVec<Need, 10> {
+        match form_of(&row.instr) {
+            None => Base::needs(alloc, row, view, drawn),
+            Some(form) => {
+                let mut needs = SmallVec::new(alloc);
+                need_form(&mut needs, &form, view, drawn.rule);
+                needs
+            }
+        }
+    }
+
+    fn touched<V: RowView>(row: &StepRow, view: &V, image_end: u64) -> CallAccess {
+        Base::touched(row, view, image_end)
+    }
+
+    fn tells(alloc: Global, row: &StepRow) -> SmallVec<RegisterAt, 8> {
+        Base::tells(alloc, row)
+    }
+
+    fn sure<V: RowView>(row: &StepRow, view: &V) -> bool {
+        match form_of(&row.instr) {
+            None => Base::sure(row, view),
+            Some(form) => is_sure(&form, row, view),
+        }
+    }
+
+    fn places(row: &StepRow) -> u32 {
+        match form_of(&row.instr) {
+            None => Base::places(row),
+            Some(form) => places_by(form.op),
+        }
+    }
+}

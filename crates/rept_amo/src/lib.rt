@@ -1,0 +1,11 @@
+//! What a row of an atomic instruction lets one conclude of the values before and after it, beside the rules of RV32IM.
+#![tactic(auto)]
+
+pub mod atomic;
+mod draw;
+pub mod form;
+mod number;
+mod rest;
+mod sure;
+
+pub use atomic::Atomic;

@@ -1,0 +1,60 @@
+//! Made with GNU Binutils for Debian, from the texts in the third column:
+//!   riscv64-linux-gnu-as -march=rv32ima -mabi=ilp32 words.s -o words.o
+//!   riscv64-linux-gnu-objdump -d -M no-aliases,numeric --adjust-vma=0x10600 words.o
+
+/// Atomic instructions: the address, the word and its text.
+pub const ATOMIC_WORDS: [(u32, u32, &str); 44] = [
+    (0x10600, 0x1003_a2af, "lr.w x5,(x7)"),
+    (0x10604, 0x1000_a02f, "lr.w x0,(x1)"),
+    (0x10608, 0x1008_2faf, "lr.w x31,(x16)"),
+    (0x1060c, 0x1005_252f, "lr.w x10,(x10)"),
+    (0x10610, 0x1863_a2af, "sc.w x5,x6,(x7)"),
+    (0x10614, 0x19f0_a02f, "sc.w x0,x31,(x1)"),
+    (0x10618, 0x1808_2faf, "sc.w x31,x0,(x16)"),
+    (0x1061c, 0x18a5_252f, "sc.w x10,x10,(x10)"),
+    (0x10620, 0x0863_a2af, "amoswap.w x5,x6,(x7)"),
+    (0x10624, 0x09f0_a02f, "amoswap.w x0,x31,(x1)"),
+    (0x10628, 0x0808_2faf, "amoswap.w x31,x0,(x16)"),
+    (0x1062c, 0x08a5_252f, "amoswap.w x10,x10,(x10)"),
+    (0x10630, 0x0063_a2af, "amoadd.w x5,x6,(x7)"),
+    (0x10634, 0x01f0_a02f, "amoadd.w x0,x31,(x1)"),
+    (0x10638, 0x0008_2faf, "amoadd.w x31,x0,(x16)"),
+    (0x1063c, 0x00a5_252f, "amoadd.w x10,x10,(x10)"),
+    (0x10640, 0x2063_a2af, "amoxor.w x5,x6,(x7)"),
+    (0x10644, 0x21f0_a02f, "amoxor.w x0,x31,(x1)"),
+    (0x10648, 0x2008_2faf, "amoxor.w x31,x0,(x16)"),
+    (0x1064c, 0x20a5_252f, "amoxor.w x10,x10,(x10)"),
+    (0x10650, 0x6063_a2af, "amoand.w x5,x6,(x7)"),
+    (0x10654, 0x61f0_a02f, "amoand.w x0,x31,(x1)"),
+    (0x10658, 0x6008_2faf, "amoand.w x31,x0,(x16)"),
+    (0x1065c, 0x60a5_252f, "amoand.w x10,x10,(x10)"),
+    (0x10660, 0x4063_a2af, "amoor.w x5,x6,(x7)"),
+    (0x10664, 0x41f0_a02f, "amoor.w x0,x31,(x1)"),
+    (0x10668, 0x4008_2faf, "amoor.w x31,x0,(x16)"),
+    (0x1066c, 0x40a5_252f, "amoor.w x10,x10,(x10)"),
+    (0x10670, 0x8063_a2af, "amomin.w x5,x6,(x7)"),
+    (0x10674, 0x81f0_a02f, "amomin.w x0,x31,(x1)"),
+    (0x10678, 0x8008_2faf, "amomin.w x31,x0,(x16)"),
+    (0x1067c, 0x80a5_252f, "amomin.w x10,x10,(x10)"),
+    (0x10680, 0xa063_a2af, "amomax.w x5,x6,(x7)"),
+    (0x10684, 0xa1f0_a02f, "amomax.w x0,x31,(x1)"),
+    (0x10688, 0xa008_2faf, "amomax.w x31,x0,(x16)"),
+    (0x1068c, 0xa0a5_252f, "amomax.w x10,x10,(x10)"),
+    (0x10690, 0xc063_a2af, "amominu.w x5,x6,(x7)"),
+    (0x10694, 0xc1f0_a02f, "amominu.w x0,x31,(x1)"),
+    (0x10698, 0xc008_2faf, "amominu.w x31,x0,(x16)"),
+    (0x1069c, 0xc0a5_252f, "amominu.w x10,x10,(x10)"),
+    (0x106a0, 0xe063_a2af, "amomaxu.w x5,x6,(x7)"),
+    (0x106a4, 0xe1f0_a02f, "amomaxu.w x0,x31,(x1)"),
+    (0x106a8, 0xe008_2faf, "amomaxu.w x31,x0,(x16)"),
+    (0x106ac, 0xe0a5_252f, "amomaxu.w x10,x10,(x10)"),
+];
+
+/// The same with an order of memory accesses: the word, and the text without the order.
+pub const ORDERED_WORDS: [(u32, &str); 5] = [
+    (0x1403_a2af, "lr.w x5,(x7)"),
+    (0x1a63_a2af, "sc.w x5,x6,(x7)"),
+    (0x0663_a2af, "amoadd.w x5,x6,(x7)"),
+    (0x0c63_a2af, "amoswap.w x5,x6,(x7)"),
+    (0xe263_a2af, "amomaxu.w x5,x6,(x7)"),
+];
