@@ -21,6 +21,7 @@ use Rattle.rept_report.proofs.Explained.{known_by, drawn_by, carried_by}
 use Rattle.rept_report.proofs.Implied.{known_stands}
 use Rattle.rept_isa.specs.declared.row.StepRow.{StepRow}
 use Rattle.rept_elf.specs.Segments.{ElfSegment}
+use Rattle.rept_dump.specs.Program.{Program}
 use Rattle.rept_log.specs.Fronts.{Basis, IsFront, stands}
 use Rattle.rept_analysis.specs.State.{State, with_draws, along}
 use Rattle.rept_analysis.specs.Drawing.{IsRowDrawn, IsSettled}
@@ -197,7 +198,7 @@ pub some_after : {A : Type 0} (P Q : A → Type 0) (found : Option A) → ((x : 
 some_after P Q None f h = tt
 some_after P Q (Some x) f h = f x h
 
-pub basis_is : (b : Basis) (rows : List StepRow) (last : List ℕ) (exe core : List ElfSegment) (facts : List Fact) → b.rows ≡ rows → b.last ≡ last → (b.exe ≡ exe) × (b.core ≡ core) → b.facts ≡ facts → b ≡ record { rows = rows; last = last; exe = exe; core = core; facts = facts }
+pub basis_is : (b : Basis) (rows : List StepRow) (last : List ℕ) (exe : Program) (core : List ElfSegment) (facts : List Fact) → b.rows ≡ rows → b.last ≡ last → (b.exe ≡ exe) × (b.core ≡ core) → b.facts ≡ facts → b ≡ record { rows = rows; last = last; exe = exe; core = core; facts = facts }
 basis_is b rows last exe core facts r l m f = rw (← r, ← l, ← m.0, ← m.1, ← f) refl
 
 -- an analysis stays what it is, however often rules were drawn

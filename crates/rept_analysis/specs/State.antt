@@ -2,10 +2,10 @@
 use Rattle.std.specs.Prelude.{◌≡◌, ℕ, Bool, List, Option}
 use Rattle.rept_isa.specs.declared.row.StepRow.{StepRow}
 use Rattle.rept_elf.specs.Segments.{ElfSegment}
-use Rattle.rept_elf.specs.Segments.{greatest_end}
 use Rattle.rept_dump.specs.declared.status.Status.{Status}
 use Rattle.rept_dump.specs.Status.{IsStatus}
 use Rattle.rept_dump.specs.Memory.{byte_at}
+use Rattle.rept_dump.specs.Program.{Program, contents}
 use Rattle.rept_partial.specs.Sets.{Sets}
 use Rattle.rept_span.specs.Moves.{Moves}
 use Rattle.rept_span.specs.Filled.{View}
@@ -20,13 +20,13 @@ use Rattle.rept_writing.specs.declared.list.Writing.{Writing}
 use Rattle.rept_analysis.specs.declared.pass.Pass.{Pass}
 use Rattle.rept_analysis.specs.Work.{Work}
 
--- The rows and the last register values; the segments of the executable and of the core file; the facts that were learnt; the
+-- The rows and the last register values; the files of the program, and the segments of the core file; the facts that were learnt; the
 -- sets of values that were filled last, and of how many facts in the log; the rules; how many facts in the log, from the oldest on,
 -- are answered; whether all is learnt, and the conflict that was answered; and its work.
 pub record Whole (B W R : Type 0) : Type 0 where
   pub rows : List StepRow
   pub last : List ℕ
-  pub exe : List ElfSegment
+  pub exe : Program
   pub core : List ElfSegment
   pub known : Held B
   pub spans : View W
@@ -65,7 +65,7 @@ path_of sets moves rules a = record {
   sets = sets;
   moves = moves;
   rules = rules;
-  given = record { rows = a.rows; last = a.last; dump = byte_at a.exe a.core; image_end = greatest_end a.exe };
+  given = record { rows = a.rows; last = a.last; dump = byte_at (contents a.exe) a.core; image_end = (contents a.exe).end };
 }
 
 abbrev pub setting_of : {B W R : Type 0} → Sets W → Moves W → Rules → Whole B W R → Setting W

@@ -10,7 +10,6 @@ use Rattle.rept_app.specs.Delivered.{Delivers, Tells}
 use Rattle.rept_app.specs.Ends.{Yields, FaultEnds, PortsEnd}
 use Rattle.rept_app.specs.Lines.{status_of}
 use Rattle.rept_app.specs.declared.refusal.Refusal.{Refusal}
-use Rattle.rept_app.specs.declared.refusal.Refusal.TheVariants as refusal
 use Rattle.rept_app.specs.declared.status.Status.{Status}
 use Rattle.rept_app.specs.declared.status.Status.TheVariants as ends
 

@@ -17,9 +17,11 @@ use Rattle.rept_app.specs.Examine.{Walks, Examines, PathYields, WalkYields, Note
 use Rattle.rept_app.specs.Forms.{executable_fault, core_image_fault, crash_in}
 use Rattle.rept_app.specs.Lines.{status_of}
 use Rattle.rept_app.specs.Path.{IsTracePath, HasNoPath}
+use Rattle.rept_app.specs.Reading.{HasNoDump, NotesRefuse}
 use Rattle.rept_app.specs.Study.{Studies, IsStudied, StudyHolds}
 use Rattle.rept_app.specs.Loading.{CrashBytes}
 use Rattle.rept_app.specs.Told.{CrashTrace, trace_in, path_in, route_of, Examined, NotesTold, Reads}
+use Rattle.rept_app.specs.declared.refusal.Refusal.{Refusal}
 use Rattle.rept_app.specs.declared.refusal.Refusal.TheVariants as refusal
 use Rattle.rept_app.specs.declared.status.Status.{Status}
 use Rattle.rept_app.specs.declared.status.Status.TheVariants as ends
@@ -207,11 +209,18 @@ module _ (bytes : CrashBytes) (status : Status) where
   abbrev AfterCore : Option ElfFault → Type 0
   AfterCore o = MatchOption o ((said : Result (List ℕ) CoreFault) → NotesSay (length bytes.core) (segments bytes.core) said → NoteYields bytes said status) (λ _. Yields ends.Core status)
 
-  pub exe_end : (fault : ElfFault) → Some fault ≡ executable_fault bytes.exe → Yields ends.Executable status → FilesEnd bytes status
-  exe_end fault e so = subst AfterExe e so
+  -- a refusal of the files ends the call with its status
+  pub refused_ends : (r : Refusal) → HasNoDump bytes.exe bytes.core r → Yields (status_of r) status → FilesEnd bytes status
+  refused_ends r why so = at (executable_fault bytes.exe) (core_image_fault bytes.core) why
+    where
+      named : (s : Refusal) → r ≡ s → Yields (status_of s) status
+      named s e = subst (λ (x : Refusal). Yields (status_of x) status) e so
 
-  pub core_end : (fault : ElfFault) → None ≡ executable_fault bytes.exe → Some fault ≡ core_image_fault bytes.core → Yields ends.Core status → FilesEnd bytes status
-  core_end fault e k so = subst AfterExe e (subst AfterCore k so)
+      at : (a b : Option ElfFault) → MatchOption a (MatchOption b (NotesRefuse bytes.core r) (λ f. r ≡ refusal.CoreImage f)) (λ f. r ≡ refusal.Executable f)
+          → MatchOption a (MatchOption b ((said : Result (List ℕ) CoreFault) → NotesSay (length bytes.core) (segments bytes.core) said → NoteYields bytes said status) (λ _. Yields ends.Core status)) (λ _. Yields ends.Executable status)
+      at (Some f) b e = named (refusal.Executable f) e
+      at None (Some f) e = named (refusal.CoreImage f) e
+      at None None (f, says, only, e) = λ said says'. subst (λ (x : Result (List ℕ) CoreFault). NoteYields bytes x status) (sym (only said says')) (named (refusal.Core f) e)
 
   module _ (e : None ≡ executable_fault bytes.exe) (k : None ≡ core_image_fault bytes.core) (here : Result (List ℕ) CoreFault) (only : (said : Result (List ℕ) CoreFault) → NotesSay (length bytes.core) (segments bytes.core) said → said ≡ here) where
     pub notes_end : NoteYields bytes here status → FilesEnd bytes status
@@ -249,21 +258,23 @@ module _ (bytes : CrashBytes) (reading : Reading) (text : List ℕ) (status : St
   abbrev TextCore : Option ElfFault → Type 0
   TextCore o = MatchOption o (NotesTold bytes reading.input text status) (λ fault. Says (refusal.CoreImage fault) text status)
 
-  pub exe_examines : (fault : ElfFault) → Some fault ≡ executable_fault bytes.exe → Tells (refusal.Executable fault) text status → Examines bytes reading text status
-  exe_examines fault e (inl h) = inl (subst TextExe e h)
-  exe_examines fault e (inr h) = inr (inl h)
+  -- what is told of a refusal of the files
+  pub refused_examines : (r : Refusal) → HasNoDump bytes.exe bytes.core r → Tells r text status → Examines bytes reading text status
+  refused_examines r why (inr h) = inr (inl h)
+  refused_examines r why (inl h) = inl (at (executable_fault bytes.exe) (core_image_fault bytes.core) why)
+    where
+      named : (s : Refusal) → r ≡ s → Says s text status
+      named s e = subst (λ (x : Refusal). Says x text status) e h
 
-  pub core_examines : (fault : ElfFault) → None ≡ executable_fault bytes.exe → Some fault ≡ core_image_fault bytes.core → Tells (refusal.CoreImage fault) text status → Examines bytes reading text status
-  core_examines fault e k (inl h) = inl (subst TextExe e (subst TextCore k h))
-  core_examines fault e k (inr h) = inr (inl h)
+      at : (a b : Option ElfFault) → MatchOption a (MatchOption b (NotesRefuse bytes.core r) (λ f. r ≡ refusal.CoreImage f)) (λ f. r ≡ refusal.Executable f)
+          → MatchOption a (MatchOption b (NotesTold bytes reading.input text status) (λ f. Says (refusal.CoreImage f) text status)) (λ f. Says (refusal.Executable f) text status)
+      at (Some f) b e = named (refusal.Executable f) e
+      at None (Some f) e = named (refusal.CoreImage f) e
+      at None None (f, says, only, e) = (Err f, says, named (refusal.Core f) e)
 
   module _ (e : None ≡ executable_fault bytes.exe) (k : None ≡ core_image_fault bytes.core) where
     notes_examine : NotesTold bytes reading.input text status → Examined bytes reading.input text status
     notes_examine h = subst TextExe e (subst TextCore k h)
-
-    pub notes_refused : (fault : CoreFault) → NotesSay (length bytes.core) (segments bytes.core) (Err fault) → Tells (refusal.Core fault) text status → Examines bytes reading text status
-    notes_refused fault says (inl h) = inl (notes_examine (Err fault, says, h))
-    notes_refused fault says (inr h) = inr (inl h)
 
     module _ (note : List ℕ) (says : NotesSay (length bytes.core) (segments bytes.core) (Ok note)) where
       pub walks_examine : Walks (trace_in bytes note) reading text status → Examines bytes reading text status
@@ -283,24 +294,22 @@ module _ (bytes : CrashBytes) (note : List ℕ) (only : (said : Result (List ℕ
       let same = same_note n (only (Ok n) read.noted) in
       subst (λ m. PathExcludes (trace_in bytes m)) (sym same) none
 
--- what is said of the bytes that an image borrows
-pub says_at : (bytes core : List ℕ) (said : Result (List ℕ) CoreFault) → bytes ≡ core → NotesSay (length bytes) (segments bytes) said → NotesSay (length core) (segments core) said
-says_at bytes core said e h = subst (λ b. NotesSay (length b) (segments b) said) e h
+-- the status of a refusal of the files
+pub refused_status : (exe core : List ℕ) (r : Refusal) → HasNoDump exe core r → (status_of r ≡ ends.Executable) ⊎ (status_of r ≡ ends.Core)
+refused_status exe core r why = at (executable_fault exe) (core_image_fault core) why
+  where
+    at : (a b : Option ElfFault) → MatchOption a (MatchOption b (NotesRefuse core r) (λ f. r ≡ refusal.CoreImage f)) (λ f. r ≡ refusal.Executable f) → (status_of r ≡ ends.Executable) ⊎ (status_of r ≡ ends.Core)
+    at (Some f) b e = inl (ap status_of e)
+    at None (Some f) e = inr (ap status_of e)
+    at None None (f, says, only, e) = inr (ap status_of e)
 
-pub only_at : (bytes core : List ℕ) (here : Result (List ℕ) CoreFault) → bytes ≡ core → ((said : Result (List ℕ) CoreFault) → NotesSay (length bytes) (segments bytes) said → said ≡ here)
-    → (said : Result (List ℕ) CoreFault) → NotesSay (length core) (segments core) said → said ≡ here
-only_at bytes core here e only said h = only said (subst (λ b. NotesSay (length b) (segments b) said) (sym e) h)
+-- such a status is neither that of a fault of a port nor that of a conflict
+pub not_refused : (status other : Status) → (ends.Executable ≡ other → ⊥) → (ends.Core ≡ other → ⊥) → (status ≡ ends.Executable) ⊎ (status ≡ ends.Core) → status ≡ other → ⊥
+not_refused status other a b (inl h) e = a (sym h ∙ e)
+not_refused status other a b (inr h) e = b (sym h ∙ e)
 
--- the crash of a dump is that of the bytes that its images borrow
-pub crash_is : (crash : Crash) (exe_bytes exe core_bytes core : List ℕ) → crash.exe ≡ segments exe_bytes → exe_bytes ≡ exe → crash.core ≡ segments core_bytes → core_bytes ≡ core → crash ≡ crash_in exe core crash.note
-crash_is crash exe_bytes exe core_bytes core e b k d =
-    ap (λ x. record { exe = x; core = crash.core; note = crash.note }) (e ∙ ap segments b) ∙ ap (λ x. record { exe = segments exe; core = x; note = crash.note }) (k ∙ ap segments d)
-
--- the ends of a call that tells a refusal of the files
-pub as_exe : (status : Status) → (status ≡ ends.Executable) ⊎ Stopped status → (status ≡ ends.Executable) ⊎ (status ≡ ends.Core) ⊎ Stopped status
-as_exe status (inl h) = inl h
-as_exe status (inr h) = inr (inr h)
-
-pub as_core : (status : Status) → (status ≡ ends.Core) ⊎ Stopped status → (status ≡ ends.Executable) ⊎ (status ≡ ends.Core) ⊎ Stopped status
-as_core status (inl h) = inr (inl h)
-as_core status (inr h) = inr (inr h)
+-- how a call ends that tells a refusal of the files
+pub as_refused : (r : Refusal) (status : Status) → (status_of r ≡ ends.Executable) ⊎ (status_of r ≡ ends.Core) → Yields (status_of r) status → (status ≡ ends.Executable) ⊎ (status ≡ ends.Core) ⊎ Stopped status
+as_refused r status (inl h) (inl so) = inl (so ∙ h)
+as_refused r status (inr h) (inl so) = inr (inl (so ∙ h))
+as_refused r status which (inr so) = inr (inr so)

@@ -9,3 +9,4 @@ pub mod TopLemmas
 pub mod MadeLemmas
 pub mod WordsLemmas
 pub mod PromiseLemmas
+pub mod ReadingLemmas

@@ -6,6 +6,7 @@ use Rattle.std.proofs.lemmas.List.FromFn.{length-range_with_len, get_or-range_wi
 use Rattle.rept_elf.specs.Header.{word_at}
 use Rattle.rept_elf.specs.Segments.{segments}
 use Rattle.rept_elf.specs.declared.fault.ElfFault.{ElfFault}
+use Rattle.rept_dump.specs.Memory.{of_executable}
 use Rattle.rept_dump.specs.Registers.{Says as NotesSay}
 use Rattle.rept_dump.specs.declared.fault.CoreFault.{CoreFault}
 use Rattle.rept_isa.specs.declared.row.StepRow.{StepRow}
@@ -79,7 +80,7 @@ module _ (seed steps : ℕ) (made : Made) (m : IsMade seed steps made) where
   reads_made = record { exe_accepted = m.exe_read; core_accepted = m.core_read; noted = m.notes }
 
   path_made : IsTracePath crash_made made.trace 0 (path_of m.rows)
-  path_made = (record { halves = false; bytes = m.rest }, m.layout, subst (λ (p : ℕ). IsTraced (record { code = words (segments made.exe); stream = plain false m.rest; from = 0; pc = p }) 0 m.rows) (sym m.last_pc) m.path)
+  path_made = (record { halves = false; bytes = m.rest }, m.layout, subst (λ (p : ℕ). IsTraced (record { code = words (of_executable made.exe); stream = plain false m.rest; from = 0; pc = p }) 0 m.rows) (sym m.last_pc) m.path)
 
   abbrev run_made : ℕ → State
   run_made = λ i. laid (bytes_of_words m.words) (m.run i)

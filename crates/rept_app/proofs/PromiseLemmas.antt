@@ -1,18 +1,11 @@
 -- The promise of the whole program, from what is written, what the files say, and what is true of every report.
-use Rattle.std.proofs.Common.{◌≡◌, ◌⊎◌, ℕ, List, length, Bool, true, false, Option, None, Some, MatchOption, Result, Ok, Err, inl, inr, refl, sym, ap, subst, ◌∙◌, cond, nat_lt}
+use Rattle.std.proofs.Common.{◌≡◌, ◌⊎◌, ℕ, List, length, Bool, true, false, Option, None, Some, MatchOption, Ok, Err, inl, inr, refl, sym, ap, subst, ◌∙◌, cond, nat_lt}
 use Rattle.std.specs.Io.KnownBytes.{Appends}
 use Rattle.rept_ports.specs.Port.{Port, Move}
 use Rattle.rept_ports.specs.Shelves.{Files}
-use Rattle.rept_elf.specs.Segments.{segments}
 use Rattle.rept_elf.specs.declared.fault.ElfFault.{ElfFault}
-use Rattle.rept_dump.specs.Registers.{Says as NotesSay}
-use Rattle.rept_isa.specs.declared.row.StepRow.{StepRow}
 use Rattle.rept_path.specs.declared.fault.PathFault.{PathFault}
 use Rattle.rept_path.specs.declared.fault.PathFault.TheVariants as fault
-use Rattle.rept_reason.specs.Facts.{Knowledge}
-use Rattle.rept_report.specs.Closure.{IsReport}
-use Rattle.rept_found.specs.Crash.{Crash, route, setting}
-use Rattle.rept_found.specs.Truth.{IsTrueReport}
 use Rattle.rept_app.specs.Delivered.{Delivers, Says}
 use Rattle.rept_app.specs.Ends.{Yields}
 use Rattle.rept_app.specs.Forms.{executable_fault, core_image_fault}
@@ -20,7 +13,7 @@ use Rattle.rept_app.specs.Lines.{status_of, status_of_path}
 use Rattle.rept_app.specs.Loading.{CrashBytes, crash_bytes, Loading, loading, loading_by, fetched, fetched_all, manner_of, limit_of, MatchLoading}
 use Rattle.rept_app.specs.Loading.Loading.{Refused, Loaded, MadeRun}
 use Rattle.rept_app.specs.Promise.{IsOpened, IsAnswered, IsImpossible, Promise}
-use Rattle.rept_app.specs.Told.{Given, Opening, Opens, OpensMade, Reads, Analysed, Walked, NotesTold, Examined, Summed, Told, Interrupted, Writes, NoExecution, crash_at, domain_at, path_at, route_at, trace_in, made_bytes, summary_line}
+use Rattle.rept_app.specs.Told.{Given, Opening, Reads, Analysed, Walked, NotesTold, Examined, Summed, Told, Writes, NoExecution, crash_at, domain_at, path_at, trace_in, made_bytes, summary_line}
 use Rattle.rept_app.specs.Path.{IsTracePath}
 use Rattle.rept_app.specs.Examine.{FilesEnd}
 use Rattle.rept_app.specs.Top.{EndsBy, EndsByFiles}

@@ -6,7 +6,7 @@ use Rattle.rept_report.specs.Closure.{ClosureHas, IsConsistent}
 use Rattle.rept_analysis.specs.State.{Path as AnalysedPath}
 use Rattle.rept_report.specs.declared.conflict.ConflictKind.{ConflictKind}
 use Rattle.rept_analysis.specs.Kept.{answers}
-use Rattle.rept_found.specs.Crash.{Crash, Means, end_pc, setting, route}
+use Rattle.rept_found.specs.Crash.{Crash, Means, scene_of, setting, route}
 use Rattle.rept_found.specs.Telling.{Account, told_of}
 use Rattle.rept_found.specs.View.{View, IsFoundIn, state_in}
 use Rattle.rept_serve.specs.Serving.{Reading}
@@ -31,13 +31,13 @@ module _ {W : Type 0} (m : Means W) (crash : Crash) (path : Path) (reading : Rea
   conflict_studies kind has text status (inr h) = inr (inr h)
 
 -- what is told of an analysis that has ended, and of which it is the account
-module _ {W R : Type 0} (m : Means W) (v : View W R) (crash : Crash) (path : Path) (found : IsFoundIn m (route m crash path.steps) (end_pc crash.note) v) where
+module _ {W R : Type 0} (m : Means W) (v : View W R) (crash : Crash) (path : Path) (found : IsFoundIn m (route m crash path.steps) (scene_of crash) v) where
   abbrev pub account_of : Account
-  account_of = record { known = answers (state_in m v); log = (state_in m v).known.log; end_pc = v.end_pc; skipped = path.skipped }
+  account_of = record { known = answers (state_in m v); log = (state_in m v).known.log; scene = v.scene; skipped = path.skipped }
 
   pub held_studies : (reading : Reading) (text : List ℕ) (status : Status) → Holds (told_of (state_in m v).path account_of) reading text status → Studies (crash_path m crash path) reading text status
   held_studies reading text status h =
-      inr (inl (account_of, record { report = found.report; log = found.log; ends = found.ends; skipped = refl }, subst (λ (P : AnalysedPath W). Holds (told_of P account_of) reading text status) found.path h))
+      inr (inl (account_of, record { report = found.report; log = found.log; scene = found.same_scene; skipped = refl }, subst (λ (P : AnalysedPath W). Holds (told_of P account_of) reading text status) found.path h))
 
 -- where the closure is consistent, a session is held
 pub held_causes : {W : Type 0} (m : Means W) (crash : Crash) (path : Path) (source sink : Move Port) (status : Status) → IsConsistent (setting m crash path.steps) → IsCaused source sink status → IsStudied (crash_path m crash path) source sink status

@@ -1,5 +1,6 @@
 -- What is read of an executable and of a core file (ELF-32 Object File Format; Linux core notes of RISC-V).
 use Rattle.std.specs.Prelude.{ℕ, List, Option}
+use Rattle.rept_dump.specs.Program.Program.{OneFile}
 use Rattle.rept_elf.specs.Segments.{segments}
 use Rattle.rept_elf.specs.Checks.{checks, first_failure}
 use Rattle.rept_elf.specs.declared.fault.ElfFault.{ElfFault}
@@ -16,4 +17,4 @@ core_image_fault core = first_failure (checks want.Core core)
 
 -- the crash that an executable, a core file and the descriptor of its register note tell
 abbrev pub crash_in : List ℕ → List ℕ → List ℕ → Crash
-crash_in exe core note = record { exe = segments exe; core = segments core; note = note }
+crash_in exe core note = record { exe = OneFile exe; core = segments core; note = note }

@@ -13,3 +13,4 @@ pub mod Status
 pub mod Study
 pub mod Told
 pub mod Top
+pub mod Reading

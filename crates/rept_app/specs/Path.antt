@@ -1,5 +1,6 @@
 -- The path of a trace file (Efficient Trace for RISC-V 2.0) over an executable.
 use Rattle.std.specs.Prelude.{◌≡◌, ◌⊎◌, ℕ, List, ◌++◌, Bool}
+use Rattle.rept_dump.specs.Program.{contents}
 use Rattle.rept_trace.specs.Header.{one_stream, IsHeaderFault}
 use Rattle.rept_trace.specs.Stream.{header, plain}
 use Rattle.rept_trace.specs.declared.fault.TraceFault.{TraceFault}
@@ -19,7 +20,7 @@ file_bytes file = header file.halves ++ file.bytes
 
 -- the run that it tells of an executable, from the packet of a number on to the program counter of the register note
 abbrev pub run_of : Crash → TraceFile → ℕ → RawRun
-run_of crash file from = record { code = record { segments = crash.exe; halves = file.halves }; stream = plain file.halves file.bytes; from = from; pc = end_pc crash.note }
+run_of crash file from = record { code = record { contents = contents crash.exe; halves = file.halves }; stream = plain file.halves file.bytes; from = from; pc = end_pc crash.note }
 
 -- The file begins with the trace's header, and the packets after it have this path over the executable: from the first packet of
 -- that number or a later one from which a path may begin, to the program counter of the register note.

@@ -15,7 +15,7 @@ use Rattle.rept_report.specs.Setting.{Setting}
 use Rattle.rept_report.specs.declared.conflict.ConflictKind.{ConflictKind}
 use Rattle.rept_analysis.specs.Logged.{IsLogOf}
 use Rattle.rept_analysis.specs.State.{Path as AnalysedPath}
-use Rattle.rept_found.specs.Crash.{Crash, Means, end_pc, route, setting}
+use Rattle.rept_found.specs.Crash.{Crash, Means, route, scene_of, setting}
 use Rattle.rept_found.specs.Telling.{Account, told_of}
 use Rattle.rept_found.specs.Truth.{Executes, HasNoExecution, IsTrueReport}
 use Rattle.rept_serve.specs.Serving.{Reading}
@@ -54,12 +54,12 @@ route_of p = route p.means p.crash p.path.steps
 abbrev pub setting_of : {W : Type 0} → CrashPath W → Setting W
 setting_of p = setting p.means p.crash p.path.steps
 
--- what a session tells by: the report of the path, an order in which it was learnt, the program counter of the note, and the count of
--- packets that were left out
+-- what a session tells by: the report of the path, an order in which it was learnt, the program counter of the note, the functions that the
+-- program's files name, and the count of packets that were left out
 pub record IsAccountOf {W : Type 0} (p : CrashPath W) (a : Account) : Type 0 where
   pub report : IsReport (setting_of p) a.known
   pub log : IsLogOf (setting_of p) a.known a.log
-  pub ends : a.end_pc ≡ end_pc p.crash.note
+  pub scene : a.scene ≡ scene_of p.crash
   pub skipped : a.skipped ≡ p.path.skipped
 
 -- The closure of the path and the crash has a conflict, of which the line tells one; or its report answers the input.

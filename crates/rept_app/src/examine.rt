@@ -8,14 +8,14 @@ ghost use Rattle.rept_app.specs.Examine.{Examines, IsExamined, FilesExclude, Fil
 ghost use Rattle.rept_app.specs.Loading.{crash_bytes};
 ghost use Rattle.rept_app.specs.Told.{crash_trace};
 
+use crate::dumping::read_dump;
 use crate::load::Manner;
 use crate::path::trace_path;
 use crate::refusal::Refusal;
 use crate::status::Status;
 use crate::study::study;
-use crate::tell::tell;
+use crate::telling::tell;
 use rept_dump::Dump;
-use rept_elf::{Image, Want};
 use rept_ports::{Sink, Source};
 use std::alloc::Global;
 
@@ -35,19 +35,10 @@ pub fn examine<S: Source, K: Sink>(
     ensures stays { (input.new ≡ input.old) ⊎ FilesHold (crash_bytes exe.now core.now trace.now manner) result }
     ensures impossible { result ≡ Status.Inconsistent → FilesExclude (crash_bytes exe.now core.now trace.now manner) }
 {
-    let exe_image = match Image::read(exe, Want::Exec) {
-        Ok(image) => image,
-        Err(fault) => return tell(alloc, out, &Refusal::Executable(fault)),
-    };
-    let core_image = match Image::read(core, Want::Core) {
-        Ok(image) => image,
-        Err(fault) => return tell(alloc, out, &Refusal::CoreImage(fault)),
-    };
-    let dump = match Dump::read(exe_image, core_image) {
-        Ok(dump) => dump,
-        Err(fault) => return tell(alloc, out, &Refusal::Core(fault)),
-    };
-    walk(alloc, &dump, trace, manner, input, out)
+    match read_dump(exe, core) {
+        Ok(dump) => walk(alloc, &dump, trace, manner, input, out),
+        Err(refusal) => tell(alloc, out, &refusal),
+    }
 }
 
 /// Rebuilds the path and studies it.

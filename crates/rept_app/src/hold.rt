@@ -8,7 +8,7 @@ ghost use Rattle.rept_app.specs.Ends.{IsCaused};
 ghost use Rattle.rept_app.specs.Held.{Holds};
 
 use crate::status::Status;
-use crate::tell::deliver;
+use crate::telling::deliver;
 use rept_ports::{Sink, Source};
 use rept_serve::{Served, serve};
 use rept_session::Findings;

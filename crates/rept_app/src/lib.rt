@@ -1,6 +1,7 @@
 //! The top call: words, files, path, analysis and session.
 #![tactic(auto)]
 
+mod dumping;
 mod examine;
 mod hold;
 mod load;
@@ -10,10 +11,14 @@ mod path_line;
 mod refusal;
 mod status;
 mod study;
-mod tell;
+mod telling;
 mod texts;
 mod top;
 
+pub use dumping::read_dump;
+pub use load::{Asked, CrashFiles, Manner, load_files};
+pub use path::trace_path;
+pub use refusal::{FileKind, Refusal};
 pub use status::Status;
-pub use tell::tell_no_memory;
+pub use telling::{deliver, tell, tell_no_memory};
 pub use top::rept;

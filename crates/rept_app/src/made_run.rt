@@ -10,7 +10,7 @@ ghost use Rattle.rept_app.specs.MadeRun.{Sums};
 use crate::examine::examine;
 use crate::load::Manner;
 use crate::status::Status;
-use crate::tell::tell_no_memory;
+use crate::telling::tell_no_memory;
 use rept_amo::Atomic;
 use rept_make::{Made, make};
 use rept_partial::Range;

@@ -15,7 +15,7 @@ ghost use Rattle.rept_app.specs.Told.{crash_path, route_of};
 use crate::hold::hold;
 use crate::refusal::Refusal;
 use crate::status::Status;
-use crate::tell::tell;
+use crate::telling::tell;
 use rept_amo::Atomic;
 use rept_dump::Dump;
 use rept_found::{Stop, search};

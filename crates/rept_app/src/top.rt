@@ -14,7 +14,7 @@ use crate::examine::examine;
 use crate::load::{Asked, load_files};
 use crate::made_run::tell_made_run;
 use crate::status::Status;
-use crate::tell::tell;
+use crate::telling::tell;
 use rept_amo::Atomic;
 use rept_found::reports_are_true;
 use rept_known::Both;

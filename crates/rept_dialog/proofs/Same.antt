@@ -10,21 +10,30 @@ use Rattle.rept_request.specs.declared.request.Request.TheVariants as request
 use Rattle.rept_session.specs.Session.{said_of}
 use Rattle.rept_session.specs.SessionLaws.{reply_same}
 use Rattle.rept_session.specs.Shown.{SameReasons, Shown, told}
-use Rattle.rept_stub.specs.Answers.{IsAnswer, IsAnswerBy, IsMonitored, IsStill, Still, halt_of, spots_after}
+use Rattle.rept_stub.specs.Answers.{IsAnswer, IsAnswerBy, IsLineAnswered, IsMonitored, IsStill, Still, halt_of, spots_after}
+use Rattle.rept_stub.specs.Monitoring.{asked_of}
 use Rattle.rept_stub.specs.Spots.{Spots}
 use Rattle.rept_stub.specs.declared.halt.Halt.{Halt}
+use Rattle.rept_stub.specs.declared.monitoring.Asked.{Asked}
+use Rattle.rept_stub.specs.declared.monitoring.Asked.TheVariants as asked
 use Rattle.rept_stub.specs.declared.answers.Stand.{Stand}
 use Rattle.rept_stub.specs.Replies.{decoded}
 use Rattle.rept_dialog.specs.Dialog.{IsTurn}
 use Rattle.rept_dialog.specs.declared.turn.Dialog.{Dialog}
 
 module _ (s : Shown) (skipped : ℕ) (old new : Fact → Because → Type 0) (same : SameReasons old new) where
-  monitored : (point : ℕ) (line : Option (List ℕ)) (text : List ℕ) → IsMonitored (told s skipped new) point line text → IsMonitored (told s skipped old) point line text
-  monitored point None text h = h
-  monitored point (Some line) text h = (h.0, reply_same s skipped old new same point (said_of (told s skipped new) line) h.0 h.1, h.2)
+  line_same : (signal point : ℕ) (line said : List ℕ) (a : Asked) → IsLineAnswered (told s skipped new) signal point line a said → IsLineAnswered (told s skipped old) signal point line a said
+  line_same signal point line said asked.Signal h = h
+  line_same signal point line said asked.Help h = h
+  line_same signal point line said (asked.Writers address) h = h
+  line_same signal point line said asked.Session h = reply_same s skipped old new same point (said_of (told s skipped new) line) said h
+
+  monitored : (signal point : ℕ) (line : Option (List ℕ)) (text : List ℕ) → IsMonitored (told s skipped new) signal point line text → IsMonitored (told s skipped old) signal point line text
+  monitored signal point None text h = h
+  monitored signal point (Some line) text h = (h.0, line_same signal point line h.0 (asked_of line) h.1, h.2)
 
   still_same : (still : Still) (r : Request) (text : List ℕ) → IsStill (told s skipped new) still r text → IsStill (told s skipped old) still r text
-  still_same still request.Monitor text h = monitored still.point _ text h
+  still_same still request.Monitor text h = monitored still.signal still.point _ text h
   still_same still r text h = h
 
   by_halt : (still : Still) (r : Request) (halt : Option Halt) (spots : Option Spots) (text : List ℕ) → IsAnswerBy (told s skipped new) still r halt spots text → IsAnswerBy (told s skipped old) still r halt spots text

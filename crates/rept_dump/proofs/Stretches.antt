@@ -44,11 +44,9 @@ passes p (y ∷ ys) x h = either (p y) refl h (passes p ys x)
 pub read_found : (p : ElfSegment → Bool) (read : ElfSegment → ℕ) (ss : List ElfSegment) (s : ElfSegment) (value : Option ℕ) → find p ss ≡ Some s → value ≡ cond (p s) (Some (read s)) None → value ≡ option_map read (find p ss)
 read_found p read ss s value h e = e ∙ ap (λ b. cond b (Some (read s)) None) (passes p ss s h) ∙ sym (ap (option_map read) h)
 
-pub read_first : (p q : ElfSegment → Bool) (read : ElfSegment → ℕ) (ss ts : List ElfSegment) (s : ElfSegment) (value : Option ℕ) → find p ss ≡ Some s → value ≡ cond (p s) (Some (read s)) None → value ≡ option_map read (option_or (find p ss) (find q ts))
-read_first p q read ss ts s value h e = rw (h) (e ∙ ap (λ b. cond b (Some (read s)) None) (passes p ss s h))
+-- what is read of two places, where it stands in the first, or does not
+pub read_first : (p : ElfSegment → Bool) (read : ElfSegment → ℕ) (ss : List ElfSegment) (s : ElfSegment) (value other : Option ℕ) → find p ss ≡ Some s → value ≡ cond (p s) (Some (read s)) None → value ≡ option_or (option_map read (find p ss)) other
+read_first p read ss s value other h e = rw (h) (e ∙ ap (λ b. cond b (Some (read s)) None) (passes p ss s h))
 
-pub read_second : (p q : ElfSegment → Bool) (read : ElfSegment → ℕ) (ss ts : List ElfSegment) (s : ElfSegment) (value : Option ℕ) → find p ss ≡ None → find q ts ≡ Some s → value ≡ cond (q s) (Some (read s)) None → value ≡ option_map read (option_or (find p ss) (find q ts))
-read_second p q read ss ts s value none h e = rw (none) (read_found q read ts s value h e)
-
-pub read_neither : (p q : ElfSegment → Bool) (read : ElfSegment → ℕ) (ss ts : List ElfSegment) → find p ss ≡ None → find q ts ≡ None → None ≡ option_map read (option_or (find p ss) (find q ts))
-read_neither p q read ss ts none nowhere = rw (none, nowhere) refl
+pub read_second : (p : ElfSegment → Bool) (read : ElfSegment → ℕ) (ss : List ElfSegment) (value other : Option ℕ) → find p ss ≡ None → value ≡ other → value ≡ option_or (option_map read (find p ss)) other
+read_second p read ss value other none e = rw (none) e

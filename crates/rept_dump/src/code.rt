@@ -1,14 +1,16 @@
 //! The code of an executable, looked up by address.
 
 ghost use Rattle.std.specs.Prelude.{◌≡◌, ◌≤◌, ◌<◌, ◌&&◌, Some, None, if◌then◌else◌};
+ghost use Rattle.std.specs.Option.{option_map};
 ghost use Rattle.rept_elf.specs.Header.{half_at, word_at};
-ghost use Rattle.rept_elf.specs.Image.{segments_of, segment_of};
-ghost use Rattle.rept_dump.specs.Memory.{code_at, half_code_at, allows, holds, bytes_from};
+ghost use Rattle.rept_elf.specs.Symbols.{symbol_of};
+ghost use Rattle.rept_elf.specs.Image.{file_of, segments_of, segment_of};
+ghost use Rattle.rept_dump.specs.Memory.{of_executable, allows, holds, bytes_from};
 ghost use Rattle.rept_dump.specs.Stretch.{AnswersAlike, sought_code, sought_half};
 
 use crate::search::{Allowed, held_bytes};
 use crate::stretch::{NOWHERE, Stretch, stretch_near};
-use rept_elf::{Image, Segment, half, word};
+use rept_elf::{Image, Segment, Symbol, half, word};
 
 /// The word of code at an address, if this segment has all of it.
 fn word_in(segment: &Segment<'_>, a: u32) -> Option<u32>
@@ -37,18 +39,19 @@ pub struct Code<'a> {
 }
 
 impl<'a> Code<'a> {
-    ghost use Rattle.rept_dump.specs.Code.{code_of};
+    ghost use Rattle.rept_dump.specs.Code.{code_of, parts_of};
 
     /// The executable.
     pub fn image(&self) -> Image<'a>
-        ensures { segments_of result ≡ code_of self.now }
+        ensures { file_of result ≡ file_of self.now.exe }
     {
         self.exe
     }
 
     /// The code of this executable.
     pub fn new(exe: Image<'a>) -> Code<'a>
-        ensures { code_of result ≡ segments_of exe.entry }
+        ensures code { code_of result ≡ of_executable (file_of exe.entry) }
+        ensures file { file_of result.exe ≡ file_of exe.entry }
     {
         Code {
             exe,
@@ -60,7 +63,7 @@ impl<'a> Code<'a> {
     /// The word of code at this address: the four bytes in the first `PT_LOAD` segment with `PF_X` whose bytes in the file have all
     /// four. None exactly where there is none.
     pub fn word_at(&self, a: u32) -> Option<u32>
-        ensures { result ≡ code_at (code_of self.now) a }
+        ensures { result ≡ (code_of self.now).word a }
     {
         match self.stretch(a).segment {
             Some(segment) => word_in(&segment, a),
@@ -71,7 +74,7 @@ impl<'a> Code<'a> {
     /// The half of code at this address: the two bytes in the first `PT_LOAD` segment with `PF_X` whose bytes in the file have
     /// both. None exactly where there is none.
     pub fn half_at(&self, a: u32) -> Option<u16>
-        ensures { result ≡ half_code_at (code_of self.now) a }
+        ensures { result ≡ (code_of self.now).half a }
     {
         match self.half_stretch(a).segment {
             Some(segment) => half_in(&segment, a),
@@ -79,9 +82,16 @@ impl<'a> Code<'a> {
         }
     }
 
+    /// The function that has this address, as `Image::symbol` answers it.
+    pub fn symbol(&self, a: u32) -> Option<Symbol<'a>>
+        ensures { option_map symbol_of result ≡ (code_of self.now).symbol a }
+    {
+        self.exe.symbol(a)
+    }
+
     /// The same code, which finds words near this address without a search among all segments.
     pub fn near(&self, a: u32) -> Code<'a>
-        ensures { code_of result ≡ code_of self.now }
+        ensures { file_of result.exe ≡ file_of self.now.exe }
     {
         let mut code = *self;
         code.last = self.stretch(a);
@@ -90,7 +100,7 @@ impl<'a> Code<'a> {
 
     /// The same for halves.
     pub fn near_half(&self, a: u32) -> Code<'a>
-        ensures { code_of result ≡ code_of self.now }
+        ensures { file_of result.exe ≡ file_of self.now.exe }
     {
         let mut code = *self;
         code.last_half = self.half_stretch(a);
@@ -100,7 +110,7 @@ impl<'a> Code<'a> {
     /// The stretch of code of an address: the last one where it has the address.
     fn stretch(&self, a: u32) -> Stretch<'a>
         ensures within { (result.from ≤ a) × (a < result.to) }
-        ensures alike { AnswersAlike (sought_code (code_of self.now)) result }
+        ensures alike { AnswersAlike (sought_code (parts_of self.now)) result }
     {
         stretch_near(self.last, &self.exe, Allowed::Executable, a, 4)
     }
@@ -108,7 +118,7 @@ impl<'a> Code<'a> {
     /// The same for halves.
     fn half_stretch(&self, a: u32) -> Stretch<'a>
         ensures within { (result.from ≤ a) × (a < result.to) }
-        ensures alike { AnswersAlike (sought_half (code_of self.now)) result }
+        ensures alike { AnswersAlike (sought_half (parts_of self.now)) result }
     {
         stretch_near(self.last_half, &self.exe, Allowed::Executable, a, 2)
     }

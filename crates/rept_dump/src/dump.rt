@@ -1,53 +1,50 @@
 //! An executable and the core file of its crash, as one.
 
-ghost use Rattle.std.specs.Prelude.{◌≡◌, ◌≤◌, ◌<◌, ◌&&◌, ℕ, List, Result, Some, None, length, slice_index, IfOk, if◌then◌else◌};
-ghost use Rattle.rept_elf.specs.Segments.{greatest_end};
-ghost use Rattle.rept_elf.specs.Image.{file_of, segments_of, segment_of};
-ghost use Rattle.rept_dump.specs.Code.{code_of};
-ghost use Rattle.rept_dump.specs.Memory.{byte_at, code_at, half_code_at, allows, holds, bytes_from};
+ghost use Rattle.std.specs.Prelude.{◌≡◌, ◌≤◌, ◌<◌, ℕ, List, Result, Some, length, IfOk};
+ghost use Rattle.std.specs.Option.{option_map};
+ghost use Rattle.rept_elf.specs.Symbols.{symbol_of};
+ghost use Rattle.rept_elf.specs.Image.{file_of, segments_of};
+ghost use Rattle.rept_dump.specs.Memory.{byte_at};
 ghost use Rattle.rept_dump.specs.Registers.{Says, status_size};
-ghost use Rattle.rept_dump.specs.Stretch.{AnswersAlike, sought_saved, sought_kept};
+ghost use Rattle.rept_dump.specs.Stretch.{AnswersAlike, sought_saved};
 ghost use Rattle.rept_dump.specs.Threads.{AreThreads};
 
-use crate::code::Code;
+use crate::executable::{Executable, byte_in};
 use crate::fault::CoreFault;
+use crate::files::Files;
 use crate::notes::find_registers;
-use crate::search::{Allowed, held_bytes};
+use crate::search::Allowed;
 use crate::status::{Status, read_status};
 use crate::stretch::{NOWHERE, Stretch, stretch_near};
 use crate::threads::{find_threads, search_core};
-use rept_elf::{Image, Segment};
+use rept_elf::{Image, Symbol};
+use rept_mapped::Mapped;
+use rept_maps::{Images, Maps};
 
 /// An executable and the core file of its crash, whose notes are whole and have the registers of one thread, or of several. Threads are
 /// numbered from 0, in the order of their notes.
 #[derive(Clone, Copy)]
 pub struct Dump<'a> {
-    code: Code<'a>,
+    files: Files<'a>,
     core: Image<'a>,
     registers: &'a [u8],
-    image_end: u64,
     threads: u32,
-    // Where saved bytes and bytes of the executable were looked for last.
+    // Where saved bytes were looked for last.
     saved: Stretch<'a>,
-    kept: Stretch<'a>,
     ghost has_registers: { status_size ≤ length registers.now },
-    ghost ends: { image_end ≡ greatest_end (code_of code) },
     ghost saved_answers: { AnswersAlike (sought_saved (segments_of core)) saved },
-    ghost kept_answers: { AnswersAlike (sought_kept (code_of code)) kept },
     ghost are_threads: { ∥ AreThreads (length (file_of core)) (segments_of core) registers.now threads ∥₁ },
 }
 
-/// The byte at an address, if this segment has it.
-fn byte_in(segment: &Segment<'_>, allowed: Allowed, a: u32) -> Option<u8>
-    ensures { result ≡ (if allows allowed (segment_of segment.now) && holds a 1 (segment_of segment.now) then Some (slice_index (bytes_from a (segment_of segment.now)) 0) else None) }
-{
-    let bytes = held_bytes(segment, allowed, a, 1)?;
-    Some(bytes[0])
-}
-
 impl<'a> Dump<'a> {
-    ghost use Rattle.std.specs.Prelude.{Ok, Err, IfErr, slice_get};
-    ghost use Rattle.rept_dump.specs.Dump.{exe_of, core_of, registers_of, said_of, threads_of, HasThreads};
+    ghost use Rattle.std.specs.Prelude.{Ok, Err, IfErr, MatchBool, slice_get};
+    ghost use Rattle.rept_maps.specs.FileMap.{map_count};
+    ghost use Rattle.rept_maps.specs.Views.{desc_of};
+    ghost use Rattle.rept_mapped.specs.Mapped.{mappings};
+    ghost use Rattle.rept_dump.specs.Files.{program_of};
+    ghost use Rattle.rept_dump.specs.Program.{contents};
+    ghost use Rattle.rept_dump.specs.Program.Program.{OneFile, MappedFiles};
+    ghost use Rattle.rept_dump.specs.Dump.{exe_of, core_of, registers_of, said_of, threads_of, HasThreads, AreRead, AreReadOfAll};
     ghost use Rattle.rept_dump.specs.Registers.{SaysOfAll};
     ghost use Rattle.rept_dump.specs.declared.fault.CoreFault.{CoreFault};
     ghost use Rattle.rept_dump.specs.Status.{IsStatus};
@@ -56,20 +53,10 @@ impl<'a> Dump<'a> {
     pub fn read(exe: Image<'a>, core: Image<'a>) -> Result<Dump<'a>, CoreFault>
         ensures said { Says (length (file_of core.entry)) (segments_of core.entry) (said_of result) }
         ensures only { (said : Result (List ℕ) CoreFault) → Says (length (file_of core.entry)) (segments_of core.entry) said → said ≡ said_of result }
-        ensures exe { IfOk result (λ dump. exe_of dump ≡ segments_of exe.entry) }
+        ensures exe { IfOk result (λ dump. exe_of dump ≡ OneFile (file_of exe.entry)) }
         ensures core { IfOk result (λ dump. core_of dump ≡ segments_of core.entry) }
     {
-        let registers = find_registers(&core)?;
-        let image_end = exe.image_end();
-        Ok(Dump {
-            code: Code::new(exe),
-            core,
-            registers,
-            image_end,
-            threads: 1,
-            saved: NOWHERE,
-            kept: NOWHERE,
-        })
+        Dump::join(Files::Executable(Executable::new(exe)), core)
     }
 
     /// The two files together, with one register note of each thread. A fault comes exactly where the core file's notes have it first: a note that isn't whole, no register note, a
@@ -81,19 +68,64 @@ impl<'a> Dump<'a> {
         // The notes say nothing else.
         ensures only_ok { (descs : List (List ℕ)) → SaysOfAll (length (file_of core.entry)) (segments_of core.entry) (Ok descs) → IfErr result (λ _. ⊥) }
         ensures only_err { (fault : CoreFault) → SaysOfAll (length (file_of core.entry)) (segments_of core.entry) (Err fault) → result ≡ Err fault }
-        ensures exe { IfOk result (λ dump. exe_of dump ≡ segments_of exe.entry) }
+        ensures exe { IfOk result (λ dump. exe_of dump ≡ OneFile (file_of exe.entry)) }
+        ensures core { IfOk result (λ dump. core_of dump ≡ segments_of core.entry) }
+    {
+        Dump::join_many(Files::Executable(Executable::new(exe)), core)
+    }
+
+    /// Mapped files with the core file that lists them, as `read` and, of `many` threads, `read_many` read the notes.
+    pub fn mapped(
+        maps: Maps<'a>,
+        images: &'a Images<'a>,
+        core: Image<'a>,
+        many: bool,
+    ) -> Result<Dump<'a>, CoreFault>
+        requires { length images.now ≡ map_count (desc_of maps) }
+        ensures notes { MatchBool many (AreReadOfAll (length (file_of core.entry)) (segments_of core.entry) result) (AreRead (length (file_of core.entry)) (segments_of core.entry) result) }
+        ensures files { IfOk result (λ dump. exe_of dump ≡ MappedFiles (mappings (desc_of maps.entry) images.now)) }
+        ensures core { IfOk result (λ dump. core_of dump ≡ segments_of core.entry) }
+    {
+        let files = Files::Mapped(Mapped::new(maps, images));
+        if many {
+            return Dump::join_many(files, core);
+        }
+        Dump::join(files, core)
+    }
+
+    /// Files with the core file, which has the registers of one thread.
+    fn join(files: Files<'a>, core: Image<'a>) -> Result<Dump<'a>, CoreFault>
+        ensures said { Says (length (file_of core.entry)) (segments_of core.entry) (said_of result) }
+        ensures only { (said : Result (List ℕ) CoreFault) → Says (length (file_of core.entry)) (segments_of core.entry) said → said ≡ said_of result }
+        ensures files { IfOk result (λ dump. exe_of dump ≡ program_of files.entry) }
+        ensures core { IfOk result (λ dump. core_of dump ≡ segments_of core.entry) }
+    {
+        let registers = find_registers(&core)?;
+        Ok(Dump {
+            files,
+            core,
+            registers,
+            threads: 1,
+            saved: NOWHERE,
+        })
+    }
+
+    /// Files with the core file, with the registers of each thread.
+    fn join_many(files: Files<'a>, core: Image<'a>) -> Result<Dump<'a>, CoreFault>
+        ensures ok { IfOk result (λ dump. (descs : List (List ℕ)) × SaysOfAll (length (file_of core.entry)) (segments_of core.entry) (Ok descs) × HasThreads dump descs × (slice_get descs 0 ≡ Some (registers_of dump)) × (threads_of dump ≡ length descs)) }
+        ensures err { IfErr result (λ fault. SaysOfAll (length (file_of core.entry)) (segments_of core.entry) (Err fault)) }
+        ensures only_ok { (descs : List (List ℕ)) → SaysOfAll (length (file_of core.entry)) (segments_of core.entry) (Ok descs) → IfErr result (λ _. ⊥) }
+        ensures only_err { (fault : CoreFault) → SaysOfAll (length (file_of core.entry)) (segments_of core.entry) (Err fault) → result ≡ Err fault }
+        ensures files { IfOk result (λ dump. exe_of dump ≡ program_of files.entry) }
         ensures core { IfOk result (λ dump. core_of dump ≡ segments_of core.entry) }
     {
         let (registers, threads) = find_threads(&core)?;
-        let image_end = exe.image_end();
         Ok(Dump {
-            code: Code::new(exe),
+            files,
             core,
             registers,
-            image_end,
             threads,
             saved: NOWHERE,
-            kept: NOWHERE,
         })
     }
 
@@ -129,38 +161,42 @@ impl<'a> Dump<'a> {
     /// core file whose bytes in the file have it, else from the first of the executable without `PF_W` whose bytes in the
     /// file have it. None exactly where there is neither.
     pub fn byte(&self, a: u32) -> Option<u8>
-        ensures { result ≡ byte_at (exe_of self.now) (core_of self.now) a }
+        ensures { result ≡ byte_at (contents (exe_of self.now)) (core_of self.now) a }
     {
         match self.saved_near(a).segment {
             Some(segment) => byte_in(&segment, Allowed::All, a),
-            None => match self.kept_near(a).segment {
-                Some(segment) => byte_in(&segment, Allowed::ReadOnly, a),
-                None => None,
-            },
+            None => self.files.kept(a),
         }
     }
 
     /// The word of code at this address: the four bytes in the first `PT_LOAD` segment of the executable with `PF_X` whose
     /// bytes in the file have all four. None exactly where there is none.
     pub fn word_of_code(&self, a: u32) -> Option<u32>
-        ensures { result ≡ code_at (exe_of self.now) a }
+        ensures { result ≡ (contents (exe_of self.now)).word a }
     {
-        self.code.word_at(a)
+        self.files.word(a)
     }
 
     /// The half of code at this address: the two bytes in the first `PT_LOAD` segment of the executable with `PF_X` whose
     /// bytes in the file have both. None exactly where there is none. It may be of another segment than the word there.
     pub fn half_of_code(&self, a: u32) -> Option<u16>
-        ensures { result ≡ half_code_at (exe_of self.now) a }
+        ensures { result ≡ (contents (exe_of self.now)).half a }
     {
-        self.code.half_at(a)
+        self.files.half(a)
     }
 
     /// The end of the executable's image: the greatest `vaddr + memsz` of a `PT_LOAD` segment of it, 0 without one.
     pub fn image_end(&self) -> u64
-        ensures { result ≡ greatest_end (exe_of self.now) }
+        ensures { result ≡ (contents (exe_of self.now)).end }
     {
-        self.image_end
+        self.files.end()
+    }
+
+    /// The function that has this address, as the executable names it (`Image::symbol`), and where it begins. None exactly where it names none.
+    pub fn symbol(&self, a: u32) -> Option<Symbol<'a>>
+        ensures { option_map symbol_of result ≡ (contents (exe_of self.now)).symbol a }
+    {
+        self.files.symbol(a)
     }
 
     /// The same dump, which finds words of code near this address without a search among all segments.
@@ -170,7 +206,7 @@ impl<'a> Dump<'a> {
         ensures registers { registers_of result ≡ registers_of self.now }
     {
         let mut dump = *self;
-        dump.code = self.code.near(a);
+        dump.files = self.files.near_code(a);
         dump
     }
 
@@ -181,7 +217,7 @@ impl<'a> Dump<'a> {
         ensures registers { registers_of result ≡ registers_of self.now }
     {
         let mut dump = *self;
-        dump.code = self.code.near_half(a);
+        dump.files = self.files.near_half(a);
         dump
     }
 
@@ -193,7 +229,7 @@ impl<'a> Dump<'a> {
     {
         let mut dump = *self;
         dump.saved = self.saved_near(a);
-        dump.kept = self.kept_near(a);
+        dump.files = self.files.near_byte(a);
         dump
     }
 
@@ -203,13 +239,5 @@ impl<'a> Dump<'a> {
         ensures alike { AnswersAlike (sought_saved (core_of self.now)) result }
     {
         stretch_near(self.saved, &self.core, Allowed::All, a, 1)
-    }
-
-    /// The stretch of an address among bytes of the executable that can't be written.
-    fn kept_near(&self, a: u32) -> Stretch<'a>
-        ensures within { (result.from ≤ a) × (a < result.to) }
-        ensures alike { AnswersAlike (sought_kept (exe_of self.now)) result }
-    {
-        stretch_near(self.kept, &self.code.image(), Allowed::ReadOnly, a, 1)
     }
 }

@@ -5,7 +5,9 @@
 mod ahead;
 mod code;
 mod dump;
+mod executable;
 mod fault;
+mod files;
 mod note;
 mod notes;
 mod search;

@@ -407,9 +407,9 @@ pub stood_tells : (run : Run) (n most : ℕ) (s : Sender) (last : StepRow) → A
 stood_tells run n most s last given t get size = record {
   rest = t.text.rest;
   layout = t.text.layout;
-  path = λ segments pc carry end.
-      let code : Code = coded run.halves segments in
-      let carries : Carries run (coded run.halves segments) = record { kind = refl; placed = carry } in
+  path = λ contents pc carry end.
+      let code : Code = coded run.halves contents in
+      let carries : Carries run (coded run.halves contents) = record { kind = refl; placed = carry } in
       let held : Hold (plain run.halves (t.text.rest ++ [])) (reverse t.packets ++ []) = t.text.holds [] [] (record { zeros = 0; layout = refl }) in
       let whole : Hold (plain run.halves t.text.rest) (reverse t.packets) = subst (λ (xs : List ℕ). Hold (plain run.halves xs) (reverse t.packets)) (append-nil t.text.rest) (subst (λ (ps : List Packet). Hold (plain run.halves (t.text.rest ++ [])) ps) (append-nil (reverse t.packets)) held) in
       let c = t.lead code last carries get in

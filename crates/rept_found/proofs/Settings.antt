@@ -3,8 +3,9 @@ use Rattle.std.proofs.Common.{◌≡◌, ℕ, zero, suc, get_or, cond, false, �
 use Rattle.std.proofs.lemmas.List.FromFn.{fill_by_all}
 use Rattle.std.proofs.lemmas.Bool.Decides.{nat_tests}
 use Rattle.rept_elf.specs.Header.{word_at}
-use Rattle.rept_elf.specs.Segments.{ElfSegment, greatest_end}
+use Rattle.rept_elf.specs.Segments.{ElfSegment}
 use Rattle.rept_dump.specs.Memory.{byte_at}
+use Rattle.rept_dump.specs.Program.{Program, contents}
 use Rattle.rept_dump.specs.Status.{IsStatus}
 use Rattle.rept_dump.specs.declared.status.Status.{Status}
 use Rattle.rept_isa.specs.declared.row.StepRow.{StepRow}
@@ -15,7 +16,7 @@ use Rattle.rept_analysis.specs.Kept.{answers}
 use Rattle.rept_analysis.specs.Logged.{IsLogOf}
 use Rattle.rept_analysis.specs.declared.stop.Stop.{Stop}
 use Rattle.rept_analysis.specs.declared.stop.Stop.TheVariants.{Conflict}
-use Rattle.rept_found.specs.Crash.{Crash, Means, last_value, last_values, route}
+use Rattle.rept_found.specs.Crash.{Crash, Means, Scene, last_value, last_values, route}
 use Rattle.rept_found.specs.View.{View, IsFoundIn, state_in}
 
 -- the registers of a status are the last values
@@ -29,20 +30,20 @@ last_are note status is long = fill_by_all (last_value note) status.regs 32 0 lo
         let named : eqb (suc k) 0 ≡ false = grind (arith, nat_tests) in
         is.regs (suc k) (omega arith) below ∙ ap (λ (b : Bool). cond b 0 (word_at note (72 + 4 * suc k))) (sym named)
 
-abbrev made : {W : Type 0} → Means W → List StepRow → List ℕ → List ElfSegment → List ElfSegment → Path W
-made m rows last exe core = record { sets = m.sets; moves = m.moves; rules = m.rules; given = record { rows = rows; last = last; dump = byte_at exe core; image_end = greatest_end exe } }
+abbrev made : {W : Type 0} → Means W → List StepRow → List ℕ → Program → List ElfSegment → Path W
+made m rows last exe core = record { sets = m.sets; moves = m.moves; rules = m.rules; given = record { rows = rows; last = last; dump = byte_at (contents exe) core; image_end = (contents exe).end } }
 
 -- an analysis of these steps, registers and segments
 pub route_is : {B W R : Type 0} (m : Means W) (a : Whole B W R) (crash : Crash) (rows : List StepRow) → a.rows ≡ rows → HasRegisters crash.note a.last → length a.last ≡ 32 → (a.exe ≡ crash.exe) × (a.core ≡ crash.core) → path_of m.sets m.moves m.rules a ≡ route m crash rows
 route_is m a crash rows r (s, is, same) long (e, k) =
     let last : a.last ≡ last_values crash.note = same ∙ last_are crash.note s is (ap length (sym same) ∙ long) in
-    ap (λ (x : List StepRow). made m x a.last a.exe a.core) r ∙ ap (λ (x : List ℕ). made m rows x a.exe a.core) last ∙ ap (λ (x : List ElfSegment). made m rows (last_values crash.note) x a.core) e ∙ ap (λ (x : List ElfSegment). made m rows (last_values crash.note) crash.exe x) k
+    ap (λ (x : List StepRow). made m x a.last a.exe a.core) r ∙ ap (λ (x : List ℕ). made m rows x a.exe a.core) last ∙ ap (λ (x : Program). made m rows (last_values crash.note) x a.core) e ∙ ap (λ (x : List ElfSegment). made m rows (last_values crash.note) crash.exe x) k
 
 -- what it has, said of that setting
-pub found_in : {W R : Type 0} (m : Means W) (v : View W R) (P : Path W) (end : ℕ) → (state_in m v).path ≡ P → v.end_pc ≡ end → IsReport (along (state_in m v).path) (answers (state_in m v)) → IsLogOf (along (state_in m v).path) (answers (state_in m v)) (state_in m v).known.log → IsFoundIn m P end v
-found_in {W} m v P end e p report log = record {
+pub found_in : {W R : Type 0} (m : Means W) (v : View W R) (P : Path W) (scene : Scene) → (state_in m v).path ≡ P → v.scene ≡ scene → IsReport (along (state_in m v).path) (answers (state_in m v)) → IsLogOf (along (state_in m v).path) (answers (state_in m v)) (state_in m v).known.log → IsFoundIn m P scene v
+found_in {W} m v P scene e p report log = record {
   path = e;
-  ends = p;
+  same_scene = p;
   report = subst (λ (Q : Path W). IsReport (along Q) (answers (state_in m v))) e report;
   log = subst (λ (Q : Path W). IsLogOf (along Q) (answers (state_in m v)) (state_in m v).known.log) e log;
 }

@@ -22,14 +22,13 @@ use Rattle.rept_report.specs.declared.writer.Writer.{Writer}
 use Rattle.rept_report.specs.declared.writer.Writer as writers
 use Rattle.rept_report.specs.Views.{bounds}
 use Rattle.rept_report.proofs.ViewLaws.{bounds_cover, words_between}
-use Rattle.rept_span.proofs.RangeLaws.{HasIn}
 use Rattle.rept_report.specs.Soundness.{IsSound, HasNoExecution as HasNoRun, WriterHolds as WriterHoldsIn}
 use Rattle.rept_report.specs.Why.{Because, IsReason, IsGiven, RangeAlwaysHolds as RangeHoldsInRuns}
 use Rattle.rept_report.specs.Implied.{HasEnded, known_at_end}
 use Rattle.rept_report.specs.Log.{Entry, logged_of}
 use Rattle.rept_report.proofs.OneThread.{rows_within, are_points, execution_runs, none_later, writes_told}
 use Rattle.rept_analysis.specs.State.{Path, along}
-use Rattle.rept_found.specs.Crash.{Crash, Means, route, setting}
+use Rattle.rept_found.specs.Crash.{Crash, Means, route, setting, Scene}
 use Rattle.rept_found.specs.Telling.{last_writer, noted, shown_of}
 use Rattle.rept_found.specs.Truth.{Executes, HasNoExecution, StepWrites, WriterHolds, RangeAlwaysHolds, IsTrueOf, IsTrueReason, IsTrueReport}
 use Rattle.rept_found.proofs.Tellings.{last_writer_is}
@@ -99,7 +98,7 @@ module _ {W : Type 0} (m : Means W) (sets : AreLawfulSets m.sets) (moves : AreMo
   abbrev There : Path W
   There = route m crash rows
 
-  answers_true : IsSound Here K → (end : ℕ) (run : ℕ → State) → Executes There run → IsTrueOf There (shown_of There K end) run
+  answers_true : IsSound Here K → (end : Scene) (run : ℕ → State) → Executes There run → IsTrueOf There (shown_of There K end) run
   answers_true sound end run x = record {
     registers = λ p r v early e. register_true K (run p) p r v (x.states p early).zero (λ known. sound.facts p (Register r) v known (run_of run) (runs There run x)) e;
     ranges = λ p r early. left_true m sets (range (way_of Here) K p r) ((run p).register r) ((x.states p early).words r) (λ set is. sound.ranges p r set early is (run_of run) (runs There run x));

@@ -10,10 +10,11 @@ use Rattle.rept_analysis.specs.State.{Path, State, along}
 use Rattle.rept_analysis.specs.Kept.{answers}
 use Rattle.rept_analysis.specs.Reasoned.{KeepsAll}
 use Rattle.rept_session.specs.Shown.{known_value}
+use Rattle.rept_found.specs.Crash.{Scene}
 use Rattle.rept_found.specs.Telling.{shown_of}
 
 module _ {W : Type 0} (s t : State W) (kept : KeepsAll s t) where
-  pub same_shown : (end later : ℕ) → later ≡ end → shown_of t.path (answers t) later ≡ shown_of s.path (answers s) end
+  pub same_shown : (end later : Scene) → later ≡ end → shown_of t.path (answers t) later ≡ shown_of s.path (answers s) end
   same_shown end later e = rw (kept.path, kept.known, e) refl
 
   pub same_reasons : (fact : Fact) (why : Because) → IsReason (along s.path) s.known.log fact why ↔ IsReason (along t.path) t.known.log fact why
@@ -22,7 +23,7 @@ module _ {W : Type 0} (s t : State W) (kept : KeepsAll s t) where
       (λ h. subst (λ (P : Path W). IsReason (along P) t.known.log fact why) (sym kept.path) (subst (λ (fs : List Fact). IsReason (along s.path) fs fact why) (sym log) h), λ h. subst (λ (P : Path W). IsReason (along P) s.known.log fact why) kept.path (subst (λ (fs : List Fact). IsReason (along t.path) fs fact why) log h))
 
 -- a fact on another cell than x0 that isn't known, isn't shown
-pub not_shown : {W : Type 0} (P : Path W) (K : Knowledge) (end p v : ℕ) (c : Cell) → c ≢ Register 0 → K p c ≢ Some v → known_value (shown_of P K end) p c ≢ Some v
+pub not_shown : {W : Type 0} (P : Path W) (K : Knowledge) (end : Scene) (p v : ℕ) (c : Cell) → c ≢ Register 0 → K p c ≢ Some v → known_value (shown_of P K end) p c ≢ Some v
 not_shown P K end p v (Byte a) named unknown e = unknown e
 not_shown P K end p v (Register r) named unknown e =
     elim (cases_eq r 0) [
@@ -30,7 +31,7 @@ not_shown P K end p v (Register r) named unknown e =
       | inr ne ↦ unknown (sym (cond-false (eqb r 0) (Some 0) (K p (Register r)) (ne_eqb r 0 ne)) ∙ e)
     ]
 
-pub none_shown : {W T E : Type 0} (P : Path W) (K : Knowledge) (end p v : ℕ) (c : Cell) (r : Result (Option T) E) → c ≢ Register 0 → IfOk r (λ found. IfNone found (K p c ≢ Some v)) → IfOk r (λ found. IfNone found (known_value (shown_of P K end) p c ≢ Some v))
+pub none_shown : {W T E : Type 0} (P : Path W) (K : Knowledge) (end : Scene) (p v : ℕ) (c : Cell) (r : Result (Option T) E) → c ≢ Register 0 → IfOk r (λ found. IfNone found (K p c ≢ Some v)) → IfOk r (λ found. IfNone found (known_value (shown_of P K end) p c ≢ Some v))
 none_shown P K end p v c (Ok None) named h = not_shown P K end p v c named h
 none_shown P K end p v c (Ok (Some x)) named h = h
 none_shown P K end p v c (Err e) named h = h

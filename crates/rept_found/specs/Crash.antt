@@ -2,9 +2,10 @@
 use Rattle.std.specs.Prelude.{ℕ, ◌+◌, ◌*◌, List, map, ◌==◌, if◌then◌else◌}
 use Rattle.std.specs.List.{range_with_len}
 use Rattle.rept_elf.specs.Header.{word_at}
-use Rattle.rept_elf.specs.Segments.{ElfSegment, greatest_end}
+use Rattle.rept_elf.specs.Segments.{ElfSegment}
 use Rattle.rept_dump.specs.Dump.{exe_of, core_of, registers_of}
 use Rattle.rept_dump.specs.Memory.{byte_at}
+use Rattle.rept_dump.specs.Program.{Program, contents}
 use Rattle.rept_dump.specs.declared.dump.Dump.{Dump}
 use Rattle.rept_isa.specs.declared.row.StepRow.{StepRow}
 use Rattle.rept_partial.specs.Sets.{Sets}
@@ -13,9 +14,9 @@ use Rattle.rept_span.specs.Moves.{Moves}
 use Rattle.rept_view.specs.Rules.{Rules}
 use Rattle.rept_analysis.specs.State.{Path, along}
 
--- an executable and the core file of its crash: the segments of each, and the descriptor of the register note
+-- a program and the core file of its crash: its files, the segments of the core file, and the descriptor of the register note
 pub record Crash : Type 0 where
-  pub exe : List ElfSegment
+  pub exe : Program
   pub core : List ElfSegment
   pub note : List ℕ
 
@@ -25,6 +26,14 @@ crash_of dump = record { exe = exe_of dump; core = core_of dump; note = register
 -- the program counter in the descriptor of a register note
 abbrev pub end_pc : List ℕ → ℕ
 end_pc note = word_at note 72
+
+-- what a session tells of a crash besides what follows: the address after the last step, and the functions that the program's files name
+pub record Scene : Type 0 where
+  pub end_pc : ℕ
+  pub program : Program
+
+abbrev pub scene_of : Crash → Scene
+scene_of crash = record { end_pc = end_pc crash.note; program = crash.exe }
 
 -- the last value of a register
 abbrev pub last_value : List ℕ → ℕ → ℕ
@@ -43,13 +52,13 @@ pub record Means (W : Type 0) : Type 0 where
 abbrev pub means : {W : Type 0} → Sets W → Moves W → Rules → Means W
 means sets moves rules = record { sets = sets; moves = moves; rules = rules }
 
--- a path over the executable, and the registers and bytes of the core file in which it ends
+-- a path over the program, and the registers and bytes of the core file in which it ends
 abbrev pub route : {W : Type 0} → Means W → Crash → List StepRow → Path W
 route m crash rows = record {
   sets = m.sets;
   moves = m.moves;
   rules = m.rules;
-  given = record { rows = rows; last = last_values crash.note; dump = byte_at crash.exe crash.core; image_end = greatest_end crash.exe };
+  given = record { rows = rows; last = last_values crash.note; dump = byte_at (contents crash.exe) crash.core; image_end = (contents crash.exe).end };
 }
 
 -- the setting of which a report of that path speaks

@@ -14,6 +14,8 @@ use Rattle.rept_report.specs.Why.{IsReason}
 use Rattle.rept_analysis.specs.Counts.{calls_below, stores_below, known_below}
 use Rattle.rept_analysis.specs.State.{Path, along}
 use Rattle.rept_session.specs.Shown.{Shown, Told, told}
+use Rattle.rept_dump.specs.Program.{contents}
+use Rattle.rept_found.specs.Crash.{Scene}
 
 -- of a step that may write a byte: whether it is known that it does
 abbrev pub writer_at : {W : Type 0} → Setting W → Knowledge → ℕ → Writer
@@ -39,27 +41,27 @@ counts_of S K = record {
   inexact = stores_below S.legs K false S.legs.count;
 }
 
--- what is shown of a report, over a path that leads to an address
-abbrev pub shown_of : {W : Type 0} → Path W → Knowledge → ℕ → Shown
-shown_of P K end = record {
+-- what is shown of a report of a path, where it ends in such a crash
+abbrev pub shown_of : {W : Type 0} → Path W → Knowledge → Scene → Shown
+shown_of P K scene = record {
   rows = P.given.rows;
-  end_pc = end;
+  end_pc = scene.end_pc;
   register = register_known K;
   range = λ p r. bounds P.sets (range (way_of (along P)) K p r);
   note = λ p r. noted P.moves (range (way_of (along P)) K p r);
   byte = λ p a. K p (Byte a);
   writer = λ p a. last_writer (along P) K p a;
   counts = counts_of (along P) K;
+  symbol = (contents scene.program).symbol;
 }
 
--- a report, the order in which it was learnt, and what a session tells besides: the address after the last step, and how many packets
--- were left out
+-- a report, the order in which it was learnt, and what a session tells besides: of the crash, and how many packets were left out
 pub record Account : Type 0 where
   pub known : Knowledge
   pub log : List Fact
-  pub end_pc : ℕ
+  pub scene : Scene
   pub skipped : ℕ
 
 -- what a session tells of it, with reasons by that order
 abbrev pub told_of : {W : Type 0} → Path W → Account → Told
-told_of P a = told (shown_of P a.known a.end_pc) a.skipped (IsReason (along P) a.log)
+told_of P a = told (shown_of P a.known a.scene) a.skipped (IsReason (along P) a.log)

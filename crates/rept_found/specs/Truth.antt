@@ -14,6 +14,7 @@ use Rattle.rept_report.specs.Why.{Because, IsReason, IsGiven}
 use Rattle.rept_analysis.specs.Logged.{IsLogOf}
 use Rattle.rept_analysis.specs.State.{Path, along}
 use Rattle.rept_session.specs.Shown.{Shown}
+use Rattle.rept_found.specs.Crash.{Scene}
 use Rattle.rept_found.specs.Telling.{shown_of}
 
 -- an execution of the path that ends in the dump
@@ -59,5 +60,5 @@ pub record IsTrueReason {W : Type 0} (P : Path W) (K : Knowledge) (why : Because
 
 -- all that a session tells of a report, whatever the order in which it was learnt
 pub record IsTrueReport {W : Type 0} (P : Path W) (K : Knowledge) : Type 0 where
-  pub answers : (end : ℕ) (run : ℕ → State) → Executes P run → IsTrueOf P (shown_of P K end) run
+  pub answers : (scene : Scene) (run : ℕ → State) → Executes P run → IsTrueOf P (shown_of P K scene) run
   pub reasons : (log : List Fact) (fact : Fact) (why : Because) → IsLogOf (along P) K log → IsReason (along P) log fact why → IsTrueReason P K why

@@ -1,24 +1,24 @@
 -- An analysis that has ended, as contracts see it. This project's own.
-use Rattle.std.specs.Prelude.{◌≡◌, ℕ}
+use Rattle.std.specs.Prelude.{◌≡◌}
 use Rattle.rept_report.specs.Closure.{IsReport}
 use Rattle.rept_versions.specs.OnLine.{Parts, store}
 use Rattle.rept_analysis.specs.State.{Path, State, Whole, along, state_of}
 use Rattle.rept_analysis.specs.Kept.{answers}
 use Rattle.rept_analysis.specs.Logged.{IsLogOf}
-use Rattle.rept_found.specs.Crash.{Means}
+use Rattle.rept_found.specs.Crash.{Means, Scene}
 
--- the analysis, and the address after the last step
+-- the analysis, and what is told of the crash besides
 pub record View (W R : Type 0) : Type 0 where
   pub analysis : Whole Parts W R
-  pub end_pc : ℕ
+  pub scene : Scene
 
 -- the analysis, as definitions speak of it
 abbrev pub state_in : {W R : Type 0} → Means W → View W R → State W
 state_in m v = state_of m.sets m.moves m.rules store v.analysis
 
 -- it has the report, and an order in which that was learnt
-pub record IsFoundIn {W R : Type 0} (m : Means W) (P : Path W) (end : ℕ) (v : View W R) : Type 0 where
+pub record IsFoundIn {W R : Type 0} (m : Means W) (P : Path W) (scene : Scene) (v : View W R) : Type 0 where
   pub path : (state_in m v).path ≡ P
-  pub ends : v.end_pc ≡ end
+  pub same_scene : v.scene ≡ scene
   pub report : IsReport (along P) (answers (state_in m v))
   pub log : IsLogOf (along P) (answers (state_in m v)) (state_in m v).known.log

@@ -7,7 +7,7 @@ ghost use Rattle.rept_dump.specs.declared.status.Status.{Status};
 ghost use Rattle.rept_steps.specs.Linked.{EndBefore};
 ghost use Rattle.rept_report.specs.declared.conflict.ConflictKind.{ConflictKind};
 ghost use Rattle.rept_report.specs.Closure.{ClosureHas};
-ghost use Rattle.rept_found.specs.Crash.{crash_of, end_pc, means, route, setting};
+ghost use Rattle.rept_found.specs.Crash.{crash_of, scene_of, means, route, setting};
 ghost use Rattle.rept_found.specs.Truth.{HasNoExecution};
 ghost use Rattle.rept_found.specs.View.{IsFoundIn};
 
@@ -25,15 +25,17 @@ use std::marker::Model;
 pub struct Found<'a, W: Transfer, R: RowRules> {
     pub(crate) analysis: Analysis<'a, SpanFacts, W, R>,
     pub(crate) end_pc: u32,
+    pub(crate) dump: &'a Dump<'a>,
 }
 
 impl<'a, W: Transfer, R: RowRules> Model for Found<'a, W, R> {
     ghost use Rattle.std.specs.Prelude.{◌≡◌, ◌≤◌, length, true};
+    ghost use Rattle.rept_dump.specs.Dump.{exe_of};
     ghost use Rattle.rept_found.specs.View.{View};
 
     ghost Value = { View W R };
 
-    ghost view = { λ f. record { analysis = f.analysis; end_pc = f.end_pc } };
+    ghost view = { λ f. record { analysis = f.analysis; scene = record { end_pc = f.end_pc; program = exe_of f.dump.now } } };
 
     ghost invariant = { λ f. (f.analysis.complete ≡ true) × (length f.analysis.rows ≤ 65536) };
 }
@@ -48,7 +50,7 @@ pub fn search<'a, W: Transfer, R: RowRules>(
 ) -> Result<Found<'a, W, R>, Stop>
     requires steps { 0 < length steps.now }
     requires end { (s : Status) → IsStatus (registers_of dump.now) s → EndBefore steps.now s.pc }
-    ensures found { IfOk result (IsFoundIn (means W.sets W.moves R.rules) (route (means W.sets W.moves R.rules) (crash_of dump.now) steps.now) (end_pc (registers_of dump.now))) }
+    ensures found { IfOk result (IsFoundIn (means W.sets W.moves R.rules) (route (means W.sets W.moves R.rules) (crash_of dump.now) steps.now) (scene_of (crash_of dump.now))) }
     ensures conflict { (kind : ConflictKind) → result ≡ Err (Stop.Conflict kind) → ClosureHas (setting (means W.sets W.moves R.rules) (crash_of dump.now) steps.now) kind }
     ensures impossible { (kind : ConflictKind) → result ≡ Err (Stop.Conflict kind) → HasNoExecution (route (means W.sets W.moves R.rules) (crash_of dump.now) steps.now) }
 {
@@ -63,6 +65,7 @@ pub fn search<'a, W: Transfer, R: RowRules>(
             Ok(Found {
                 analysis,
                 end_pc: status.pc,
+                dump,
             })
         }
         Err(stop) => Err(stop),

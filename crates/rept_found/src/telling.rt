@@ -1,6 +1,7 @@
 //! What a session asks of an analysis that has ended.
 
 use crate::found::Found;
+use rept_elf::Symbol;
 use rept_isa::{Reg, StepRow};
 use rept_partial::{Flat, Range};
 use rept_reason::{Fact, Reason};
@@ -19,7 +20,7 @@ impl<'a, W: Transfer, R: RowRules> Findings for Found<'a, W, R> {
     ghost use Rattle.rept_found.specs.Crash.{means};
     ghost use Rattle.rept_found.specs.View.{state_in};
 
-    ghost shown = { λ f. shown_of (state_in (means W.sets W.moves R.rules) f).path (answers (state_in (means W.sets W.moves R.rules) f)) f.end_pc };
+    ghost shown = { λ f. shown_of (state_in (means W.sets W.moves R.rules) f).path (answers (state_in (means W.sets W.moves R.rules) f)) f.scene };
 
     ghost reasons = { λ f fact why. IsReason (along (state_in (means W.sets W.moves R.rules) f).path) (state_in (means W.sets W.moves R.rules) f).known.log fact why };
 
@@ -58,6 +59,10 @@ impl<'a, W: Transfer, R: RowRules> Findings for Found<'a, W, R> {
 
     fn counts(&self) -> Counts {
         self.analysis.counts()
+    }
+
+    fn symbol(&self, address: u32) -> Option<Symbol<'_>> {
+        self.dump.symbol(address)
     }
 
     fn why(&mut self, alloc: Global, fact: Fact) -> Result<Option<Reason>, OutOfMemory> {

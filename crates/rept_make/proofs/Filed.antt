@@ -1,11 +1,12 @@
 -- What the files of a made crash say.
-use Rattle.std.proofs.Common.{◌≡◌, ℕ, zero, suc, ◌+◌, ◌-◌, ◌*◌, ◌/◌, ◌%◌, ◌^◌, ◌<◌, ◌≤◌, ◌==◌, nat_le, nat_lt, List, [], ◌∷◌, ◌++◌, length, take, drop, get_or, Some, None, Bool, true, false, cond, ◌&&◌, Ok, refl, sym, ◌∙◌, ap, subst, arith, ◌⊎◌, inl, inr, length-append}
+use Rattle.std.proofs.Common.{Option, ◌≡◌, ℕ, zero, suc, ◌+◌, ◌-◌, ◌*◌, ◌/◌, ◌%◌, ◌^◌, ◌<◌, ◌≤◌, ◌==◌, nat_le, nat_lt, List, [], ◌∷◌, ◌++◌, length, take, drop, get_or, Some, None, Bool, true, false, cond, ◌&&◌, Ok, refl, sym, ◌∙◌, ap, subst, arith, ◌⊎◌, inl, inr, length-append}
 use Rattle.std.proofs.lemmas.List.{append-nil}
 use Rattle.std.proofs.lemmas.Bool.Decides.{nat_tests}
 use Rattle.std.proofs.Math.Seq.{take-length}
 use Rattle.byteorder.specs.Endian.{little_number}
 use Rattle.rept_elf.specs.Header.{word_at}
 use Rattle.rept_elf.specs.Segments.{ElfSegment, segments}
+use Rattle.rept_elf.specs.Symbols.{FunctionSymbol}
 use Rattle.rept_elf.specs.Checks.{checks, first_failure}
 use Rattle.rept_elf.specs.declared.fault.Want.TheVariants.{Exec, Core}
 use Rattle.rept_dump.specs.Notes.{Note, AreNotes, HaveNotes, first_note}
@@ -14,7 +15,7 @@ use Rattle.std.specs.Option.{option_map, option_or}
 use Rattle.rept_isa.specs.declared.instr.Instr.{Instr}
 use Rattle.rept_isa.specs.Words.{IsWord}
 use Rattle.rept_isa.proofs.WordLemmas.{reads}
-use Rattle.rept_dump.specs.Memory.{bytes_from, byte_at, code_at}
+use Rattle.rept_dump.specs.Memory.{bytes_from, byte_at, code_at, held_by}
 use Rattle.rept_path.specs.Code.{instruction, words as words_of, look}
 use Rattle.rept_make.specs.Laid.{laid_byte}
 use Rattle.rept_make.proofs.Laying.{off_code}
@@ -166,9 +167,9 @@ module _ (words : List ℕ) (size : length words ≡ 256) (small : (i : ℕ) →
       let w : word_at (bytes_of_words words) (4 * j) ≡ get_or words j 0 = subst (λ (xs : List ℕ). word_at xs (4 * j) ≡ get_or words j 0) (append-nil (bytes_of_words words)) (word_there words [] j (omega arith) small) in
       rw (t, u, d) (ap (λ (x : ℕ). Some x) w)
 
-  pub look_there : (a j : ℕ) (i : Instr) → j < 256 → a ≡ 65536 + 4 * j → IsWord (get_or words j 0) i → look (words_of (code_of words ∷ [])) a ≡ Ok i
+  pub look_there : (functions : ℕ → Option FunctionSymbol) (a j : ℕ) (i : Instr) → j < 256 → a ≡ 65536 + 4 * j → IsWord (get_or words j 0) i → look (words_of (held_by (code_of words ∷ []) functions)) a ≡ Ok i
   unfolding look
-  look_there a j i lt e spelled =
+  look_there functions a j i lt e spelled =
       let even : (a % 4 == 0) ≡ true = (let m : a % 4 ≡ 0 = omega arith in rw m refl) in
       let c = code_there a j lt e in
       let r : instruction (get_or words j 0) ≡ Some i = reads (get_or words j 0) i spelled in
@@ -183,7 +184,7 @@ and_true false q h = cc
 le_of : (a b : ℕ) → nat_le a b ≡ true → a ≤ b
 le_of a b h = grind (arith, nat_tests)
 
-either_segment : (f : ElfSegment → ℕ) (x y : ElfSegment) (b c : Bool) (v : ℕ) → option_map f (option_or (cond b (Some x) None) (cond c (Some y) None)) ≡ Some v → ((b ≡ true) × (f x ≡ v)) ⊎ ((c ≡ true) × (f y ≡ v))
+either_segment : (f : ElfSegment → ℕ) (x y : ElfSegment) (b c : Bool) (v : ℕ) → option_or (option_map f (cond b (Some x) None)) (option_map f (cond c (Some y) None)) ≡ Some v → ((b ≡ true) × (f x ≡ v)) ⊎ ((c ≡ true) × (f y ≡ v))
 either_segment f x y true c v h = inl (refl, (cc))
 either_segment f x y false true v h = inr (refl, (cc))
 either_segment f x y false false v h = cc
@@ -194,8 +195,8 @@ first_of (x ∷ xs) zero lt = refl
 first_of (x ∷ xs) (suc k) lt = first_of xs k (omega arith)
 
 module _ (words registers bytes : List ℕ) (memory : ℕ → ℕ) (size : length words ≡ 256) (count : length bytes ≡ 1024) (saved : (i : ℕ) → i < 1024 → get_or bytes i 0 ≡ memory (131072 + i)) where
-  pub byte_there : (a v : ℕ) → byte_at (code_of words ∷ []) (note_of registers ∷ data_of bytes ∷ []) a ≡ Some v → laid_byte (bytes_of_words words) a (memory a) ≡ v
-  byte_there a v h =
+  pub byte_there : (functions : ℕ → Option FunctionSymbol) (a v : ℕ) → byte_at (held_by (code_of words ∷ []) functions) (note_of registers ∷ data_of bytes ∷ []) a ≡ Some v → laid_byte (bytes_of_words words) a (memory a) ≡ v
+  byte_there functions a v h =
       let n : length (bytes_of_words words) ≡ 1024 = (let l = length_words words in omega arith) in
       let b : Bool = nat_le 131072 a && nat_le (a + 1) (131072 + length bytes) in
       let c : Bool = nat_le 65536 a && nat_le (a + 1) (65536 + length (bytes_of_words words)) in

@@ -1,5 +1,5 @@
 -- A made crash, from its run.
-use Rattle.std.proofs.Common.{◌≡◌, ℕ, zero, suc, ◌+◌, ◌-◌, ◌^◌, ◌<◌, ◌≤◌, nat_le, nat_lt, List, [], ◌∷◌, length, get_or, slice_get, Some, Bool, true, false, cond, ◌&&◌, Ok, refl, sym, ◌∙◌, ap, subst, arith, inl, inr}
+use Rattle.std.proofs.Common.{Option, ◌≡◌, ℕ, zero, suc, ◌+◌, ◌-◌, ◌^◌, ◌<◌, ◌≤◌, nat_le, nat_lt, List, [], ◌∷◌, length, get_or, slice_get, Some, Bool, true, false, cond, ◌&&◌, Ok, refl, sym, ◌∙◌, ap, subst, arith, inl, inr}
 use Rattle.std.proofs.lemmas.Bool.{cases_eq}
 use Rattle.std.proofs.lemmas.List.Elements.{All-from_get_or}
 use Rattle.std.proofs.lemmas.Option.{slice_get_within, slice_get-get_or, get_or_from_slice_get}
@@ -9,9 +9,10 @@ use Rattle.rept_isa.specs.declared.row.StepRow.{StepRow}
 use Rattle.rept_isa.specs.Rows.{Addresses, addresses_of, of_word}
 use Rattle.rept_isa.proofs.RowLemmas.{of_long}
 use Rattle.rept_elf.specs.Segments.{ElfSegment, segments, greatest_end}
+use Rattle.rept_elf.specs.Symbols.{FunctionSymbol, symbol_at}
 use Rattle.rept_elf.specs.Checks.{checks, first_failure}
 use Rattle.rept_elf.specs.declared.fault.Want.TheVariants.{Exec, Core}
-use Rattle.rept_dump.specs.Memory.{byte_at}
+use Rattle.rept_dump.specs.Memory.{byte_at, held_by}
 use Rattle.rept_dump.specs.Registers.{Says}
 use Rattle.rept_machine.specs.State.{State, IsState}
 use Rattle.rept_machine.specs.Step.{HasEffect}
@@ -59,14 +60,14 @@ module _ (seed : ℕ) (words : List ℕ) (code : IsCode seed words) (rows : List
       let e : i + 1 ≡ suc i = omega arith in
       subst (λ (k : ℕ). Near (run k)) e next.0
 
-  carries : ((i : ℕ) → get_or words i 0 < 2 ^ 32) → CarryCode (words_of (code_of words ∷ [])) rows
-  carries small = All-from_get_or (CarriesCode (words_of (code_of words ∷ []))) rows no_row (λ i lt.
+  carries : (functions : ℕ → Option FunctionSymbol) → ((i : ℕ) → get_or words i 0 < 2 ^ 32) → CarryCode (words_of (held_by (code_of words ∷ []) functions)) rows
+  carries functions small = All-from_get_or (CarriesCode (words_of (held_by (code_of words ∷ []) functions))) rows no_row (λ i lt.
       let get : slice_get rows i ≡ Some (get_or rows i no_row) = slice_get-get_or rows i no_row lt in
       let m = made.steps i (get_or rows i no_row) get in
       let p = spelled_at i (get_or rows i no_row) get in
       record {
-        instr = look_there words code.size small (get_or rows i no_row).at m.slot (get_or rows i no_row).instr m.below m.at p.spelled;
-        short = m.long ∙ sym (never_short (code_of words ∷ []) (get_or rows i no_row).at);
+        instr = look_there words code.size small functions (get_or rows i no_row).at m.slot (get_or rows i no_row).instr m.below m.at p.spelled;
+        short = m.long ∙ sym (never_short (held_by (code_of words ∷ []) functions) (get_or rows i no_row).at);
       })
 
 byte_small : (words : List ℕ) (i : ℕ) → get_or (bytes_of_words words) i 0 < 256
@@ -89,8 +90,8 @@ past [] i le = refl
 past (x ∷ xs) zero le = absurd (omega arith)
 past (x ∷ xs) (suc i) le = past xs i (omega arith)
 
-executes : (seed end : ℕ) (words registers bytes last : List ℕ) (code : IsCode seed words) (rows : List StepRow) (run : ℕ → State) → IsMadeRun seed rows run → (next : ℕ) → AreSaved registers bytes next (run (length rows)) → length last ≡ 32 → ((r : ℕ) → 0 < r → r < 32 → get_or last r 0 ≡ get_or registers r 0) → Execution end rows last (byte_at (code_of words ∷ []) (note_of registers ∷ data_of bytes ∷ [])) (λ i. laid (bytes_of_words words) (run i))
-executes seed end words registers bytes last code rows run made next saved size same = record {
+executes : (functions : ℕ → Option FunctionSymbol) (seed end : ℕ) (words registers bytes last : List ℕ) (code : IsCode seed words) (rows : List StepRow) (run : ℕ → State) → IsMadeRun seed rows run → (next : ℕ) → AreSaved registers bytes next (run (length rows)) → length last ≡ 32 → ((r : ℕ) → 0 < r → r < 32 → get_or last r 0 ≡ get_or registers r 0) → Execution end rows last (byte_at (held_by (code_of words ∷ []) functions) (note_of registers ∷ data_of bytes ∷ [])) (λ i. laid (bytes_of_words words) (run i))
+executes functions seed end words registers bytes last code rows run made next saved size same = record {
   states = λ p le. laid_state words (run p) (made.states p le);
   steps = λ i row get.
       let m = made.steps i row get in
@@ -101,7 +102,7 @@ executes seed end words registers bytes last code rows run made next saved size 
       let w = slice_get_within last r v get in
       let lt : r < 32 = omega arith in
       sym (saved.saved r some lt) ∙ sym (same r some lt) ∙ get_or_from_slice_get last r v 0 get;
-  bytes_end = λ a v h. byte_there words registers bytes (run (length rows)).memory code.size saved.size saved.bytes a v h;
+  bytes_end = λ a v h. byte_there words registers bytes (run (length rows)).memory code.size saved.size saved.bytes functions a v h;
 }
 
 pub made_is : (seed : ℕ) (words : List ℕ) (m : Machine) (rows : List StepRow) → IsCode seed words → ((i : ℕ) → get_or words i 0 < 2 ^ 32) → Ran seed words m rows → (exe core trace registers bytes : List ℕ) → exe ≡ executable words → core ≡ core_file registers bytes → length registers ≡ 32 → get_or registers 0 0 ≡ pc_of m → ((r : ℕ) → 0 < r → r < 32 → get_or registers r 0 ≡ (state_of m).register r) → length bytes ≡ 1024 → ((i : ℕ) → i < 1024 → get_or bytes i 0 ≡ (state_of m).memory (131072 + i)) → Tells false trace rows → length trace < 2 ^ 32 → IsMade seed (length rows) (record { exe = exe; core = core; trace = trace })
@@ -139,10 +140,10 @@ made_is seed words m rows code small ran exe core trace registers bytes exe_is c
       rest = tells.rest;
       layout = tells.layout;
       few = few;
-      path = subst (λ (ss : List ElfSegment). IsTraced (record { code = words_of ss; stream = plain false tells.rest; from = 0; pc = pc_of m }) 0 rows) (sym exe_segs) (tells.path (code_of words ∷ []) (pc_of m) (carries seed words code rows ran.run ran.made small) ran.ends);
+      path = subst (λ (ss : List ElfSegment). IsTraced (record { code = words_of (held_by ss (symbol_at exe)); stream = plain false tells.rest; from = 0; pc = pc_of m }) 0 rows) (sym exe_segs) (tells.path (held_by (code_of words ∷ []) (symbol_at exe)) (pc_of m) (carries seed words code rows ran.run ran.made (symbol_at exe) small) ran.ends);
       execution = λ last count_last same.
-          let e = executes seed (greatest_end (segments exe)) words registers bytes last code rows ran.run ran.made (pc_of m) saved count_last (λ r some lt. same r some lt ∙ status_word registers bytes count size fit r lt) in
-          subst (λ (ss : List ElfSegment). Execution (greatest_end (segments exe)) rows last (byte_at ss (segments core)) (λ i. laid (bytes_of_words words) (ran.run i))) (sym exe_segs) (subst (λ (cs : List ElfSegment). Execution (greatest_end (segments exe)) rows last (byte_at (code_of words ∷ []) cs) (λ i. laid (bytes_of_words words) (ran.run i))) (sym core_segs) e);
+          let e = executes (symbol_at exe) seed (greatest_end (segments exe)) words registers bytes last code rows ran.run ran.made (pc_of m) saved count_last (λ r some lt. same r some lt ∙ status_word registers bytes count size fit r lt) in
+          subst (λ (ss : List ElfSegment). Execution (greatest_end (segments exe)) rows last (byte_at (held_by ss (symbol_at exe)) (segments core)) (λ i. laid (bytes_of_words words) (ran.run i))) (sym exe_segs) (subst (λ (cs : List ElfSegment). Execution (greatest_end (segments exe)) rows last (byte_at (held_by (code_of words ∷ []) (symbol_at exe)) cs) (λ i. laid (bytes_of_words words) (ran.run i))) (sym core_segs) e);
     }
   where
     fit : (i : ℕ) → get_or registers i 0 < 2 ^ 32

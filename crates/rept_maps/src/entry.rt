@@ -1,6 +1,6 @@
 //! Entries of a file note, and the names after them.
 
-ghost use Rattle.std.specs.Prelude.{◌≡◌, ◌≤◌, ◌<◌, ◌+◌, ◌*◌, [], ◌∷◌, length, IsTrue, MatchBool, MatchOption, slice_index_or};
+ghost use Rattle.std.specs.Prelude.{◌≡◌, ◌≤◌, ◌<◌, ◌+◌, ◌*◌, ◌^◌, [], ◌∷◌, length, IsTrue, MatchBool, MatchOption, slice_index_or};
 ghost use Rattle.std.specs.Str.{is_utf8};
 ghost use Rattle.rept_maps.specs.FileMap.{IsEntry, IsMap, parts, names, map_count, entry_offset, entry_named, page_size};
 ghost use Rattle.rept_elf.specs.Header.{word_at};
@@ -146,17 +146,26 @@ pub struct Place {
     pub offset: u64,
 }
 
+/// The product of two words, which leaves room for a word more.
+fn product(a: u32, b: u32) -> u64
+    ensures value { result ≡ a * b }
+    ensures small { result + 2 ^ 32 < 2 ^ 64 }
+{
+    u64::from(a) * u64::from(b)
+}
+
 /// The addresses and the offset of the entry of this index.
 pub fn place_at(desc: &[u8], i: u32) -> Place
     requires { entry_offset i + 12 ≤ length desc.now }
     ensures start { result.start ≡ word_at desc.now (entry_offset i) }
     ensures end { result.end ≡ word_at desc.now (entry_offset i + 4) }
     ensures offset { result.offset ≡ word_at desc.now (entry_offset i + 8) * page_size desc.now }
+    ensures small { result.offset + 2 ^ 32 < 2 ^ 64 }
 {
     let at = HEADER_SIZE + ENTRY_SIZE * i as usize;
     Place {
         start: word(desc, at),
         end: word(desc, at + 4),
-        offset: u64::from(word(desc, at + 8)) * u64::from(word(desc, 4)),
+        offset: product(word(desc, at + 8), word(desc, 4)),
     }
 }

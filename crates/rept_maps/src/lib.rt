@@ -7,7 +7,7 @@ mod fault;
 mod images;
 mod maps;
 
-pub use entry::Entry;
+pub use entry::{Entry, Place};
 pub use fault::MapFault;
 pub use images::Images;
 pub use maps::Maps;

@@ -1,11 +1,11 @@
 //! The list of mapped files of a core file.
 
-ghost use Rattle.std.specs.Prelude.{◌≡◌, ◌≤◌, ◌<◌, ℕ, List, Result, length};
+ghost use Rattle.std.specs.Prelude.{◌≡◌, ◌≤◌, ◌<◌, ◌+◌, ◌^◌, ℕ, List, Result, length};
 ghost use Rattle.rept_elf.specs.Image.{file_of, segments_of};
 ghost use Rattle.rept_notes.specs.Found.{note_of};
 ghost use Rattle.rept_maps.specs.FileMap.{IsMap, map_count, most_entries};
 
-use crate::entry::{Entry, is_map, name_at, place_at};
+use crate::entry::{Entry, Place, is_map, name_at, place_at};
 use crate::fault::MapFault;
 use rept_elf::{Image, word};
 use rept_notes::{Found, Note, find_notes};
@@ -76,6 +76,17 @@ impl<'a> Maps<'a> {
         ensures few { result ≤ most_entries }
     {
         word(self.desc, 0)
+    }
+
+    /// The addresses and the offset of the entry of this index, without its name.
+    pub fn place(&self, i: u32) -> Place
+        requires { i < map_count (desc_of self.now) }
+        ensures start { result.start ≡ (entry_at (desc_of self.now) i).start }
+        ensures end { result.end ≡ (entry_at (desc_of self.now) i).end }
+        ensures offset { result.offset ≡ (entry_at (desc_of self.now) i).offset }
+        ensures small { result.offset + 2 ^ 32 < 2 ^ 64 }
+    {
+        place_at(self.desc, i)
     }
 
     /// The entry of this index, in table order. Its name is found by going over the names before it.

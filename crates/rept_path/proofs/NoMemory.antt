@@ -4,7 +4,6 @@ use Rattle.rept_path.specs.Code.{Code}
 use Rattle.rept_isa.specs.declared.row.StepRow.{StepRow}
 use Rattle.rept_isa.specs.declared.instr.Instr.{Instr}
 use Rattle.rept_dump.specs.declared.dump.Dump.{Dump}
-use Rattle.rept_dump.specs.Memory.{code_at}
 use Rattle.rept_trace.specs.declared.packet.Packet.{Packet}
 use Rattle.rept_trace.specs.declared.packet.Packet.TheVariants.{Start, Context, Support, Address, Map, MapAddress}
 use Rattle.rept_trace.specs.declared.packets.Packets.{Packets}
@@ -74,7 +73,7 @@ others_err d other e h = let same : d ≡ e = cc in subst (λ (x : PathFault). x
 module _ (code : Code) where
   others_look : (a : ℕ) → Others (look code a)
   unfolding look
-  others_look a = others_cond (a % alignment code == 0) (by_code a (short_half code a) (code_at code.segments a)) (Err (Unaligned a)) (others_code a (short_half code a) (code_at code.segments a)) (others_unaligned a)
+  others_look a = others_cond (a % alignment code == 0) (by_code a (short_half code a) (code.contents.word a)) (Err (Unaligned a)) (others_code a (short_half code a) (code.contents.word a)) (others_unaligned a)
 
   others_position : (a : ℕ) → Others (position code a)
   others_position a = others_bind (look code a) (λ _. Ok a) (others_look a) (λ _. others_ok a)

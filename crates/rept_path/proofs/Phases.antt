@@ -1,14 +1,16 @@
 -- From legs of phases to legs of packets.
-use Rattle.std.proofs.Common.{◌≡◌, ℕ, arith, List, [], ◌∷◌, ◌++◌, Bool, true, false, Option, Some, refl, sym, ◌∙◌, ap, subst}
+use Rattle.std.proofs.Common.{◌≡◌, ◌⊎◌, inl, inr, ℕ, arith, List, [], ◌∷◌, ◌++◌, Bool, true, false, Option, Some, refl, sym, ◌∙◌, ap, subst}
 use Rattle.rept_path.specs.Code.{Code}
 use Rattle.rept_path.specs.declared.aim.Aim.{Aim}
 use Rattle.rept_path.specs.declared.aim.Aim.TheVariants as aims
 use Rattle.rept_isa.specs.declared.row.StepRow.{StepRow}
 use Rattle.rept_path.specs.declared.walk.Walk.{Walk}
 use Rattle.rept_path.specs.Moves.{Place, after, along, course_by}
-use Rattle.rept_path.specs.Legs.{PhaseLeg}
-use Rattle.rept_path.specs.Route.{first_phase}
-use Rattle.rept_path.specs.State.{here, lead, Walked, WalkedAll, from_to}
+use Rattle.rept_path.specs.declared.fault.PathFault.{PathFault}
+use Rattle.rept_path.specs.declared.fault.PathFault.TheVariants.{OutOfMemory}
+use Rattle.rept_path.specs.Legs.{PhaseFault, PhaseLeg}
+use Rattle.rept_path.specs.Route.{PhasesFault, first_phase}
+use Rattle.rept_path.specs.State.{here, lead, standing, Walked, WalkedAll, from_to}
 use Rattle.rept_path.proofs.Loop.{Keeps-twice}
 
 pub along-append : (code : Code) (p : Place) (rest first : List StepRow) → along code p (rest ++ first) ≡ along code (along code p first) rest
@@ -34,3 +36,17 @@ two_phases code k before target aim old mid new is_marked w v =
       kept = Keeps-twice old mid new w.kept v.kept;
       grows = (let a = w.grows in let b = v.grows in omega arith);
     })
+
+-- a fault in one phase
+pub one_fault : (code : Code) (k before : ℕ) (target : Option ℕ) (aim : Aim) (old : Walk) (e : PathFault) → old.inferred ≡ false → (e ≡ OutOfMemory) ⊎ PhaseFault code (course_by (lead old k target) aim) (here old) e
+    → (e ≡ OutOfMemory) ⊎ PhasesFault code (standing k old) (first_phase old.inferred before ++ record { target = target; aim = aim } ∷ []) e
+one_fault code k before target aim old e unmarked (inl h) = inl h
+one_fault code k before target aim old e unmarked (inr h) = inr (subst (λ (b : Bool). PhasesFault code (standing k old) (first_phase b before ++ record { target = target; aim = aim } ∷ []) e) (sym unmarked) (inl h))
+
+-- a fault in the phase after the first
+pub second_fault : (code : Code) (k before : ℕ) (target : Option ℕ) (aim : Aim) (old mid : Walk) (e : PathFault) → old.inferred ≡ true → Walked code (course_by (lead old k (Some before)) aims.Jumped) old mid → (e ≡ OutOfMemory) ⊎ PhaseFault code (course_by (lead mid k target) aim) (here mid) e
+    → (e ≡ OutOfMemory) ⊎ PhasesFault code (standing k old) (first_phase old.inferred before ++ record { target = target; aim = aim } ∷ []) e
+second_fault code k before target aim old mid e is_marked w (inl h) = inl h
+second_fault code k before target aim old mid e is_marked w (inr h) =
+    let second : PhaseFault code (course_by (lead old k target) aim) (along code (here old) w.leg) e = rw (← w.kept.bits, ← w.kept.room, ← w.seen) h in
+    inr (subst (λ (b : Bool). PhasesFault code (standing k old) (first_phase b before ++ record { target = target; aim = aim } ∷ []) e) (sym is_marked) (inr (w.leg, w.goes, inl second)))

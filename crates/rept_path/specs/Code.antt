@@ -2,8 +2,7 @@
 -- 2.5, 2.8 and 16). An instruction whose next address its word alone doesn't tell is an uninferable jump in the terms of Efficient
 -- Trace for RISC-V 2.0: JALR from any register but x0.
 use Rattle.std.specs.Prelude.{ℕ, ◌+◌, ◌-◌, ◌%◌, ◌^◌, ◌==◌, List, Option, Some, None, is_some, Result, Ok, Err, Bool, true, false, if◌then◌else◌}
-use Rattle.rept_elf.specs.Segments.{ElfSegment}
-use Rattle.rept_dump.specs.Memory.{code_at, half_code_at}
+use Rattle.rept_dump.specs.Memory.{Contents}
 use Rattle.rept_isa.specs.declared.instr.Instr.{Instr}
 use Rattle.rept_isa.specs.declared.instr.Instr.TheVariants as instrs
 use Rattle.rept_isa.specs.Numbers.{word, following}
@@ -17,14 +16,14 @@ use Rattle.rept_path.specs.declared.flow.Flow.TheVariants.{Plain, Branch, Jump, 
 use Rattle.rept_path.specs.declared.fault.PathFault.{PathFault}
 use Rattle.rept_path.specs.declared.fault.PathFault.TheVariants.{NotCode, NotRv32im, Unaligned}
 
--- the code of a program: the segments of its executable, and whether it may be compressed
+-- the code of a program: what its files hold, and whether it may be compressed
 pub record Code : Type 0 where
-  pub segments : List ElfSegment
+  pub contents : Contents
   pub halves : Bool
 
 -- code of words alone
-abbrev pub words : List ElfSegment → Code
-words segments = record { segments = segments; halves = false }
+abbrev pub words : Contents → Code
+words contents = record { contents = contents; halves = false }
 
 -- a sum of addresses
 abbrev pub sum : ℕ → ℕ → ℕ
@@ -56,7 +55,7 @@ short_by (Some half) = if_short half
 
 -- the half at an address, where it is one of a compressed instruction
 abbrev pub short_half : Code → ℕ → Option ℕ
-short_half code a = if code.halves then short_by (half_code_at code.segments a) else None
+short_half code a = if code.halves then short_by (code.contents.half a) else None
 
 -- whether the instruction at an address takes two bytes
 unfoldable pub is_short : Code → ℕ → Bool
@@ -74,7 +73,7 @@ alignment code = if code.halves then 2 else 4
 -- no code; or the half of a compressed instruction, or else the word, stands for no instruction. The half may be of another segment than
 -- the word.
 unfoldable pub look : Code → ℕ → Result Instr PathFault
-look code a = if a % alignment code == 0 then by_code a (short_half code a) (code_at code.segments a) else Err (Unaligned a)
+look code a = if a % alignment code == 0 then by_code a (short_half code a) (code.contents.word a) else Err (Unaligned a)
 
 -- the address of the instruction that follows the one at an address
 unfoldable pub after_instruction : Code → ℕ → ℕ

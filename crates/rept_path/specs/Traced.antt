@@ -7,6 +7,7 @@ use Rattle.rept_dump.specs.declared.dump.Dump.{Dump}
 use Rattle.rept_path.specs.declared.program.Program.{Program}
 use Rattle.rept_path.specs.Program.{code_of}
 use Rattle.rept_dump.specs.Dump.{exe_of, registers_of}
+use Rattle.rept_dump.specs.Program.{contents}
 use Rattle.rept_trace.specs.declared.packet.Packet.{Packet}
 use Rattle.rept_trace.specs.declared.packets.Packets.{Packets}
 use Rattle.rept_trace.specs.declared.fault.TraceFault.{TraceFault}
@@ -44,7 +45,7 @@ IsUntraced raw number e =
 
 -- the code of a dump's program, which may be compressed where the packets say so
 abbrev pub code_over : Packets → Dump → Code
-code_over packets dump = record { segments = exe_of dump; halves = (rest_of packets).widths.halves }
+code_over packets dump = record { contents = contents (exe_of dump); halves = (rest_of packets).widths.halves }
 
 -- the run of the packets that are left, over the program of a dump to its program counter
 abbrev pub raw_of : Packets → Dump → ℕ → RawRun

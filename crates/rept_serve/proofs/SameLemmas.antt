@@ -46,6 +46,7 @@ module _ (s : Shown) (skipped : ℕ) (old new : Fact → Because → Type 0) (sa
   text_same point (command.WhyReg r) text h = register_explained point r text h
   text_same point (command.WhyByte a) text h = explained point (Byte a) (s.byte point a) text h
   text_same point (command.List i k) text h = h
+  text_same point command.Stack text h = h
   text_same point command.Summary text h = h
   text_same point command.Quit text h = h
   text_same point command.Nothing text h = h

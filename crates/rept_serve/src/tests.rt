@@ -1,6 +1,7 @@
 //! Sessions over a path without steps.
 
 use crate::{Served, serve};
+use rept_elf::Symbol;
 use rept_isa::{Reg, StepRow};
 use rept_partial::Range;
 use rept_ports::{MemSink, MemSource};
@@ -21,7 +22,7 @@ impl Findings for Unknown {
     ghost use Rattle.std.specs.Prelude.{None, []};
     ghost use Rattle.rept_report.specs.declared.writer.Writer.TheVariants as writers;
 
-    ghost shown = { λ u. record { rows = []; end_pc = 16; register = λ point r. None; range = λ point r. u.range; note = λ point r. None; byte = λ point a. None; writer = λ point a. writers.None; counts = record { steps = 0; calls = 0; registers = 0; exact = 0; inexact = 0 } } };
+    ghost shown = { λ u. record { rows = []; end_pc = 16; register = λ point r. None; range = λ point r. u.range; note = λ point r. None; byte = λ point a. None; writer = λ point a. writers.None; counts = record { steps = 0; calls = 0; registers = 0; exact = 0; inexact = 0 }; symbol = λ a. None } };
 
     ghost reasons = { λ u fact why. ⊥ };
 
@@ -61,6 +62,10 @@ impl Findings for Unknown {
             exact: 0,
             inexact: 0,
         }
+    }
+
+    fn symbol(&self, _address: u32) -> Option<Symbol<'_>> {
+        None
     }
 
     fn why(&mut self, _alloc: Global, _fact: Fact) -> Result<Option<Reason>, OutOfMemory> {

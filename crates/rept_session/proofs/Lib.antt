@@ -1,3 +1,4 @@
+pub mod StackLemmas
 pub mod TextLemmas
 pub mod WithinLemmas
 pub mod WordLemmas

@@ -40,8 +40,9 @@ module _ (last : ℕ) where
   lone word =
       either GoodLone (bytes_eq word (codes "where")) _ _ (λ _. tt)
       (λ _. either GoodLone (bytes_eq word (codes "regs")) _ _ (λ _. tt)
+      (λ _. either GoodLone (bytes_eq word (codes "stack")) _ _ (λ _. tt)
       (λ _. either GoodLone (bytes_eq word (codes "summary")) _ _ (λ _. tt)
-      (λ _. either GoodLone (bytes_eq word (codes "quit")) _ _ (λ _. tt) (λ _. tt))))
+      (λ _. either GoodLone (bytes_eq word (codes "quit")) _ _ (λ _. tt) (λ _. tt)))))
 
   verb_good : (a : Option Command) (b : Option Single) (c : Option Double) → GoodLone a → GoodVerb (option_or (option_map Lone a) (option_or (option_map One b) (option_map Two c)))
   verb_good (Some a) b c h = h

@@ -22,6 +22,7 @@ abbrev pub lone_command : List ℕ → Option Command
 lone_command word =
     if bytes_eq word (codes "where") then Some command.Where
     else if bytes_eq word (codes "regs") then Some command.Regs
+    else if bytes_eq word (codes "stack") then Some command.Stack
     else if bytes_eq word (codes "summary") then Some command.Summary
     else if bytes_eq word (codes "quit") then Some command.Quit
     else None

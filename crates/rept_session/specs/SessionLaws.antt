@@ -67,6 +67,7 @@ module _ (s : Shown) (skipped : ℕ) (old new : Fact → Because → Type 0) (sa
   text_same point (command.Mem a k) text h = h
   text_same point (command.Writer a) text h = h
   text_same point (command.List i k) text h = h
+  text_same point command.Stack text h = h
   text_same point command.Summary text h = h
   text_same point command.Quit text h = h
   text_same point command.Nothing text h = h

@@ -1,5 +1,6 @@
 -- What a session tells of an analysis. A path of n steps has the points 0 to n; registers go by their numbers. This project's own.
 use Rattle.std.specs.Prelude.{ℕ, ◌↔◌, List, Option}
+use Rattle.rept_elf.specs.Symbols.{FunctionSymbol}
 use Rattle.rept_isa.specs.declared.row.StepRow.{StepRow}
 use Rattle.rept_partial.specs.declared.range.Range.{Range}
 use Rattle.rept_reason.specs.declared.fact.Fact.{Fact}
@@ -22,6 +23,8 @@ pub record Shown : Type 0 where
   pub byte : ℕ → ℕ → Option ℕ
   pub writer : ℕ → ℕ → Writer
   pub counts : Counts
+  -- the function that has an address, where the files of the program name one
+  pub symbol : ℕ → Option FunctionSymbol
 
 -- what a session tells: what was found, how many packets were left out, and what is a reason of a fact
 pub record Told : Type 1 where

@@ -1,11 +1,13 @@
 -- What a session answers to a command. HEX below is `0x` and eight lower-case hexadecimal digits. This project's own.
-use Rattle.std.specs.Prelude.{◌≡◌, ℕ, ◌+◌, ◌-◌, ◌*◌, ◌/◌, ◌%◌, ◌^◌, min, List, [], ◌∷◌, ◌++◌, length, Bool, true, false, ◌==◌, Option, None, Some, slice_get, codes, MatchBool}
+use Rattle.std.specs.Prelude.{◌≡◌, ℕ, ◌+◌, ◌-◌, ◌*◌, ◌/◌, ◌%◌, ◌^◌, min, List, [], ◌∷◌, ◌++◌, length, map, reverse, take, Bool, true, false, ◌==◌, ◌&&◌, nat_le, Option, None, Some, slice_get, codes, MatchBool, if◌then◌else◌}
 use Rattle.std.specs.List.{flat_map, range_with_len}
 use Rattle.std.specs.Option.{option_map_or}
 use Rattle.std.specs.Fmt.{decimal}
+use Rattle.rept_elf.specs.Symbols.{FunctionSymbol}
+use Rattle.rept_stack.specs.Frames.{frames_of}
 use Rattle.rept_word.specs.Hex.{hex_word, hex_byte}
 use Rattle.rept_isa.specs.declared.row.StepRow.{StepRow}
-use Rattle.rept_isa.specs.Texts.{instruction_text, register_text}
+use Rattle.rept_isa.specs.Texts.{hex_text, instruction_text, register_text}
 use Rattle.rept_partial.specs.declared.range.Range.{Range}
 use Rattle.rept_reason.specs.declared.fact.Fact.{Fact}
 use Rattle.rept_reason.specs.declared.fact.Cell.{Cell}
@@ -96,6 +98,28 @@ step_line j (Some row) = decimal j ++ codes " " ++ hex_word row.at ++ codes " " 
 unfoldable pub step_lines : Shown → ℕ → ℕ → List ℕ
 step_lines s first count = flat_map (λ j. step_line j (slice_get s.rows j)) (range_with_len first count)
 
+-- a byte of a name, or `?` where it is no visible character of ASCII
+abbrev pub visible : ℕ → ℕ
+visible byte = if nat_le 33 byte && nat_le byte 126 then byte else 63
+
+-- ` NAME+0xOFFSET`: the function that has an address, and how far the address is from its first one; nothing where none is named
+abbrev pub function_text : ℕ → Option FunctionSymbol → List ℕ
+function_text address None = []
+function_text address (Some s) = codes " " ++ map visible s.name ++ codes "+" ++ hex_text ((address + (2 ^ 32 - s.value)) % 2 ^ 32)
+
+-- `#K HEX`, and the function of the address; nothing where the stack has no such place
+abbrev pub frame_line : Shown → ℕ → Option ℕ → List ℕ
+frame_line s k None = []
+frame_line s k (Some address) = codes "#" ++ decimal k ++ codes " " ++ hex_word address ++ function_text address (s.symbol address) ++ 10 ∷ []
+
+-- the address at a point, and those of the calls that the thread is in there, the last call first
+abbrev pub stack_at : Shown → ℕ → List ℕ
+stack_at s point = pc_at s point ∷ reverse (map (λ f. f.at) (frames_of (take point s.rows)))
+
+-- the first 256 places of the stack
+unfoldable pub stack_lines : Shown → ℕ → List ℕ
+stack_lines s point = flat_map (λ k. frame_line s k (slice_get (stack_at s point) k)) (range_with_len 0 256)
+
 -- `steps N calls C skipped S`
 abbrev pub steps_line : Counts → ℕ → List ℕ
 steps_line counts skipped = codes "steps " ++ decimal counts.steps ++ codes " calls " ++ decimal counts.calls ++ codes " skipped " ++ decimal skipped ++ 10 ∷ []
@@ -159,6 +183,7 @@ IsText t point (command.Writer a) text = text ≡ writer_line (t.shown.writer po
 IsText t point (command.WhyReg r) text = IsRegisterExplained t point r text
 IsText t point (command.WhyByte a) text = IsExplained t point (Byte a) (t.shown.byte point a) text
 IsText t point (command.List first count) text = text ≡ step_lines t.shown first count
+IsText t point command.Stack text = text ≡ stack_lines t.shown point
 IsText t point command.Summary text = text ≡ summary_lines t.shown t.skipped
 IsText t point command.Quit text = text ≡ []
 IsText t point command.Nothing text = text ≡ []

@@ -4,15 +4,16 @@ ghost use Rattle.std.specs.Prelude.{◌≡◌, ◌≤◌, ◌++◌, false, lengt
 ghost use Rattle.rept_session.specs.Commands.{IsWithin, command_of};
 ghost use Rattle.rept_session.specs.Session.{IsReply, cursor_of, ends};
 ghost use Rattle.rept_session.specs.Shown.{SameReasons, told};
-ghost use Rattle.rept_session.specs.Texts.{IsText, cursor_after, is_quit, pc_at, point_line, range_line, refusal_line, register_line, registers_line, steps_line, stores_line, summary_lines, writer_line};
+ghost use Rattle.rept_session.specs.Texts.{IsText, cursor_after, is_quit, point_line, range_line, refusal_line, register_line, registers_line, steps_line, stores_line, summary_lines, writer_line};
 
 use crate::command::{BadCommand, Command};
-use crate::findings::Findings;
+use crate::findings::{Findings, address_at};
 use crate::lines::{memory_text, register_texts, step_texts};
 use crate::parser::parse;
 use crate::pieces::{push_note, push_numbered, push_range, push_value, push_writer};
 use crate::reasons::{why_byte, why_register};
 use crate::reply::Answer;
+use crate::stack::stack_text;
 use rept_isa::Reg;
 use rept_report::Counts;
 use rept_word::{OutOfMemory, Text};
@@ -146,6 +147,7 @@ fn text_of<F: Findings>(
         Command::WhyReg(register) => why_register(alloc, findings, point, *register),
         Command::WhyByte(address) => why_byte(alloc, findings, point, *address),
         Command::List { first, count } => step_texts(alloc, findings, *first, *count),
+        Command::Stack => stack_text(alloc, findings, point),
         Command::Summary => summary_text(alloc, findings, skipped),
         Command::Quit | Command::Nothing => Ok(Text::new(alloc)),
     }
@@ -166,16 +168,6 @@ fn point_text<F: Findings>(alloc: Global, findings: &F, point: u32) -> Result<Te
     text.push_word(pc)?;
     text.push(b"\n")?;
     Ok(text)
-}
-
-/// The address at a point.
-fn address_at<F: Findings>(findings: &F, point: u32) -> u32
-    ensures { result ≡ pc_at (F.shown findings.now) point }
-{
-    match findings.rows().get(point as usize) {
-        Some(row) => row.at,
-        None => findings.end_pc(),
-    }
 }
 
 fn register_text<F: Findings>(

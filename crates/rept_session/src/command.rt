@@ -43,6 +43,8 @@ pub enum Command {
         /// how many steps, 1 to 256
         count: u32,
     },
+    /// `stack`: tells the address at the cursor and the calls that the thread is in there, the last one first, at most 256 lines.
+    Stack,
     /// `summary`: tells how much is known.
     Summary,
     /// `quit`: ends the session.

@@ -1,11 +1,15 @@
 //! What a session asks of an analysis.
 
 ghost use Rattle.std.specs.Prelude.{◌≡◌, ◌≢◌, ◌≤◌, length, Some, IfOk, IfNone, IfSome};
+ghost use Rattle.std.specs.Option.{option_map};
+ghost use Rattle.rept_elf.specs.Symbols.{symbol_of};
 ghost use Rattle.rept_session.specs.Shown.{SameReasons, Shown, explained, known_value};
+ghost use Rattle.rept_session.specs.Texts.{pc_at};
 ghost use Rattle.rept_reason.specs.declared.fact.Fact.{Fact};
 ghost use Rattle.rept_reason.specs.declared.fact.Cell.TheVariants.{Register};
 ghost use Rattle.rept_report.specs.Why.{Because};
 
+use rept_elf::Symbol;
 use rept_isa::{Reg, StepRow};
 use rept_partial::Range;
 use rept_reason::{Fact, Reason};
@@ -59,6 +63,10 @@ pub trait Findings {
     fn counts(&self) -> Counts
         ensures { result ≡ (shown self.now).counts };
 
+    /// The function that has an address, and where it begins, where the files of the program name one.
+    fn symbol(&self, address: u32) -> Option<Symbol<'_>>
+        ensures { option_map symbol_of result ≡ (shown self.now).symbol address };
+
     /// A reason of a fact, which isn't one of x0: its value needs no reason. None only where the fact isn't known. A refusal is for
     /// running out of memory alone.
     fn why(&mut self, alloc: Global, fact: Fact) -> Result<Option<Reason>, OutOfMemory>
@@ -68,4 +76,14 @@ pub trait Findings {
         ensures reason { IfOk result (λ found. IfSome found (λ reason. reasons self.old fact (explained reason))) }
         ensures same { shown self.new ≡ shown self.old }
         ensures same_reasons { SameReasons (reasons self.old) (reasons self.new) };
+}
+
+/// The address at a point.
+pub fn address_at<F: Findings>(findings: &F, point: u32) -> u32
+    ensures { result ≡ pc_at (F.shown findings.now) point }
+{
+    match findings.rows().get(point as usize) {
+        Some(row) => row.at,
+        None => findings.end_pc(),
+    }
 }

@@ -10,6 +10,7 @@ pub mod parser;
 mod pieces;
 mod reasons;
 pub mod reply;
+mod stack;
 mod verb;
 mod words;
 

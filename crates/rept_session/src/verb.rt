@@ -58,6 +58,8 @@ fn lone_command(word: &[u8]) -> Option<Command>
         Some(Command::Where)
     } else if word == b"regs".as_slice() {
         Some(Command::Regs)
+    } else if word == b"stack".as_slice() {
+        Some(Command::Stack)
     } else if word == b"summary".as_slice() {
         Some(Command::Summary)
     } else if word == b"quit".as_slice() {

@@ -106,7 +106,7 @@ records_is code entries rows trace g t = record {
   along = g;
   rest = t.rest;
   layout = t.layout;
-  path = λ last get. t.path code.segments last.address carry (g.ends last get);
+  path = λ last get. t.path code.contents last.address carry (g.ends last get);
 }
   where
     carry : CarryCode code rows

@@ -1,14 +1,14 @@
 -- Where one kind of sets is never wider than another, the sets along the paths aren't either.
-use Rattle.std.proofs.Common.{◌≡◌, ℕ, zero, suc, Bool, true, false, eqb, cond, Option, Some, None, ◌⊎◌, inl, inr, refl, sym, ap, subst, ◌∙◌}
+use Rattle.std.proofs.Common.{◌≡◌, ℕ, zero, suc, Bool, true, false, eqb, cond, Option, Some, None, ◌⊎◌, inl, inr, refl, sym, subst}
 use Rattle.std.specs.Prelude.{◌<◌, ◌^◌, ◌&&◌}
 use Rattle.std.proofs.Common.{lit<}
 use Rattle.rept_isa.specs.declared.row.StepRow.{StepRow}
 use Rattle.rept_isa.specs.Operands.{written_by, first_read, second_read}
 use Rattle.rept_isa.specs.Rows.{from_of}
-use Rattle.rept_partial.specs.Sets.{Sets, AreLawful}
+use Rattle.rept_partial.specs.Sets.{AreLawful}
 use Rattle.rept_reason.specs.Facts.{Knowledge, register_fact}
 use Rattle.rept_span.specs.Finer.{kind, LiesIn, IsFiner}
-use Rattle.rept_span.specs.Ranges.{Legs, Way, is_place, narrows, operand_set, applied, narrowed, first_of, second_of, written, left, through_row, through, cut, at_start, range}
+use Rattle.rept_span.specs.Ranges.{Legs, Way, is_place, narrows, operand_set, applied, narrowed, first_of, second_of, left, through_row, through, cut, at_start, range}
 use Rattle.rept_span.proofs.RangeLaws.{HasIn}
 
 some_none : {W : Type 0} {x : W} → Some x ≡ None → ⊥

@@ -9,8 +9,11 @@ use Rattle.rept_request.specs.declared.request.Request.TheVariants as request
 use Rattle.rept_stub.specs.Description.{description_text}
 use Rattle.rept_stub.specs.Halts.{Wanted, continued, continued_back, stepped, stepped_back, wanted}
 use Rattle.rept_stub.specs.Replies.{decoded, error, known_bytes, memory_bytes, memory_digits, part_reply, reason_reply, register_reply, registers_reply, stop_reply, text_reply}
+use Rattle.rept_stub.specs.Monitoring.{asked_of, help_text, signal_text, writers_text}
 use Rattle.rept_stub.specs.Spots.{Spots, is_small, watched, with_break, with_region, without_break, without_region}
 use Rattle.rept_stub.specs.declared.halt.Halt.{Halt}
+use Rattle.rept_stub.specs.declared.monitoring.Asked.{Asked}
+use Rattle.rept_stub.specs.declared.monitoring.Asked.TheVariants as asked
 use Rattle.rept_stub.specs.declared.answers.Stand.{Stand}
 
 abbrev pub wanted_by : Spots → Wanted
@@ -59,10 +62,16 @@ still_reply s signal point (request.Bytes address count) = memory_bytes (known_b
 still_reply s signal point (request.Description offset count) = part_reply description_text offset count
 still_reply s signal point request = fixed_reply request
 
--- a line of a session, at the point where the debugger stands, which it doesn't move
-abbrev pub IsMonitored : Told → ℕ → Option (List ℕ) → List ℕ → Type 0
-IsMonitored t point None text = text ≡ error
-IsMonitored t point (Some line) text = (said : List ℕ) × IsReply t point (said_of t line) said × (text ≡ text_reply said)
+-- a line of the debugger's user, at the point where the debugger stands, which it doesn't move: one of this project's own, or a line of a session
+abbrev pub IsLineAnswered : Told → ℕ → ℕ → List ℕ → Asked → List ℕ → Type 0
+IsLineAnswered t signal point line asked.Signal said = said ≡ signal_text signal
+IsLineAnswered t signal point line asked.Help said = said ≡ help_text
+IsLineAnswered t signal point line (asked.Writers address) said = said ≡ writers_text t.shown point address
+IsLineAnswered t signal point line asked.Session said = IsReply t point (said_of t line) said
+
+abbrev pub IsMonitored : Told → ℕ → ℕ → Option (List ℕ) → List ℕ → Type 0
+IsMonitored t signal point None text = text ≡ error
+IsMonitored t signal point (Some line) text = (said : List ℕ) × IsLineAnswered t signal point line (asked_of line) said × (text ≡ text_reply said)
 
 -- the answer to a packet where nothing moves or changes
 pub record Still : Type 0 where
@@ -71,7 +80,7 @@ pub record Still : Type 0 where
   pub packet : List ℕ
 
 abbrev pub IsStill : Told → Still → Request → List ℕ → Type 0
-IsStill t still request.Monitor text = IsMonitored t still.point (decoded (drop 6 still.packet)) text
+IsStill t still request.Monitor text = IsMonitored t still.signal still.point (decoded (drop 6 still.packet)) text
 IsStill t still request text = text ≡ still_reply t.shown still.signal still.point request
 
 abbrev pub IsAnswerBy : Told → Still → Request → Option Halt → Option Spots → List ℕ → Type 0

@@ -6,6 +6,7 @@ use Rattle.rept_remote.specs.Escapes.{digits_value}
 use Rattle.rept_session.specs.Shown.{Shown}
 use Rattle.rept_session.specs.Texts.{pc_at, wrapped}
 use Rattle.rept_stub.specs.declared.halt.Stop.{Stop}
+use Rattle.rept_stub.specs.Signals.{debugger_signal}
 use Rattle.rept_stub.specs.declared.halt.Stop.TheVariants as stop
 
 -- bytes as pairs of digits
@@ -61,9 +62,9 @@ stop_reply (stop.Write address) = codes "T05watch:" ++ big_word address ++ codes
 stop_reply stop.Begin = codes "T05replaylog:begin;"
 stop_reply stop.End = codes "T05replaylog:end;"
 
--- at the last point stands the signal that ended the process
+-- at the last point stands the signal that ended the process, by the debugger's number
 abbrev pub reason_reply : Shown → ℕ → ℕ → List ℕ
-reason_reply s signal point = if point == length s.rows then codes "T" ++ hex_byte signal else codes "T05"
+reason_reply s signal point = if point == length s.rows then codes "T" ++ hex_byte (debugger_signal signal) else codes "T05"
 
 -- a part of a text, and whether it is the last one; at most 4000 bytes
 abbrev pub part_reply : List ℕ → ℕ → ℕ → List ℕ

@@ -1,12 +1,14 @@
 //! The answer to a packet.
 
-ghost use Rattle.std.specs.Prelude.{◌≡◌, ◌≤◌, drop, length, None, Some, IfOk, OnOk, OnErr, IfSome, MatchBool};
+ghost use Rattle.std.specs.Prelude.{◌≡◌, ◌≤◌, drop, length, None, Some, option_map, IfOk, OnOk, OnErr, IfSome, MatchBool};
 ghost use Rattle.rept_session.specs.Shown.{SameReasons, told};
-ghost use Rattle.rept_stub.specs.Answers.{IsAnswer, IsMonitored, fixed_reply, halt_of, spots_after, stand_after, still_reply};
+ghost use Rattle.rept_stub.specs.Answers.{IsAnswer, IsLineAnswered, IsMonitored, fixed_reply, halt_of, spots_after, stand_after, still_reply};
+ghost use Rattle.rept_stub.specs.Monitoring.{asked_of};
 ghost use Rattle.rept_stub.specs.Replies.{decoded, known_bytes, memory_bytes, memory_digits};
 
 use crate::description::description;
 use crate::halt::Halt;
+use crate::monitoring::{Asked, asked_of, help_text, signal_text, writers_text};
 use crate::moves::{continued, continued_back, stepped, stepped_back};
 use crate::pieces::{
     decoded, known_bytes, memory_bytes, memory_digits, part, reason, register, registers,
@@ -32,8 +34,8 @@ pub struct Stand {
 pub struct Setting {
     /// how many packets of the trace the path was read without
     pub skipped: u32,
-    /// the signal that ended the process
-    pub signal: u8,
+    /// the signal that ended the process, by the number that Linux gives to it
+    pub signal: u16,
 }
 
 /// The answer to a packet, and where the debugger stands then. The only refusal is out of memory. In each case the findings stay as
@@ -62,30 +64,61 @@ pub fn answer_packet<F: Findings>(
         return whole(alloc, b"OK");
     }
     match request {
-        Request::Monitor => monitor(alloc, findings, setting.skipped, stand.point, packet),
+        Request::Monitor => monitor(alloc, findings, setting, stand.point, packet),
         _ => still(alloc, findings, setting.signal, stand.point, request),
     }
 }
 
-/// The answer to a line of a session.
+/// The answer to a line of a debugger's user.
 fn monitor<F: Findings>(
     alloc: Global,
     findings: &mut F,
-    skipped: u32,
+    setting: Setting,
     point: u32,
     packet: &[u8],
 ) -> Result<Text, OutOfMemory>
     requires { point ≤ length (F.shown findings.old).rows }
-    ensures text { IfOk result (IsMonitored (told (F.shown findings.old) skipped (F.reasons findings.old)) point (decoded (drop 6 packet.now))) }
+    ensures text { IfOk result (IsMonitored (told (F.shown findings.old) setting.skipped (F.reasons findings.old)) setting.signal point (decoded (drop 6 packet.now))) }
     ensures same { F.shown findings.new ≡ F.shown findings.old }
     ensures same_reasons { SameReasons (F.reasons findings.old) (F.reasons findings.new) }
 {
-    let start = packet.len().min(6);
-    let Some(line) = decoded(alloc, &packet[start..])? else {
+    let Some(line) = line_in(alloc, packet)? else {
         return whole(alloc, b"E01");
     };
-    let answer = answer_line(alloc, findings, skipped, point, line.as_slice())?;
-    text_reply(alloc, answer.text.bytes())
+    let said = line_answer(alloc, findings, setting, point, line.as_slice())?;
+    text_reply(alloc, said.bytes())
+}
+
+/// The line that such a packet carries after `qRcmd,`.
+fn line_in(alloc: Global, packet: &[u8]) -> Result<Option<Vec<u8>>, OutOfMemory>
+    ensures { IfOk result (λ line. option_map (λ v. v.items) line ≡ decoded (drop 6 packet.now)) }
+{
+    let start = packet.len().min(6);
+    decoded(alloc, &packet[start..])
+}
+
+/// What is said to such a line.
+fn line_answer<F: Findings>(
+    alloc: Global,
+    findings: &mut F,
+    setting: Setting,
+    point: u32,
+    line: &[u8],
+) -> Result<Text, OutOfMemory>
+    requires { point ≤ length (F.shown findings.old).rows }
+    ensures text { IfOk result (IsLineAnswered (told (F.shown findings.old) setting.skipped (F.reasons findings.old)) setting.signal point line.now (asked_of line.now)) }
+    ensures same { F.shown findings.new ≡ F.shown findings.old }
+    ensures same_reasons { SameReasons (F.reasons findings.old) (F.reasons findings.new) }
+{
+    match asked_of(line) {
+        Asked::Signal => signal_text(alloc, setting.signal),
+        Asked::Help => whole(alloc, help_text()),
+        Asked::Writers(address) => writers_text(alloc, findings, point, address),
+        Asked::Session => {
+            let answer = answer_line(alloc, findings, setting.skipped, point, line)?;
+            Ok(answer.text)
+        }
+    }
 }
 
 /// Where a move leads to. None for a request that moves nothing.
@@ -167,7 +200,7 @@ fn fixed(request: Request) -> &'static [u8]
 fn still<F: Findings>(
     alloc: Global,
     findings: &F,
-    signal: u8,
+    signal: u16,
     point: u32,
     request: Request,
 ) -> Result<Text, OutOfMemory>

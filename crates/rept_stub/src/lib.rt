@@ -4,11 +4,14 @@
 pub mod answers;
 mod description;
 pub mod halt;
+mod monitoring;
 mod moves;
 mod pieces;
+mod signal;
 mod spots;
 
 pub use answers::{Setting, Stand, answer_packet};
 pub use halt::{Halt, Stop, Written};
 pub use moves::{continued, continued_back, stepped, stepped_back};
+pub use signal::debugger_signal;
 pub use spots::Spots;

@@ -183,7 +183,7 @@ fn later(best: Option<Written>, row: Option<u32>, address: u32) -> Option<Writte
 }
 
 /// The row of a byte's writer, where it is before the point.
-fn row_before<F: Findings>(findings: &F, point: u32, address: u32) -> Option<u32>
+pub fn row_before<F: Findings>(findings: &F, point: u32, address: u32) -> Option<u32>
     requires { point ≤ length (F.shown findings.now).rows }
     ensures value { result ≡ row_before (F.shown findings.now) point address }
     ensures within { IfSome result (λ row. row < point) }

@@ -7,6 +7,7 @@ ghost use Rattle.rept_stub.specs.Replies.{big_word, decoded, digits_of, known_by
 
 use crate::halt::Stop;
 use crate::moves::{address_at, last_point};
+use crate::signal::debugger_signal;
 use rept_isa::Reg;
 use rept_remote::digits_value;
 use rept_session::Findings;
@@ -182,7 +183,7 @@ fn write_text(alloc: Global, address: u32) -> Result<Text, OutOfMemory>
 pub fn reason<F: Findings>(
     alloc: Global,
     findings: &F,
-    signal: u8,
+    signal: u16,
     point: u32,
 ) -> Result<Text, OutOfMemory>
     ensures { IfOk result (λ text. text ≡ reason_reply (F.shown findings.now) signal point) }
@@ -192,7 +193,7 @@ pub fn reason<F: Findings>(
     }
     let mut text = Text::new(alloc);
     text.push(b"T")?;
-    text.push_byte(signal)?;
+    text.push_byte(debugger_signal(signal))?;
     Ok(text)
 }
 

@@ -1,6 +1,6 @@
 -- The run of a file of several streams, and why there is none. This project's own.
 use Rattle.std.specs.Prelude.{map, ◌≡◌, ◌⊎◌, ℕ, ◌+◌, List, [], ◌∷◌, length, Some, None}
-use Rattle.rept_elf.specs.Segments.{ElfSegment}
+use Rattle.rept_dump.specs.Memory.{Contents}
 use Rattle.rept_steps.specs.declared.run.Run.{Run}
 use Rattle.rept_trace.specs.declared.packet.Packet.{Packet}
 use Rattle.rept_trace.specs.declared.fault.TraceFault.{TraceFault}
@@ -31,16 +31,16 @@ FailsIn k (stream ∷ others) refused =
     ((packets : List Packet) × FailsAfter k stream packets refused)
     ⊎ ((packets : List Packet) × Hold stream packets × FailsIn (k + length packets) others refused)
 
--- the segments of a program, the file of its traces, the notes of the threads, and the number from which on a window may begin
+-- what the files of a program hold, the file of its traces, the notes of the threads, and the number from which on a window may begin
 pub record Files : Type 0 where
-  pub segments : List ElfSegment
+  pub contents : Contents
   pub file : StreamFile
   pub notes : List Note
   pub from : ℕ
 
 -- the code, which may be compressed where the file says so
 abbrev pub code_in : Files → Code
-code_in f = record { segments = f.segments; halves = f.file.halves }
+code_in f = record { contents = f.contents; halves = f.file.halves }
 
 abbrev pub traces : Files → List (List Packet) → Traces
 traces f packets = record { code = code_in f; streams = packets; notes = f.notes; from = f.from }

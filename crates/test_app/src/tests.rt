@@ -55,6 +55,9 @@ const MASKED: &[u32] = &[
 
 const THREE: &[u32] = &[0x00700293, 0x00328313, 0x006283b3];
 
+/// `jal x1,0x10008`, to which the last instruction returns, `addi x1,x0,0`; at 0x10008 `addi x0,x0,0`, `jalr x0,0(x1)`
+const CALL: &[u32] = &[0x008000ef, 0x00000093, 0x00000013, 0x00008067];
+
 const UNKNOWN_AT_0: &str =
     "point 0 of 3 pc 0x00010000\nx1 0x00000000\nx2 0x00000000\nx3 0x00000000\nx4 0x00000000\nx5 unknown\nx6 unknown\nx7 unknown\nx8 0x00000000\nx9 0x00000000\nx10 0x00000000\nx11 0x00000000\nx12 0x00000000\nx13 0x00000000\nx14 0x00000000\nx15 0x00000000\nx16 0x00000000\nx17 0x00000000\nx18 0x00000000\nx19 0x00000000\nx20 0x00000000\nx21 0x00000000\nx22 0x00000000\nx23 0x00000000\nx24 0x00000000\nx25 0x00000000\nx26 0x00000000\nx27 0x00000000\nx28 0x00000000\nx29 0x00000000\nx30 0x00000000\nx31 0x00000000\n";
 
@@ -62,6 +65,16 @@ const USAGE: &str = "usage: rept open|bits EXE CORE TRACE [FROM] | rept self SEE
 
 /// The worked crashes, and one case of each refusal.
 const CASES: &[Case] = &[
+    Case {
+        words: OPEN,
+        code: CALL,
+        pc: 0x10008,
+        registers: [0; 3],
+        difference: 0x06,
+        input: "goto 2\nstack\ngoto 3\nstack\n",
+        output: "point 2 of 4 pc 0x0001000c\n#0 0x0001000c\n#1 0x00010000\npoint 3 of 4 pc 0x00010004\n#0 0x00010004\n",
+        status: Status::Ok,
+    },
     Case {
         words: OPEN,
         code: THREE,

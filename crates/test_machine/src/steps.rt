@@ -127,31 +127,30 @@ fn stored(machine: &Machine<'_>, base: u32) -> u32 {
     word
 }
 
-// sw x8,0(x7), and then the instruction, at an even address, an odd one, and two that wrap.
-#[test]
-fn atomics_do_what_the_manual_says(rt: HostRuntime) -> Result<(), Fail> {
-    for base in [0x20000, 0x20001, 0xffff_fffe, 0xffff_ffff] {
-        for (word, held, source, left, answer, text) in ATOMICS {
-            let code = [0x0083_a023, word];
-            let mut registers = operands(source, base);
-            registers[8] = held;
-            let mut machine = Machine::new(rt.alloc(), &code, START, START, registers);
-            assert!(rt; machine.step().is_ok());
-            let row = machine.step()?;
-            assert_eq!(rt; (row.next, row.call), (START + 8, false), "{text}");
-            assert_eq!(rt;
-                stored(&machine, base),
-                left,
-                "{text} on {held} and {source}"
-            );
-            assert_eq!(rt;
-                value(&rt, &machine, 5),
-                answer,
-                "{text} on {held} and {source}"
-            );
-        }
+/// Two instructions are executed: sw x8,0(x7), and then the row's.
+fn compare_atomics(rt: &impl Abort, alloc: Global, base: u32) {
+    for (word, held, source, left, answer, text) in ATOMICS {
+        let code = [0x0083_a023, word];
+        let mut registers = operands(source, base);
+        registers[8] = held;
+        let mut machine = Machine::new(alloc, &code, START, START, registers);
+        assert!(rt; machine.step().is_ok());
+        assert!(rt; machine.step().is_ok());
+        assert_eq!(rt; machine.pc(), START + 8, "{text}");
+        assert_eq!(rt;
+            (stored(&machine, base), value(rt, &machine, 5)),
+            (left, answer),
+            "{text} on {held} and {source}"
+        );
     }
-    Ok(())
+}
+
+// At an even address, an odd one, and two that wrap.
+#[test]
+fn atomics_do_what_the_manual_says(rt: HostRuntime) {
+    for base in [0x20000, 0x20001, 0xffff_fffe, 0xffff_ffff] {
+        compare_atomics(&rt, rt.alloc(), base);
+    }
 }
 
 #[test]

@@ -1,6 +1,7 @@
 //! What the facts at places below a limit show: sets that are empty, and wrong turns.
 
 ghost use Rattle.std.specs.Prelude.{◌≡◌, ◌<◌, ◌≤◌, ◌^◌, ℕ, length, true, false, IfErr, OnOk, Some, None, Ok, Err, slice_get};
+ghost use Rattle.rept_dump.specs.Program.{contents};
 ghost use Rattle.rept_isa.specs.declared.row.StepRow.{StepRow};
 ghost use Rattle.rept_reason.specs.Facts.{told, operand};
 ghost use Rattle.rept_span.specs.Ranges.{IsEmptyFirst};
@@ -10,7 +11,6 @@ ghost use Rattle.rept_report.specs.Conflicts.{IsQuiet, IsWrongTurn, Shows};
 ghost use Rattle.rept_report.specs.declared.conflict.ConflictKind.{ConflictKind};
 ghost use Rattle.rept_report.specs.Log.{oldest};
 ghost use Rattle.rept_alias.specs.Accesses.{call_hits};
-ghost use Rattle.rept_elf.specs.Segments.{greatest_end};
 ghost use Rattle.rept_analysis.specs.Moments.{moment};
 ghost use Rattle.rept_analysis.specs.State.{setting_of, state_of};
 ghost use Rattle.rept_analysis.specs.Drawing.{IsFitted, SameFacts, IsAccess, IsSparedNow};
@@ -31,7 +31,7 @@ impl<'a, B: ByteFacts, W: Transfer, R: RowRules> Analysis<'a, B, W, R> {
     /// The bytes that row i may write, by the facts at places below the limit and the sets as they were filled.
     fn access_below(&self, limit: u32, i: u32, row: &StepRow) -> CallAccess
         requires { i < length self.now.rows }
-        ensures { (a : ℕ) → a < 2 ^ 32 → call_hits result a ≡ R.rules.touched row.now (moment W.sets (oldest limit self.now.known.log) self.now.spans i) (greatest_end self.now.exe) a }
+        ensures { (a : ℕ) → a < 2 ^ 32 → call_hits result a ≡ R.rules.touched row.now (moment W.sets (oldest limit self.now.known.log) self.now.spans i) (contents self.now.exe).end a }
     {
         let _len = self.known.len();
         let image_end = self.dump.image_end();

@@ -2,6 +2,7 @@
 
 ghost use Rattle.std.specs.Prelude.{⊤, ◌≡◌, ◌+◌, ◌<◌, ◌≤◌, length, false, IfOk, IfErr, Some, None, Ok, Err};
 ghost use Rattle.rept_dump.specs.Memory.{byte_at};
+ghost use Rattle.rept_dump.specs.Program.{contents};
 ghost use Rattle.rept_analysis.specs.State.{state_of};
 ghost use Rattle.rept_analysis.specs.Drawing.{IsTracked, Grows, Drew, IsHalt, IsFitted, LastKnown, AreWritings, AreExact, AllCarried, IsUncut, RowsClosed, LastByteKnown, LastBytesKnown, SingleKnown, PointSingles, SinglesKnown, IsDrawnAll, LastKnownBelow};
 
@@ -115,7 +116,7 @@ impl<'a, B: ByteFacts, W: Transfer, R: RowRules> Analysis<'a, B, W, R> {
     fn learn_last_byte(&mut self, a: u32, byte: Option<u8>) -> Result<bool, Halt>
         requires tracked { IsTracked a (state_of W.sets W.moves R.rules B.store self.old) }
         requires open { self.old.complete ≡ false }
-        requires byte { byte ≡ byte_at self.old.exe self.old.core a }
+        requires byte { byte ≡ byte_at (contents self.old.exe) self.old.core a }
         ensures grows { Grows (state_of W.sets W.moves R.rules B.store self.old) (state_of W.sets W.moves R.rules B.store self.new) }
         ensures drew { IfOk result (λ learnt. Drew (state_of W.sets W.moves R.rules B.store self.old) (state_of W.sets W.moves R.rules B.store self.new) learnt (LastByteKnown a)) }
         ensures halt { IfErr result (λ h. IsHalt (state_of W.sets W.moves R.rules B.store self.new) h) }

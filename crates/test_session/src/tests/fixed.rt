@@ -2,6 +2,7 @@
 
 ghost use Rattle.std.specs.Prelude.{◌≡◌, ◌<◌, length};
 
+use rept_elf::Symbol;
 use rept_isa::{ImmOp, Instr, Reg, StepRow};
 use rept_partial::Range;
 use rept_reason::{Fact, Looked, Reason};
@@ -20,10 +21,10 @@ pub struct Fixed {
 }
 
 impl Findings for Fixed {
-    ghost use Rattle.std.specs.Prelude.{None, Some, nat_lt, ◌==◌, if◌then◌else◌};
+    ghost use Rattle.std.specs.Prelude.{None, Some, [], ◌∷◌, nat_lt, ◌==◌, if◌then◌else◌};
     ghost use Rattle.rept_report.specs.declared.writer.Writer.TheVariants.{MayWrite};
 
-    ghost shown = { λ f. record { rows = f.rows; end_pc = 65544; register = λ point r. if point == 0 then None else Some 43981; range = λ point r. f.range; note = λ point r. f.note; byte = λ point a. if nat_lt a 16 then Some a else None; writer = λ point a. MayWrite 1; counts = f.counts } };
+    ghost shown = { λ f. record { rows = f.rows; end_pc = 65544; register = λ point r. if point == 0 then None else Some 43981; range = λ point r. f.range; note = λ point r. f.note; byte = λ point a. if nat_lt a 16 then Some a else None; writer = λ point a. MayWrite 1; counts = f.counts; symbol = λ a. if a == 65540 then Some (record { name = 102 ∷ 7 ∷ []; value = 65536 }) else None } };
 
     ghost reasons = { λ f fact why. Unit {0} };
 
@@ -61,6 +62,17 @@ impl Findings for Fixed {
 
     fn counts(&self) -> Counts {
         self.counts
+    }
+
+    fn symbol(&self, address: u32) -> Option<Symbol<'_>> {
+        if address == 0x10004 {
+            Some(Symbol {
+                name: b"f\x07",
+                value: 0x10000,
+            })
+        } else {
+            None
+        }
     }
 
     fn why(&mut self, alloc: Global, fact: Fact) -> Result<Option<Reason>, OutOfMemory> {

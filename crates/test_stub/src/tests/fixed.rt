@@ -2,6 +2,7 @@
 
 ghost use Rattle.std.specs.Prelude.{◌≡◌, ◌<◌, length};
 
+use rept_elf::Symbol;
 use rept_isa::{ImmOp, Instr, Reg, StepRow};
 use rept_partial::Range;
 use rept_reason::{Fact, Looked, Reason};
@@ -22,7 +23,7 @@ impl Findings for Fixed {
     ghost use Rattle.std.specs.Prelude.{None, Some, nat_lt, ◌==◌, if◌then◌else◌};
     ghost use Rattle.rept_report.specs.declared.writer.Writer.TheVariants.{MayWrite};
 
-    ghost shown = { λ f. record { rows = f.rows; end_pc = 65544; register = λ point r. if point == 0 then None else Some 43981; range = λ point r. f.range; note = λ point r. None; byte = λ point a. if nat_lt a 16 then Some a else None; writer = λ point a. MayWrite 1; counts = f.counts } };
+    ghost shown = { λ f. record { rows = f.rows; end_pc = 65544; register = λ point r. if point == 0 then None else Some 43981; range = λ point r. f.range; note = λ point r. None; byte = λ point a. if nat_lt a 16 then Some a else None; writer = λ point a. MayWrite 1; counts = f.counts; symbol = λ a. None } };
 
     ghost reasons = { λ f fact why. Unit {0} };
 
@@ -60,6 +61,10 @@ impl Findings for Fixed {
 
     fn counts(&self) -> Counts {
         self.counts
+    }
+
+    fn symbol(&self, _address: u32) -> Option<Symbol<'_>> {
+        None
     }
 
     fn why(&mut self, alloc: Global, fact: Fact) -> Result<Option<Reason>, OutOfMemory> {

@@ -2,6 +2,7 @@ use Rattle.std.proofs.Common.{◌≡◌, ◌⊎◌, inl, inr, ℕ, List, sym, su
 use Rattle.std.proofs.lemmas.Result.{IfOk-weaker, IfErr-weaker}
 use Rattle.rept_dump.specs.declared.dump.Dump.{Dump}
 use Rattle.rept_dump.specs.Dump.{exe_of, registers_of}
+use Rattle.rept_dump.specs.Program.{contents}
 use Rattle.rept_trace.specs.Stream.{Stream, plain}
 use Rattle.rept_trace.specs.declared.packets.Packets.{Packets}
 use Rattle.rept_trace.specs.Packets.{rest_of, number_of}
@@ -15,7 +16,7 @@ use Rattle.rept_app.proofs.path.trace_path.Goals as goal
 
 -- the run of a stream over a dump
 abbrev run_by : Dump → ℕ → Stream → RawRun
-run_by dump from stream = record { code = record { segments = exe_of dump; halves = stream.widths.halves }; stream = stream; from = from; pc = end_pc (registers_of dump) }
+run_by dump from stream = record { code = record { contents = contents (exe_of dump); halves = stream.widths.halves }; stream = stream; from = from; pc = end_pc (registers_of dump) }
 
 -- what is said of the bytes is said of what is left of them
 untraced_in : (dump : Dump) (packets : Packets) (from : ℕ) (fault : PathFault) (file : TraceFile) → plain file.halves file.bytes ≡ rest_of packets → 0 ≡ number_of packets → IsUntraced (run_of (crash_of dump) file from) 0 fault → IsUntraced (raw_of packets dump from) (number_of packets) fault

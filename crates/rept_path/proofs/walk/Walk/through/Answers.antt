@@ -1,6 +1,6 @@
-use Rattle.std.proofs.lemmas.Result.{on_ok_weaker}
+use Rattle.std.proofs.lemmas.Result.{IfErr-weaker, on_ok_weaker}
 use Rattle.rept_path.specs.Program.{code_of}
-use Rattle.rept_path.proofs.Phases.{one_phase, two_phases}
+use Rattle.rept_path.proofs.Phases.{one_fault, one_phase, second_fault, two_phases}
 use Rattle.rept_path.proofs.walk.Walk.through.Goals as goal
 use Rattle.rept_path.proofs.walk.Walk.through.Goals.{then-self+in_ok-go, else-self}
 
@@ -18,3 +18,15 @@ returns-clause-ok c = elim c.if-self.branch [
 
 pub returns-clause-rests : goal.returns-clause-rests
 returns-clause-rests c = c.go-2.ensures.rests
+
+pub returns-clause-err : goal.returns-clause-err
+returns-clause-err c = elim c.if-self.branch [
+  | then-self+in_ok-go w ↦
+      IfErr-weaker c.go-2.result _ _
+      (λ e. second_fault (code_of c.args.program.now) c.args.packet c.args.before c.args.target c.args.aim c.args.self.now w.go.new.self e w.if-self.true w.in_ok-go.ensures.ok)
+      (rw w.self-is at c.go-2.ensures.err)
+  | else-self w ↦
+      IfErr-weaker c.go-2.result _ _
+      (λ e. one_fault (code_of c.args.program.now) c.args.packet c.args.before c.args.target c.args.aim c.args.self.now e w.if-self.false)
+      (rw w.self-is at c.go-2.ensures.err)
+]

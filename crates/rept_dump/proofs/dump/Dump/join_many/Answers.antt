@@ -2,7 +2,7 @@ use Rattle.std.proofs.Common.{length, ap, sym, Err}
 use Rattle.std.proofs.lemmas.Result.{err_from_is_err_and}
 use Rattle.rept_elf.specs.Image.{file_of, segments_of}
 use Rattle.rept_dump.proofs.ThreadLemmas.{not_ok_and_err, same_fault}
-use Rattle.rept_dump.proofs.dump.Dump.read_many.Goals as goal
+use Rattle.rept_dump.proofs.dump.Dump.join_many.Goals as goal
 
 pub returns-in_err-registers-clause-only_ok : goal.returns-in_err-registers-clause-only_ok
 returns-in_err-registers-clause-only_ok c = λ descs h.

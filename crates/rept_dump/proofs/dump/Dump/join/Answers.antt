@@ -3,7 +3,7 @@ use Rattle.std.proofs.lemmas.Result.{err_from_is_err_and}
 use Rattle.rept_elf.specs.Image.{file_of, segments_of}
 use Rattle.rept_dump.proofs.NoteLemmas.{said_once}
 use Rattle.rept_dump.proofs.ThreadLemmas.{one_thread}
-use Rattle.rept_dump.proofs.dump.Dump.read.Goals as goal
+use Rattle.rept_dump.proofs.dump.Dump.join.Goals as goal
 
 pub returns-in_err-registers-clause-only : goal.returns-in_err-registers-clause-only
 returns-in_err-registers-clause-only c = λ said h.

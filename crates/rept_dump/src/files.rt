@@ -1,0 +1,103 @@
+//! The files of a program, in which its code and constants are looked up.
+
+ghost use Rattle.std.specs.Prelude.{◌≡◌};
+ghost use Rattle.std.specs.Option.{option_map};
+ghost use Rattle.rept_elf.specs.Symbols.{symbol_of};
+
+use crate::executable::Executable;
+use rept_elf::Symbol;
+use rept_mapped::Mapped;
+
+/// The files of a program.
+#[derive(Clone, Copy)]
+pub enum Files<'a> {
+    /// An executable.
+    Executable(Executable<'a>),
+    /// The files that the process had mapped.
+    Mapped(Mapped<'a>),
+}
+
+impl<'a> Files<'a> {
+    ghost use Rattle.rept_dump.specs.Files.{program_of};
+    ghost use Rattle.rept_dump.specs.Program.{contents};
+
+    /// The word of code at an address.
+    pub fn word(&self, a: u32) -> Option<u32>
+        ensures { result ≡ (contents (program_of self.now)).word a }
+    {
+        match self {
+            Files::Executable(executable) => executable.word(a),
+            Files::Mapped(mapped) => mapped.word(a),
+        }
+    }
+
+    /// The half of code at an address.
+    pub fn half(&self, a: u32) -> Option<u16>
+        ensures { result ≡ (contents (program_of self.now)).half a }
+    {
+        match self {
+            Files::Executable(executable) => executable.half(a),
+            Files::Mapped(mapped) => mapped.half(a),
+        }
+    }
+
+    /// The byte at an address, where the program could not write it.
+    pub fn kept(&self, a: u32) -> Option<u8>
+        ensures { result ≡ (contents (program_of self.now)).kept a }
+    {
+        match self {
+            Files::Executable(executable) => executable.kept(a),
+            Files::Mapped(mapped) => mapped.byte(a),
+        }
+    }
+
+    /// The function that has an address.
+    pub fn symbol(&self, a: u32) -> Option<Symbol<'a>>
+        ensures { option_map symbol_of result ≡ (contents (program_of self.now)).symbol a }
+    {
+        match self {
+            Files::Executable(executable) => executable.symbol(a),
+            Files::Mapped(mapped) => mapped.symbol(a),
+        }
+    }
+
+    /// The end of the program's image; 0 of mapped files.
+    pub fn end(&self) -> u64
+        ensures { result ≡ (contents (program_of self.now)).end }
+    {
+        match self {
+            Files::Executable(executable) => executable.end(),
+            Files::Mapped(_) => 0,
+        }
+    }
+
+    /// The same files, where words of code near this address may be found faster.
+    pub fn near_code(&self, a: u32) -> Files<'a>
+        ensures { program_of result ≡ program_of self.now }
+    {
+        match self {
+            Files::Executable(executable) => Files::Executable(executable.near_code(a)),
+            Files::Mapped(mapped) => Files::Mapped(*mapped),
+        }
+    }
+
+    /// The same of halves.
+    pub fn near_half(&self, a: u32) -> Files<'a>
+        ensures { program_of result ≡ program_of self.now }
+    {
+        match self {
+            Files::Executable(executable) => Files::Executable(executable.near_half(a)),
+            Files::Mapped(mapped) => Files::Mapped(*mapped),
+        }
+    }
+
+    /// The same of bytes that the program could not write.
+    pub fn near_byte(&self, a: u32) -> Files<'a>
+        ensures { program_of result ≡ program_of self.now }
+    {
+        match self {
+            Files::Executable(executable) => Files::Executable(executable.near_byte(a)),
+            Files::Mapped(mapped) => Files::Mapped(*mapped),
+        }
+    }
+}

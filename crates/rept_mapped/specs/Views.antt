@@ -1,0 +1,14 @@
+-- What the code's values stand for.
+use Rattle.std.specs.Option.{option_map}
+use Rattle.rept_elf.specs.Image.{file_of, segment_of}
+use Rattle.rept_mapped.specs.Mapped as mapped
+use Rattle.rept_mapped.specs.declared.find.Mapping.{Mapping}
+use Rattle.rept_mapped.specs.declared.find.Spot.{Spot}
+
+-- a mapping with its file
+abbrev pub mapping_of : Mapping → mapped.Mapping
+mapping_of m = record { start = m.start; end = m.end; offset = m.offset; file = option_map file_of m.image }
+
+-- where some bytes stand
+abbrev pub spot_of : Spot → mapped.Spot
+spot_of p = record { file = file_of p.image; segment = segment_of p.segment; place = p.place }

@@ -1,0 +1,10 @@
+//! What the files that a crashed process had mapped hold at an address: code, bytes that it could not write, and functions.
+#![tactic(auto)]
+
+mod find;
+mod mapped;
+
+pub use mapped::Mapped;
+
+#[cfg(test)]
+mod tests;
