@@ -171,3 +171,26 @@ pub left_on_time : (from : ℕ) (threads : List ℕ) (streams : List (List Packe
 left_on_time from threads streams h =
     let n = none_first (λ found. found) (first_fault time_back (whole streams)) (first_fault (startless from) (whole streams) ∷ all_idle streams ∷ first_fault (stranger threads) (told (kept from streams)) ∷ []) h in
     all_on_time (kept from streams) (kept_keep Calm calm_drop from streams (calm_left (whole streams) n.0))
+
+-- What a slice's stream tells from its start packet on doesn't go back.
+abbrev pub CalmTold : Told → Type 0
+CalmTold t = Calm (t.start ∷ t.later)
+
+told_calm : (s k : ℕ) (inside : Option ℕ) (packets : List Packet) → Calm packets → Each CalmTold (told_from s k inside packets)
+told_calm s k inside [] h = tt
+told_calm s k inside (p ∷ later) h = go (is_start p) (told_calm s (suc k) (running_after p inside) later h.1) where
+  here : Told
+  here = record { stream = s; number = k; start = p; later = later; inside = inside }
+
+  go : (b : Bool) → Each CalmTold (told_from s (suc k) (running_after p inside) later) → Each CalmTold (cond b (here ∷ told_from s (suc k) (running_after p inside) later) (told_from s (suc k) (running_after p inside) later))
+  go true rest = (h, rest)
+  go false rest = rest
+
+all_told_calm : (lefts : List Left) → Each CalmLeft lefts → Each CalmTold (told lefts)
+all_told_calm [] h = tt
+all_told_calm (l ∷ lefts) h = each_append CalmTold (told_in l) (told lefts) (told_calm l.stream l.number None l.packets h.0) (all_told_calm lefts h.1)
+
+pub left_calm : (from : ℕ) (threads : List ℕ) (streams : List (List Packet)) → check from threads streams ≡ None → Each CalmTold (told (kept from streams))
+left_calm from threads streams h =
+    let n = none_first (λ found. found) (first_fault time_back (whole streams)) (first_fault (startless from) (whole streams) ∷ all_idle streams ∷ first_fault (stranger threads) (told (kept from streams)) ∷ []) h in
+    all_told_calm (kept from streams) (kept_keep Calm calm_drop from streams (calm_left (whole streams) n.0))

@@ -38,7 +38,7 @@ module _ {A : Type 0} (time : A → ℕ) where
   ascends (x ∷ xs) = ascends_put x (by_time time xs) (ascends xs)
 
   module _ (P : A → Type 0) where
-    each_put : (x : A) (ys : List A) → P x → Each P ys → Each P (put time x ys)
+    pub each_put : (x : A) (ys : List A) → P x → Each P ys → Each P (put time x ys)
     each_put x [] p h = (p, tt)
     each_put x (y ∷ ys) p h = go (nat_le (time x) (time y)) (each_put x ys p h.1) where
       go : (b : Bool) → Each P (put time x ys) → Each P (cond b (x ∷ y ∷ ys) (y ∷ put time x ys))

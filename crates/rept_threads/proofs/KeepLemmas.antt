@@ -1,9 +1,9 @@
 -- What is left of streams from a time on.
 use Rattle.std.proofs.Common.{◌≡◌, map, max, ℕ, suc, ◌+◌, ◌<◌, ◌≤◌, ◌^◌, nat_le, List, [], ◌∷◌, ◌++◌, length, drop, get_or, Bool, true, false, not, cond, ◌&&◌, Option, Some, None, Ok, refl, sym, ◌∙◌, ap, subst, arith, append_assoc, length-drop, inl, inr}
-use Rattle.std.specs.List.{filter_map, cons_option}
+use Rattle.std.specs.List.{filter_map, cons_option, sum_by}
 use Rattle.std.proofs.lemmas.List.{append-nil, at_drop_all}
 use Rattle.std.proofs.lemmas.Bool.Decides.{leb_tells}
-use Rattle.std.proofs.lemmas.List.Sums.{prefix_len-le-length}
+use Rattle.std.proofs.lemmas.List.Sums.{prefix_len-le-length, sum_by-cons, sum_by_push}
 use Rattle.rept_trace.specs.declared.packet.Packet.{Packet}
 use Rattle.rept_trace.specs.declared.packets.Packets.{Packets}
 use Rattle.rept_trace.specs.Packets.{rest_of}
@@ -20,7 +20,7 @@ use Rattle.rept_threads.proofs.Checking.{split}
 use Rattle.rept_threads.proofs.Going.{Bytes}
 use Rattle.rept_threads.proofs.WindowLemmas.{split_left}
 
-later_is : (a b : ℕ) → later_of a b ≡ max a b
+pub later_is : (a b : ℕ) → later_of a b ≡ max a b
 later_is a b = elim (leb_tells a b) [
   | inl t ↦ let le = t.1 in rw t.0 (omega arith)
   | inr t ↦ let lt = t.1 in rw t.0 (omega arith)
@@ -179,14 +179,16 @@ module _ (time : ℕ) (w : Window) (l : Left) (is : IsLeft w l) where
           number = omega (arith, n, m, k);
         }
 
-  pub is_kept : (new : Window) → new.stream ≡ w.stream → new.number ≡ w.number → IsLeftBy (from_time time l) w.number new.begin → IsLeft new (from_time time l)
-  is_kept new stream number begin =
+  pub is_kept : (new : Window) → new.stream ≡ w.stream → new.number ≡ w.number → new.count ≡ w.count → IsLeftBy (from_time time l) w.number new.begin → IsLeft new (from_time time l)
+  is_kept new stream number count begin =
       let few = is.few in
+      let ends = is.ends in
       let d = length-drop (before_time time l.packets) l.packets in
       let m = before_few time l.packets in
       record {
         stream = stream ∙ is.stream;
         begin = subst (λ (n : ℕ). IsLeftBy (from_time time l) n new.begin) (sym number) begin;
+        ends = omega (arith, ends, d, m, number, count);
         few = omega (arith, few, d, m);
       }
 
@@ -227,3 +229,48 @@ all_kept time lefts ws i now past g =
     let none : g.later ≡ [] = subst (λ (vs : List Window). AreLeft vs g.later) (at_drop_all (λ (vs : List Window). vs) ws i past) g.left in
     let e : map (from_time time) lefts ≡ g.done = g.same ∙ ap (λ (ls : List Left). g.done ++ map (from_time time) ls) none ∙ append-nil g.done in
     subst (λ (ls : List Left). AreLeft now ls) (sym e) g.are
+
+-- how many packets are counted
+abbrev counted : List Window → ℕ
+counted ws = sum_by (λ (w : Window). w.count) ws
+
+pub one_counted : (ws : List Window) (i : ℕ) (w new : Window) (now : List Window) → i < length ws → w ≡ get_or ws i w → new.count ≡ w.count → counted now + counted (drop i ws) ≡ counted ws → counted (now ++ new ∷ []) + counted (drop (i + 1) ws) ≡ counted ws
+one_counted ws i w new now within at count h =
+    let a = sum_by_push (λ (v : Window). v.count) now new in
+    let b = ap counted (split ws i w within at) in
+    let c = sum_by-cons (λ (v : Window). v.count) w (drop (i + 1) ws) in
+    omega (arith, a, b, c, count, h)
+
+pub all_counted : (ws : List Window) (i : ℕ) (now : List Window) → length ws ≤ i → counted now + counted (drop i ws) ≡ counted ws → counted now ≡ counted ws
+all_counted ws i now past h =
+    let e = at_drop_all counted ws i past in
+    omega (arith, e, h)
+
+-- The streams that are left, after so many of those before them of which a packet is left.
+pub record Opens (lefts : List Left) (ws : List Window) (now : ℕ) : Type 0 where
+  pub later : List Left
+  pub left : AreLeft ws later
+  pub same : length (filter_map opening lefts) ≡ now + length (filter_map opening later)
+
+pub none_opens : (lefts : List Left) (ws : List Window) → AreLeft ws lefts → Opens lefts ws 0
+none_opens lefts ws a = record { later = lefts; left = a; same = omega arith }
+
+more_opens : (o : Option ℕ) (ns : List ℕ) → length (cons_option o ns) ≡ length (cons_option o []) + length ns
+more_opens None ns = omega arith
+more_opens (Some n) ns = omega arith
+
+pub one_opens : (lefts : List Left) (ws : List Window) (i : ℕ) (w : Window) (now n : ℕ) → i < length ws → w ≡ get_or ws i w → ((l : Left) → IsLeft w l → n ≡ length (cons_option (opening l) [])) → Opens lefts (drop i ws) now → Opens lefts (drop (i + 1) ws) (now + n)
+one_opens lefts ws i w now n within at opened g =
+    let s = split_left w (drop (i + 1) ws) g.later (subst (λ (vs : List Window). AreLeft vs g.later) (split ws i w within at) g.left) in
+    let a = g.same in
+    let b = ap (λ (ls : List Left). length (filter_map opening ls)) s.2 in
+    let c = more_opens (opening s.0) (filter_map opening s.1) in
+    let d = opened s.0 s.3 in
+    record { later = s.1; left = s.4; same = omega (arith, a, b, c, d) }
+
+pub all_opens : (lefts : List Left) (ws : List Window) (i now : ℕ) → length ws ≤ i → Opens lefts (drop i ws) now → now ≡ length (filter_map opening lefts)
+all_opens lefts ws i now past g =
+    let none : g.later ≡ [] = subst (λ (vs : List Window). AreLeft vs g.later) (at_drop_all (λ (vs : List Window). vs) ws i past) g.left in
+    let a = g.same in
+    let b = ap (λ (ls : List Left). length (filter_map opening ls)) none in
+    omega (arith, a, b)

@@ -19,13 +19,13 @@ same_lists (stream ∷ streams) (p ∷ a) (q ∷ b) x y =
     let rest : a ≡ b = same_lists streams a b x.1 y.1 in
     cc
 
-held_or_refused : (k : ℕ) (streams : List Stream) (lists : List (List Packet)) (f : TraceFault) → HoldEach streams lists → FailsIn k streams f → ⊥
+pub held_or_refused : (k : ℕ) (streams : List Stream) (lists : List (List Packet)) (f : TraceFault) → HoldEach streams lists → FailsIn k streams f → ⊥
 held_or_refused k [] lists f x y = y
 held_or_refused k (stream ∷ streams) [] f x y = x
 held_or_refused k (stream ∷ streams) (p ∷ lists) f x (inl y) = not_both k stream p y.0 f x.0 y.1
 held_or_refused k (stream ∷ streams) (p ∷ lists) f x (inr y) = held_or_refused (k + length y.0) streams lists f x.1 y.2
 
-same_refused : (k : ℕ) (streams : List Stream) (f g : TraceFault) → FailsIn k streams f → FailsIn k streams g → f ≡ g
+pub same_refused : (k : ℕ) (streams : List Stream) (f g : TraceFault) → FailsIn k streams f → FailsIn k streams g → f ≡ g
 same_refused k [] f g x y = absurd x
 same_refused k (stream ∷ streams) f g (inl x) (inl y) = one_fault k stream x.0 y.0 f g x.1 y.1
 same_refused k (stream ∷ streams) f g (inl x) (inr y) = absurd (not_both k stream y.0 x.0 f y.1 x.1)

@@ -32,11 +32,11 @@ pub record Judges (threads : List ℕ) (ts : List Told) (es : List Entry) : Type
 pub none_judged : (threads : List ℕ) (ts : List Told) (es : List Entry) → AreTold es ts → Judges threads ts es
 none_judged threads ts es a = record { later = ts; are = a; same = refl }
 
-split_told : (e : Entry) (es : List Entry) (ts : List Told) → AreTold (e ∷ es) ts → (t : Told) × (later : List Told) × (ts ≡ t ∷ later) × IsTold e t × AreTold es later
+pub split_told : (e : Entry) (es : List Entry) (ts : List Told) → AreTold (e ∷ es) ts → (t : Told) × (later : List Told) × (ts ≡ t ∷ later) × IsTold e t × AreTold es later
 split_told e es [] a = absurd a
 split_told e es (t ∷ later) a = (t, later, refl, a.0, a.1)
 
-split_at : (es : List Entry) (i : ℕ) (e : Entry) → i < length es → e ≡ get_or es i e → drop i es ≡ e ∷ drop (i + 1) es
+pub split_at : (es : List Entry) (i : ℕ) (e : Entry) → i < length es → e ≡ get_or es i e → drop i es ≡ e ∷ drop (i + 1) es
 split_at es i e within at = at_drop_more (λ (xs : List Entry). xs) es i e within ∙ ap (λ (x : Entry). x ∷ drop (i + 1) es) (sym at)
 
 module _ (threads : List ℕ) (ts : List Told) (es : List Entry) (i : ℕ) (e : Entry) (within : i < length es) (at : e ≡ get_or es i e) (j : Judges threads ts (drop i es)) where

@@ -11,9 +11,9 @@ use Rattle.rept_path.specs.declared.fault.PathFault.TheVariants.{NoStart}
 use Rattle.rept_path.specs.declared.window.Begin.{Begin}
 use Rattle.rept_path.specs.Survey.{IsThere, number_in}
 use Rattle.rept_threads.specs.Parts.{Left, Told, told_from, told_in, told}
-use Rattle.rept_threads.specs.Skipping.{whole, numbered, window_of, windows}
+use Rattle.rept_threads.specs.Skipping.{whole, numbered, window_of, windows, kept, skipped}
 use Rattle.rept_threads.specs.Checks.{first_fault, startless}
-use Rattle.rept_threads.specs.Windows.{IsWindow, AreWindows, AreAll, window_left}
+use Rattle.rept_threads.specs.Windows.{IsWindow, AreWindows, AreAll, window_left, skipped_by, skipped_of}
 use Rattle.rept_threads.specs.Lefts.{BeginsWith, IsLeftBy, IsLeft, AreLeft}
 use Rattle.rept_threads.specs.Entries.{AreTold}
 use Rattle.rept_threads.specs.declared.reading.Window.{Window}
@@ -122,6 +122,7 @@ module _ (s k from : ℕ) (stream : Stream) (w : Window) where
       record {
         stream = is.stream;
         begin = left_by packets is calm w.begin refl;
+        ends = let counted = is.surveys.count in let number = is.number in let e = to_end (window_of from packets) (λ i e. in_window packets is calm i e) in omega (arith, counted, number, e);
         few = within (window_of from packets) (λ i e. in_window packets is calm i e);
       }
     where
@@ -136,6 +137,13 @@ module _ (s k from : ℕ) (stream : Stream) (w : Window) where
             let d = length-drop b.number packets in
             let l = ap (length {A = Packet}) t.2 in
             omega (arith, same, d, l)
+
+      to_end : (o : Option ℕ) → ((i : ℕ) → o ≡ Some i → i ≤ length packets) → k + unwrap_or o 0 + length (drop (unwrap_or o 0) packets) ≡ k + length packets
+      to_end None h = omega arith
+      to_end (Some i) h =
+          let le = h i refl in
+          let d = length-drop i packets in
+          omega (arith, le, d)
 
       within : (o : Option ℕ) → ((i : ℕ) → o ≡ Some i → i ≤ length packets) → k + unwrap_or o 0 + length (drop (unwrap_or o 0) packets) < 2 ^ 32
       within None h = omega arith
@@ -155,3 +163,37 @@ lefts_from from s k (stream ∷ others) (packets ∷ lists) (w ∷ ws) a calm fe
 
 pub windows_are_left : (from : ℕ) (streams : List Stream) (lists : List (List Packet)) (ws : List Window) → AreAll from streams lists ws → first_fault (startless from) (whole lists) ≡ None → AreLeft ws (windows from lists)
 windows_are_left from streams lists ws a calm = let few = a.few in lefts_from from 0 0 streams lists ws a.windows calm (omega arith)
+
+-- how many packets streams have, and how many of them are skipped
+pub all_counted : (s k from : ℕ) (streams : List Stream) (lists : List (List Packet)) (ws : List Window) → AreWindows s k from streams lists ws → sum_by (λ (w : Window). w.count) ws ≡ sum_by (λ packets. length packets) lists
+all_counted s k from [] lists ws a =
+    let e = ap (sum_by (λ (w : Window). w.count)) a.1 in
+    let f = ap (sum_by (λ (ps : List Packet). length ps)) a.0 in
+    omega (arith, e, f)
+all_counted s k from (stream ∷ streams) [] ws a = absurd a
+all_counted s k from (stream ∷ streams) (packets ∷ lists) [] a = absurd a
+all_counted s k from (stream ∷ streams) (packets ∷ lists) (w ∷ ws) a =
+    let first : w.count ≡ length packets = (a.0).surveys.count in
+    let others = all_counted (suc s) (k + length packets) from streams lists ws a.1 in
+    omega (arith, first, others, sum_by-cons (λ (v : Window). v.count) w ws, sum_by-cons (λ (ps : List Packet). length ps) packets lists)
+
+skipped_in : (w : Window) (l : Left) → IsLeft w l → (o : Option Begin) → w.begin ≡ o → skipped_by w.count o + length l.packets ≡ w.count
+skipped_in w l is None e =
+    let none = ap (length {A = Packet}) (subst (λ (b : Option Begin). IsLeftBy l w.number b) e is.begin) in
+    omega (arith, none)
+skipped_in w l is (Some b) e =
+    let t : BeginsWith l w.number b = subst (λ (b : Option Begin). IsLeftBy l w.number b) e is.begin in
+    let number = t.number in
+    let ends = is.ends in
+    omega (arith, number, ends)
+
+pub all_skipped : (ws : List Window) (ls : List Left) → AreLeft ws ls → sum_by skipped_of ws + sum_by (λ (l : Left). length l.packets) ls ≡ sum_by (λ (w : Window). w.count) ws
+all_skipped [] ls a = let e = ap (sum_by (λ (l : Left). length l.packets)) a in omega (arith, e)
+all_skipped (w ∷ ws) [] a = absurd a
+all_skipped (w ∷ ws) (l ∷ ls) a =
+    let first : skipped_of w + length l.packets ≡ w.count = skipped_in w l a.0 w.begin refl in
+    let others = all_skipped ws ls a.1 in
+    omega (arith, first, others, sum_by-cons skipped_of w ws, sum_by-cons (λ (k : Left). length k.packets) l ls, sum_by-cons (λ (v : Window). v.count) w ws)
+
+pub skipped_is : (from : ℕ) (lists : List (List Packet)) (n all : ℕ) → n + sum_by (λ (l : Left). length l.packets) (kept from lists) ≡ all → all ≡ sum_by (λ packets. length packets) lists → n ≡ skipped from lists
+skipped_is from lists n all is counted = omega (arith, is, counted)

@@ -24,6 +24,7 @@ IsLeftBy l first (Some b) = BeginsWith l first b
 pub record IsLeft (w : Window) (l : Left) : Type 0 where
   pub stream : w.stream ≡ l.stream
   pub begin : IsLeftBy l w.number w.begin
+  pub ends : l.number + length l.packets ≡ w.number + w.count
   pub few : l.number + length l.packets < 2 ^ 32
 
 -- that of all streams

@@ -12,3 +12,7 @@ pub mod Lefts
 pub mod Raw
 pub mod Windows
 pub mod Entries
+pub mod Kept
+pub mod Notes
+pub mod Surveyed
+pub mod Joining

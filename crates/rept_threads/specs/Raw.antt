@@ -1,6 +1,10 @@
 -- The run of a file of several streams, and why there is none. This project's own.
 use Rattle.std.specs.Prelude.{map, ◌≡◌, ◌⊎◌, ℕ, ◌+◌, List, [], ◌∷◌, length, Some, None}
 use Rattle.rept_dump.specs.Memory.{Contents}
+use Rattle.rept_elf.specs.Header.{word_at}
+use Rattle.rept_dump.specs.Dump.{exe_of}
+use Rattle.rept_dump.specs.Program.{contents}
+use Rattle.rept_dump.specs.declared.dump.Dump.{Dump}
 use Rattle.rept_steps.specs.declared.run.Run.{Run}
 use Rattle.rept_trace.specs.declared.packet.Packet.{Packet}
 use Rattle.rept_trace.specs.declared.fault.TraceFault.{TraceFault}
@@ -69,3 +73,11 @@ IsRefusedBefore l e =
 -- These are all packets, and no check fails.
 abbrev pub PassBefore : Looked → List (List Packet) → Type 0
 PassBefore l lists = HoldEach (streams_of l.file) lists × (check l.from l.processes lists ≡ None)
+
+-- the note of a thread by its descriptor: the process at 24, the program counter at 72
+abbrev pub note_in : List ℕ → Note
+note_in desc = record { process = word_at desc 24; pc = word_at desc 72 }
+
+-- the streams of a file over the program of a dump with these descriptors of notes
+abbrev pub files_of : Dump → StreamFile → List (List ℕ) → ℕ → Files
+files_of dump file descs from = record { contents = contents (exe_of dump); file = file; notes = map note_in descs; from = from }

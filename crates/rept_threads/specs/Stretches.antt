@@ -1,6 +1,6 @@
 -- The walks of streams, stretch by stretch. A stretch begins at the first packet that is left of a stream and at each start packet while
 -- the trace waits, and is walked as a path of its own; what leads from one to another isn't looked at here.
-use Rattle.std.specs.Prelude.{map, ◌≡◌, ◌⊎◌, ℕ, suc, ◌+◌, ◌-◌, nat_le, nat_lt, List, [], ◌∷◌, length, take, drop, reverse, is_none, Bool, false, ◌&&◌, if◌then◌else◌}
+use Rattle.std.specs.Prelude.{map, ◌≡◌, ◌⊎◌, ℕ, suc, ◌+◌, ◌-◌, nat_le, nat_lt, List, [], ◌∷◌, ◌++◌, length, take, drop, reverse, is_none, Bool, false, ◌&&◌, if◌then◌else◌}
 use Rattle.std.specs.List.{filter, flat_map}
 use Rattle.rept_isa.specs.declared.row.StepRow.{StepRow}
 use Rattle.rept_trace.specs.declared.packet.Packet.{Packet}
@@ -10,6 +10,7 @@ use Rattle.rept_path.specs.Packets.{begins, waits_after, bits}
 use Rattle.rept_path.specs.Moves.{Place}
 use Rattle.rept_path.specs.Route.{Origin, Route, place}
 use Rattle.rept_path.specs.Trace.{StopsAt}
+use Rattle.rept_threads.specs.Stamps.{is_start}
 use Rattle.rept_threads.specs.Parts.{Told, inner}
 
 -- the packets up to the next one that begins a stretch, by whether the trace waits
@@ -80,3 +81,8 @@ ran_in code ts w = map (ran_by code w) (filter (within w) ts)
 -- all slices, in the order of their packets
 abbrev pub ran : Code → List Told → List Walked → List Ran
 ran code ts ws = flat_map (ran_in code ts) ws
+
+-- how many rows stand after each start packet of a stretch: of its packets and their legs, newest first
+abbrev pub marks : Code → List Packet → List (List StepRow) → List ℕ
+marks code [] legs = []
+marks code (p ∷ earlier) legs = marks code earlier (drop 1 legs) ++ (if is_start p then length (place code (p ∷ earlier) legs).rows ∷ [] else [])

@@ -1,5 +1,5 @@
 -- What is kept of each stream once all its packets were read. This project's own.
-use Rattle.std.specs.Prelude.{◌≡◌, ℕ, suc, ◌+◌, ◌<◌, ◌^◌, List, [], ◌∷◌, length, unwrap_or}
+use Rattle.std.specs.Prelude.{◌≡◌, ℕ, suc, ◌+◌, ◌<◌, ◌^◌, List, [], ◌∷◌, length, unwrap_or, Option, Some, None}
 use Rattle.std.specs.List.{sum_by}
 use Rattle.rept_trace.specs.declared.packet.Packet.{Packet}
 use Rattle.rept_trace.specs.declared.fault.TraceFault.{TraceFault}
@@ -7,6 +7,7 @@ use Rattle.rept_trace.specs.declared.fault.TraceFault.TheVariants.{BadMagic, Bad
 use Rattle.rept_trace.specs.Packets.{rest_of}
 use Rattle.rept_trace.specs.Stream.{Stream}
 use Rattle.rept_path.specs.Survey.{Surveys}
+use Rattle.rept_path.specs.declared.window.Begin.{Begin}
 use Rattle.rept_threads.specs.declared.reading.Window.{Window}
 use Rattle.rept_threads.specs.Parts.{Left}
 use Rattle.rept_threads.specs.Skipping.{skip, window_of}
@@ -55,3 +56,11 @@ numbered_after before (Rest offset) = Rest offset
 pub record AreAll (from : ℕ) (streams : List Stream) (lists : List (List Packet)) (ws : List Window) : Type 0 where
   pub windows : AreWindows 0 0 from streams lists ws
   pub few : sum_by (λ packets. length packets) lists < 2 ^ 32
+
+-- how many packets of a stream are skipped: those before the first one that is left, or all of them
+abbrev pub skipped_by : ℕ → Option Begin → ℕ
+skipped_by count None = count
+skipped_by count (Some b) = b.number
+
+abbrev pub skipped_of : Window → ℕ
+skipped_of w = skipped_by w.count w.begin

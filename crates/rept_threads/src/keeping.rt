@@ -1,6 +1,7 @@
 //! What is left of streams from the time on from which all of them tell.
 
 ghost use Rattle.std.specs.Prelude.{◌≡◌, ◌+◌, ◌<◌, ◌^◌, ◌∷◌, ◌&&◌, nat_le, List, length, map, IfOk, IfErr};
+ghost use Rattle.std.specs.List.{sum_by};
 ghost use Rattle.rept_trace.specs.declared.packet.Packet.{Packet};
 ghost use Rattle.rept_trace.specs.Packets.{rest_of};
 ghost use Rattle.rept_trace.specs.Stream.{Hold};
@@ -9,6 +10,7 @@ ghost use Rattle.rept_threads.specs.Stamps.{clock_of, is_start};
 ghost use Rattle.rept_threads.specs.Parts.{Left};
 ghost use Rattle.rept_threads.specs.Skipping.{opening, full_from, from_time};
 ghost use Rattle.rept_threads.specs.Lefts.{IsLeftBy, IsLeft, AreLeft, BeginsFrom, later_by};
+ghost use Rattle.rept_threads.specs.declared.reading.Window.{Window};
 
 use crate::reading::Window;
 use crate::scan::time_of;
@@ -18,7 +20,7 @@ use rept_trace::Packet;
 use std::alloc::Global;
 
 /// The time of a packet, 0 where it has none.
-fn clock_of(packet: Packet) -> u64
+pub fn clock_of(packet: Packet) -> u64
     ensures { result ≡ clock_of packet }
 {
     match time_of(packet) {
@@ -28,7 +30,7 @@ fn clock_of(packet: Packet) -> u64
 }
 
 /// The later of a time and another one, if there is one.
-fn later_by(time: u64, other: Option<u64>) -> u64
+pub fn later_by(time: u64, other: Option<u64>) -> u64
     ensures { result ≡ later_by time other }
 {
     match other {
@@ -38,7 +40,7 @@ fn later_by(time: u64, other: Option<u64>) -> u64
 }
 
 /// The time of the first packet that is left of a stream.
-fn opening(window: &Window<'_>) -> Option<u64>
+pub fn opening(window: &Window<'_>) -> Option<u64>
     ensures { (l : Left) → IsLeft window.now l → result ≡ opening l }
 {
     match window.begin {
@@ -105,7 +107,8 @@ fn kept_begin<'a>(window: &Window<'a>, time: u64) -> Option<Begin<'a>>
 /// What is left of a stream from this time on.
 fn kept<'a>(window: &Window<'a>, time: u64) -> Window<'a>
     requires { (l : Left) × IsLeft window.now l }
-    ensures { (l : Left) → IsLeft window.now l → IsLeft result (from_time time l) }
+    ensures left { (l : Left) → IsLeft window.now l → IsLeft result (from_time time l) }
+    ensures count { result.count ≡ window.now.count }
 {
     let begin = kept_begin(window, time);
     Window {
@@ -125,6 +128,9 @@ pub fn keep_from<'a>(
 ) -> Result<Vec<Window<'a>>, PathFault>
     requires { (lefts : List Left) × AreLeft windows.now lefts }
     ensures ok { (lefts : List Left) → AreLeft windows.now lefts → IfOk result (λ left. AreLeft left.items (map (from_time time) lefts)) }
+
+    // What is left is of as many packets as before.
+    ensures counts { IfOk result (λ left. sum_by (λ (w : Window). w.count) left.items ≡ sum_by (λ (w : Window). w.count) windows.now) }
     ensures err { IfErr result (λ e. e ≡ OutOfMemory) }
 {
     let mut left = Vec::new(alloc);

@@ -3,9 +3,15 @@
 
 mod back;
 pub mod checks;
+pub mod dark;
+pub mod joins;
 pub mod keeping;
 pub mod laws;
+pub mod meeting;
+pub mod notes;
+pub mod order;
 pub mod reading;
+pub mod rebuilding;
 mod scan;
 pub mod strangers;
 pub mod stretch;
@@ -13,3 +19,4 @@ pub mod survey;
 pub mod telling;
 #[cfg(test)]
 mod tests;
+pub mod walks;

@@ -12,7 +12,7 @@ use rept_path::PathFault;
 use rept_trace::Packet;
 
 /// The process of a start packet's thread, 0 of another packet.
-fn context_of(packet: Packet) -> u32
+pub fn context_of(packet: Packet) -> u32
     ensures { result ≡ context_of packet }
 {
     match packet {

@@ -1,6 +1,6 @@
 //! The walk of a stretch.
 
-ghost use Rattle.std.specs.Prelude.{◌≡◌, ◌⊎◌, ◌<◌, ◌+◌, ◌^◌, ◌∷◌, [], List, ℕ, length, reverse, IfOk, IfErr, IfSome, IfNone, Ok, Some, None, true, false};
+ghost use Rattle.std.specs.Prelude.{◌≡◌, ◌⊎◌, ◌++◌, ◌<◌, ◌+◌, ◌^◌, ◌∷◌, [], List, ℕ, length, reverse, if◌then◌else◌, OnOk, IfOk, IfErr, IfSome, IfNone, Ok, Some, None, true, false};
 ghost use Rattle.rept_isa.specs.declared.row.StepRow.{StepRow};
 ghost use Rattle.rept_trace.specs.declared.packet.Packet.{Packet};
 ghost use Rattle.rept_trace.specs.Packets.{rest_of, number_of};
@@ -11,8 +11,10 @@ ghost use Rattle.rept_path.specs.Program.{code_of};
 ghost use Rattle.rept_path.specs.Route.{earlier_by};
 ghost use Rattle.rept_path.specs.State.{Stands};
 ghost use Rattle.rept_path.specs.Trace.{starts, StopsAt};
-ghost use Rattle.rept_threads.specs.Stretches.{same_stretch};
+ghost use Rattle.rept_threads.specs.Stamps.{is_start};
+ghost use Rattle.rept_threads.specs.Stretches.{same_stretch, marks};
 
+use crate::telling::is_start;
 use rept_path::PathFault;
 use rept_path::program::Program;
 use rept_path::walk::Walk;
@@ -49,26 +51,51 @@ fn next_of_stretch(rest: &mut Packets<'_>, waits: bool) -> Option<Packet>
     Some(packet)
 }
 
+/// A walk over the packets of a stretch.
+#[derive(Drop)]
+pub struct Stretch {
+    pub walk: Walk,
+    /// How many rows stand before those of each slice.
+    pub marks: Vec<usize>,
+}
+
+/// Adds the count of the rows up to a packet, if it is a start packet.
+fn add_mark(marks: &mut Vec<usize>, packet: Packet, rows: usize) -> Result<(), PathFault>
+    ensures ok { OnOk result (marks.new.items ≡ marks.old.items ++ (if is_start packet then rows ∷ [] else [])) }
+    ensures err { IfErr result (λ e. e ≡ OutOfMemory) }
+{
+    if !is_start(packet) {
+        return Ok(());
+    }
+    if let Err(_) = marks.push(rows) {
+        return Err(PathFault::OutOfMemory);
+    }
+    Ok(())
+}
+
 /// A walk over the packets of a stretch, from its first packet on, which may make so many steps.
 pub fn walk_stretch(
     alloc: Global,
     program: &Program<'_>,
     room: usize,
     head: Begin<'_>,
-) -> Result<Walk, PathFault>
+) -> Result<Stretch, PathFault>
     requires starts { starts (Some head.first) ≡ true }
     requires few { (later : List Packet) × Hold (rest_of head.later) later × (head.number + 1 + length later < 2 ^ 32) }
-    ensures ok { (later : List Packet) → Hold (rest_of head.entry.later) later → IfOk result (λ w. (legs : List (List StepRow)) × Stands (code_of program.now) (earlier_by (record { number = head.entry.number; room = room }) (reverse (head.entry.first ∷ same_stretch false later)) legs) w) }
+    ensures ok { (later : List Packet) → Hold (rest_of head.entry.later) later → IfOk result (λ w. (legs : List (List StepRow)) × Stands (code_of program.now) (earlier_by (record { number = head.entry.number; room = room }) (reverse (head.entry.first ∷ same_stretch false later)) legs) w.walk × (w.marks.items ≡ marks (code_of program.now) (reverse (head.entry.first ∷ same_stretch false later)) legs)) }
     ensures err { (later : List Packet) → Hold (rest_of head.entry.later) later → IfErr result (λ e. (e ≡ OutOfMemory) ⊎ StopsAt (code_of program.now) (record { number = head.entry.number; room = room }) (head.entry.first ∷ same_stretch false later) e) }
 {
     let mut walk = Walk::begin(alloc, program, head.number, room, head.first)?;
+    let mut marks = Vec::new(alloc);
+    add_mark(&mut marks, head.first, walk.steps.len() as usize)?;
     let mut rest = head.later;
     let mut number = head.number + 1;
     let mut near = *program;
     while let Some(packet) = next_of_stretch(&mut rest, walk.waiting) {
         near = near.near(walk.at);
         walk.follow(&near, number, packet)?;
+        add_mark(&mut marks, packet, walk.steps.len() as usize)?;
         number += 1;
     }
-    Ok(walk)
+    Ok(Stretch { walk, marks })
 }

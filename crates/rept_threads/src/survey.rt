@@ -1,7 +1,7 @@
 //! What several streams tell before a row is walked.
 
-ghost use Rattle.std.specs.Prelude.{◌≡◌, ◌⊎◌, ◌<◌, ◌^◌, ℕ, List, length, map, IfOk, IfErr, MatchResult};
-ghost use Rattle.std.specs.List.{sum_by};
+ghost use Rattle.std.specs.Prelude.{◌≡◌, ◌⊎◌, ◌+◌, ◌<◌, ◌^◌, nat_lt, ℕ, List, length, map, IfOk, IfErr, MatchResult};
+ghost use Rattle.std.specs.List.{sum_by, filter_map};
 ghost use Rattle.rept_trace.specs.declared.packet.Packet.{Packet};
 ghost use Rattle.rept_path.specs.declared.fault.PathFault.{PathFault};
 ghost use Rattle.rept_path.specs.declared.fault.PathFault.TheVariants.{OutOfMemory};
@@ -9,9 +9,12 @@ ghost use Rattle.rept_threads.specs.Entries.{AreTold};
 ghost use Rattle.rept_threads.specs.Lefts.{AreLeft};
 ghost use Rattle.rept_threads.specs.Parts.{Left, told};
 ghost use Rattle.rept_threads.specs.Raw.{IsRefusedBefore, PassBefore};
-ghost use Rattle.rept_threads.specs.Skipping.{windows as all_windows, full_from, from_time, kept};
+ghost use Rattle.rept_threads.specs.Skipping.{windows as all_windows, opening, full_from, from_time, kept};
+ghost use Rattle.rept_threads.specs.Surveyed.{IsSurvey};
+ghost use Rattle.rept_threads.specs.declared.reading.Window.{Window};
 
 use crate::checks::refused_before;
+use crate::dark::{packets, several, skipped};
 use crate::keeping::{full_from, keep_from};
 use crate::reading::{Window, read_all};
 use crate::strangers::refused_by_threads;
@@ -27,15 +30,23 @@ pub struct Survey<'a> {
     pub windows: Vec<Entry<'a>>,
     /// The time from which on all streams tell.
     pub time: u64,
+    /// Whether two or more streams have a window.
+    pub several: bool,
     /// The slices that are left from that time on.
     pub slices: Vec<Entry<'a>>,
+    /// How many packets all streams have, and how many of them are skipped.
+    pub packets: u32,
+    pub skipped: u32,
 }
 
 /// The slices of what is left of streams, and those that are left from the time on from which all of them tell.
 fn tell_slices<'a>(alloc: Global, windows: &[Window<'a>]) -> Result<Survey<'a>, PathFault>
-    requires { (lefts : List Left) × AreLeft windows.now lefts }
+    requires left { (lefts : List Left) × AreLeft windows.now lefts }
+    requires few { sum_by (λ (w : Window). w.count) windows.now < 2 ^ 32 }
     ensures ok { (lefts : List Left) → AreLeft windows.now lefts →
-        IfOk result (λ s. AreTold s.windows.items (told lefts) × (s.time ≡ full_from lefts) × AreTold s.slices.items (told (map (from_time (full_from lefts)) lefts))) }
+        IfOk result (λ s. AreTold s.windows.items (told lefts) × (s.time ≡ full_from lefts) × (s.several ≡ nat_lt 1 (length (filter_map opening lefts))) × AreTold s.slices.items (told (map (from_time (full_from lefts)) lefts))) }
+    ensures packets { IfOk result (λ s. s.packets ≡ sum_by (λ (w : Window). w.count) windows.now) }
+    ensures skipped { (lefts : List Left) → AreLeft windows.now lefts → IfOk result (λ s. s.skipped + sum_by (λ (l : Left). length l.packets) (map (from_time (full_from lefts)) lefts) ≡ sum_by (λ (w : Window). w.count) windows.now) }
     ensures err { IfErr result (λ e. e ≡ OutOfMemory) }
 {
     let time = full_from(windows);
@@ -45,7 +56,10 @@ fn tell_slices<'a>(alloc: Global, windows: &[Window<'a>]) -> Result<Survey<'a>, 
     Ok(Survey {
         windows: told,
         time,
+        several: several(windows),
         slices,
+        packets: packets(windows),
+        skipped: skipped(&left),
     })
 }
 
@@ -57,7 +71,7 @@ fn survey_once<'a>(
     from: u32,
 ) -> Result<Survey<'a>, PathFault>
     requires { sum_by (λ bytes. length bytes) streams.now.streams < 2 ^ 32 }
-    ensures ok { IfOk result (λ s. (lists : List (List Packet)) × PassBefore (record { file = streams.now; processes = processes.now; from = from }) lists × AreTold s.windows.items (told (all_windows from lists)) × (s.time ≡ full_from (all_windows from lists)) × AreTold s.slices.items (told (kept from lists))) }
+    ensures ok { IfOk result (λ s. (lists : List (List Packet)) × PassBefore (record { file = streams.now; processes = processes.now; from = from }) lists × IsSurvey from lists s) }
     ensures err { IfErr result (λ e. (e ≡ OutOfMemory) ⊎ IsRefusedBefore (record { file = streams.now; processes = processes.now; from = from }) e) }
 {
     let windows = read_all(alloc, streams, from)?;
@@ -82,7 +96,7 @@ pub fn survey_all<'a>(
     from: u32,
 ) -> Result<Survey<'a>, PathFault>
     requires { sum_by (λ bytes. length bytes) streams.now.streams < 2 ^ 32 }
-    ensures ok { IfOk result (λ s. (lists : List (List Packet)) × PassBefore (record { file = streams.now; processes = processes.now; from = from }) lists × AreTold s.windows.items (told (all_windows from lists)) × (s.time ≡ full_from (all_windows from lists)) × AreTold s.slices.items (told (kept from lists))) }
+    ensures ok { IfOk result (λ s. (lists : List (List Packet)) × PassBefore (record { file = streams.now; processes = processes.now; from = from }) lists × IsSurvey from lists s) }
     ensures err { IfErr result (λ e. (e ≡ OutOfMemory) ⊎ IsRefusedBefore (record { file = streams.now; processes = processes.now; from = from }) e) }
 
     // They tell nothing else, and are refused for nothing else.

@@ -33,7 +33,7 @@ pub struct Entry<'a> {
 }
 
 /// Whether a packet is a start packet.
-fn is_start(packet: Packet) -> bool
+pub fn is_start(packet: Packet) -> bool
     ensures { result ≡ is_start packet }
 {
     matches!(packet, Packet::Start { .. })

@@ -3,8 +3,8 @@ use Rattle.rept_threads.specs.declared.reading.Window.{Window}
 use Rattle.rept_threads.proofs.KeepLemmas.{is_kept}
 use Rattle.rept_threads.proofs.keeping.kept.Goals as goal
 
-pub returns : goal.returns
-returns c = λ l is.
+pub returns-clause-left : goal.returns-clause-left
+returns-clause-left c = λ l is.
     let w = c.args.window.now in
     let new : Window = record { stream = w.stream; number = w.number; packets = w.packets; count = w.count; begin = c.kept_begin-begin.result } in
-    is_kept c.args.time w l is new refl refl (c.kept_begin-begin.ensures l is)
+    is_kept c.args.time w l is new refl refl refl (c.kept_begin-begin.ensures l is)

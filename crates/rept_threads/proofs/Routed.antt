@@ -1,0 +1,147 @@
+-- A route over the packets of a stretch, oldest first.
+use Rattle.std.proofs.Common.{◌≡◌, ℕ, ◌+◌, List, [], ◌∷◌, ◌++◌, length, reverse, Bool, true, false, cond, refl, sym, ◌∙◌, ap, subst, arith, append_assoc, length-append}
+use Rattle.std.proofs.lemmas.List.{append-nil, reverse-append, reverse-reverse}
+use Rattle.std.proofs.lemmas.Grind.{flat_map-append}
+use Rattle.rept_isa.specs.declared.row.StepRow.{StepRow}
+use Rattle.rept_trace.specs.declared.packet.Packet.{Packet}
+use Rattle.rept_trace.specs.declared.packet.Packet.TheVariants.{Start, Context, Support, Address, Map, MapAddress}
+use Rattle.rept_path.specs.Code.{Code}
+use Rattle.rept_path.specs.Packets.{begins, waiting, waits_after}
+use Rattle.rept_path.specs.Route.{Met, WaitingLeg, FirstLeg, Origin, Route, met_by, place}
+use Rattle.rept_path.proofs.PathFacts.{rows_after}
+use Rattle.rept_path.proofs.Waiting.{LegIn}
+use Rattle.rept_threads.specs.Stamps.{is_start}
+use Rattle.rept_threads.specs.Stretches.{same_stretch, marks}
+use Rattle.rept_threads.proofs.Packs.{rows_by, counts_from, Cut}
+
+-- No packet begins a stretch.
+abbrev pub NoneBegins : Bool → List Packet → Type 0
+NoneBegins waits [] = Unit {0}
+NoneBegins waits (p ∷ ps) = (begins p waits ≡ false) × NoneBegins (waits_after p waits) ps
+
+pub none_begins : (waits : Bool) (later : List Packet) → NoneBegins waits (same_stretch waits later)
+none_begins waits [] = tt
+none_begins waits (p ∷ later) = go (begins p waits) refl (none_begins (waits_after p waits) later) where
+  rest : List Packet
+  rest = same_stretch (waits_after p waits) later
+
+  go : (b : Bool) → begins p waits ≡ b → NoneBegins (waits_after p waits) rest → NoneBegins waits (cond b [] (p ∷ rest))
+  go true is more = tt
+  go false is more = (is, more)
+
+module _ (code : Code) (origin : Origin) where
+  waits_empty : (p : Packet) (met : Met) (leg : List StepRow) → begins p true ≡ false → WaitingLeg code p met leg → leg ≡ []
+  waits_empty (Start branch privilege a time context) met leg h x = absurd (cc)
+  waits_empty (Address report) met leg h x = elim x [ ]
+  waits_empty (MapAddress count map report) met leg h x = elim x [ ]
+  waits_empty (Map map) met leg h x = elim x [ ]
+  waits_empty (Context privilege time context) met leg h x = x
+  waits_empty (Support enabled status) met leg h x = x
+
+  leg_empty : (p : Packet) (waits : Bool) (met : Met) (leg : List StepRow) → begins p waits ≡ false → LegIn code p waits met leg → waits ≡ true → leg ≡ []
+  leg_empty p true met leg h x w = waits_empty p met leg h x
+  leg_empty p false met leg h x w = absurd (cc)
+
+-- the legs of the later packets, oldest first, and those of the earlier ones
+pub record Parted (code : Code) (origin : Origin) (ps done : List Packet) (legs : List (List StepRow)) : Type 0 where
+  pub later : List (List StepRow)
+  pub before : List (List StepRow)
+  pub same : legs ≡ reverse later ++ before
+  pub route : Route code origin done before
+  pub cut : Cut (waiting done) ps later
+
+module _ (code : Code) (origin : Origin) where
+  part : (ps : List Packet) (d : Packet) (ds : List Packet) (legs : List (List StepRow)) → Route code origin (reverse ps ++ d ∷ ds) legs → NoneBegins (waiting (d ∷ ds)) ps → Parted code origin ps (d ∷ ds) legs
+  unfolding waiting
+  part [] d ds legs r n = record { later = []; before = legs; same = refl; route = r; cut = refl }
+  part (p ∷ ps) d ds legs r n =
+      let e : reverse (p ∷ ps) ++ d ∷ ds ≡ reverse ps ++ p ∷ (d ∷ ds) = ap (λ (xs : List Packet). xs ++ d ∷ ds) (reverse-append (p ∷ []) ps) ∙ append_assoc (reverse ps) (p ∷ []) (d ∷ ds) in
+      let q = part ps p (d ∷ ds) legs (subst (λ (xs : List Packet). Route code origin xs legs) e r) n.1 in
+      go q.later q.before q.same q.route q.cut
+    where
+      go : (later before : List (List StepRow)) → legs ≡ reverse later ++ before → Route code origin (p ∷ (d ∷ ds)) before → Cut (waiting (p ∷ (d ∷ ds))) ps later → Parted code origin (p ∷ ps) (d ∷ ds) legs
+      go later [] s x c = elim x [ ]
+      go later (l ∷ ls) s x c = record {
+        later = l ∷ later;
+        before = ls;
+        same = s ∙ sym (ap (λ (xs : List (List StepRow)). xs ++ ls) (reverse-append (l ∷ []) later) ∙ append_assoc (reverse later) (l ∷ []) ls);
+        route = x.1;
+        cut = ((λ w. leg_empty code origin p (waiting (d ∷ ds)) (met_by code origin (d ∷ ds) ls) l n.0 x.0 w), c);
+      }
+
+  -- the rows of a route, oldest first
+  rows_place : (ps : List Packet) (ls : List (List StepRow)) → Route code origin ps ls → reverse (place code ps ls).rows ≡ rows_by (reverse ls)
+  unfolding place
+  rows_place [] [] x = refl
+  rows_place [] (l ∷ ls) x = elim x [ ]
+  rows_place (p ∷ ps) [] x = elim x [ ]
+  rows_place (p ∷ ps) (l ∷ ls) x =
+      let here : (place code (p ∷ ps) (l ∷ ls)).rows ≡ l ++ (place code ps ls).rows = rows_after code p (waiting ps) (place code ps ls) l in
+      let one : rows_by (reverse (l ∷ ls)) ≡ rows_by (reverse ls) ++ (reverse l ++ []) = ap rows_by (reverse-append (l ∷ []) ls) ∙ flat_map-append reverse (reverse ls) (l ∷ []) in
+      ap reverse here ∙ reverse-append l (place code ps ls).rows ∙ ap (λ (xs : List StepRow). xs ++ reverse l) (rows_place ps ls x.1) ∙ ap (λ (xs : List StepRow). rows_by (reverse ls) ++ xs) (sym (append-nil (reverse l))) ∙ sym one
+
+  marks_from : (waits : Bool) (ps : List Packet) (ls : List (List StepRow)) (done : List Packet) (before : List (List StepRow)) → Cut waits ps ls
+      → marks code (reverse ps ++ done) (reverse ls ++ before) ≡ marks code done before ++ counts_from (length (place code done before).rows) ps ls
+  unfolding place
+  marks_from waits [] [] done before c = sym (append-nil (marks code done before))
+  marks_from waits [] (l ∷ ls) done before c = absurd (cc)
+  marks_from waits (p ∷ ps) [] done before c = absurd c
+  marks_from waits (p ∷ ps) (l ∷ ls) done before c =
+      let n = length (place code done before).rows in
+      let e : reverse (p ∷ ps) ++ done ≡ reverse ps ++ p ∷ done = ap (λ (xs : List Packet). xs ++ done) (reverse-append (p ∷ []) ps) ∙ append_assoc (reverse ps) (p ∷ []) done in
+      let f : reverse (l ∷ ls) ++ before ≡ reverse ls ++ l ∷ before = ap (λ (xs : List (List StepRow)). xs ++ before) (reverse-append (l ∷ []) ls) ∙ append_assoc (reverse ls) (l ∷ []) before in
+      let here : (place code (p ∷ done) (l ∷ before)).rows ≡ l ++ (place code done before).rows = rows_after code p (waiting done) (place code done before) l in
+      let long = ap (length {A = StepRow}) here in
+      let m : length (place code (p ∷ done) (l ∷ before)).rows ≡ length (place code done before).rows + length l = omega (arith, long, length-append l (place code done before).rows) in
+      let h = marks_from (waits_after p waits) ps ls (p ∷ done) (l ∷ before) c.1 in
+      ap (λ (xs : List Packet). marks code xs (reverse (l ∷ ls) ++ before)) e ∙ ap (λ (xs : List (List StepRow)). marks code (reverse ps ++ p ∷ done) xs) f ∙ h
+      ∙ append_assoc (marks code done before) (cond (is_start p) (length (place code (p ∷ done) (l ∷ before)).rows ∷ []) []) (counts_from (length (place code (p ∷ done) (l ∷ before)).rows) ps ls)
+      ∙ ap (λ (k : ℕ). marks code done before ++ (cond (is_start p) (k ∷ []) [] ++ counts_from k ps ls)) m
+
+-- The legs of a stretch, oldest first.
+pub record Rowed (code : Code) (first : Packet) (ps : List Packet) (legs : List (List StepRow)) : Type 0 where
+  pub later : List (List StepRow)
+  pub all : reverse legs ≡ [] ∷ later
+  pub cut : Cut false (first ∷ ps) ([] ∷ later)
+  pub marked : marks code (reverse (first ∷ ps)) legs ≡ counts_from 0 (first ∷ ps) ([] ∷ later)
+  pub rows : reverse (place code (reverse (first ∷ ps)) legs).rows ≡ rows_by ([] ∷ later)
+
+first_empty : (code : Code) (p : Packet) (leg : List StepRow) → FirstLeg code p leg → leg ≡ []
+first_empty code (Start branch privilege a time context) leg x = x.1
+first_empty code (Address report) leg x = elim x [ ]
+first_empty code (MapAddress count map report) leg x = elim x [ ]
+first_empty code (Map map) leg x = elim x [ ]
+first_empty code (Context privilege time context) leg x = elim x [ ]
+first_empty code (Support enabled status) leg x = elim x [ ]
+
+pub rowed : (code : Code) (origin : Origin) (first : Packet) (ps : List Packet) (legs : List (List StepRow)) → ((b : Bool) → waits_after first b ≡ false) → NoneBegins false ps → Route code origin (reverse (first ∷ ps)) legs → Rowed code first ps legs
+unfolding waiting place
+rowed code origin first ps legs runs n r =
+    let e : reverse (first ∷ ps) ≡ reverse ps ++ first ∷ [] = reverse-append (first ∷ []) ps in
+    let w : waiting (first ∷ []) ≡ false = runs true in
+    let q = part code origin ps first [] legs (subst (λ (xs : List Packet). Route code origin xs legs) e r) (subst (λ (b : Bool). NoneBegins b ps) (sym w) n) in
+    go q.later q.before q.same q.route (subst (λ (b : Bool). Cut b ps q.later) w q.cut)
+  where
+    whole : (later : List (List StepRow)) (l : List StepRow) → l ≡ [] → legs ≡ reverse later ++ l ∷ [] → Cut false ps later → Rowed code first ps legs
+    whole later l empty s c =
+        let legs_are : legs ≡ reverse later ++ [] ∷ [] = s ∙ ap (λ (x : List StepRow). reverse later ++ x ∷ []) empty in
+        let legs_back : legs ≡ reverse ([] ∷ later) = legs_are ∙ sym (reverse-append ([] ∷ []) later) in
+        let all : reverse legs ≡ [] ∷ later = ap reverse legs_back ∙ reverse-reverse ([] ∷ later) in
+        let cut : Cut false (first ∷ ps) ([] ∷ later) = ((λ x. refl), subst (λ (b : Bool). Cut b ps later) (sym (runs false)) c) in
+        record {
+          later = later;
+          all = all;
+          cut = cut;
+          marked =
+              let m = marks_from code origin false (first ∷ ps) ([] ∷ later) [] [] cut in
+              ap (marks code (reverse (first ∷ ps))) legs_back ∙ ap (λ (xs : List Packet). marks code xs (reverse ([] ∷ later))) (sym (append-nil (reverse (first ∷ ps)))) ∙ ap (marks code (reverse (first ∷ ps) ++ [])) (sym (append-nil (reverse ([] ∷ later)))) ∙ m ∙ start;
+          rows = rows_place code origin (reverse (first ∷ ps)) legs r ∙ ap rows_by all;
+        }
+      where
+        start : marks code [] [] ++ counts_from (length (place code [] []).rows) (first ∷ ps) ([] ∷ later) ≡ counts_from 0 (first ∷ ps) ([] ∷ later)
+        start = refl
+
+    go : (later before : List (List StepRow)) → legs ≡ reverse later ++ before → Route code origin (first ∷ []) before → Cut false ps later → Rowed code first ps legs
+    go later [] s x c = elim x [ ]
+    go later (l ∷ []) s x c = whole later l (first_empty code first l x.0) s c
+    go later (l ∷ (k ∷ ls)) s x c = elim x.1 [ ]

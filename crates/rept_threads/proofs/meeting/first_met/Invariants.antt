@@ -1,0 +1,9 @@
+use Rattle.std.proofs.Common.{List, drop}
+use Rattle.rept_threads.specs.Parts.{Told}
+use Rattle.rept_threads.specs.Entries.{AreTold}
+use Rattle.rept_threads.specs.Kept.{InTurn}
+use Rattle.rept_threads.proofs.MeetLemmas.{Meets, slices_in}
+use Rattle.rept_threads.proofs.meeting.first_met.Given as goal
+
+abbrev pub invariant-loop-i : goal.invariant-loop-i
+invariant-loop-i l = (ts : List Told) → AreTold (slices_in l.slices) ts → InTurn ts → Meets ts (drop l.i l.slices)
