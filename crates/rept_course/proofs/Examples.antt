@@ -4,11 +4,11 @@ use Rattle.rept_isa.specs.declared.instr.Instr.{Instr}
 use Rattle.rept_steps.specs.Course.{Course, row_of}
 use Rattle.rept_order.specs.Moments.Moment.{before, after, at_end}
 use Rattle.rept_order.proofs.Examples.{beside, reserve, try, blind_try, swap}
-use Rattle.rept_course.specs.Making.{name_in}
+use Rattle.rept_course.specs.Making.{names_in}
 
 -- whether the moments after row 1 and before row 2 of the first thread go by one name, so that a byte needs no step from the one to the other
 abbrev go_by_one_name : Instr → Bool
-go_by_one_name instr = name_in (beside instr) (after (row_of 0 1)) == name_in (beside instr) (before (row_of 0 2))
+go_by_one_name instr = (names_in (beside instr)).name (after (row_of 0 1)) == (names_in (beside instr)).name (before (row_of 0 2))
 
 one_beside_a_reserve : go_by_one_name reserve ≡ true
 one_beside_a_reserve = refl

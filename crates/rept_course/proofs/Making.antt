@@ -13,7 +13,7 @@ use Rattle.rept_order.proofs.Falling.{falls_true, falls_from}
 use Rattle.rept_order.proofs.Between.{row_forward, none_inside}
 use Rattle.rept_order.proofs.Nexts.{In, every, listed}
 use Rattle.rept_course.specs.Names.{IsLink, AreNames}
-use Rattle.rept_course.specs.Making.{moments_in, still_by, rows_still, is_still, next_point, last_of, holds, keeps, lasts, named_in, rank, ranked, from_one, from_each, first_that, none_between, is_next, own_by, is_own, name_in, is_link, else_first, link_in, names_in}
+use Rattle.rept_course.specs.Making.{moments_in, still_by, rows_still, is_still, next_point, last_of, holds, keeps, lasts, named_by, rank, ranked, from_one, from_each, first_that, none_between, is_next, own_by, is_own, name_by, is_link, else_first, link_by, names_by, names_in, Has, IsListing}
 use Rattle.rept_course.proofs.Naming.{can, not_true, pause_in_order}
 
 moment_true : (m w : Moment) → same_moment m w ≡ true → m ≡ w
@@ -359,7 +359,17 @@ own_true C (before q) at_end e = absurd (false≢true e)
 own_true C (after q) w e = absurd (false≢true e)
 own_true C at_end w e = absurd (false≢true e)
 
-module _ (C : Course) (sound : IsSound C) where
+has_in : (xs : List Moment) (m : Moment) → Has xs m → In xs m
+has_in [] m h = h
+has_in (x ∷ xs) m (inl same) = inl same
+has_in (x ∷ xs) m (inr h) = inr (has_in xs m h)
+
+in_has : (xs : List Moment) (m : Moment) → In xs m → Has xs m
+in_has [] m h = h
+in_has (x ∷ xs) m (inl same) = inl same
+in_has (x ∷ xs) m (inr h) = inr (in_has xs m h)
+
+module _ (C : Course) (sound : IsSound C) (L : List Moment) (is_list : IsListing C L) where
   none_true : (x : Stretch) (ms : List Moment) → IsMoment C x.from → IsMoment C x.to → none_between C x ms ≡ true → (z : Moment) → In ms z → Earlier C x.from z → Earlier C z x.to → ⊥
   none_true x [] from to e z h one other = h
   none_true x (m ∷ ms) from to e z (inl same) one other = not_true (is_earlier C x.from m && is_earlier C m x.to) (and_parts (not (is_earlier C x.from m && is_earlier C m x.to)) (none_between C x ms) e).0 (and_from (is_earlier C x.from m) (is_earlier C m x.to) (earlier_from C sound x.from m (subst (λ (y : Moment). Earlier C x.from y) (sym same) one)) (earlier_from C sound m x.to (subst (λ (y : Moment). Earlier C y x.to) (sym same) other)))
@@ -392,72 +402,79 @@ module _ (C : Course) (sound : IsSound C) where
         | inr out ↦ inr (λ same. false≢true (sym out ∙ same_from at_end m same))
       ]
 
-  last_in : (m : Moment) → IsMoment C m → last_of C m ≡ m → In (named_in C) m
+  last_in : (m : Moment) → IsMoment C m → last_of C m ≡ m → In (named_by C L) m
   last_in m is own =
       elim (cases_end m) [
         | inl same ↦ inl same
-        | inr other ↦ inr (in_lasts C (moments_in C) m (every C m is) own other)
+        | inr other ↦ inr (in_lasts C L m (has_in L m (is_list.all m is other)) own other)
       ]
 
-  in_last : (m : Moment) → In (named_in C) m → IsMoment C m × (last_of C m ≡ m)
+  in_last : (m : Moment) → In (named_by C L) m → IsMoment C m × (last_of C m ≡ m)
   in_last m (inl same) = (subst (λ (y : Moment). IsMoment C y) same tt, subst (λ (y : Moment). last_of C y ≡ y) same refl)
-  in_last m (inr h) = let its = lasts_in C (moments_in C) m h in (listed C (length C.threads) m its.0, its.1)
+  in_last m (inr h) = let its = lasts_in C L m h in (is_list.only m (in_has L m its.0), its.1)
 
-  distinct_named : Distinct (named_in C)
-  distinct_named = (λ h. (lasts_in C (moments_in C) at_end h).2 refl, distinct_lasts C (moments_in C))
+  distinct_named : Distinct (named_by C L)
+  distinct_named = (λ h. (lasts_in C L at_end h).2 refl, distinct_lasts C L)
 
-  last_named : (m : Moment) → IsMoment C m → ranked (named_in C) (name_in C m) ≡ last_of C m
-  last_named m is = at_rank (named_in C) (last_of C m) (last_in (last_of C m) (last_moment C m is) (last_last C m))
+  last_named : (m : Moment) → IsMoment C m → ranked (named_by C L) (name_by C L m) ≡ last_of C m
+  last_named m is = at_rank (named_by C L) (last_of C m) (last_in (last_of C m) (last_moment C m is) (last_last C m))
 
-  link_is : (m w : ℕ) (x : Stretch) → link_in C m w ≡ Some x → (is_link C m w x ≡ true) × InS (from_each (moments_in C) (moments_in C)) x
+  link_is : (m w : ℕ) (x : Stretch) → link_by C L m w ≡ Some x → (is_link C L m w x ≡ true) × InS (from_each (moments_in C) (moments_in C)) x
   link_is m w x e =
-      elim (else_from (first_that (λ y. is_own C y && is_link C m w y) (from_each (moments_in C) (moments_in C))) (first_that (is_link C m w) (from_each (moments_in C) (moments_in C))) x e) [
-        | inl one ↦ let found = first_found (λ y. is_own C y && is_link C m w y) (from_each (moments_in C) (moments_in C)) x one in ((and_parts (is_own C x) (is_link C m w x) found.0).1, found.1)
-        | inr other ↦ first_found (is_link C m w) (from_each (moments_in C) (moments_in C)) x other
+      elim (else_from (first_that (λ y. is_own C y && is_link C L m w y) (from_each (moments_in C) (moments_in C))) (first_that (is_link C L m w) (from_each (moments_in C) (moments_in C))) x e) [
+        | inl one ↦ let found = first_found (λ y. is_own C y && is_link C L m w y) (from_each (moments_in C) (moments_in C)) x one in ((and_parts (is_own C x) (is_link C L m w x) found.0).1, found.1)
+        | inr other ↦ first_found (is_link C L m w) (from_each (moments_in C) (moments_in C)) x other
       ]
 
-  listed_link : (m w : ℕ) (x : Stretch) → is_link C m w x ≡ true → InS (from_each (moments_in C) (moments_in C)) x → IsLink C (names_in C) m w x
+  listed_link : (m w : ℕ) (x : Stretch) → is_link C L m w x ≡ true → InS (from_each (moments_in C) (moments_in C)) x → IsLink C (names_by C L) m w x
   listed_link m w x e there =
       let ends = each_in (moments_in C) (moments_in C) x there in
       let from = listed C (length C.threads) x.from ends.0 in
       let to = listed C (length C.threads) x.to ends.1 in
-      let parts = and_parts (eqb (name_in C x.from) m) (eqb (name_in C x.to) w && is_next C x) e in
-      let others = and_parts (eqb (name_in C x.to) w) (is_next C x) parts.1 in
-      record { from = from; to = to; from_name = eqb-true (name_in C x.from) m parts.0; to_name = eqb-true (name_in C x.to) w others.0; next = next_true x from to others.1 }
+      let parts = and_parts (eqb (name_by C L x.from) m) (eqb (name_by C L x.to) w && is_next C x) e in
+      let others = and_parts (eqb (name_by C L x.to) w) (is_next C x) parts.1 in
+      record { from = from; to = to; from_name = eqb-true (name_by C L x.from) m parts.0; to_name = eqb-true (name_by C L x.to) w others.0; next = next_true x from to others.1 }
 
-  next_link : (m w : Moment) → IsMoment C m → IsMoment C w → IsNext C m w → is_link C (name_in C m) (name_in C w) (stretch m w) ≡ true
-  next_link m w is its next = and_from (eqb (name_in C m) (name_in C m)) (eqb (name_in C w) (name_in C w) && is_next C (stretch m w)) (eq-eqb (name_in C m) (name_in C m) refl) (and_from (eqb (name_in C w) (name_in C w)) (is_next C (stretch m w)) (eq-eqb (name_in C w) (name_in C w) refl) (next_from (stretch m w) is its next))
+  next_link : (m w : Moment) → IsMoment C m → IsMoment C w → IsNext C m w → is_link C L (name_by C L m) (name_by C L w) (stretch m w) ≡ true
+  next_link m w is its next = and_from (eqb (name_by C L m) (name_by C L m)) (eqb (name_by C L w) (name_by C L w) && is_next C (stretch m w)) (eq-eqb (name_by C L m) (name_by C L m) refl) (and_from (eqb (name_by C L w) (name_by C L w)) (is_next C (stretch m w)) (eq-eqb (name_by C L w) (name_by C L w) refl) (next_from (stretch m w) is its next))
 
   own_next : (r : Row) → IsRow C r → calls C r ≡ false → IsNext C (before r) (after r)
   own_next r is plain = record { later = (row_forward C r is, λ same. before_after same); none = λ z its one other. none_inside C sound r z plain one other }
 
-  own_link : (r : Row) → IsRow C r → calls C r ≡ false → link_in C (name_in C (before r)) (name_in C (after r)) ≡ Some (stretch (before r) (after r))
+  own_link : (r : Row) → IsRow C r → calls C r ≡ false → link_by C L (name_by C L (before r)) (name_by C L (after r)) ≡ Some (stretch (before r) (after r))
   own_link r is plain =
-      let test : Stretch → Bool = λ y. is_own C y && is_link C (name_in C (before r)) (name_in C (after r)) y in
+      let test : Stretch → Bool = λ y. is_own C y && is_link C L (name_by C L (before r)) (name_by C L (after r)) y in
       let there = in_each (moments_in C) (moments_in C) (before r) (after r) (every C (before r) is) (every C (after r) is) in
       let own : own_by C (before r) (after r) ≡ true = and_from (same_row r r) (not (calls C r)) (row_self r r refl) (ap not plain) in
-      let fits = and_from (is_own C (stretch (before r) (after r))) (is_link C (name_in C (before r)) (name_in C (after r)) (stretch (before r) (after r))) own (next_link (before r) (after r) is is (own_next r is plain)) in
+      let fits = and_from (is_own C (stretch (before r) (after r))) (is_link C L (name_by C L (before r)) (name_by C L (after r)) (stretch (before r) (after r))) own (next_link (before r) (after r) is is (own_next r is plain)) in
       let some = some_of (first_that test (from_each (moments_in C) (moments_in C))) (first_exists test (from_each (moments_in C) (moments_in C)) (stretch (before r) (after r)) there fits) in
       let found = first_found test (from_each (moments_in C) (moments_in C)) some.0 some.1 in
-      let parts = and_parts (is_own C some.0) (is_link C (name_in C (before r)) (name_in C (after r)) some.0) found.0 in
-      let link = listed_link (name_in C (before r)) (name_in C (after r)) some.0 parts.1 found.1 in
+      let parts = and_parts (is_own C some.0) (is_link C L (name_by C L (before r)) (name_by C L (after r)) some.0) found.0 in
+      let link = listed_link (name_by C L (before r)) (name_by C L (after r)) some.0 parts.1 found.1 in
       let its = own_true C some.0.from some.0.to parts.0 in
       let from_is : last_of C some.0.from ≡ some.0.from = ap (last_of C) its.1 ∙ sym its.1 in
-      let same : before its.0 ≡ before r = sym its.1 ∙ sym from_is ∙ sym (last_named some.0.from link.from) ∙ ap (ranked (named_in C)) link.from_name ∙ last_named (before r) is in
+      let same : before its.0 ≡ before r = sym its.1 ∙ sym from_is ∙ sym (last_named some.0.from link.from) ∙ ap (ranked (named_by C L)) link.from_name ∙ last_named (before r) is in
       let row_is : its.0 ≡ r = before_same same in
       let whole : some.0 ≡ stretch (before r) (after r) = ap (λ (y : Moment). stretch y some.0.to) its.1 ∙ ap (λ (y : Moment). stretch (before its.0) y) its.2 ∙ ap (λ (q : Row). stretch (before q) (after q)) row_is in
-      ap (λ (o : Option Stretch). else_first o (first_that (is_link C (name_in C (before r)) (name_in C (after r))) (from_each (moments_in C) (moments_in C)))) some.1 ∙ ap (λ (y : Stretch). Some y) whole
+      ap (λ (o : Option Stretch). else_first o (first_that (is_link C L (name_by C L (before r)) (name_by C L (after r))) (from_each (moments_in C) (moments_in C)))) some.1 ∙ ap (λ (y : Stretch). Some y) whole
 
-  pub are_names : AreNames C (names_in C)
-  are_names = record {
-    one = λ x one. ap (rank (named_in C)) (one_last C sound x one);
+  pub are_names_by : AreNames C (names_by C L)
+  are_names_by = record {
+    one = λ x one. ap (rank (named_by C L)) (one_last C sound x one);
     own = λ m is. subst (λ (y : Moment). (m ≡ y) ⊎ AreOne C (stretch m y)) (sym (last_named m is)) (last_one C sound m is);
-    few = λ m is. let low = rank_below (named_in C) (last_of C m) (last_in (last_of C m) (last_moment C m is) (last_last C m)) in omega arith;
+    few = λ m is. let low = rank_below (named_by C L) (last_of C m) (last_in (last_of C m) (last_moment C m is) (last_last C m)) in omega arith;
     named = λ n early.
-        let its = in_last (ranked (named_in C) n) (ranked_in (named_in C) n (omega arith)) in
-        (its.0, ap (rank (named_in C)) its.1 ∙ rank_ranked (named_in C) n distinct_named (omega arith));
+        let its = in_last (ranked (named_by C L) n) (ranked_in (named_by C L) n (omega arith)) in
+        (its.0, ap (rank (named_by C L)) its.1 ∙ rank_ranked (named_by C L) n distinct_named (omega arith));
     end = refl;
     links = λ m w x e. let its = link_is m w x e in listed_link m w x its.0 its.1;
-    linked = λ m w is its next other. else_some (first_that (λ y. is_own C y && is_link C (name_in C m) (name_in C w) y) (from_each (moments_in C) (moments_in C))) (first_that (is_link C (name_in C m) (name_in C w)) (from_each (moments_in C) (moments_in C))) (first_exists (is_link C (name_in C m) (name_in C w)) (from_each (moments_in C) (moments_in C)) (stretch m w) (in_each (moments_in C) (moments_in C) m w (every C m is) (every C w its)) (next_link m w is its next));
+    linked = λ m w is its next other. else_some (first_that (λ y. is_own C y && is_link C L (name_by C L m) (name_by C L w) y) (from_each (moments_in C) (moments_in C))) (first_that (is_link C L (name_by C L m) (name_by C L w)) (from_each (moments_in C) (moments_in C))) (first_exists (is_link C L (name_by C L m) (name_by C L w)) (from_each (moments_in C) (moments_in C)) (stretch m w) (in_each (moments_in C) (moments_in C) m w (every C m is) (every C w its)) (next_link m w is its next));
     rows = λ r is plain. own_link r is plain;
   }
+
+-- all moments of a course, thread by thread, are such a list
+all_listed : (C : Course) → IsListing C (moments_in C)
+all_listed C = record { all = λ m is other. in_has (moments_in C) m (every C m is); only = λ m h. listed C (length C.threads) m (has_in (moments_in C) m h) }
+
+pub are_names : (C : Course) → IsSound C → AreNames C (names_in C)
+are_names C sound = are_names_by C sound (moments_in C) (all_listed C)

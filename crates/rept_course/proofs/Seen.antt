@@ -7,7 +7,6 @@ use mathlib.Core.Path.{fun_ext}
 use Rattle.rept_isa.specs.declared.instr.Instr.{Instr}
 use Rattle.rept_isa.specs.declared.instr.Instr.TheVariants.{Ecall}
 use Rattle.rept_isa.specs.declared.row.StepRow.{StepRow}
-use Rattle.rept_machine.specs.State.{State}
 use Rattle.rept_machine.specs.Step.{IsStep}
 use Rattle.rept_steps.specs.declared.threads.ThreadRows.{ThreadRows}
 use Rattle.rept_steps.specs.Course.{no_thread, Course, Row, rows_of, IsRow, row_at, is_call, is_call_row, calls, IsSound}

@@ -1,9 +1,9 @@
--- Names for any course: each moment goes by the last one that it is one with, and these are numbered in the order of a list, the end
--- last. This project's own.
-use Rattle.std.specs.Prelude.{ℕ, suc, ◌==◌, ◌&&◌, ◌||◌, not, if◌then◌else◌, Bool, true, false, List, [], ◌∷◌, ◌++◌, length, Option, Some, None}
+-- Names for any course: each moment goes by the last one that it is one with, and these are numbered in the order of any list of the
+-- moments, from its back, the end last. This project's own.
+use Rattle.std.specs.Prelude.{◌≡◌, ◌≢◌, ◌⊎◌, ℕ, suc, ◌==◌, ◌&&◌, ◌||◌, not, if◌then◌else◌, Bool, true, false, List, [], ◌∷◌, ◌++◌, length, Option, Some, None}
 use Rattle.std.specs.Option.{is_some}
 use Rattle.rept_steps.specs.Course.{Course, Row, calls}
-use Rattle.rept_order.specs.Moments.{Moment, Stretch, stretch, stores}
+use Rattle.rept_order.specs.Moments.{Moment, IsMoment, Stretch, stretch, stores}
 use Rattle.rept_order.specs.Moments.Moment.{before, after, at_end}
 use Rattle.rept_order.specs.Moments.Act.{row, dark}
 use Rattle.rept_order.specs.Points.{moment_of}
@@ -47,8 +47,8 @@ abbrev pub lasts : Course → List Moment → List Moment
 lasts C [] = []
 lasts C (x ∷ xs) = if keeps C (lasts C xs) x then x ∷ lasts C xs else lasts C xs
 
-abbrev pub named_in : Course → List Moment
-named_in C = at_end ∷ lasts C (moments_in C)
+abbrev pub named_by : Course → List Moment → List Moment
+named_by C L = at_end ∷ lasts C L
 
 -- its place from the end of the list, and back
 abbrev pub rank : List Moment → Moment → ℕ
@@ -87,18 +87,33 @@ own_by C _ _ = false
 abbrev pub is_own : Course → Stretch → Bool
 is_own C x = own_by C x.from x.to
 
-abbrev pub name_in : Course → Moment → ℕ
-name_in C m = rank (named_in C) (last_of C m)
+abbrev pub name_by : Course → List Moment → Moment → ℕ
+name_by C L m = rank (named_by C L) (last_of C m)
 
-abbrev pub is_link : Course → ℕ → ℕ → Stretch → Bool
-is_link C m w x = (name_in C x.from == m) && ((name_in C x.to == w) && is_next C x)
+abbrev pub is_link : Course → List Moment → ℕ → ℕ → Stretch → Bool
+is_link C L m w x = (name_by C L x.from == m) && ((name_by C L x.to == w) && is_next C x)
 
 abbrev pub else_first : Option Stretch → Option Stretch → Option Stretch
 else_first (Some x) other = Some x
 else_first None other = other
 
-abbrev pub link_in : Course → ℕ → ℕ → Option Stretch
-link_in C m w = else_first (first_that (λ x. is_own C x && is_link C m w x) (from_each (moments_in C) (moments_in C))) (first_that (is_link C m w) (from_each (moments_in C) (moments_in C)))
+abbrev pub link_by : Course → List Moment → ℕ → ℕ → Option Stretch
+link_by C L m w = else_first (first_that (λ x. is_own C x && is_link C L m w x) (from_each (moments_in C) (moments_in C))) (first_that (is_link C L m w) (from_each (moments_in C) (moments_in C)))
 
+-- the names by the order of a list
+abbrev pub names_by : Course → List Moment → Names
+names_by C L = record { name = name_by C L; end = length (lasts C L); last = ranked (named_by C L); link = link_by C L }
+
+-- by that of all moments, thread by thread
 abbrev pub names_in : Course → Names
-names_in C = record { name = name_in C; end = length (lasts C (moments_in C)); last = ranked (named_in C); link = link_in C }
+names_in C = names_by C (moments_in C)
+
+-- it is one of the list
+abbrev pub Has : List Moment → Moment → Type 0
+Has [] m = ⊥
+Has (x ∷ xs) m = (x ≡ m) ⊎ Has xs m
+
+-- each moment but the end is in the list, and nothing that is no moment
+pub record IsListing (C : Course) (L : List Moment) : Type 0 where
+  pub all : (m : Moment) → IsMoment C m → at_end ≢ m → Has L m
+  pub only : (m : Moment) → Has L m → IsMoment C m

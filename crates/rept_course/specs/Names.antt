@@ -36,3 +36,7 @@ pub record AreNames (C : Course) (N : Names) : Type 0 where
   pub linked : (m w : Moment) → IsMoment C m → IsMoment C w → IsNext C m w → N.name m ≢ N.name w → N.link (N.name m) (N.name w) ≢ None
   -- between the names of a row that is no call it is by the row's own moments, between which no other row falls
   pub rows : (r : Row) → IsRow C r → calls C r ≡ false → N.link (N.name (before r)) (N.name (after r)) ≡ Some (stretch (before r) (after r))
+
+-- no row that is no call has these names before and after it
+abbrev pub NoOwn : Course → Names → ℕ → ℕ → Type 0
+NoOwn C N m w = (r : Row) → IsRow C r → calls C r ≡ false → N.name (before r) ≡ m → N.name (after r) ≡ w → ⊥

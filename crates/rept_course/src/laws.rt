@@ -1,6 +1,6 @@
 //! Laws of the definitions, over any names of the moments. The calls do nothing.
 
-ghost use Rattle.std.specs.Prelude.{◌≡◌, ◌<◌, ◌↔◌, ℕ, true, List, length, Some};
+ghost use Rattle.std.specs.Prelude.{◌≡◌, ◌<◌, ◌↔◌, ◌&&◌, not, ℕ, true, List, length, Some};
 ghost use Rattle.rept_steps.specs.Course.{Course, Row, IsRow, IsSound};
 ghost use Rattle.rept_order.specs.Moments.{Moment, IsMoment, Act, WhollyBefore, WhollyAfter, Stretch, stretch, stores, IsQuietStep};
 ghost use Rattle.rept_order.specs.History.{History, Ending, IsExecution};
@@ -12,9 +12,9 @@ ghost use Rattle.rept_report.specs.Setting.{Uses};
 ghost use Rattle.rept_report.specs.Spots.{passage};
 ghost use Rattle.rept_report.specs.Views.{Carries};
 ghost use Rattle.rept_report.specs.Runs.{Runs};
-ghost use Rattle.rept_course.specs.Names.{Names, IsLink, AreNames};
+ghost use Rattle.rept_course.specs.Names.{Names, IsLink, AreNames, NoOwn};
 ghost use Rattle.rept_course.specs.Carried.{may_in, CarriedAlong};
-ghost use Rattle.rept_course.specs.Making.{names_in};
+ghost use Rattle.rept_course.specs.Making.{IsListing, names_by, names_in};
 ghost use Rattle.rept_course.specs.Numbered.{legs_on, row_on, moments_of, setting_of, run_seen};
 
 use rept_span::Transfer;
@@ -34,9 +34,10 @@ pub fn executions_are_seen<W: Transfer, R: RowRules>()
     ensures executions { (C : Course) (D : Ending) (N : Names) (h : History) → IsSound C → AreNames C N → 0 < length C.threads → IsExecution C D h → Runs (setting_of W.sets W.moves R.rules C D N) (run_seen N (run_of C h)) }
 {}
 
-/// Each sound course has names for its moments.
+/// Each sound course has names for its moments: by any list of them, and so by that of all, thread by thread.
 pub fn courses_have_names()
-    ensures { (C : Course) → IsSound C → AreNames C (names_in C) }
+    ensures by { (C : Course) (L : List Moment) → IsSound C → IsListing C L → AreNames C (names_by C L) }
+    ensures all { (C : Course) → IsSound C → AreNames C (names_in C) }
 {}
 
 /// A byte that is quiet between two moments, by what is known, is carried step by step from the name of the one to that of the other. What is
@@ -54,4 +55,13 @@ pub fn names_keep_the_order()
     ensures later { (C : Course) (N : Names) (i j : ℕ) → IsSound C → AreNames C N → IsRow C (row_on C i) → IsRow C (row_on C j) → ((moments_of C N).later i j ≡ true) ↔ WhollyAfter C (Act.row (row_on C i)) (Moment.after (row_on C j)) }
     ensures dark_past { (C : Course) (N : Names) (d : ℕ) (m : Moment) → IsSound C → AreNames C N → IsMoment C m → C.dark ≡ Some d → ((moments_of C N).dark_past (N.name m) ≡ true) ↔ WhollyBefore C Act.dark m }
     ensures dark_before { (C : Course) (N : Names) (d i : ℕ) → IsSound C → AreNames C N → IsRow C (row_on C i) → C.dark ≡ Some d → ((moments_of C N).dark_before i ≡ true) ↔ WhollyBefore C Act.dark (Moment.before (row_on C i)) }
+{}
+
+/// What falls between a name and one that is next to it is told by its two ends, unless they are the moments of one row that is no call: a row that may write falls
+/// there that lies neither wholly before the one name nor wholly after the other, and what isn't told where it doesn't lie wholly before the one. What may write and
+/// lies wholly after a name lies wholly after each to which that one is next.
+pub fn ends_tell_what_falls()
+    ensures rows { (C : Course) (N : Names) (i m w : ℕ) → IsSound C → AreNames C N → (moments_of C N).next m w ≡ true → NoOwn C N m w → (moments_of C N).falls i m w ≡ (stores C (row_on C i) && (not ((moments_of C N).past i m) && not ((moments_of C N).ahead i w))) }
+    ensures dark { (C : Course) (N : Names) (m w : ℕ) → IsSound C → AreNames C N → (moments_of C N).next m w ≡ true → NoOwn C N m w → (moments_of C N).dark m w ≡ not ((moments_of C N).dark_past m) }
+    ensures ahead { (C : Course) (N : Names) (i m w : ℕ) → IsSound C → AreNames C N → stores C (row_on C i) ≡ true → (moments_of C N).next m w ≡ true → (moments_of C N).ahead i w ≡ true → (moments_of C N).ahead i m ≡ true }
 {}

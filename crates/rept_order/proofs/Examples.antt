@@ -28,7 +28,7 @@ first_thread = record {
 abbrev second_thread : ThreadRows
 second_thread = record { steps = a_row 0 Ecall ∷ a_row 4 Fence ∷ []; slices = slice_from 1 4 0 1 ∷ slice_from 4 8 1 1 ∷ [] }
 
-abbrev two_harts : Course
+abbrev pub two_harts : Course
 two_harts = record { threads = first_thread ∷ second_thread ∷ []; dark = Some 1 }
 
 -- a slice that ends before another one begins is before it

@@ -7,5 +7,6 @@ pub mod laws;
 pub mod moment;
 pub mod order;
 
+pub use edge::Edge;
 pub use moment::{Act, Moment};
 pub use order::Order;

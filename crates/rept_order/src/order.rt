@@ -55,7 +55,7 @@ impl<'a> Order<'a> {
     }
 
     /// The slice in which the event happens.
-    fn slice(&self, edge: Edge) -> Option<Slice>
+    pub fn slice(&self, edge: Edge) -> Option<Slice>
         requires { IsSound (course_in self.now) }
         ensures { result ≡ event_slice (course_in self.now) (edge_event (course_in self.now) edge) }
     {
@@ -76,7 +76,7 @@ impl<'a> Order<'a> {
     }
 
     /// The time before which the event doesn't happen.
-    fn begin(&self, edge: Edge) -> u64
+    pub fn begin(&self, edge: Edge) -> u64
         requires { IsSound (course_in self.now) }
         ensures { result ≡ begin_of (course_in self.now) (edge_event (course_in self.now) edge) }
     {
@@ -164,7 +164,7 @@ impl<'a> Order<'a> {
     }
 
     /// Whether the order puts the one moment no later than the other.
-    fn is_not_later(&self, m: Moment, w: Moment) -> bool
+    pub fn is_not_later(&self, m: Moment, w: Moment) -> bool
         requires { IsSound (course_in self.now) }
         ensures { result ≡ not_later (course_in self.now) (moment_named m) (moment_named w) }
     {
@@ -224,7 +224,7 @@ impl<'a> Order<'a> {
     }
 
     /// Whether the order puts all that the dark writes before the moment.
-    fn is_dark_before(&self, m: Moment) -> bool
+    pub fn is_dark_before(&self, m: Moment) -> bool
         requires { IsSound (course_in self.now) }
         ensures { result ≡ dark_before (course_in self.now) (moment_named m) }
     {
@@ -249,7 +249,7 @@ impl<'a> Order<'a> {
     }
 
     /// Whether the order puts the whole act before the moment.
-    fn is_wholly_before(&self, act: Act, m: Moment) -> bool
+    pub fn is_wholly_before(&self, act: Act, m: Moment) -> bool
         requires { IsSound (course_in self.now) }
         ensures { result ≡ wholly_before (course_in self.now) (act_named act) (moment_named m) }
     {
@@ -260,7 +260,7 @@ impl<'a> Order<'a> {
     }
 
     /// Whether the order puts the whole act after the moment.
-    fn is_wholly_after(&self, act: Act, w: Moment) -> bool
+    pub fn is_wholly_after(&self, act: Act, w: Moment) -> bool
         requires { IsSound (course_in self.now) }
         ensures { result ≡ wholly_after (course_in self.now) (act_named act) (moment_named w) }
     {

@@ -1,0 +1,10 @@
+pub mod Examples
+pub mod Listing
+pub mod Apart
+pub mod Sorting
+pub mod Latest
+pub mod Still
+pub mod Numbering
+pub mod Places
+pub mod Told
+pub mod Falls

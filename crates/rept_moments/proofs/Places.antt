@@ -1,0 +1,160 @@
+-- Points, their rows, and what a function says of each of them.
+use Rattle.std.proofs.Common.{◌≡◌, ℕ, zero, suc, ◌+◌, ◌<◌, ◌≤◌, true, List, [], ◌∷◌, ◌++◌, length, Option, Some, None, slice_get, get_or, nat_lt, unwrap_or, inl, inr, refl, sym, ap, ◌∙◌, subst, arith, length-append}
+use Rattle.std.specs.Option.{is_some, IsSome}
+use Rattle.std.proofs.lemmas.Bool.{cases_order, ltb-true}
+use Rattle.std.proofs.lemmas.Option.{slice_get_past, slice_get_cases, slice_get_within, slice_get_read, slice_get-get_or, unwrap_or-slice_get}
+use Rattle.std.proofs.lemmas.List.{get_or_default}
+use Rattle.rept_isa.specs.declared.row.StepRow.{StepRow}
+use Rattle.rept_steps.specs.declared.threads.ThreadRows.{ThreadRows}
+use Rattle.rept_steps.specs.Course.{Course, Row, row_of, rows_of, no_thread, IsRow, row_at}
+use Rattle.rept_order.specs.Legs.{Point, points_before, number_of, row_from, leg_row}
+use Rattle.rept_order.proofs.Legs.{point_number, thread_inside, leg_leads}
+use Rattle.rept_course.specs.Numbered.{row_on}
+use Rattle.rept_course.proofs.Naming.{some_is, row_inside, are_legs}
+use Rattle.rept_moments.specs.declared.side.Place.{Place}
+use Rattle.rept_moments.specs.Points.{points_in, place_on, by_point, ArePoints}
+
+some_none : {A : Type 0} {x : A} → Some x ≡ None → ⊥
+some_none e = cc
+
+-- at the end of a list, and before it
+pub get_end : {A : Type 0} (xs : List A) (x : A) → slice_get (xs ++ x ∷ []) (length xs) ≡ Some x
+get_end [] x = refl
+get_end (y ∷ xs) x = get_end xs x
+
+pub get_before : {A : Type 0} (xs : List A) (x : A) (k : ℕ) → k < length xs → slice_get (xs ++ x ∷ []) k ≡ slice_get xs k
+get_before [] x k less = absurd (omega arith)
+get_before (y ∷ xs) x zero less = refl
+get_before (y ∷ xs) x (suc k) less = get_before xs x k (omega arith)
+
+pub by_point_length : {A : Type 0} (f : ℕ → A) (n : ℕ) → length (by_point f n) ≡ n
+by_point_length f zero = refl
+by_point_length f (suc n) = let rest = by_point_length f n in let all = length-append (by_point f n) (f n ∷ []) in omega arith
+
+pub by_point_get : {A : Type 0} (f : ℕ → A) (n g : ℕ) → g < n → slice_get (by_point f n) g ≡ Some (f g)
+by_point_get f zero g less = absurd (omega arith)
+by_point_get {A} f (suc n) g less =
+    let count = by_point_length f n in
+    elim (cases_order g n) [
+      | inl same ↦ ap (λ (k : ℕ). slice_get (by_point f n ++ f n ∷ []) k) (same ∙ sym count) ∙ get_end (by_point f n) (f n) ∙ ap (λ (k : ℕ). Some (f k)) (sym same)
+      | inr (inl below) ↦ get_before (by_point f n) (f n) g (omega arith) ∙ by_point_get f n g below
+      | inr (inr over) ↦ absurd (omega arith)
+    ]
+
+pub by_point_past : {A : Type 0} (f : ℕ → A) (n g : ℕ) → n ≤ g → slice_get (by_point f n) g ≡ None
+by_point_past f n g past = let count = by_point_length f n in slice_get_past (by_point f n) g (omega arith)
+
+-- a row has a point
+pub row_there : (C : Course) (r : Row) → IsRow C r → is_some (row_at C r) ≡ true
+row_there C r is =
+    elim (slice_get_cases (rows_of C r.thread) r.step).1 [
+      | inl found ↦ ap is_some found.2
+      | inr past ↦ absurd (let far = past.0 in omega arith)
+    ]
+
+pub there_row : (C : Course) (r : Row) → is_some (row_at C r) ≡ true → IsRow C r
+there_row C r e = let found = some_is (row_at C r) e in row_inside C r found.0 found.1
+
+abbrev pub point_of_row : Course → Row → ℕ
+point_of_row C r = number_of C r.thread r.step
+
+pub row_point : (C : Course) (r : Row) → IsRow C r → row_on C (point_of_row C r) ≡ r
+row_point C r is = ap row_from (point_number C r.thread r.step (thread_inside C r is) (omega arith))
+
+pub row_before : (C : Course) (g : ℕ) → IsRow C (row_on C g) → suc g < points_in C
+row_before C g is =
+    let found = some_is (leg_row C g) (row_there C (row_on C g) is) in
+    let below = (are_legs C).inside g found.0 found.1 in
+    omega arith
+
+-- the points of one thread, and then those of the next ones
+pub next_thread : (threads : List ThreadRows) (t : ℕ) → t < length threads → points_before threads (suc t) ≡ points_before threads t + suc (length (unwrap_or (slice_get threads t) no_thread).steps)
+next_thread [] t below = absurd (omega arith)
+next_thread (thread ∷ threads) zero below = omega arith
+next_thread (thread ∷ threads) (suc t) below = let rest = next_thread threads t (omega arith) in omega arith
+
+-- what the table of points says
+module _ (C : Course) (list : List Place) (its : ArePoints C list) where
+  pub places_count : length list ≡ points_in C
+  places_count = ap (λ (xs : List Place). length xs) its.places ∙ by_point_length (place_on C) (points_in C)
+
+  pub places_few : length list ≤ 66560
+  places_few = let count = places_count in let few = its.few in omega arith
+
+  pub place_at : (g : ℕ) → g < length list → slice_get list g ≡ Some (place_on C g)
+  place_at g less = let count = places_count in ap (λ (xs : List Place). slice_get xs g) its.places ∙ by_point_get (place_on C) (points_in C) g (omega arith)
+
+  pub place_is : (g : ℕ) (p : Place) → slice_get list g ≡ Some p → row_of p.thread p.step ≡ row_on C g
+  place_is g p e =
+      let less = slice_get_within list g p e in
+      ap (λ (q : Place). row_of q.thread q.step) (some_same (sym e ∙ place_at g less))
+    where
+      some_same : {x y : Place} → Some x ≡ Some y → x ≡ y
+      some_same k = cc
+
+  pub no_row_past : (g : ℕ) → length list ≤ g → leg_row C g ≡ None
+  no_row_past g past = none_by (leg_row C g) (λ its_row e.
+      let count = places_count in
+      let below = (are_legs C).inside g its_row e in
+      omega arith)
+    where
+      none_by : (o : Option StepRow) → ((x : StepRow) → o ≡ Some x → ⊥) → o ≡ None
+      none_by None k = refl
+      none_by (Some x) k = absurd (k x refl)
+
+  pub row_some : (V : Course) (g : ℕ) (p : Place) (xs : List Place) (r : Option StepRow) → C ≡ V → xs ≡ list → true ≡ nat_lt g (length xs) → p ≡ get_or xs g p → r ≡ row_at C (row_of p.thread p.step) → r ≡ leg_row V g
+  row_some V g p xs r view same less read e =
+      let there = slice_get_read xs (length xs) g p refl (ltb-true g (length xs) (sym less)) read in
+      e ∙ ap (row_at C) (place_is g p (sym (ap (λ (ys : List Place). slice_get ys g) same) ∙ there)) ∙ ap (λ (D : Course). leg_row D g) view
+
+  pub row_none : (V : Course) (g : ℕ) (xs : List Place) → C ≡ V → xs ≡ list → length xs ≤ g → None ≡ leg_row V g
+  row_none V g xs view same past = sym (no_row_past g (subst (λ (ys : List Place). length ys ≤ g) same past)) ∙ ap (λ (D : Course). leg_row D g) view
+
+  pub place_here : (V : Course) (g : ℕ) (p d : Place) (xs : List Place) → C ≡ V → xs ≡ list → g < points_in V → p ≡ get_or xs g d → row_of p.thread p.step ≡ row_on V g
+  place_here V g p d xs view same less read =
+      let count = places_count in
+      let whole : points_in C ≡ points_in V = ap (λ (D : Course). points_in D) view in
+      let long : length xs ≡ length list = ap (λ (ys : List Place). length ys) same in
+      let below : g < length list = omega arith in
+      place_is g p (slice_get-get_or list g d below ∙ ap (λ (ys : List Place). Some (get_or ys g d)) (sym same) ∙ ap (λ (q : Place). Some q) (sym read)) ∙ ap (λ (D : Course). row_on D g) view
+
+-- one more point of a thread
+pub add_place : (C : Course) (t i : ℕ) (xs ys : List Place) → t < length C.threads → i ≤ length (rows_of C t) → xs ≡ by_point (place_on C) (points_before C.threads t + i) → ys ≡ xs ++ record { thread = t; step = i } ∷ [] → ys ≡ by_point (place_on C) (points_before C.threads t + (i + 1))
+add_place C t i xs ys below few before e =
+    let next : suc (points_before C.threads t + i) ≡ points_before C.threads t + (i + 1) = omega arith in
+    let here : place_on C (points_before C.threads t + i) ≡ record { thread = t; step = i } = ap as_place (point_number C t i below few) in
+    e ∙ ap (λ (zs : List Place). zs ++ record { thread = t; step = i } ∷ []) before ∙ ap (λ (p : Place). by_point (place_on C) (points_before C.threads t + i) ++ p ∷ []) (sym here) ∙ ap (by_point (place_on C)) next
+  where
+    as_place : Point → Place
+    as_place x = record { thread = x.thread; step = x.number }
+
+pub rows_count : (C : Course) (t n : ℕ) (all : List ThreadRows) (d : ThreadRows) → all ≡ C.threads → t < length C.threads → n ≡ length (get_or all t d).steps → n ≡ length (rows_of C t)
+rows_count C t n all d same below e =
+    e ∙ ap (λ (ts : List ThreadRows). length (get_or ts t d).steps) same ∙ ap (λ (x : ThreadRows). length x.steps) (get_or_default C.threads t d no_thread below ∙ sym (unwrap_or-slice_get C.threads t no_thread))
+
+pub all_added : (C : Course) (t n i : ℕ) (xs : List Place) → t < length C.threads → n ≡ length (rows_of C t) → i ≡ n + 1 → xs ≡ by_point (place_on C) (points_before C.threads t + i) → xs ≡ by_point (place_on C) (points_before C.threads (t + 1))
+all_added C t n i xs below rows end e =
+    let next = next_thread C.threads t below in
+    let one : t + 1 ≡ suc t = omega arith in
+    let rows_all : length (rows_of C t) ≡ length (unwrap_or (slice_get C.threads t) no_thread).steps = refl in
+    let place : points_before C.threads t + i ≡ points_before C.threads (suc t) = omega arith in
+    e ∙ ap (by_point (place_on C)) (place ∙ ap (points_before C.threads) (sym one))
+
+pub few_threads : (threads : List ThreadRows) → length threads ≤ points_before threads (length threads)
+few_threads [] = omega arith
+few_threads (thread ∷ threads) = let rest = few_threads threads in omega arith
+
+pub leg_below : (C : Course) (g : ℕ) → IsSome (leg_row C g) → suc g < points_in C
+leg_below C g e = row_before C g (there_row C (row_on C g) e)
+
+pub below_in : (C V : Course) (g : ℕ) → C ≡ V → IsSome (leg_row V g) → g < points_in C
+below_in C V g view e = let less = leg_below V g e in let same : points_in C ≡ points_in V = ap (λ (D : Course). points_in D) view in omega arith
+
+-- the row that comes next in the thread
+pub next_row : (C : Course) (g : ℕ) → IsRow C (row_on C g) → row_on C (suc g) ≡ row_of (row_on C g).thread (suc (row_on C g).step)
+next_row C g is =
+    let found = some_is (leg_row C g) (row_there C (row_on C g) is) in
+    ap row_from (leg_leads C g found.0 found.1)
+
+pub some_below : (xs : List StepRow) (k : ℕ) → IsSome (slice_get xs k) → k < length xs
+some_below xs k e = let found = some_is (slice_get xs k) e in slice_get_within xs k found.0 found.1

@@ -1,0 +1,5 @@
+use Rattle.rept_moments.proofs.Places.{below_in}
+use Rattle.rept_moments.proofs.many.Many.is_ahead.Goals as goal
+
+pub act-requires : goal.act-requires
+act-requires c = below_in c.self.inside.points c.args.self.now c.args.row c.self.view_is c.requires

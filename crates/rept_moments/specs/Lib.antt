@@ -1,0 +1,12 @@
+pub mod Points
+pub mod Ordering
+pub mod Numbers
+pub mod Seen
+pub mod Writers
+pub mod Latest
+pub mod Merging
+pub mod Numbering
+pub mod Tables
+pub mod Between
+pub mod Several
+pub mod Courses

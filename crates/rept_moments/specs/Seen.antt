@@ -1,0 +1,50 @@
+-- The rows and moments of a run as an analysis takes them. Of one thread in one slice, all of which is told, the moments are its points. This project's
+-- own.
+use Rattle.std.specs.Prelude.{◌≡◌, ℕ, ◌<◌, ◌≤◌, true, false, List, [], ◌∷◌, length, Option, Some, None}
+use Rattle.rept_isa.specs.declared.row.StepRow.{StepRow}
+use Rattle.rept_steps.specs.declared.slice.Slice.{Slice}
+use Rattle.rept_steps.specs.declared.threads.ThreadRows.{ThreadRows}
+use Rattle.rept_steps.specs.Course.{Course}
+use Rattle.rept_span.specs.Ranges.{Legs, legs_of}
+use Rattle.rept_report.specs.Moments.{Moments, points_of}
+use Rattle.rept_course.specs.Numbered.{legs_on}
+use Rattle.rept_moments.specs.Numbers.{numbered}
+
+pub record Seen : Type 0 where
+  pub legs : Legs
+  pub moments : Moments
+
+abbrev pub seen_alone : List StepRow → Seen
+seen_alone rows = record { legs = legs_of rows; moments = points_of (length rows) }
+
+abbrev pub seen_many : Course → Seen
+seen_many C = record { legs = legs_on C; moments = numbered C }
+
+-- the rows, if it is one thread in one slice, all of which is told
+abbrev pub rows_in : List Slice → List StepRow → Option (List StepRow)
+rows_in (s ∷ []) rows = Some rows
+rows_in slices rows = None
+
+abbrev pub alone_by : List ThreadRows → Option ℕ → Option (List StepRow)
+alone_by (thread ∷ []) None = rows_in thread.slices thread.steps
+alone_by threads dark = None
+
+abbrev pub seen_by : Course → Option (List StepRow) → Seen
+seen_by C (Some rows) = seen_alone rows
+seen_by C None = seen_many C
+
+abbrev pub seen : Course → Seen
+seen C = seen_by C (alone_by C.threads C.dark)
+
+abbrev pub moment_by : Moments → Option StepRow → ℕ → ℕ
+moment_by moments None p = moments.end
+moment_by moments (Some row) p = moments.before p
+
+-- the moment of a point: the one before its row, and where no row leads from it the end
+abbrev pub moment_in : Seen → ℕ → ℕ
+moment_in x p = moment_by x.moments (x.legs.row p) p
+
+-- the least number from one on that is next to a number, or that there is none
+abbrev pub IsNextFrom : Moments → ℕ → ℕ → Option ℕ → Type 0
+IsNextFrom moments m least None = (w : ℕ) → least ≤ w → moments.next m w ≡ false
+IsNextFrom moments m least (Some w) = (moments.next m w ≡ true) × (least ≤ w) × ((v : ℕ) → least ≤ v → v < w → moments.next m v ≡ false)

@@ -1,0 +1,212 @@
+//! The rows and moments of any run, by numbers.
+
+ghost use Rattle.std.specs.Prelude.{◌≡◌, ◌≤◌, true, Some, None, IfOk, IsOk, IsSome, MatchOption};
+ghost use Rattle.rept_steps.specs.Course.{IsSound};
+ghost use Rattle.rept_steps.specs.Runs.{course_of};
+ghost use Rattle.rept_moments.specs.Points.{points_in};
+ghost use Rattle.rept_moments.specs.Seen.{seen, alone_by, moment_in};
+
+use crate::many::Many;
+use rept_isa::StepRow;
+use rept_steps::{Run, Steps};
+use std::alloc::{AllocError as OutOfMemory, Global};
+
+/// The rows and moments of a run, by numbers. Rows are numbered by the points that they lead from, thread by thread, and no row leads from the last point of a
+/// thread. Of one thread in one slice, all of which is told, the moments are the points; else they go slice by slice, in the order in which slices begin.
+#[derive(Drop)]
+pub enum Course<'a> {
+    /// One thread in one slice, all of which is told.
+    One {
+        /// Its rows.
+        steps: &'a Steps,
+    },
+    /// Any other run.
+    Many(Many<'a>),
+}
+
+/// The rows of the run, if it is of one thread in one slice, all of which is told.
+fn alone<'a>(run: &'a Run) -> Option<&'a Steps>
+    ensures { MatchOption result (alone_by run.now.threads run.now.dark ≡ None) (λ steps. alone_by run.now.threads run.now.dark ≡ Some steps.now) }
+{
+    let threads = run.threads.all();
+    if run.dark.is_some() || threads.len() != 1 {
+        return None;
+    }
+    let slices = threads[0].slices.all();
+    if slices.len() != 1 {
+        return None;
+    }
+    Some(&threads[0].steps)
+}
+
+impl<'a> Course<'a> {
+    ghost use Rattle.rept_moments.specs.Courses.{seen_in};
+
+    /// The rows and moments of this run, which must be sound. Of one thread in one slice, all of which is told, it takes no memory; else memory for one entry a
+    /// slice and one number a point.
+    pub fn new(alloc: Global, run: &'a Run) -> Result<Course<'a>, OutOfMemory>
+        requires sound { IsSound (course_of run.now) }
+        requires few { points_in (course_of run.now) ≤ 66560 }
+        ensures ok { IfOk result (λ c. seen_in c ≡ seen (course_of run.now)) }
+        ensures alone { IsSome (alone_by run.now.threads run.now.dark) → IsOk result }
+    {
+        match alone(run) {
+            Some(steps) => Ok(Course::One { steps }),
+            None => Ok(Course::Many(Many::new(alloc, run)?)),
+        }
+    }
+
+    /// The last point.
+    pub fn last_point(&self) -> u32
+        ensures { result ≡ (seen_in self.now).legs.count }
+    {
+        match self {
+            Course::One { steps } => steps.len(),
+            Course::Many(many) => many.last_point(),
+        }
+    }
+
+    /// The row that leads from a point. None does from the last point of a thread, nor past the last one of all.
+    pub fn row(&self, point: u32) -> Option<StepRow>
+        ensures { result ≡ (seen_in self.now).legs.row point }
+    {
+        match self {
+            Course::One { steps } => match steps.rows().get(point as usize) {
+                Some(row) => Some(*row),
+                None => None,
+            },
+            Course::Many(many) => many.row(point),
+        }
+    }
+
+    /// The number of the end: the greatest one.
+    pub fn end(&self) -> u32
+        ensures { result ≡ (seen_in self.now).moments.end }
+    {
+        match self {
+            Course::One { steps } => steps.len(),
+            Course::Many(many) => many.end(),
+        }
+    }
+
+    /// The number of the moment before a row.
+    pub fn before(&self, row: u32) -> u32
+        requires { IsSome ((seen_in self.now).legs.row row) }
+        ensures { result ≡ (seen_in self.now).moments.before row }
+    {
+        match self {
+            Course::One { .. } => row,
+            Course::Many(many) => many.before(row),
+        }
+    }
+
+    /// The number of the moment after a row.
+    pub fn after(&self, row: u32) -> u32
+        requires { IsSome ((seen_in self.now).legs.row row) }
+        ensures { result ≡ (seen_in self.now).moments.after row }
+    {
+        match self {
+            Course::One { steps } => steps.len().min(row + 1),
+            Course::Many(many) => many.after(row),
+        }
+    }
+
+    /// The number of a point's moment: the one before its row, or the end where no row leads from it.
+    pub fn moment_at(&self, point: u32) -> u32
+        requires { point ≤ (seen_in self.now).legs.count }
+        ensures { result ≡ moment_in (seen_in self.now) point }
+    {
+        match self {
+            Course::One { .. } => point,
+            Course::Many(many) => many.moment_at(point),
+        }
+    }
+
+    /// Whether the row falls between a number and one that is next to it.
+    pub fn falls(&self, row: u32, m: u32, w: u32) -> bool
+        requires row { IsSome ((seen_in self.now).legs.row row) }
+        requires next { (seen_in self.now).moments.next m w ≡ true }
+        ensures { result ≡ (seen_in self.now).moments.falls row m w }
+    {
+        match self {
+            Course::One { .. } => row == m,
+            Course::Many(many) => many.falls(row, m, w),
+        }
+    }
+
+    /// Whether writers that aren't told fall between a number and one that is next to it.
+    pub fn is_dark_between(&self, m: u32, w: u32) -> bool
+        requires { (seen_in self.now).moments.next m w ≡ true }
+        ensures { result ≡ (seen_in self.now).moments.dark m w }
+    {
+        match self {
+            Course::One { .. } => false,
+            Course::Many(many) => many.is_dark_between(m, w),
+        }
+    }
+
+    /// Whether the row lies wholly before the moment. Of more than one slice this is said of each row that can't write, too.
+    pub fn is_past(&self, row: u32, m: u32) -> bool
+        requires { IsSome ((seen_in self.now).legs.row row) }
+        ensures { result ≡ (seen_in self.now).moments.past row m }
+    {
+        match self {
+            Course::One { .. } => row < m,
+            Course::Many(many) => many.is_past(row, m),
+        }
+    }
+
+    /// Whether the row lies wholly after the moment.
+    pub fn is_ahead(&self, row: u32, m: u32) -> bool
+        requires { IsSome ((seen_in self.now).legs.row row) }
+        ensures { result ≡ (seen_in self.now).moments.ahead row m }
+    {
+        match self {
+            Course::One { .. } => m <= row,
+            Course::Many(many) => many.is_ahead(row, m),
+        }
+    }
+
+    /// Whether the first row lies wholly after the second.
+    pub fn is_later(&self, i: u32, j: u32) -> bool
+        requires first { IsSome ((seen_in self.now).legs.row i) }
+        requires second { IsSome ((seen_in self.now).legs.row j) }
+        ensures { result ≡ (seen_in self.now).moments.later i j }
+    {
+        match self {
+            Course::One { .. } => j < i,
+            Course::Many(many) => many.is_later(i, j),
+        }
+    }
+
+    /// Whether there are writers that aren't told.
+    pub fn is_dark(&self) -> bool
+        ensures { result ≡ (seen_in self.now).moments.is_dark }
+    {
+        match self {
+            Course::One { .. } => false,
+            Course::Many(many) => many.is_dark(),
+        }
+    }
+
+    /// Whether they lie wholly before the moment.
+    pub fn is_dark_past(&self, m: u32) -> bool
+        ensures { result ≡ (seen_in self.now).moments.dark_past m }
+    {
+        match self {
+            Course::One { .. } => true,
+            Course::Many(many) => many.is_dark_past(m),
+        }
+    }
+
+    /// Whether they lie wholly before the row.
+    pub fn is_dark_before(&self, row: u32) -> bool
+        requires { IsSome ((seen_in self.now).legs.row row) }
+        ensures { result ≡ (seen_in self.now).moments.dark_before row }
+    {
+        match self {
+            Course::One { .. } => true,
+            Course::Many(many) => many.is_dark_before(row),
+        }
+    }
+}

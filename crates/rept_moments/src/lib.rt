@@ -1,0 +1,17 @@
+//! The numbers of the moments of a run: of one thread those of its points, of several those of the moments in the order in which slices begin.
+#![tactic(auto)]
+
+mod course;
+pub mod laws;
+mod many;
+mod merging;
+mod numbers;
+mod ordering;
+mod points;
+mod side;
+mod writers;
+mod writing;
+
+pub use course::Course;
+pub use laws::numbers_are_names;
+pub use many::Many;

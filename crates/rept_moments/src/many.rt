@@ -1,0 +1,324 @@
+//! The numbers of the moments of several threads.
+
+ghost use Rattle.std.specs.Prelude.{◌≡◌, ◌≤◌, ◌<◌, ◌^◌, [], true, length, IfOk, IfSome, IsSome, OnOk};
+ghost use Rattle.rept_steps.specs.Course.{IsSound};
+ghost use Rattle.rept_steps.specs.Runs.{course_of};
+ghost use Rattle.rept_order.specs.Runs.{moment_named};
+ghost use Rattle.rept_course.specs.Making.{lasts, rank};
+ghost use Rattle.rept_moments.specs.Points.{by_point, points_in};
+ghost use Rattle.rept_moments.specs.Ordering.{in_order, in_time, moment_at};
+ghost use Rattle.rept_moments.specs.Merging.{merged_at};
+ghost use Rattle.rept_moments.specs.Numbers.{numbers_of};
+ghost use Rattle.rept_moments.specs.Numbering.{kept_with};
+ghost use Rattle.rept_moments.specs.Between.{own_to, IsBetween};
+ghost use Rattle.rept_moments.specs.Seen.{moment_in};
+ghost use Rattle.rept_moments.specs.Tables.{moments_at};
+
+use crate::merging::merged;
+use crate::numbers::Numbers;
+use crate::ordering::in_time;
+use crate::points::Points;
+use crate::side::{Side, Timed};
+use crate::writers::Writers;
+use crate::writing::{both, neither};
+use rept_isa::{Instr, StepRow};
+use rept_order::{Act, Moment};
+use rept_steps::Run;
+use std::alloc::{AllocError as OutOfMemory, Global};
+use std::marker::Model;
+
+/// The numbers of the moments of several threads, or of one in several slices. Rows are numbered by the points that they lead from, thread by thread, and a thread of n rows has
+/// n + 1 points. Moments are numbered in the order of the times before which they don't come: those of a slice from its begin (of one time by threads, and then in the thread's
+/// order), the end last. Moments that are one have one number, that of the last of them.
+#[derive(Drop)]
+pub struct Many<'a> {
+    points: Points<'a>,
+    /// of the moments that are the last of those that are one with them, but the end
+    numbers: Numbers,
+    /// by points, whether the moment after the row is one with the thread's next one
+    merged: Vec<bool>,
+}
+
+impl<'a> Model for Many<'a> {
+    ghost use Rattle.rept_steps.specs.Course.{Course};
+    ghost use Rattle.rept_moments.specs.Tables.{AreTables};
+
+    ghost Value = { Course };
+
+    ghost view = { λ m. m.points };
+
+    ghost invariant = { λ m. AreTables m.points m.numbers m.merged.items };
+}
+
+/// Gives each moment that is the last of those that are one with it the next number, in this order.
+fn number(
+    alloc: Global,
+    points: &Points<'_>,
+    moments: &[Timed],
+    merged: &[bool],
+) -> Result<Numbers, OutOfMemory>
+    requires moments { moments.now ≡ in_time points.now }
+    requires merged { merged.now ≡ by_point (merged_at points.now) (points_in points.now) }
+    ensures numbered { IfOk result (λ n. moments_at points.now n.list ≡ lasts points.now (in_order points.now)) }
+    ensures points { IfOk result (λ n. n.points ≡ points_in points.now) }
+    ensures few { IfOk result (λ n. length n.list < 2 ^ 32) }
+{
+    let mut numbers = Numbers::new(alloc, points.count())?;
+    for timed in moments {
+        keep(&mut numbers, timed.side, merged)?;
+    }
+    Ok(numbers)
+}
+
+/// Gives the moment the next number, if it is the last of those that are one with it, and has none.
+fn keep(numbers: &mut Numbers, side: Side, merged: &[bool]) -> Result<(), OutOfMemory>
+    requires inside { side.point < numbers.old.points }
+    requires merged { length merged.now ≡ numbers.old.points }
+    requires few { length numbers.old.list < 2 ^ 32 }
+    ensures { OnOk result (numbers.new ≡ kept_with numbers.old side merged.now) }
+{
+    let is_merged = side.is_after && merged[side.point as usize];
+    if !is_merged && numbers.find(side).is_none() {
+        numbers.add(side)?;
+    }
+    Ok(())
+}
+
+impl<'a> Many<'a> {
+    ghost use Rattle.rept_moments.specs.Several.{seen_of};
+
+    /// The numbers of the run's moments. The run must be sound, and have at most 65,536 rows and 1,024 threads. It takes memory for a few entries a row.
+    pub fn new(alloc: Global, run: &'a Run) -> Result<Many<'a>, OutOfMemory>
+        requires sound { IsSound (course_of run.now) }
+        requires few { points_in (course_of run.now) ≤ 66560 }
+        ensures { IfOk result (λ m. m ≡ course_of run.now) }
+    {
+        let points = Points::new(alloc, run)?;
+        let moments = in_time(alloc, &points)?;
+        let writers = Writers::new(alloc, &points)?;
+        let merged = merged(alloc, &points, &writers)?;
+        let numbers = number(alloc, &points, moments.as_slice(), merged.as_slice())?;
+        Ok(Many {
+            points,
+            numbers,
+            merged,
+        })
+    }
+
+    /// The last point.
+    pub fn last_point(&self) -> u32
+        ensures { result ≡ (seen_of self.now).legs.count }
+    {
+        self.points.count().saturating_sub(1)
+    }
+
+    /// The row that leads from a point, if one does.
+    pub fn row(&self, point: u32) -> Option<StepRow>
+        ensures { result ≡ (seen_of self.now).legs.row point }
+    {
+        self.points.row(point)
+    }
+
+    /// The number of the end: the greatest one.
+    pub fn end(&self) -> u32
+        ensures { result ≡ (seen_of self.now).moments.end }
+    {
+        self.numbers.len()
+    }
+
+    /// The number of a moment of a row that is the last of those that are one with it.
+    fn number(&self, side: Side) -> u32
+        requires { side.point < points_in self.now }
+        ensures { result ≡ rank (lasts self.now (in_order self.now)) (moment_at self.now side) }
+    {
+        match self.numbers.find(side) {
+            Some(number) => number,
+            None => 0,
+        }
+    }
+
+    /// The number of the moment before a row.
+    pub fn before(&self, row: u32) -> u32
+        requires { IsSome ((seen_of self.now).legs.row row) }
+        ensures { result ≡ (seen_of self.now).moments.before row }
+    {
+        self.number(Side {
+            point: row,
+            is_after: false,
+        })
+    }
+
+    /// The number of the moment after a row.
+    pub fn after(&self, row: u32) -> u32
+        requires { IsSome ((seen_of self.now).legs.row row) }
+        ensures { result ≡ (seen_of self.now).moments.after row }
+    {
+        if self.is_merged(row) {
+            self.moment_at(row + 1)
+        } else {
+            self.number(Side {
+                point: row,
+                is_after: true,
+            })
+        }
+    }
+
+    /// Whether the moment after a row is one with the thread's next one.
+    fn is_merged(&self, row: u32) -> bool
+        requires { row < points_in self.now }
+        ensures value { result ≡ merged_at self.now row }
+        ensures few { points_in self.now ≤ 66560 }
+    {
+        let merged = self.merged.as_slice();
+        merged[row as usize]
+    }
+
+    /// The number of a point's moment: the one before its row, or the end where no row leads from it.
+    pub fn moment_at(&self, point: u32) -> u32
+        requires { point ≤ (seen_of self.now).legs.count }
+        ensures { result ≡ moment_in (seen_of self.now) point }
+    {
+        match self.row(point) {
+            Some(_) => self.number(Side {
+                point,
+                is_after: false,
+            }),
+            None => self.end(),
+        }
+    }
+
+    /// The last of the moments that have a number.
+    pub fn last(&self, number: u32) -> Moment
+        ensures { moment_named result ≡ (numbers_of self.now).last number }
+    {
+        match self.numbers.at(number) {
+            Some(side) => self.points.moment(side),
+            None => Moment::End,
+        }
+    }
+
+    /// Whether the row lies wholly before the moment. This is said of each row that can't write.
+    pub fn is_past(&self, row: u32, m: u32) -> bool
+        requires { IsSome ((seen_of self.now).legs.row row) }
+        ensures { result ≡ (seen_of self.now).moments.past row m }
+    {
+        let stores = self.points.stores(row);
+        let before = self
+            .points
+            .order()
+            .is_wholly_before(self.points.act(row), self.last(m));
+        !stores || before
+    }
+
+    /// Whether the row lies wholly after the moment.
+    pub fn is_ahead(&self, row: u32, m: u32) -> bool
+        requires { IsSome ((seen_of self.now).legs.row row) }
+        ensures { result ≡ (seen_of self.now).moments.ahead row m }
+    {
+        self.points
+            .order()
+            .is_wholly_after(self.points.act(row), self.last(m))
+    }
+
+    /// Whether the first row lies wholly after the second.
+    pub fn is_later(&self, i: u32, j: u32) -> bool
+        requires first { IsSome ((seen_of self.now).legs.row i) }
+        requires second { IsSome ((seen_of self.now).legs.row j) }
+        ensures { result ≡ (seen_of self.now).moments.later i j }
+    {
+        let after = self.points.moment(Side {
+            point: j,
+            is_after: true,
+        });
+        let before = self.points.moment(Side {
+            point: i,
+            is_after: false,
+        });
+        self.points.order().is_not_later(after, before)
+    }
+
+    /// Whether there are writers that aren't told.
+    pub fn is_dark(&self) -> bool
+        ensures { result ≡ (seen_of self.now).moments.is_dark }
+    {
+        self.points.is_dark()
+    }
+
+    /// Whether they lie wholly before the moment.
+    pub fn is_dark_past(&self, m: u32) -> bool
+        ensures { result ≡ (seen_of self.now).moments.dark_past m }
+    {
+        let dark = self.is_dark();
+        let before = self
+            .points
+            .order()
+            .is_wholly_before(Act::Dark, self.last(m));
+        !dark || before
+    }
+
+    /// Whether they lie wholly before the row.
+    pub fn is_dark_before(&self, row: u32) -> bool
+        requires { IsSome ((seen_of self.now).legs.row row) }
+        ensures { result ≡ (seen_of self.now).moments.dark_before row }
+    {
+        let dark = self.is_dark();
+        let moment = self.points.moment(Side {
+            point: row,
+            is_after: false,
+        });
+        let before = self.points.order().is_wholly_before(Act::Dark, moment);
+        !dark || before
+    }
+
+    /// The row that is no call and has these moments before and after it.
+    fn row_between(&self, m: u32, w: u32) -> Option<u32>
+        ensures { IsBetween self.now m w result }
+    {
+        match self.numbers.at(m) {
+            Some(side) if !side.is_after => self.own_between(side.point, w),
+            _ => None,
+        }
+    }
+
+    /// The row, if it is no call and this is the moment after it.
+    fn own_between(&self, row: u32, w: u32) -> Option<u32>
+        requires { IsSome ((seen_of self.now).legs.row row) }
+        ensures { result ≡ own_to self.now row w }
+    {
+        match self.row(row) {
+            Some(its_row) => {
+                let calls = matches!(its_row.instr, Instr::Ecall);
+                let same = self.after(row) == w;
+                if !calls && same { Some(row) } else { None }
+            }
+            None => None,
+        }
+    }
+
+    /// Whether the row falls between a number and one that is next to it. Between the moments of a row that is no call only that row falls, and no row that
+    /// can't write falls anywhere.
+    pub fn falls(&self, row: u32, m: u32, w: u32) -> bool
+        requires row { IsSome ((seen_of self.now).legs.row row) }
+        requires next { (seen_of self.now).moments.next m w ≡ true }
+        ensures { result ≡ (seen_of self.now).moments.falls row m w }
+    {
+        let stores = self.points.stores(row);
+        let past = self.is_past(row, m);
+        let ahead = self.is_ahead(row, w);
+        match self.row_between(m, w) {
+            Some(own) => both(stores, own == row),
+            None => both(stores, neither(past, ahead)),
+        }
+    }
+
+    /// Whether the dark falls between a number and one that is next to it.
+    pub fn is_dark_between(&self, m: u32, w: u32) -> bool
+        requires { (seen_of self.now).moments.next m w ≡ true }
+        ensures { result ≡ (seen_of self.now).moments.dark m w }
+    {
+        let _ = &self.points;
+        let past = self.is_dark_past(m);
+        let own = self.row_between(m, w).is_some();
+        neither(own, past)
+    }
+}
