@@ -1,9 +1,12 @@
 //! Lookups in one file of two segments and two functions that is mapped in overlapping parts.
 
+ghost use Rattle.std.specs.Prelude.{◌≡◌, ◌<◌, ◌+◌, length, IfOk, OnOk};
+
 use crate::Mapped;
 use rept_elf::{Image, Want};
 use rept_maps::{Images, Maps};
 use std::alloc::{AllocError, Global};
+use std::process::Abort;
 use std::test::Fail;
 
 // A shared object of two program headers, and of three section headers at 172.
@@ -128,18 +131,7 @@ const CASES: &[Case] = &[
     (0x10018, None, None, None, None),
 ];
 
-#[test]
-fn mapped_files_are_looked_up(rt: HostRuntime) -> Result<(), Fail> {
-    let file = file_of(rt.alloc(), HEADER, WORDS, SECTIONS)?;
-    let core = file_of(rt.alloc(), CORE, ENTRIES, &[])?;
-    let image = Image::read(file.as_slice(), Want::Shared)?;
-    let maps = Maps::read(Image::read(core.as_slice(), Want::Core)?)?;
-    let mut images = Images::new(rt.alloc());
-    images.add(Some(image))?;
-    images.add(Some(image))?;
-    images.add(None)?;
-    images.add(Some(image))?;
-    let mapped = Mapped::new(maps, &images);
+fn check_cases(rt: &impl Abort, mapped: &Mapped<'_>) {
     for (a, word, half, byte, function) in CASES {
         assert_eq!(rt; mapped.word(*a), *word, "word at {a:#x}");
         assert_eq!(rt; mapped.half(*a), *half, "half at {a:#x}");
@@ -148,5 +140,45 @@ fn mapped_files_are_looked_up(rt: HostRuntime) -> Result<(), Fail> {
         let found = found.and_then(|s| s.name.first().map(|b| (*b, s.value)));
         assert_eq!(rt; found, *function, "function at {a:#x}");
     }
+}
+
+fn add_image<'a>(images: &mut Images<'a>, file: &'a [u8]) -> Result<(), Fail>
+    requires { length images.old < 4096 }
+    ensures { OnOk result (length images.new ≡ length images.old + 1) }
+{
+    let image = Image::read(file, Want::Shared)?;
+    images.add(Some(image))?;
     Ok(())
+}
+
+fn images_of(alloc: Global, file: &[u8]) -> Result<Images<'_>, Fail>
+    ensures { IfOk result (λ images. length images ≡ 4) }
+{
+    let mut images = Images::new(alloc);
+    add_image(&mut images, file)?;
+    add_image(&mut images, file)?;
+    images.add(None)?;
+    add_image(&mut images, file)?;
+    Ok(images)
+}
+
+fn check_files(rt: &impl Abort, core: Image<'_>, images: &Images<'_>) -> Result<(), Fail>
+    requires { length images.now ≡ 4 }
+{
+    match Maps::read(core) {
+        Ok(maps) => {
+            assert_eq!(rt; maps.count(), 4);
+            check_cases(rt, &Mapped::new(maps, images));
+            Ok(())
+        }
+        Err(fault) => Err(fault.into()),
+    }
+}
+
+#[test]
+fn mapped_files_are_looked_up(rt: HostRuntime) -> Result<(), Fail> {
+    let file = file_of(rt.alloc(), HEADER, WORDS, SECTIONS)?;
+    let core = file_of(rt.alloc(), CORE, ENTRIES, &[])?;
+    let images = images_of(rt.alloc(), file.as_slice())?;
+    check_files(&rt, Image::read(core.as_slice(), Want::Core)?, &images)
 }

@@ -196,15 +196,39 @@ fn check<B: ByteFacts>(rt: &impl Abort, alloc: Global, run: &Run) -> Result<(), 
     assert!(rt; steps.len() > 0);
     let exe = executable(alloc, 0x10000, &CODE)?;
     let file = core(alloc, steps.end_pc(), run.last)?;
-    let dump = Dump::read(
-        Image::read(exe.as_slice(), Want::Exec)?,
-        Image::read(file.as_slice(), Want::Core)?,
-    )?;
-    assert!(rt; ends_in(&steps, &dump));
+    check_files::<B>(rt, alloc, &steps, exe.as_slice(), file.as_slice(), run)
+}
+
+fn check_files<B: ByteFacts>(
+    rt: &impl Abort,
+    alloc: Global,
+    steps: &Steps,
+    exe: &[u8],
+    core: &[u8],
+    run: &Run,
+) -> Result<(), Fail>
+    requires { 0 < length steps.now }
+{
+    let exe_image = Image::read(exe, Want::Exec)?;
+    let core_image = Image::read(core, Want::Core)?;
+    let dump = Dump::read(exe_image, core_image)?;
+    check_dump::<B>(rt, alloc, steps, &dump, run)
+}
+
+fn check_dump<B: ByteFacts>(
+    rt: &impl Abort,
+    alloc: Global,
+    steps: &Steps,
+    dump: &Dump<'_>,
+    run: &Run,
+) -> Result<(), Fail>
+    requires { 0 < length steps.now }
+{
+    assert!(rt; ends_in(steps, dump));
     let mut analysis: Analysis<B, Range, Atomic> = Analysis::prepare(
         alloc,
-        &steps,
-        &dump,
+        steps,
+        dump,
         Atomic::new(),
     )?;
     assert_eq!(rt; analysis.refine().is_ok(), run.can_be);

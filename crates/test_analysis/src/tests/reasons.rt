@@ -1,5 +1,7 @@
 //! Reasons, worked out by hand: each of these facts has one reason alone, in whatever order facts are learnt.
 
+ghost use Rattle.std.specs.Prelude.{◌<◌, length};
+
 use super::{BOUNDED, CODE, STORED, core, ends_in, steps_of};
 use rept_amo::Atomic;
 use rept_analysis::Analysis;
@@ -8,6 +10,7 @@ use rept_elf::{Image, Want};
 use rept_isa::Reg;
 use rept_partial::{Partial, Range};
 use rept_reason::{Cell, Fact, Reason};
+use rept_steps::Steps;
 use rept_versions::{ByteFacts, PlainFacts, SpanFacts};
 use std::alloc::Global;
 use std::process::Abort;
@@ -229,15 +232,39 @@ fn check<B: ByteFacts>(
     assert!(rt; steps.len() > 0);
     let exe = executable(alloc, 0x10000, &CODE)?;
     let file = core(alloc, steps.end_pc(), last)?;
-    let dump = Dump::read(
-        Image::read(exe.as_slice(), Want::Exec)?,
-        Image::read(file.as_slice(), Want::Core)?,
-    )?;
-    assert!(rt; ends_in(&steps, &dump));
+    check_files::<B>(rt, alloc, &steps, exe.as_slice(), file.as_slice(), told)
+}
+
+fn check_files<B: ByteFacts>(
+    rt: &impl Abort,
+    alloc: Global,
+    steps: &Steps,
+    exe: &[u8],
+    core: &[u8],
+    told: &[Told],
+) -> Result<(), Fail>
+    requires { 0 < length steps.now }
+{
+    let exe_image = Image::read(exe, Want::Exec)?;
+    let core_image = Image::read(core, Want::Core)?;
+    let dump = Dump::read(exe_image, core_image)?;
+    check_dump::<B>(rt, alloc, steps, &dump, told)
+}
+
+fn check_dump<B: ByteFacts>(
+    rt: &impl Abort,
+    alloc: Global,
+    steps: &Steps,
+    dump: &Dump<'_>,
+    told: &[Told],
+) -> Result<(), Fail>
+    requires { 0 < length steps.now }
+{
+    assert!(rt; ends_in(steps, dump));
     let mut analysis: Analysis<B, Range, Atomic> = Analysis::prepare(
         alloc,
-        &steps,
-        &dump,
+        steps,
+        dump,
         Atomic::new(),
     )?;
     for wanted in told {

@@ -1,0 +1,4 @@
+pub mod NoticeLemmas
+pub mod OpenLemmas
+pub mod Sought
+pub mod TalkLemmas

@@ -1,0 +1,121 @@
+-- A dialog over the report of a crash, and why there is none. This project's own.
+use Rattle.std.specs.Prelude.{◌≡◌, ◌⊎◌, ℕ, List, [], ◌∷◌, ◌++◌, length, codes}
+use Rattle.std.specs.Fmt.{decimal}
+use Rattle.std.specs.Io.KnownBytes.{Appends}
+use Rattle.rept_elf.specs.Header.{half_at}
+use Rattle.rept_ports.specs.Causes.{OneFault, AppendsPrefix}
+use Rattle.rept_ports.specs.Port.{Port, Move}
+use Rattle.rept_ports.specs.Shelves.{Files, Shelved}
+use Rattle.rept_path.specs.declared.fault.PathFault.{PathFault}
+use Rattle.rept_path.specs.declared.rebuilding.Path.{Path}
+use Rattle.rept_report.specs.Closure.{ClosureHas}
+use Rattle.rept_report.specs.declared.conflict.ConflictKind.{ConflictKind}
+use Rattle.rept_analysis.specs.declared.stop.Stop.{Stop}
+use Rattle.rept_analysis.specs.declared.stop.Stop.TheVariants as stop
+use Rattle.rept_found.specs.Telling.{Account, told_of}
+use Rattle.rept_found.specs.Truth.{HasNoExecution, IsTrueReport}
+use Rattle.rept_dialog.specs.Converse.{Scene, Converses}
+use Rattle.rept_dialog.specs.Dialog.{start_at}
+use Rattle.rept_dialog.specs.declared.conversation.Conversed.{Conversed}
+use Rattle.rept_app.specs.Lines.{status_of}
+use Rattle.rept_app.specs.Loading.{CrashBytes, ComesTo, MatchLoading, loading, loads_to}
+use Rattle.rept_app.specs.Loading.Loading.{Loaded}
+use Rattle.rept_app.specs.Path.{IsTracePath}
+use Rattle.rept_app.specs.Reading.{HasNoDump}
+use Rattle.rept_app.specs.Told.{CrashPath, CrashTrace, IsAccountOf, Reads, path_in, route_of, setting_of, trace_in}
+use Rattle.rept_app.specs.declared.refusal.FileKind.{FileKind}
+use Rattle.rept_app.specs.declared.refusal.Refusal.{Refusal}
+use Rattle.rept_app.specs.declared.refusal.Refusal.TheVariants as refusal
+use Rattle.rept_app.specs.declared.status.Status.TheVariants as ends
+use Rattle.rept_debug.specs.Begin.{BeginsAt, NeverBegins}
+use Rattle.rept_debug.specs.declared.debugging.Talk.{Talk}
+
+-- the three streams, before a call and after it
+pub record Streams : Type 0 where
+  pub input : Move Port
+  pub output : Move Port
+  pub errors : Move Port
+
+abbrev pub streams : Move Port → Move Port → Move Port → Streams
+streams input output errors = record { input = input; output = output; errors = errors }
+
+-- the line that tells from which packet the path was rebuilt, where that isn't the one that was asked for
+abbrev pub notice_line : ℕ → List ℕ
+notice_line from = codes "the path begins at packet " ++ decimal from ++ 10 ∷ []
+
+-- the line was written, and no fault was counted; or one was
+abbrev pub IsWritten : ℕ → Move Port → Type 0
+IsWritten from errors =
+    (Appends errors.before.bytes errors.after.bytes (notice_line from) × (errors.after.faults ≡ errors.before.faults))
+    ⊎ (AppendsPrefix errors.before.bytes errors.after.bytes (notice_line from) × OneFault errors.before.faults errors.after.faults)
+
+-- of a dialog that was held: nothing was written, where the path begins at the packet that was asked for; else the line
+abbrev pub IsNoticed : ℕ → ℕ → Move Port → Type 0
+IsNoticed asked from errors = ((from ≡ asked) × (errors.after ≡ errors.before)) ⊎ IsWritten from errors
+
+-- of a crash that is refused: nothing was written; or such a line
+abbrev pub Notices : Move Port → Type 0
+Notices errors = (errors.after ≡ errors.before) ⊎ ((from : ℕ) × IsWritten from errors)
+
+-- who talks: what a session tells of an account of the path; the signal of the register note (`pr_cursig` of `struct elf_prstatus`, at 12); and
+-- a debugger that stands at the last point
+abbrev pub dialog_over : {W : Type 0} → CrashPath W → Account → Scene
+dialog_over p a = record { told = told_of (route_of p) a; signal = half_at p.crash.note 12; start = start_at (length p.path.steps) }
+
+-- what arrived was answered over an account of the path
+pub record TalksOver {W : Type 0} (p : CrashPath W) (source sink : Move Port) (end : Conversed) : Type 0 where
+  pub account : Account
+  pub report : IsAccountOf p account
+  pub talks : Converses (dialog_over p account) source sink end
+
+-- the refusal of an analysis that stopped
+abbrev pub refused_by : Stop → Refusal
+refused_by (stop.Conflict kind) = refusal.Inconsistent kind
+refused_by stop.OutOfMemory = refusal.OutOfMemory
+
+-- the closure of the path has a conflict, and no execution of it ends in the crash; or memory ran out
+abbrev pub IsRefusedPath : {W : Type 0} → CrashPath W → Refusal → Type 0
+IsRefusedPath p r =
+    ((kind : ConflictKind) × ClosureHas (setting_of p) kind × HasNoExecution (route_of p) × (r ≡ refusal.Inconsistent kind))
+    ⊎ (status_of r ≡ ends.OutOfMemory)
+
+-- the path of a trace, and what was answered over it
+pub record IsHeldTrace (t : CrashTrace) (io : Streams) (talk : Talk) : Type 0 where
+  pub path : Path
+  pub is : IsTracePath t.crash t.trace talk.from path
+  pub begins : BeginsAt t.crash t.trace t.manner.from talk.from
+  pub noticed : IsNoticed t.manner.from talk.from io.errors
+  pub over : TalksOver (path_in t path) io.input io.output talk.end
+
+-- the trace has no path; or it has one, and that is refused
+abbrev pub IsRefusedTrace : CrashTrace → Refusal → Type 0
+IsRefusedTrace t r =
+    ((fault : PathFault) × NeverBegins t.crash t.trace t.manner.from fault × (r ≡ refusal.Path fault))
+    ⊎ ((from : ℕ) × (path : Path) × BeginsAt t.crash t.trace t.manner.from from × IsTracePath t.crash t.trace from path × IsRefusedPath (path_in t path) r)
+    ⊎ (status_of r ≡ ends.OutOfMemory)
+
+-- the files are accepted, and their trace was answered
+pub record IsHeld (bytes : CrashBytes) (io : Streams) (talk : Talk) : Type 0 where
+  pub note : List ℕ
+  pub read : Reads bytes note
+  pub held : IsHeldTrace (trace_in bytes note) io talk
+
+-- the files are refused; or their trace is
+abbrev pub IsRefusedCrash : CrashBytes → Refusal → Type 0
+IsRefusedCrash bytes r = HasNoDump bytes.exe bytes.core r ⊎ ((note : List ℕ) × Reads bytes note × IsRefusedTrace (trace_in bytes note) r)
+
+-- the words and the files come to a crash; what arrived was answered over its report; and all that the report tells holds in every execution of
+-- the path that ends in the crash
+pub record IsDebugged (words : List (List ℕ)) (files : Files) (io : Streams) (talk : Talk) : Type 0 where
+  pub bytes : CrashBytes
+  pub loaded : loading words files ≡ Loaded bytes
+  pub held : IsHeld bytes io talk
+  pub holds : IsTrueReport (route_of (path_in (trace_in bytes held.note) held.held.path)) held.held.over.account.known
+
+-- Why nothing is answered: the words have no meaning, or ask for a made run; a file is missing or too large; the crash is refused; a load failed,
+-- after those before it; or memory ran out.
+abbrev pub IsRefused : List (List ℕ) → Files → Move Shelved → Refusal → Type 0
+IsRefused words files shelf r =
+    MatchLoading (loading words files) (λ named. r ≡ named) (λ bytes. IsRefusedCrash bytes r) (λ seed steps. r ≡ refusal.Usage)
+    ⊎ ((kind : FileKind) × (r ≡ refusal.LoadFault kind) × ComesTo words files kind × (shelf.after.loads ≡ loads_to kind shelf.before.loads))
+    ⊎ (status_of r ≡ ends.OutOfMemory)

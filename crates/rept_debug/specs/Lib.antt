@@ -1,0 +1,3 @@
+pub mod Begin
+pub mod Debugged
+pub mod Process
