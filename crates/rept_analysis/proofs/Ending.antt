@@ -1,11 +1,11 @@
 -- Steps on the way to an end.
-use Rattle.std.proofs.Common.{◌≡◌, ◌+◌, ℕ, ◌≤◌, List, length, Some, inl, inr, refl, sym, subst, ◌∙◌, arith}
+use Rattle.std.proofs.Common.{◌≡◌, ◌+◌, ◌⊎◌, ℕ, ◌≤◌, List, length, Some, inl, inr, refl, sym, subst, ◌∙◌, arith}
 use Rattle.std.proofs.lemmas.Bool.{cases_lt}
 use Rattle.rept_reason.specs.declared.fact.Fact.{Fact}
 use Rattle.rept_reason.specs.declared.fact.Cell.TheVariants.{Register}
 use Rattle.rept_reason.specs.Facts.{told, register_known}
 use Rattle.rept_report.specs.declared.conflict.ConflictKind.{ConflictKind}
-use Rattle.rept_report.specs.Conflicts.{IsQuiet}
+use Rattle.rept_report.specs.Conflicts.{IsQuiet, Shows}
 use Rattle.rept_report.specs.Closure.{ClosureHas}
 use Rattle.rept_report.specs.Log.{oldest, OnceEach}
 use Rattle.rept_report.proofs.Places.{oldest_all, oldest_more}
@@ -16,7 +16,7 @@ use Rattle.rept_analysis.specs.State.{State, all_known, Path, along}
 use Rattle.rept_analysis.specs.Drawing.{Grows, SameFacts, Continues, IsFitted, IsDrawnAll, IsSettled, IsUncut}
 use Rattle.rept_analysis.specs.Work.{left}
 use Rattle.rept_analysis.specs.Kept.{IsKept}
-use Rattle.rept_analysis.specs.Refined.{KeepsAnswers, IsEnded, IsStopped, IsPaused, IsHalted}
+use Rattle.rept_analysis.specs.Refined.{KeepsAnswers, KeepsKnown, IsClashOf, ShowsTo, IsEnded, IsStopped, IsPaused, IsHalted}
 use Rattle.rept_analysis.specs.declared.stop.Stop.{Stop}
 use Rattle.rept_analysis.specs.declared.stop.Stop.TheVariants.{Conflict, OutOfMemory}
 use Rattle.rept_analysis.specs.Measure.{measure}
@@ -26,6 +26,29 @@ Same_itself a = record { path = refl; known = refl; shown = refl; complete = ref
 
 pub Same_trans : {W : Type 0} (a b c : State W) → SameFacts a b → SameFacts b c → SameFacts a c
 Same_trans a b c g h = record { path = h.path ∙ g.path; known = h.known ∙ g.known; shown = h.shown ∙ g.shown; complete = h.complete ∙ g.complete; conflict = h.conflict ∙ g.conflict; draws = h.draws ∙ g.draws; drawn = h.drawn ∙ g.drawn }
+
+-- what facts show depends on the path and the facts alone
+module _ {W : Type 0} (s t : State W) (path : t.path ≡ s.path) (known : t.known ≡ s.known) where
+  clash_like : (kind : ConflictKind) → IsClashOf s kind → IsClashOf t kind
+  clash_like kind c = record {
+    fact = c.fact;
+    known = c.known;
+    clash = record { is_known = rw known c.clash.is_known; differs = c.clash.differs; follows = rw (path, known) c.clash.follows };
+    named = c.named;
+  }
+
+  pub shows_like : (n : ℕ) (kind : ConflictKind) → ShowsTo s n kind → ShowsTo t n kind
+  shows_like n kind h = record { quiet = λ u below. rw (path, known) (h.quiet u below); shows = of h.shows }
+    where
+      of : Shows (along s.path) (told (oldest n s.known.log)) kind ⊎ ((n ≡ length s.known.log) × IsClashOf s kind) → Shows (along t.path) (told (oldest n t.known.log)) kind ⊎ ((n ≡ length t.known.log) × IsClashOf t kind)
+      of (inl e) = inl (rw (path, known) e)
+      of (inr (all, c)) = inr (rw known all, clash_like kind c)
+
+  pub known_like : KeepsKnown s t
+  known_like p c v e = rw known e
+
+pub known_after : {W : Type 0} (a b c : State W) → KeepsKnown a b → KeepsKnown b c → KeepsKnown a c
+known_after a b c g h p x v e = h p x v (g p x v e)
 
 module _ {W : Type 0} (a b : State W) (same : SameFacts a b) where
   -- what is so of the path and the facts stays so
@@ -44,6 +67,8 @@ module _ {W : Type 0} (a b : State W) (same : SameFacts a b) where
     recorded = h.recorded;
     has = subst (λ (P : Path W). ClosureHas (along P) kind) same.path h.has;
     kept = λ p r v e. h.kept p r v (rw (same.shown, same.known) e);
+    more = λ p x v e. h.more p x v (rw same.known e);
+    shown = λ calm. h.shown (same.conflict ∙ calm);
   }
 
   pub paused_from : (c : State W) → IsPaused b c → IsPaused a c
@@ -52,6 +77,8 @@ module _ {W : Type 0} (a b : State W) (same : SameFacts a b) where
     complete = h.complete ∙ same.complete;
     conflict = h.conflict ∙ same.conflict;
     kept = λ p r v e. h.kept p r v (rw (same.shown, same.known) e);
+    more = λ p x v e. h.more p x v (rw same.known e);
+    whole = h.whole;
   }
 
   pub same_continues : Continues a b
@@ -96,15 +123,22 @@ pub settled_by : {W : Type 0} (s : State W) (n : ℕ) → n ≡ length s.known.l
 settled_by s n all quiet fitted filled drawn = record { quiet = quiet_whole s n all quiet; fitted = fitted; filled = filled ∙ all; drawn = drawn }
 
 module _ {W : Type 0} (a b c : State W) where
-  pub ended_after : Continues a b → IsEnded b c → IsEnded a c
-  ended_after g h = record { path = h.path ∙ g.path; complete = h.complete; conflict = h.conflict; finished = h.finished; kept = λ p r v e. h.kept p r v (continues_answers a b g p r v e) }
+  pub ended_after : Continues a b → KeepsKnown a b → IsEnded b c → IsEnded a c
+  ended_after g more h = record { path = h.path ∙ g.path; complete = h.complete; conflict = h.conflict; finished = h.finished; kept = λ p r v e. h.kept p r v (continues_answers a b g p r v e); more = known_after a b c more h.more }
 
-  pub stopped_after : (kind : ConflictKind) → Continues a b → IsStopped b c kind → IsStopped a c kind
-  stopped_after kind g h = record { path = h.path ∙ g.path; recorded = h.recorded; has = subst (λ (P : Path W). ClosureHas (along P) kind) g.path h.has; kept = λ p r v e. h.kept p r v (continues_answers a b g p r v e) }
+  pub stopped_after : (kind : ConflictKind) → Continues a b → KeepsKnown a b → IsStopped b c kind → IsStopped a c kind
+  stopped_after kind g more h = record {
+    path = h.path ∙ g.path;
+    recorded = h.recorded;
+    has = subst (λ (P : Path W). ClosureHas (along P) kind) g.path h.has;
+    kept = λ p r v e. h.kept p r v (continues_answers a b g p r v e);
+    more = known_after a b c more h.more;
+    shown = λ calm. h.shown (g.conflict ∙ calm);
+  }
 
-  pub halted_after : (stop : Stop) → Continues a b → IsHalted b c stop → IsHalted a c stop
-  halted_after (Conflict kind) g h = stopped_after kind g h
-  halted_after OutOfMemory g h = record { path = h.path ∙ g.path; complete = h.complete ∙ g.complete; conflict = h.conflict ∙ g.conflict; kept = λ p r v e. h.kept p r v (continues_answers a b g p r v e) }
+  pub halted_after : (stop : Stop) → Continues a b → KeepsKnown a b → IsHalted b c stop → IsHalted a c stop
+  halted_after (Conflict kind) g more h = stopped_after kind g more h
+  halted_after OutOfMemory g more h = record { path = h.path ∙ g.path; complete = h.complete ∙ g.complete; conflict = h.conflict ∙ g.conflict; kept = λ p r v e. h.kept p r v (continues_answers a b g p r v e); more = known_after a b c more h.more; whole = h.whole }
 
 -- how often rules can be drawn stays so where only sets change
 pub spent_like : {W : Type 0} (a b s : State W) → SameFacts a b → a.work.draws + left a.work.drawn ≤ s.work.draws + left s.work.drawn → b.work.draws ≤ s.work.draws + left s.work.drawn

@@ -1,20 +1,21 @@
 -- What each way to end says.
 use Rattle.std.proofs.lemmas.Bool.{cases_eq}
+use Rattle.rept_reason.specs.declared.fact.Fact.{Fact}
 use Rattle.rept_reason.specs.declared.fact.Cell.TheVariants.{Register}
 use Rattle.rept_report.proofs.Told.{same_some}
 use Rattle.rept_analysis.proofs.Stopping.{answered}
-use Rattle.std.proofs.Common.{◌≡◌, ◌≤◌, length, arith, inl, inr, ℕ, true, Some, None, Result, Ok, Err, refl, subst, ◌∙◌}
+use Rattle.std.proofs.Common.{◌≡◌, ◌≤◌, length, arith, inl, inr, ℕ, true, Some, None, Result, Ok, Err, refl, sym, subst, ◌∙◌}
 use Rattle.std.specs.Prelude.{⊤, OnOk, IsOk, ◌⊎◌}
 use Rattle.rept_report.specs.declared.conflict.ConflictKind.{ConflictKind}
 use Rattle.rept_report.specs.Setting.{HasLaws}
-use Rattle.rept_report.specs.Closure.{ClosureHas, IsConsistent, IsReport}
+use Rattle.rept_report.specs.Closure.{InClosure, ClosureHas, IsConsistent, IsReport}
 use Rattle.rept_report.specs.Soundness.{AlwaysHolds, IsSound, HasNoExecution}
 use Rattle.rept_report.proofs.Soundness.{closure_sound, conflict_sound, report_sound}
 use Rattle.rept_analysis.specs.declared.stop.Stop.{Stop}
 use Rattle.rept_analysis.specs.declared.stop.Stop.TheVariants.{Conflict, OutOfMemory}
 use Rattle.rept_analysis.specs.State.{State, Path, along}
 use Rattle.rept_analysis.specs.Kept.{register_answer, answers, IsKept}
-use Rattle.rept_analysis.specs.Refined.{KeepsAnswers, IsEnded, IsStopped, Outcome}
+use Rattle.rept_analysis.specs.Refined.{KeepsAnswers, KeepsKnown, IsEnded, IsStopped, IsPaused, Outcome}
 
 module _ {W : Type 0} (old new : State W) where
   pub path_of : (r : Result ⊤ Stop) → Outcome old new r → new.path ≡ old.path
@@ -26,6 +27,14 @@ module _ {W : Type 0} (old new : State W) where
   kept_of (Ok u) h = h.kept
   kept_of (Err (Conflict kind)) h = h.kept
   kept_of (Err OutOfMemory) h = h.kept
+
+  pub more_of : (r : Result ⊤ Stop) → Outcome old new r → KeepsKnown old new
+  more_of (Ok u) h = h.more
+  more_of (Err (Conflict kind)) h = h.more
+  more_of (Err OutOfMemory) h = h.more
+
+  pub paused_of : (r : Result ⊤ Stop) → Outcome old new r → r ≡ Err OutOfMemory → IsPaused old new
+  paused_of r h e = subst (λ (x : Result ⊤ Stop). Outcome old new x) e h
 
   pub report_of : (r : Result ⊤ Stop) → Outcome old new r → OnOk r (IsReport (along new.path) (answers new))
   report_of (Ok u) h = h.finished.report
@@ -71,10 +80,17 @@ module _ {W : Type 0} (old new : State W) where
 
 module _ {W : Type 0} (s : State W) (kept : IsKept s) where
   pub stopped_again : (kind : ConflictKind) → s.conflict ≡ Some kind → IsStopped s s kind
-  stopped_again kind e = record { path = refl; recorded = e; has = kept.stopped kind e; kept = λ p r v x. x }
+  stopped_again kind e = record { path = refl; recorded = e; has = kept.stopped kind e; kept = λ p r v x. x; more = λ p c v x. x; shown = λ calm. absurd (differs (sym calm ∙ e)) }
+    where
+      differs : None ≡ Some kind → ⊥
+      differs x = cc
 
   pub ended_again : s.complete ≡ true → s.conflict ≡ None → IsEnded s s
-  ended_again complete calm = record { path = refl; complete = complete; conflict = calm; finished = kept.finished complete; kept = λ p r v x. x }
+  ended_again complete calm = record { path = refl; complete = complete; conflict = calm; finished = kept.finished complete; kept = λ p r v x. x; more = λ p c v x. x }
+
+-- a fact of the closure holds in every execution
+pub closure_holds : {W : Type 0} (s : State W) → HasLaws (along s.path) → (f : Fact) → InClosure (along s.path) f → AlwaysHolds (along s.path) f.point f.cell f.value
+closure_holds s laws f h = closure_sound (along s.path) laws f h
 
 -- what is answered of a register holds in every execution; x0 is 0
 pub answer_sound : {W : Type 0} (s : State W) → HasLaws (along s.path) → IsKept s → (p r v : ℕ) → p ≤ length s.path.given.rows → register_answer s p r ≡ Some v → AlwaysHolds (along s.path) p (Register r) v

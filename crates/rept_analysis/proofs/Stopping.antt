@@ -1,30 +1,39 @@
 -- What stands when an analysis stops.
-use Rattle.std.proofs.Common.{◌≡◌, ℕ, ◌<◌, ◌≤◌, Bool, true, false, List, [], ◌∷◌, length, Some, inl, inr, refl, sym, subst, ◌∙◌, arith, ltb}
-use Rattle.std.proofs.lemmas.Bool.{cases_lt, false≢true, cond-true, cond-false, lt-ltb, le-ltb}
+use Rattle.std.proofs.Common.{◌≡◌, ℕ, ◌<◌, ◌≤◌, ◌^◌, Bool, true, false, List, [], ◌∷◌, length, Option, Some, None, inl, inr, refl, sym, subst, ◌∙◌, arith, ltb, eqb, cond}
+use Rattle.std.proofs.lemmas.Bool.{cases_eq, cases_lt, false≢true, cond-true, cond-false, lt-ltb, le-ltb, eq-eqb, ne_eqb}
 use Rattle.rept_isa.specs.declared.row.StepRow.{StepRow}
 use Rattle.rept_reason.specs.declared.fact.Fact.{Fact}
 use Rattle.rept_reason.specs.declared.fact.Cell.{Cell}
-use Rattle.rept_reason.specs.declared.fact.Cell.TheVariants.{Register}
+use Rattle.rept_reason.specs.declared.fact.Cell.TheVariants.{Register, Byte}
 use Rattle.rept_reason.specs.Facts.{Knowledge, In, told}
 use Rattle.rept_report.specs.declared.conflict.ConflictKind.{ConflictKind}
 use Rattle.rept_report.specs.declared.conflict.ConflictKind.TheVariants.{TwoValues}
 use Rattle.rept_report.specs.Setting.{HasLaws}
 use Rattle.rept_report.specs.Conclusions.{Concludes}
+use Rattle.rept_report.specs.Conclusions.Follows.{carried}
+use Rattle.rept_report.specs.Conclusions.IsCarried.{last_byte}
+use Rattle.rept_report.specs.Why.{fact_of}
 use Rattle.rept_report.specs.Conflicts.{IsQuiet, Shows}
 use Rattle.rept_report.specs.Closure.{InClosure, ClosureHas}
 use Rattle.rept_report.specs.Log.{oldest, Entry, facts_of, add_if, logged_of}
-use Rattle.rept_report.proofs.Told.{told_in}
-use Rattle.rept_report.proofs.Places.{oldest_more, oldest_less}
+use Rattle.rept_report.proofs.Told.{told_in, none_some}
+use Rattle.rept_report.proofs.Places.{oldest_more, oldest_less, oldest_new}
 use Rattle.rept_report.proofs.ViewLaws.{known_fact}
 use Rattle.rept_report.proofs.Monotony.{quiet_less}
-use Rattle.rept_report.proofs.Traces.{derived_below, least_conflict, clash_closure}
+use Rattle.rept_report.proofs.Traces.{derived_below, least_conflict, clash_closure, front_closure, next_derivation}
 use Rattle.rept_analysis.specs.State.{State, all_known, along}
 use Rattle.rept_analysis.specs.Drawing.{IsClash, IsSettled, IsRowDrawn}
+use Rattle.rept_log.specs.Nearest.{source}
+use Rattle.rept_analysis.specs.Answers.{byte_answer}
 use Rattle.rept_analysis.specs.Kept.{register_answer, IsKept}
 use Rattle.rept_analysis.specs.Refined.{clash_kind}
 use Rattle.rept_analysis.proofs.Passing.{passes_more}
 use Rattle.rept_analysis.proofs.Learning.{trace_known}
 use Rattle.rept_analysis.proofs.Reported.{settled_report}
+
+oldest_zero : (fs : List Fact) → oldest 0 fs ≡ []
+oldest_zero [] = refl
+oldest_zero (f ∷ fs) = oldest_new 0 f fs (omega arith) ∙ oldest_zero fs
 
 logged_in : (es : List Entry) (f : Fact) → In (logged_of es) f → In (facts_of es) f
 logged_in [] f h = h
@@ -70,7 +79,36 @@ module _ {W : Type 0} (s : State W) (laws : HasLaws (along s.path)) (kept : IsKe
             (facts_of d.0, d.1, logged_in d.0 _ (rw (d.2, kept.traced.logged) at))
       ]
 
-  abbrev stopped_at : ℕ → ConflictKind → State W
+  -- a byte of the dump is of the closure, where no conflict needs no fact
+  dump_derived : 0 < s.shown → (a v : ℕ) → a < 2 ^ 32 → s.path.given.dump a ≡ Some v → InClosure (along s.path) (fact_of (length s.path.given.rows) (Byte a) v)
+  dump_derived some a v small e =
+      let f = fact_of (length s.path.given.rows) (Byte a) v in
+      let quiet : IsQuiet (along s.path) (told []) = subst (λ (fs : List Fact). IsQuiet (along s.path) (told fs)) (oldest_zero s.known.log) (kept.calm 0 some) in
+      (f ∷ [], next_derivation (along s.path) laws [] tt quiet f (record { early = omega arith; cell = small; word = tt; by = carried (last_byte a refl refl e) }), inl refl)
+
+  -- so is what is answered of bytes
+  pub byte_answered : (p a v : ℕ) → a < 2 ^ 32 → byte_answer s p a ≡ Some v → InClosure (along s.path) (fact_of p (Byte a) v)
+  byte_answered p a v small e =
+      elim (cases_eq s.shown 0) [
+        | inl z ↦ absurd (none_some (sym (cond-true (eqb s.shown 0) None (source (along s.path) (oldest s.shown s.known.log) a p) (eq-eqb s.shown 0 z)) ∙ e))
+        | inr ne ↦ of (omega (arith, ne)) (told (oldest s.shown s.known.log) p (Byte a)) refl (sym (cond-false (eqb s.shown 0) None (source (along s.path) (oldest s.shown s.known.log) a p) (ne_eqb s.shown 0 ne)) ∙ e)
+      ]
+    where
+      at_end : 0 < s.shown → cond (eqb p (length s.path.given.rows)) (s.path.given.dump a) None ≡ Some v → InClosure (along s.path) (fact_of p (Byte a) v)
+      at_end some h =
+          elim (cases_eq p (length s.path.given.rows)) [
+            | inl is ↦ rw is (dump_derived some a v small (sym (cond-true (eqb p (length s.path.given.rows)) (s.path.given.dump a) None (eq-eqb p (length s.path.given.rows) is)) ∙ h))
+            | inr ne ↦ absurd (none_some (sym (cond-false (eqb p (length s.path.given.rows)) (s.path.given.dump a) None (ne_eqb p (length s.path.given.rows) ne)) ∙ h))
+          ]
+
+      of : 0 < s.shown → (x : Option ℕ) → told (oldest s.shown s.known.log) p (Byte a) ≡ x → source (along s.path) (oldest s.shown s.known.log) a p ≡ Some v → InClosure (along s.path) (fact_of p (Byte a) v)
+      of some (Some w) is h =
+          let value : Some w ≡ Some v = rw is at h in
+          let logged : told (oldest s.shown s.known.log) p (Byte a) ≡ Some v = is ∙ value in
+          front_closure (along s.path) laws kept.traced.entries kept.traced.trace s.shown (λ u below. rw kept.traced.logged (kept.calm u below)) (fact_of p (Byte a) v) (rw kept.traced.logged (told_in (oldest s.shown s.known.log) p (Byte a) v logged))
+      of some None is h = at_end some (rw is at h)
+
+  abbrev pub stopped_at : ℕ → ConflictKind → State W
   stopped_at limit kind = record { path = s.path; known = s.known; spans = s.spans; filled = s.filled; shown = limit; complete = s.complete; conflict = Some kind; work = s.work }
 
   -- an analysis that stops at a place

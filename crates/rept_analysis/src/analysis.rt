@@ -15,7 +15,7 @@ ghost use Rattle.rept_report.specs.declared.conflict.ConflictKind.{ConflictKind}
 ghost use Rattle.rept_analysis.specs.State.{HasRegisters, path_of, setting_of, state_of};
 ghost use Rattle.rept_report.specs.Why.{fact_of};
 ghost use Rattle.rept_analysis.specs.Kept.{IsKept, register_answer, answers};
-ghost use Rattle.rept_analysis.specs.Refined.{KeepsAnswers};
+ghost use Rattle.rept_analysis.specs.Refined.{KeepsAnswers, KeepsKnown, ShowsTo};
 ghost use Rattle.rept_analysis.specs.Sums.{sum_to};
 ghost use Rattle.rept_analysis.specs.Room.{places_of};
 ghost use Rattle.rept_report.specs.Closure.{InClosure, ClosureHas, IsConsistent, IsReport};
@@ -247,17 +247,23 @@ impl<'a, B: ByteFacts, W: Transfer, R: RowRules> Analysis<'a, B, W, R> {
 
     /// Learns all that follows from the path and the dump. Ok: what the analysis answers is then the report, exactly the facts of
     /// the closure, which has no conflict; another call changes nothing. `Stop::Conflict`: the closure has this conflict, and
-    /// another call answers the same one. `Stop::OutOfMemory`: memory ran out, and another call goes on; this never comes where the store
-    /// joins bytes that stand side by side, since `prepare` took all memory. So it is then Ok exactly where the closure has no conflict. What
-    /// was answered of registers is answered still.
+    /// another call answers the same one; `reg` and `byte` then answer the oldest facts that show the conflict, of which no fewer show any.
+    /// `Stop::OutOfMemory`: memory ran out, all that was learnt is answered, and another call goes on from there; this never comes where the
+    /// store joins bytes that stand side by side, since `prepare` took all memory. So it is then Ok exactly where the closure has no conflict.
+    /// What was known is known still, and what was answered of registers is answered still.
     pub fn refine(&mut self) -> Result<(), Stop>
         ensures path { (path_of W.sets W.moves R.rules self.new) ≡ (path_of W.sets W.moves R.rules self.old) }
         ensures kept { KeepsAnswers (state_of W.sets W.moves R.rules B.store self.old) (state_of W.sets W.moves R.rules B.store self.new) }
+        ensures more { KeepsKnown (state_of W.sets W.moves R.rules B.store self.old) (state_of W.sets W.moves R.rules B.store self.new) }
         ensures report { OnOk result (IsReport (setting_of W.sets W.moves R.rules self.new) (answers (state_of W.sets W.moves R.rules B.store self.new))) }
         ensures complete { OnOk result (self.new.complete ≡ true) }
         ensures consistent { OnOk result (IsConsistent (setting_of W.sets W.moves R.rules self.old)) }
         ensures conflict { (kind : ConflictKind) → result ≡ Err (Stop.Conflict kind) → ClosureHas (setting_of W.sets W.moves R.rules self.old) kind }
         ensures recorded { (kind : ConflictKind) → result ≡ Err (Stop.Conflict kind) → self.new.conflict ≡ Some kind }
+
+        // How far it is answered after a stop: all facts of the log where memory ran out, and those that show the conflict.
+        ensures whole { result ≡ Err Stop.OutOfMemory → self.new.shown ≡ length self.new.known.log }
+        ensures shown { self.old.conflict ≡ None → (kind : ConflictKind) → result ≡ Err (Stop.Conflict kind) → ShowsTo (state_of W.sets W.moves R.rules B.store self.new) self.new.shown kind }
 
         // Where the store joins bytes, no memory is taken: it is Ok exactly where the closure has no conflict.
         ensures joins { B.JOINS ≡ true → result ≡ Err Stop.OutOfMemory → ⊥ }
@@ -314,6 +320,16 @@ impl<'a, B: ByteFacts, W: Transfer, R: RowRules> Analysis<'a, B, W, R> {
         ensures { result.now ≡ self.now.rows }
     {
         self.rows
+    }
+
+    /// The address to which the last row led, which is that of the last point. There must be a row.
+    pub fn end_pc(&self) -> u32
+        requires { 0 < length self.now.rows }
+        ensures { EndBefore self.now.rows result }
+    {
+        let last = self.count() - 1;
+        let row = self.row(last);
+        row.next
     }
 
     /// An analysis of these steps, which end in this dump, by these rules. Nothing is known yet. `OutOfMemory` says that its room

@@ -360,9 +360,9 @@ fn runs_by_hand(rt: HostRuntime) -> Result<(), Fail> {
             steps: &PARTED,
             last: &[(5, 3), (6, 3)],
             can_be: false,
-            regs: &[],
+            regs: &[(1, 5, Flat::Known(3)), (1, 31, Flat::Known(0))],
             ranges: &[(0, 5, 0, 0xffff_ffff)],
-            bytes: &[(1, 0x20004, None)],
+            bytes: &[(1, 0x20004, Some(5)), (0, 0x20004, None)],
             writers: &[
                 (0, 0x20004, Writer::None),
                 (1, 0x20004, Writer::MayWrite(0)),

@@ -1,6 +1,8 @@
 //! What an analysis answers of ranges, bytes, writers and numbers.
 
-ghost use Rattle.std.specs.Prelude.{◌≡◌, ◌+◌, ◌<◌, ◌≤◌, ℕ, length, true, false, Some, None, slice_get, is_some};
+ghost use Rattle.std.specs.Prelude.{◌≡◌, ◌+◌, ◌<◌, ◌≤◌, ◌==◌, if◌then◌else◌, ℕ, length, true, false, Some, None, slice_get, is_some};
+ghost use Rattle.rept_dump.specs.Memory.{byte_at};
+ghost use Rattle.rept_dump.specs.Program.{contents};
 ghost use Rattle.rept_reason.specs.declared.fact.Cell.TheVariants.{Byte};
 ghost use Rattle.rept_reason.specs.Facts.{told, register_fact};
 ghost use Rattle.rept_span.specs.Filled.{entry_at};
@@ -8,6 +10,7 @@ ghost use Rattle.rept_span.specs.Ranges.{range};
 ghost use Rattle.rept_report.specs.Setting.{way_of};
 ghost use Rattle.rept_report.specs.Views.{may_write, is_sure};
 ghost use Rattle.rept_report.specs.Closure.{InClosure};
+ghost use Rattle.rept_report.specs.Soundness.{AlwaysHolds};
 ghost use Rattle.rept_report.specs.Implied.{is_settled, implied};
 ghost use Rattle.rept_report.specs.Spots.{spot};
 ghost use Rattle.rept_report.specs.Writers.{IsWriter};
@@ -16,7 +19,7 @@ ghost use Rattle.rept_analysis.specs.State.{setting_of, state_of};
 ghost use Rattle.rept_report.specs.Why.{fact_of};
 ghost use Rattle.rept_analysis.specs.Drawing.{IsFitted};
 ghost use Rattle.rept_analysis.specs.Kept.{IsKept, answers};
-ghost use Rattle.rept_analysis.specs.Answers.{unsaid};
+ghost use Rattle.rept_analysis.specs.Answers.{unsaid, byte_answer};
 
 use super::Analysis;
 use crate::moment::Moment;
@@ -134,15 +137,63 @@ impl<'a, B: ByteFacts, W: Transfer, R: RowRules> Analysis<'a, B, W, R> {
         }
     }
 
-    /// The value of the byte at an address, at a point, where it follows: none, unless all is learnt.
+    /// The byte that a fact tells, of those that are answered.
+    fn logged_byte(&self, point: u32, a: u32) -> Option<u8>
+        ensures { result ≡ told (oldest self.now.shown self.now.known.log) point (Byte a) }
+    {
+        self.held();
+        let fact = self.known.first_from(self.shown, point, a)?;
+        if fact.point == point {
+            Some(self.known.byte_below(self.shown, point, a))
+        } else {
+            None
+        }
+    }
+
+    /// The byte of the dump at the last point.
+    fn end_byte(&self, point: u32, a: u32) -> Option<u8>
+        ensures { result ≡ (if point == length self.now.rows then byte_at (contents self.now.exe) self.now.core a else None) }
+    {
+        if point == self.count() {
+            self.dump_byte(a)
+        } else {
+            None
+        }
+    }
+
+    /// How many facts are answered.
+    pub(super) fn shown(&self) -> u32
+        ensures { result ≡ self.now.shown }
+    {
+        let _rows = &self.rows;
+        self.shown
+    }
+
+    /// The byte that is answered while not all is learnt.
+    fn shown_byte(&self, point: u32, a: u32) -> Option<u8>
+        requires { point ≤ length self.now.rows }
+        ensures { result ≡ byte_answer (state_of W.sets W.moves R.rules B.store self.now) point a }
+    {
+        if self.shown() == 0 {
+            return None;
+        }
+        match self.logged_byte(point, a) {
+            Some(byte) => Some(byte),
+            None => self.end_byte(point, a),
+        }
+    }
+
+    /// The value of the byte at an address, at a point, where it follows. While not all is learnt, as after a stop, it is that of the facts
+    /// that are answered, and at the last point the dump's too.
     pub fn byte(&self, point: u32, a: u32) -> Option<u8>
         requires { point ≤ length self.now.rows }
         ensures ended { self.now.complete ≡ true → result ≡ answers (state_of W.sets W.moves R.rules B.store self.now) point (Byte a) }
-        ensures open { self.now.complete ≡ false → result ≡ None }
+        ensures open { self.now.complete ≡ false → result ≡ byte_answer (state_of W.sets W.moves R.rules B.store self.now) point a }
         ensures derived { (v : ℕ) → result ≡ Some v → InClosure (setting_of W.sets W.moves R.rules self.now) (fact_of point (Byte a) v) }
+        ensures sound { (v : ℕ) → result ≡ Some v → AlwaysHolds (setting_of W.sets W.moves R.rules self.now) point (Byte a) v }
     {
         if !self.ended() {
-            return None;
+            return self.shown_byte(point, a);
         }
         match self.known_byte(point, a) {
             Some(v) => Some(v),

@@ -29,8 +29,8 @@ fn is_none(access: &CallAccess) -> bool
     access.first.is_none() && access.second.is_none()
 }
 
-/// Whether it is a store or an atomic instruction.
-pub fn is_store(instr: &Instr) -> bool {
+/// Whether it is a store or an atomic instruction, after which it pays to look for known addresses. It only saves work: no clause rests on it.
+pub(super) fn is_store(instr: &Instr) -> bool {
     matches!(*instr, Instr::Store { .. } | Instr::Amo { .. })
 }
 

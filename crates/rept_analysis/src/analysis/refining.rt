@@ -8,7 +8,7 @@ ghost use Rattle.rept_analysis.specs.State.{setting_of, state_of};
 ghost use Rattle.rept_analysis.specs.Drawing.{IsHalt, IsSettled, IsFitted, SameFacts, Continues, AreWritings, AreExact, IsUncut};
 ghost use Rattle.rept_analysis.specs.Work.{left};
 ghost use Rattle.rept_report.specs.Log.{oldest};
-ghost use Rattle.rept_analysis.specs.Refined.{IsEnded, Outcome};
+ghost use Rattle.rept_analysis.specs.Refined.{KeepsKnown, IsEnded, Outcome};
 
 use super::Analysis;
 use crate::halt::Halt;
@@ -44,6 +44,7 @@ impl<'a, B: ByteFacts, W: Transfer, R: RowRules> Analysis<'a, B, W, R> {
     fn restart(&mut self)
         requires open { self.old.complete ≡ false }
         ensures continues { Continues (state_of W.sets W.moves R.rules B.store self.old) (state_of W.sets W.moves R.rules B.store self.new) }
+        ensures facts { self.new.known ≡ self.old.known }
         ensures draws { self.new.work.draws ≡ self.old.work.draws }
         ensures rows { length self.new.work.drawn ≡ length self.old.rows }
         ensures uncut { IsUncut (state_of W.sets W.moves R.rules B.store self.new) }
@@ -58,6 +59,7 @@ impl<'a, B: ByteFacts, W: Transfer, R: RowRules> Analysis<'a, B, W, R> {
         requires uncut { IsUncut (state_of W.sets W.moves R.rules B.store self.old) }
         ensures spent { self.new.work.draws ≤ self.old.work.draws + left self.old.work.drawn }
         ensures continues { Continues (state_of W.sets W.moves R.rules B.store self.old) (state_of W.sets W.moves R.rules B.store self.new) }
+        ensures more { KeepsKnown (state_of W.sets W.moves R.rules B.store self.old) (state_of W.sets W.moves R.rules B.store self.new) }
         ensures settled { result ≡ Ok true → IsSettled (state_of W.sets W.moves R.rules B.store self.new) }
         ensures loud { result ≡ Ok false → IsQuiet (setting_of W.sets W.moves R.rules self.new) (told self.new.known.log) → ⊥ }
         ensures halt { IfErr result (λ h. IsHalt (state_of W.sets W.moves R.rules B.store self.new) h) }

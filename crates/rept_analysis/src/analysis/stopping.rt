@@ -9,7 +9,7 @@ ghost use Rattle.rept_report.specs.Log.{oldest};
 ghost use Rattle.rept_analysis.specs.State.{setting_of, state_of};
 ghost use Rattle.rept_report.specs.Why.{fact_of};
 ghost use Rattle.rept_analysis.specs.Drawing.{IsHalt, SameFacts, IsClash};
-ghost use Rattle.rept_analysis.specs.Refined.{QuietBelow, IsStopped, IsPaused, IsHalted, clash_kind};
+ghost use Rattle.rept_analysis.specs.Refined.{QuietBelow, ShowsTo, IsStopped, IsPaused, IsHalted, clash_kind};
 ghost use Rattle.rept_report.specs.Closure.{ClosureHas};
 
 use super::Analysis;
@@ -67,12 +67,12 @@ impl<'a, B: ByteFacts, W: Transfer, R: RowRules> Analysis<'a, B, W, R> {
         low
     }
 
-    /// Keeps a conflict, and answers the facts at places below the limit alone from now on.
+    /// Keeps a conflict, and answers the facts at places below the limit alone from now on, which show it.
     fn stop_at(&mut self, limit: u32, kind: ConflictKind)
         requires open { self.old.complete ≡ false }
         requires within { limit ≤ length self.old.known.log }
         requires later { self.old.shown ≤ limit }
-        requires quiet { QuietBelow (state_of W.sets W.moves R.rules B.store self.old) limit }
+        requires shows { ShowsTo (state_of W.sets W.moves R.rules B.store self.old) limit kind }
         requires kind { ClosureHas (setting_of W.sets W.moves R.rules self.old) kind }
         ensures ended { IsStopped (state_of W.sets W.moves R.rules B.store self.old) (state_of W.sets W.moves R.rules B.store self.new) kind }
         ensures still { self.new.work.draws ≡ self.old.work.draws }
@@ -115,10 +115,10 @@ impl<'a, B: ByteFacts, W: Transfer, R: RowRules> Analysis<'a, B, W, R> {
         named
     }
 
-    /// Answers the facts at places below the limit from now on.
+    /// Answers all facts from now on, of which there are so many.
     fn show(&mut self, limit: u32)
         requires open { self.old.complete ≡ false }
-        requires within { limit ≤ length self.old.known.log }
+        requires whole { limit ≡ length self.old.known.log }
         requires later { self.old.shown ≤ limit }
         requires quiet { QuietBelow (state_of W.sets W.moves R.rules B.store self.old) limit }
         ensures ended { IsPaused (state_of W.sets W.moves R.rules B.store self.old) (state_of W.sets W.moves R.rules B.store self.new) }

@@ -20,4 +20,4 @@ returns-clause-ended g c =
     let settled = subst (λ (x : Whole g.row.B.Denot g.row.W.Denot g.row.R.Denot). IsSettled (state_of g.W.Partial.sets g.W.Transfer.moves g.R.RowRules.rules g.B.ByteFacts.store x)) (sym c.self.view_is) c.requires.settled in
     let calm = subst (λ (x : Whole g.row.B.Denot g.row.W.Denot g.row.R.Denot). x.conflict ≡ None) (sym c.self.view_is) c.requires.open in
     let kept = kept_finished (state_of g.W.Partial.sets g.W.Transfer.moves g.R.RowRules.rules g.B.ByteFacts.store a) (record { sets = g.met.W.Partial.lawful; moves = g.met.W.Transfer.covers; rules = g.met.R.RowRules.lawful; legs = rows_within _; moments = are_points _ }) c.self.invariant settled in
-    rw (← c.self.view_is, c.len-len.ensures.value) (record { path = refl; complete = refl; conflict = calm; finished = kept.finished refl; kept = λ p r v e. known_later a.known.log c.self.invariant.once a.shown (length a.known.log) c.self.invariant.shown p r v e })
+    rw (← c.self.view_is, c.len-len.ensures.value) (record { path = refl; complete = refl; conflict = calm; finished = kept.finished refl; kept = λ p r v e. known_later a.known.log c.self.invariant.once a.shown (length a.known.log) c.self.invariant.shown p r v e; more = λ p x v e. e })

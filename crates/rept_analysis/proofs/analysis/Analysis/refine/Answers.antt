@@ -1,7 +1,7 @@
 use Rattle.std.proofs.Common.{sym, ◌∙◌}
 use Rattle.std.proofs.lemmas.Bool.{true≢false}
 use Rattle.rept_analysis.specs.State.{state_of}
-use Rattle.rept_analysis.proofs.Refining.{path_of, kept_of, report_of, complete_of, consistent_of, stopped_of, sound_of, impossible_of, exact_of, refused_of}
+use Rattle.rept_analysis.proofs.Refining.{path_of, kept_of, report_of, complete_of, consistent_of, stopped_of, sound_of, impossible_of, exact_of, refused_of, more_of, paused_of}
 use Rattle.rept_report.proofs.OneThread.{rows_within, are_points}
 use Rattle.rept_analysis.proofs.analysis.Analysis.refine.Goals as goal
 
@@ -10,6 +10,15 @@ returns-clause-path g c = path_of (state_of g.W.Partial.sets g.W.Transfer.moves 
 
 pub returns-clause-kept : goal.returns-clause-kept
 returns-clause-kept g c = kept_of (state_of g.W.Partial.sets g.W.Transfer.moves g.R.RowRules.rules g.B.ByteFacts.store c.args.self.now) (state_of g.W.Partial.sets g.W.Transfer.moves g.R.RowRules.rules g.B.ByteFacts.store c.outcome-outcome.new.self) c.outcome-outcome.result c.outcome-outcome.ensures.outcome
+
+pub returns-clause-more : goal.returns-clause-more
+returns-clause-more g c = more_of (state_of g.W.Partial.sets g.W.Transfer.moves g.R.RowRules.rules g.B.ByteFacts.store c.args.self.now) (state_of g.W.Partial.sets g.W.Transfer.moves g.R.RowRules.rules g.B.ByteFacts.store c.outcome-outcome.new.self) c.outcome-outcome.result c.outcome-outcome.ensures.outcome
+
+pub returns-clause-whole : goal.returns-clause-whole
+returns-clause-whole g c = λ e. (paused_of (state_of g.W.Partial.sets g.W.Transfer.moves g.R.RowRules.rules g.B.ByteFacts.store c.args.self.now) (state_of g.W.Partial.sets g.W.Transfer.moves g.R.RowRules.rules g.B.ByteFacts.store c.outcome-outcome.new.self) c.outcome-outcome.result c.outcome-outcome.ensures.outcome e).whole
+
+pub returns-clause-shown : goal.returns-clause-shown
+returns-clause-shown g c = λ calm kind e. (stopped_of (state_of g.W.Partial.sets g.W.Transfer.moves g.R.RowRules.rules g.B.ByteFacts.store c.args.self.now) (state_of g.W.Partial.sets g.W.Transfer.moves g.R.RowRules.rules g.B.ByteFacts.store c.outcome-outcome.new.self) c.outcome-outcome.result kind c.outcome-outcome.ensures.outcome e).shown calm
 
 pub returns-clause-report : goal.returns-clause-report
 returns-clause-report g c = report_of (state_of g.W.Partial.sets g.W.Transfer.moves g.R.RowRules.rules g.B.ByteFacts.store c.args.self.now) (state_of g.W.Partial.sets g.W.Transfer.moves g.R.RowRules.rules g.B.ByteFacts.store c.outcome-outcome.new.self) c.outcome-outcome.result c.outcome-outcome.ensures.outcome

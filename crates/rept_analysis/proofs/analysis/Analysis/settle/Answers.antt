@@ -7,11 +7,11 @@ use Rattle.rept_analysis.specs.State.{State, state_of, Path, along}
 use Rattle.rept_analysis.specs.Drawing.{IsSettled}
 use Rattle.rept_analysis.specs.Measure.{measure}
 use Rattle.rept_analysis.proofs.Measure.{news_less}
-use Rattle.rept_analysis.proofs.Ending.{forth, back_to, measure_same, same_continues, grows_continues, Continues_itself, Continues_trans, quiet_part, settled_by, spent_like, spent_after, uncut_like}
+use Rattle.rept_analysis.proofs.Ending.{forth, back_to, measure_same, same_continues, grows_continues, Continues_itself, Continues_trans, quiet_part, settled_by, spent_like, spent_after, uncut_like, known_like, known_after}
 use Rattle.rept_analysis.proofs.analysis.Analysis.settle.Goals as goal
 
 pub loop-len-init : goal.loop-len-init
-loop-len-init g c = record { continues = Continues_itself _; spent = omega arith; uncut = c.requires.uncut }
+loop-len-init g c = record { continues = Continues_itself _; more = λ p x v e. e; spent = omega arith; uncut = c.requires.uncut }
 
 pub returns-then-not-quiet-clause-continues : goal.returns-then-not-quiet-clause-continues
 returns-then-not-quiet-clause-continues g c = Continues_trans _ (state_of g.W.Partial.sets g.W.Transfer.moves g.R.RowRules.rules g.B.ByteFacts.store c.loop-len.self) _ c.loop-len.invariant.continues (same_continues (state_of g.W.Partial.sets g.W.Transfer.moves g.R.RowRules.rules g.B.ByteFacts.store c.loop-len.self) (state_of g.W.Partial.sets g.W.Transfer.moves g.R.RowRules.rules g.B.ByteFacts.store c.ready-quiet.new.self) c.ready-quiet.ensures.same)
@@ -25,7 +25,7 @@ pub returns-in_err-learnt-clause-continues : goal.returns-in_err-learnt-clause-c
 returns-in_err-learnt-clause-continues g c = Continues_trans _ (state_of g.W.Partial.sets g.W.Transfer.moves g.R.RowRules.rules g.B.ByteFacts.store c.loop-len.self) _ c.loop-len.invariant.continues (Continues_trans _ (state_of g.W.Partial.sets g.W.Transfer.moves g.R.RowRules.rules g.B.ByteFacts.store c.ready-quiet.new.self) _ (same_continues (state_of g.W.Partial.sets g.W.Transfer.moves g.R.RowRules.rules g.B.ByteFacts.store c.loop-len.self) (state_of g.W.Partial.sets g.W.Transfer.moves g.R.RowRules.rules g.B.ByteFacts.store c.ready-quiet.new.self) c.ready-quiet.ensures.same) (grows_continues (state_of g.W.Partial.sets g.W.Transfer.moves g.R.RowRules.rules g.B.ByteFacts.store c.ready-quiet.new.self) (state_of g.W.Partial.sets g.W.Transfer.moves g.R.RowRules.rules g.B.ByteFacts.store c.sweep.new.self) c.sweep.ensures.grows))
 
 pub loop-len-preserved : goal.loop-len-preserved
-loop-len-preserved g c = record { continues = Continues_trans _ (state_of g.W.Partial.sets g.W.Transfer.moves g.R.RowRules.rules g.B.ByteFacts.store c.loop-len.self) _ c.loop-len.invariant.continues (Continues_trans _ (state_of g.W.Partial.sets g.W.Transfer.moves g.R.RowRules.rules g.B.ByteFacts.store c.ready-quiet.new.self) _ (same_continues (state_of g.W.Partial.sets g.W.Transfer.moves g.R.RowRules.rules g.B.ByteFacts.store c.loop-len.self) (state_of g.W.Partial.sets g.W.Transfer.moves g.R.RowRules.rules g.B.ByteFacts.store c.ready-quiet.new.self) c.ready-quiet.ensures.same) (grows_continues (state_of g.W.Partial.sets g.W.Transfer.moves g.R.RowRules.rules g.B.ByteFacts.store c.ready-quiet.new.self) (state_of g.W.Partial.sets g.W.Transfer.moves g.R.RowRules.rules g.B.ByteFacts.store c.sweep.new.self) c.in_ok-learnt.ensures.grows)); spent = spent_after (state_of g.W.Partial.sets g.W.Transfer.moves g.R.RowRules.rules g.B.ByteFacts.store c.loop-len.self) (state_of g.W.Partial.sets g.W.Transfer.moves g.R.RowRules.rules g.B.ByteFacts.store c.ready-quiet.new.self) (state_of g.W.Partial.sets g.W.Transfer.moves g.R.RowRules.rules g.B.ByteFacts.store c.sweep.new.self) (state_of g.W.Partial.sets g.W.Transfer.moves g.R.RowRules.rules g.B.ByteFacts.store c.args.self.now) c.ready-quiet.ensures.same c.in_ok-learnt.ensures.grows c.loop-len.invariant.spent; uncut = c.in_ok-learnt.ensures.drew.uncut (uncut_like (state_of g.W.Partial.sets g.W.Transfer.moves g.R.RowRules.rules g.B.ByteFacts.store c.loop-len.self) (state_of g.W.Partial.sets g.W.Transfer.moves g.R.RowRules.rules g.B.ByteFacts.store c.ready-quiet.new.self) c.ready-quiet.ensures.same c.loop-len.invariant.uncut) }
+loop-len-preserved g c = record { continues = Continues_trans _ (state_of g.W.Partial.sets g.W.Transfer.moves g.R.RowRules.rules g.B.ByteFacts.store c.loop-len.self) _ c.loop-len.invariant.continues (Continues_trans _ (state_of g.W.Partial.sets g.W.Transfer.moves g.R.RowRules.rules g.B.ByteFacts.store c.ready-quiet.new.self) _ (same_continues (state_of g.W.Partial.sets g.W.Transfer.moves g.R.RowRules.rules g.B.ByteFacts.store c.loop-len.self) (state_of g.W.Partial.sets g.W.Transfer.moves g.R.RowRules.rules g.B.ByteFacts.store c.ready-quiet.new.self) c.ready-quiet.ensures.same) (grows_continues (state_of g.W.Partial.sets g.W.Transfer.moves g.R.RowRules.rules g.B.ByteFacts.store c.ready-quiet.new.self) (state_of g.W.Partial.sets g.W.Transfer.moves g.R.RowRules.rules g.B.ByteFacts.store c.sweep.new.self) c.in_ok-learnt.ensures.grows)); more = known_after (state_of g.W.Partial.sets g.W.Transfer.moves g.R.RowRules.rules g.B.ByteFacts.store c.args.self.now) (state_of g.W.Partial.sets g.W.Transfer.moves g.R.RowRules.rules g.B.ByteFacts.store c.ready-quiet.new.self) (state_of g.W.Partial.sets g.W.Transfer.moves g.R.RowRules.rules g.B.ByteFacts.store c.sweep.new.self) (known_after (state_of g.W.Partial.sets g.W.Transfer.moves g.R.RowRules.rules g.B.ByteFacts.store c.args.self.now) (state_of g.W.Partial.sets g.W.Transfer.moves g.R.RowRules.rules g.B.ByteFacts.store c.loop-len.self) (state_of g.W.Partial.sets g.W.Transfer.moves g.R.RowRules.rules g.B.ByteFacts.store c.ready-quiet.new.self) c.loop-len.invariant.more (known_like (state_of g.W.Partial.sets g.W.Transfer.moves g.R.RowRules.rules g.B.ByteFacts.store c.loop-len.self) (state_of g.W.Partial.sets g.W.Transfer.moves g.R.RowRules.rules g.B.ByteFacts.store c.ready-quiet.new.self) c.ready-quiet.ensures.same.path c.ready-quiet.ensures.same.known)) c.in_ok-learnt.ensures.grows.more; spent = spent_after (state_of g.W.Partial.sets g.W.Transfer.moves g.R.RowRules.rules g.B.ByteFacts.store c.loop-len.self) (state_of g.W.Partial.sets g.W.Transfer.moves g.R.RowRules.rules g.B.ByteFacts.store c.ready-quiet.new.self) (state_of g.W.Partial.sets g.W.Transfer.moves g.R.RowRules.rules g.B.ByteFacts.store c.sweep.new.self) (state_of g.W.Partial.sets g.W.Transfer.moves g.R.RowRules.rules g.B.ByteFacts.store c.args.self.now) c.ready-quiet.ensures.same c.in_ok-learnt.ensures.grows c.loop-len.invariant.spent; uncut = c.in_ok-learnt.ensures.drew.uncut (uncut_like (state_of g.W.Partial.sets g.W.Transfer.moves g.R.RowRules.rules g.B.ByteFacts.store c.loop-len.self) (state_of g.W.Partial.sets g.W.Transfer.moves g.R.RowRules.rules g.B.ByteFacts.store c.ready-quiet.new.self) c.ready-quiet.ensures.same c.loop-len.invariant.uncut) }
 
 pub loop-len-smaller : goal.loop-len-smaller
 loop-len-smaller g c =
@@ -64,3 +64,12 @@ returns-in_err-learnt-clause-spent g c = let both = spent_after (state_of g.W.Pa
 
 pub returns-clause-spent : goal.returns-clause-spent
 returns-clause-spent g c = let both = spent_after (state_of g.W.Partial.sets g.W.Transfer.moves g.R.RowRules.rules g.B.ByteFacts.store c.loop-len.self) (state_of g.W.Partial.sets g.W.Transfer.moves g.R.RowRules.rules g.B.ByteFacts.store c.ready-quiet.new.self) (state_of g.W.Partial.sets g.W.Transfer.moves g.R.RowRules.rules g.B.ByteFacts.store c.sweep.new.self) (state_of g.W.Partial.sets g.W.Transfer.moves g.R.RowRules.rules g.B.ByteFacts.store c.args.self.now) c.ready-quiet.ensures.same c.in_ok-learnt.ensures.grows c.loop-len.invariant.spent in omega (arith, both)
+
+pub returns-then-not-quiet-clause-more : goal.returns-then-not-quiet-clause-more
+returns-then-not-quiet-clause-more g c = known_after (state_of g.W.Partial.sets g.W.Transfer.moves g.R.RowRules.rules g.B.ByteFacts.store c.args.self.now) (state_of g.W.Partial.sets g.W.Transfer.moves g.R.RowRules.rules g.B.ByteFacts.store c.loop-len.self) (state_of g.W.Partial.sets g.W.Transfer.moves g.R.RowRules.rules g.B.ByteFacts.store c.ready-quiet.new.self) c.loop-len.invariant.more (known_like (state_of g.W.Partial.sets g.W.Transfer.moves g.R.RowRules.rules g.B.ByteFacts.store c.loop-len.self) (state_of g.W.Partial.sets g.W.Transfer.moves g.R.RowRules.rules g.B.ByteFacts.store c.ready-quiet.new.self) c.ready-quiet.ensures.same.path c.ready-quiet.ensures.same.known)
+
+pub returns-in_err-learnt-clause-more : goal.returns-in_err-learnt-clause-more
+returns-in_err-learnt-clause-more g c = known_after (state_of g.W.Partial.sets g.W.Transfer.moves g.R.RowRules.rules g.B.ByteFacts.store c.args.self.now) (state_of g.W.Partial.sets g.W.Transfer.moves g.R.RowRules.rules g.B.ByteFacts.store c.ready-quiet.new.self) (state_of g.W.Partial.sets g.W.Transfer.moves g.R.RowRules.rules g.B.ByteFacts.store c.sweep.new.self) (known_after (state_of g.W.Partial.sets g.W.Transfer.moves g.R.RowRules.rules g.B.ByteFacts.store c.args.self.now) (state_of g.W.Partial.sets g.W.Transfer.moves g.R.RowRules.rules g.B.ByteFacts.store c.loop-len.self) (state_of g.W.Partial.sets g.W.Transfer.moves g.R.RowRules.rules g.B.ByteFacts.store c.ready-quiet.new.self) c.loop-len.invariant.more (known_like (state_of g.W.Partial.sets g.W.Transfer.moves g.R.RowRules.rules g.B.ByteFacts.store c.loop-len.self) (state_of g.W.Partial.sets g.W.Transfer.moves g.R.RowRules.rules g.B.ByteFacts.store c.ready-quiet.new.self) c.ready-quiet.ensures.same.path c.ready-quiet.ensures.same.known)) c.sweep.ensures.grows.more
+
+pub returns-clause-more : goal.returns-clause-more
+returns-clause-more g c = known_after (state_of g.W.Partial.sets g.W.Transfer.moves g.R.RowRules.rules g.B.ByteFacts.store c.args.self.now) (state_of g.W.Partial.sets g.W.Transfer.moves g.R.RowRules.rules g.B.ByteFacts.store c.ready-quiet.new.self) (state_of g.W.Partial.sets g.W.Transfer.moves g.R.RowRules.rules g.B.ByteFacts.store c.sweep.new.self) (known_after (state_of g.W.Partial.sets g.W.Transfer.moves g.R.RowRules.rules g.B.ByteFacts.store c.args.self.now) (state_of g.W.Partial.sets g.W.Transfer.moves g.R.RowRules.rules g.B.ByteFacts.store c.loop-len.self) (state_of g.W.Partial.sets g.W.Transfer.moves g.R.RowRules.rules g.B.ByteFacts.store c.ready-quiet.new.self) c.loop-len.invariant.more (known_like (state_of g.W.Partial.sets g.W.Transfer.moves g.R.RowRules.rules g.B.ByteFacts.store c.loop-len.self) (state_of g.W.Partial.sets g.W.Transfer.moves g.R.RowRules.rules g.B.ByteFacts.store c.ready-quiet.new.self) c.ready-quiet.ensures.same.path c.ready-quiet.ensures.same.known)) c.in_ok-learnt.ensures.grows.more

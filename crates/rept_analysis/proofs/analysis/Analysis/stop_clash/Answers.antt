@@ -1,11 +1,11 @@
-use Rattle.std.proofs.Common.{◌∙◌, ◌<◌, ℕ, arith}
+use Rattle.std.proofs.Common.{◌∙◌, arith, inr}
 use Rattle.rept_reason.specs.Facts.{told}
 use Rattle.rept_report.specs.Conflicts.{IsQuiet}
 use Rattle.rept_report.specs.Closure.{ClosureHas}
-use Rattle.rept_report.specs.Log.{oldest}
+use Rattle.rept_report.specs.Why.{fact_of}
 use Rattle.rept_log.specs.Known.{Known}
 use Rattle.rept_analysis.specs.State.{state_of, Path, along}
-use Rattle.rept_analysis.proofs.Ending.{forth, back_to, stopped_from, quiet_whole, quiet_part}
+use Rattle.rept_analysis.proofs.Ending.{forth, back_to, stopped_from, quiet_whole, quiet_part, shows_like}
 use Rattle.rept_analysis.proofs.Stopping.{quiet_before, clash_conflict}
 use Rattle.rept_report.proofs.OneThread.{rows_within, are_points}
 use Rattle.rept_analysis.proofs.analysis.Analysis.stop_clash.Goals as goal
@@ -18,11 +18,14 @@ stop_least-requires-clause-loud g c =
 pub returns-then-not-quiet-clause-ended : goal.returns-then-not-quiet-clause-ended
 returns-then-not-quiet-clause-ended g c = stopped_from (state_of g.W.Partial.sets g.W.Transfer.moves g.R.RowRules.rules g.B.ByteFacts.store c.args.self.now) (state_of g.W.Partial.sets g.W.Transfer.moves g.R.RowRules.rules g.B.ByteFacts.store c.is_quiet-quiet.new.self) c.is_quiet-quiet.ensures.same _ _ c.stop_least.ensures.ended
 
-pub stop_at-requires-clause-quiet : goal.stop_at-requires-clause-quiet
-stop_at-requires-clause-quiet g c =
-    let a = state_of g.W.Partial.sets g.W.Transfer.moves g.R.RowRules.rules g.B.ByteFacts.store c.args.self.now in
-    forth a (state_of g.W.Partial.sets g.W.Transfer.moves g.R.RowRules.rules g.B.ByteFacts.store c.is_quiet-quiet.new.self) c.is_quiet-quiet.ensures.same (λ (P : Path g.row.W.Denot) (k : Known). (u : ℕ) → u < c.len-len.result → IsQuiet (along P) (told (oldest u k.log)))
-    (λ u below. quiet_before a (record { sets = g.met.W.Partial.lawful; moves = g.met.W.Transfer.covers; rules = g.met.R.RowRules.lawful; legs = rows_within _; moments = are_points _ }) c.held.ensures c.len-len.result u (omega (arith, below)) (c.is_quiet-quiet.ensures.quiet c.if-not-quiet.false))
+pub stop_at-requires-clause-shows : goal.stop_at-requires-clause-shows
+stop_at-requires-clause-shows g c =
+    let a = (state_of g.W.Partial.sets g.W.Transfer.moves g.R.RowRules.rules g.B.ByteFacts.store c.args.self.now) in
+    let same = c.is_quiet-quiet.ensures.same in
+    shows_like a (state_of g.W.Partial.sets g.W.Transfer.moves g.R.RowRules.rules g.B.ByteFacts.store c.is_quiet-quiet.new.self) same.path same.known c.len-len.result c.clash_kind-kind.result (record {
+      quiet = λ u below. quiet_before a (record { sets = g.met.W.Partial.lawful; moves = g.met.W.Transfer.covers; rules = g.met.R.RowRules.lawful; legs = rows_within _; moments = are_points _ }) c.held.ensures c.len-len.result u (omega (arith, below)) (c.is_quiet-quiet.ensures.quiet c.if-not-quiet.false);
+      shows = inr (c.len-len.ensures.value, record { fact = fact_of c.args.point c.args.cell c.args.value; known = c.args.known; clash = c.requires.clash; named = c.clash_kind-kind.ensures });
+    })
 
 pub stop_at-requires-clause-kind : goal.stop_at-requires-clause-kind
 stop_at-requires-clause-kind g c =

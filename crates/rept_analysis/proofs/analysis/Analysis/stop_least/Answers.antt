@@ -1,11 +1,11 @@
-use Rattle.std.proofs.Common.{◌∙◌, ◌≤◌, ◌<◌, ℕ, length}
+use Rattle.std.proofs.Common.{◌∙◌, ◌≤◌, length, inl}
 use Rattle.rept_reason.specs.Facts.{told}
-use Rattle.rept_report.specs.Conflicts.{IsQuiet, Shows}
+use Rattle.rept_report.specs.Conflicts.{Shows}
 use Rattle.rept_report.specs.Closure.{ClosureHas}
 use Rattle.rept_report.specs.Log.{oldest}
 use Rattle.rept_log.specs.Known.{Known}
 use Rattle.rept_analysis.specs.State.{state_of, Path, along}
-use Rattle.rept_analysis.proofs.Ending.{Same_trans, forth, back_to, stopped_from, least_later}
+use Rattle.rept_analysis.proofs.Ending.{Same_trans, forth, back_to, stopped_from, least_later, shows_like}
 use Rattle.rept_analysis.proofs.Stopping.{shown_conflict}
 use Rattle.rept_report.proofs.OneThread.{rows_within, are_points}
 use Rattle.rept_analysis.proofs.analysis.Analysis.stop_least.Goals as goal
@@ -23,10 +23,15 @@ stop_at-requires-clause-later g c =
     let same = Same_trans (state_of g.W.Partial.sets g.W.Transfer.moves g.R.RowRules.rules g.B.ByteFacts.store c.args.self.now) (state_of g.W.Partial.sets g.W.Transfer.moves g.R.RowRules.rules g.B.ByteFacts.store c.bisect-limit.new.self) (state_of g.W.Partial.sets g.W.Transfer.moves g.R.RowRules.rules g.B.ByteFacts.store c.look.new.self) c.bisect-limit.ensures.same c.look.ensures.same in
     rw same.shown (least_later (state_of g.W.Partial.sets g.W.Transfer.moves g.R.RowRules.rules g.B.ByteFacts.store c.args.self.now) c.held.ensures c.bisect-limit.result c.bisect-limit.ensures.loud)
 
-pub stop_at-requires-clause-quiet : goal.stop_at-requires-clause-quiet
-stop_at-requires-clause-quiet g c =
-    let same = Same_trans (state_of g.W.Partial.sets g.W.Transfer.moves g.R.RowRules.rules g.B.ByteFacts.store c.args.self.now) (state_of g.W.Partial.sets g.W.Transfer.moves g.R.RowRules.rules g.B.ByteFacts.store c.bisect-limit.new.self) (state_of g.W.Partial.sets g.W.Transfer.moves g.R.RowRules.rules g.B.ByteFacts.store c.look.new.self) c.bisect-limit.ensures.same c.look.ensures.same in
-    forth (state_of g.W.Partial.sets g.W.Transfer.moves g.R.RowRules.rules g.B.ByteFacts.store c.args.self.now) (state_of g.W.Partial.sets g.W.Transfer.moves g.R.RowRules.rules g.B.ByteFacts.store c.look.new.self) same (λ (P : Path g.row.W.Denot) (k : Known). (u : ℕ) → u < c.bisect-limit.result → IsQuiet (along P) (told (oldest u k.log))) c.bisect-limit.ensures.quiet
+pub stop_at-requires-clause-shows : goal.stop_at-requires-clause-shows
+stop_at-requires-clause-shows g c =
+    let a = (state_of g.W.Partial.sets g.W.Transfer.moves g.R.RowRules.rules g.B.ByteFacts.store c.args.self.now) in
+    let b = (state_of g.W.Partial.sets g.W.Transfer.moves g.R.RowRules.rules g.B.ByteFacts.store c.bisect-limit.new.self) in
+    let d = (state_of g.W.Partial.sets g.W.Transfer.moves g.R.RowRules.rules g.B.ByteFacts.store c.look.new.self) in
+    let same = Same_trans a b d c.bisect-limit.ensures.same c.look.ensures.same in
+    let found = c.look.ensures.conflict c.unwrap-kind.result c.unwrap-kind.ensures in
+    let here = back_to a b c.bisect-limit.ensures.same (λ (P : Path g.row.W.Denot) (k : Known). Shows (along P) (told (oldest c.bisect-limit.result k.log)) c.unwrap-kind.result) found in
+    shows_like a d same.path same.known c.bisect-limit.result c.unwrap-kind.result (record { quiet = c.bisect-limit.ensures.quiet; shows = inl here })
 
 pub stop_at-requires-clause-kind : goal.stop_at-requires-clause-kind
 stop_at-requires-clause-kind g c =

@@ -1,4 +1,4 @@
-use Rattle.std.proofs.Common.{◌∙◌, ◌<◌, ℕ, arith}
+use Rattle.std.proofs.Common.{◌∙◌, ◌<◌, ℕ, arith, ◌≡◌, length}
 use Rattle.rept_reason.specs.Facts.{told}
 use Rattle.rept_report.specs.Conflicts.{IsQuiet}
 use Rattle.rept_report.specs.Log.{oldest}
@@ -16,6 +16,9 @@ stop_least-requires-clause-loud g c =
 
 pub returns-then-not-quiet-clause-ended : goal.returns-then-not-quiet-clause-ended
 returns-then-not-quiet-clause-ended g c = stopped_from (state_of g.W.Partial.sets g.W.Transfer.moves g.R.RowRules.rules g.B.ByteFacts.store c.args.self.now) (state_of g.W.Partial.sets g.W.Transfer.moves g.R.RowRules.rules g.B.ByteFacts.store c.is_quiet-quiet.new.self) c.is_quiet-quiet.ensures.same _ _ c.stop_least.ensures.ended
+
+pub show-requires-clause-whole : goal.show-requires-clause-whole
+show-requires-clause-whole g c = forth (state_of g.W.Partial.sets g.W.Transfer.moves g.R.RowRules.rules g.B.ByteFacts.store c.args.self.now) (state_of g.W.Partial.sets g.W.Transfer.moves g.R.RowRules.rules g.B.ByteFacts.store c.is_quiet-quiet.new.self) c.is_quiet-quiet.ensures.same (λ (P : Path g.row.W.Denot) (k : Known). c.len-len.result ≡ length k.log) c.len-len.ensures.value
 
 pub show-requires-clause-quiet : goal.show-requires-clause-quiet
 show-requires-clause-quiet g c =
