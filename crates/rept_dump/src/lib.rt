@@ -19,6 +19,3 @@ pub use code::Code;
 pub use dump::Dump;
 pub use fault::CoreFault;
 pub use status::Status;
-
-#[cfg(test)]
-mod tests;

@@ -16,6 +16,3 @@ pub use fields::{after, first_zero, half, part, word};
 pub use image::Image;
 pub use segment::{PF_W, PF_X, PT_LOAD, PT_NOTE, Segment};
 pub use symbol::Symbol;
-
-#[cfg(test)]
-mod tests;

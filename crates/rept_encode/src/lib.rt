@@ -12,6 +12,3 @@ mod writer;
 pub use fault::{EncodeFault, StepFault};
 pub use step::{Site, push_step, step_between};
 pub use writer::encode;
-
-#[cfg(test)]
-mod tests;

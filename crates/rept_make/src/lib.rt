@@ -9,6 +9,3 @@ mod run;
 mod slot;
 
 pub use made::{Made, make};
-
-#[cfg(test)]
-mod tests;

@@ -5,6 +5,3 @@ mod find;
 mod mapped;
 
 pub use mapped::Mapped;
-
-#[cfg(test)]
-mod tests;

@@ -11,6 +11,3 @@ pub use entry::{Entry, Place};
 pub use fault::MapFault;
 pub use images::Images;
 pub use maps::Maps;
-
-#[cfg(test)]
-mod tests;

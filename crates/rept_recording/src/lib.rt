@@ -8,6 +8,3 @@ mod work;
 pub use process::{answer, record_input};
 pub use stop::Stop;
 pub use work::run;
-
-#[cfg(test)]
-mod tests;

@@ -14,6 +14,3 @@ pub use arrival::{Arrival, Ending};
 pub use check::digits_value;
 pub use reader::Packets;
 pub use writer::push_packet;
-
-#[cfg(test)]
-mod tests;

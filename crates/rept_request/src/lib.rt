@@ -8,6 +8,3 @@ pub mod request;
 
 pub use parser::parse;
 pub use request::Request;
-
-#[cfg(test)]
-mod tests;

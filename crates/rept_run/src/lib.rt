@@ -20,9 +20,6 @@ use std::alloc::Global;
 use std::process::ExitCode;
 use std::{env, io};
 
-#[cfg(test)]
-mod tests;
-
 /// The status of the top call on the words.
 fn status_on<H: Shelf, S: Source, K: Sink>(
     alloc: Global,

@@ -4,6 +4,3 @@
 mod serving;
 
 pub use serving::{Served, serve};
-
-#[cfg(test)]
-mod tests;

@@ -10,6 +10,3 @@ mod walk;
 
 pub use recorder::record;
 pub use refusal::Refusal;
-
-#[cfg(test)]
-mod tests;

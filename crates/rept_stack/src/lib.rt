@@ -6,6 +6,3 @@ mod jumps;
 mod unwind;
 
 pub use frames::{Frame, frames_of};
-
-#[cfg(test)]
-mod tests;

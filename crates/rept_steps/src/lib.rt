@@ -12,6 +12,3 @@ pub use run::Run;
 pub use slice::{Slice, Slices};
 pub use steps::{LIMIT, Steps};
 pub use threads::{ThreadRows, Threads};
-
-#[cfg(test)]
-mod tests;

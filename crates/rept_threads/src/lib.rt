@@ -17,6 +17,4 @@ pub mod strangers;
 pub mod stretch;
 pub mod survey;
 pub mod telling;
-#[cfg(test)]
-mod tests;
 pub mod walks;

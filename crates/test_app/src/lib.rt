@@ -1,5 +1,9 @@
-//! The worked crashes, each refusal and each fault of a port, through the top call. There are tests alone.
+//! The worked crashes, each refusal, damaged files and each fault of a port, through the top call and the process. There are tests alone.
 #![tactic(auto)]
 
+#[cfg(test)]
+mod hostile;
+#[cfg(test)]
+mod process;
 #[cfg(test)]
 mod tests;

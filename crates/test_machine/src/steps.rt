@@ -31,6 +31,23 @@ fn value(rt: &impl Abort, machine: &Machine<'_>, number: u8) -> u32 {
     machine.reg(Reg::new(number).expect(rt, "a register"))
 }
 
+/// The address of an instruction, the next one and whether it is a call; and the program counter and x5 after it.
+fn step_one(
+    rt: &impl Abort,
+    alloc: Global,
+    word: u32,
+    registers: [u32; 32],
+) -> Result<((u32, u32, bool), u32, u32), Fail> {
+    let code = [word];
+    let mut machine = Machine::new(alloc, &code, START, START, registers);
+    let row = machine.step()?;
+    Ok((
+        (row.at, row.next, row.call),
+        machine.pc(),
+        value(rt, &machine, 5),
+    ))
+}
+
 fn compare_operations(
     rt: &impl Abort,
     alloc: Global,
@@ -38,16 +55,12 @@ fn compare_operations(
 ) -> Result<(), Fail> {
     for (word, second, results, text) in rows {
         for (first, result) in EDGES.iter().zip(results.iter()) {
-            let code = [*word];
-            let registers = operands(*first, *second);
-            let mut machine = Machine::new(alloc, &code, START, START, registers);
-            let row = machine.step()?;
+            let (row, _, found) = step_one(rt, alloc, *word, operands(*first, *second))?;
             assert_eq!(rt;
-                value(rt, &machine, 5),
-                *result,
+                (row, found),
+                ((START, START + 4, false), *result),
                 "{text} with {first} and {second}"
             );
-            assert_eq!(rt; (row.at, row.next, row.call), (START, START + 4, false));
         }
     }
     Ok(())
@@ -66,13 +79,10 @@ fn operations_give_what_a_processor_gives(rt: HostRuntime) -> Result<(), Fail> {
 fn compare_branches(rt: &impl Abort, alloc: Global, rows: &[branches::Row]) -> Result<(), Fail> {
     for (word, second, taken, text) in rows {
         for (first, taken) in EDGES.iter().zip(taken.iter()) {
-            let code = [*word];
-            let registers = operands(*first, *second);
-            let mut machine = Machine::new(alloc, &code, START, START, registers);
-            let row = machine.step()?;
+            let (row, pc, _) = step_one(rt, alloc, *word, operands(*first, *second))?;
             let next = if *taken { START + 8 } else { START + 4 };
             assert_eq!(rt;
-                (row.next, machine.pc()),
+                (row.1, pc),
                 (next, next),
                 "{text} with {first} and {second}"
             );
@@ -86,6 +96,19 @@ fn branches_go_where_a_processor_goes(rt: HostRuntime) -> Result<(), Fail> {
     compare_branches(&rt, rt.alloc(), &BRANCHES)
 }
 
+/// What a load brings into x5 of what a store before it wrote.
+fn loaded(
+    rt: &impl Abort,
+    alloc: Global,
+    code: [u32; 2],
+    registers: [u32; 32],
+) -> Result<u32, Fail> {
+    let mut machine = Machine::new(alloc, &code, START, START, registers);
+    machine.step()?;
+    machine.step()?;
+    Ok(value(rt, &machine, 5))
+}
+
 fn compare_accesses(
     rt: &impl Abort,
     alloc: Global,
@@ -94,14 +117,9 @@ fn compare_accesses(
 ) -> Result<(), Fail> {
     for (store, load, results, store_text, load_text) in rows {
         for (second, result) in EDGES.iter().zip(results.iter()) {
-            let code = [*store, *load];
-            let registers = operands(base, *second);
-            let mut machine = Machine::new(alloc, &code, START, START, registers);
-            assert!(rt; machine.step().is_ok());
-            assert!(rt; machine.step().is_ok());
-            let loaded = value(rt, &machine, 5);
+            let found = loaded(rt, alloc, [*store, *load], operands(base, *second))?;
             assert_eq!(rt;
-                loaded,
+                found,
                 *result,
                 "{store_text}, {load_text} of {second} at {base}"
             );
@@ -127,44 +145,67 @@ fn stored(machine: &Machine<'_>, base: u32) -> u32 {
     word
 }
 
-/// Two instructions are executed: sw x8,0(x7), and then the row's.
-fn compare_atomics(rt: &impl Abort, alloc: Global, base: u32) {
+/// Registers of zeros but for the source in x6, the base in x7 and what memory is to hold in x8.
+fn holding(held: u32, source: u32, base: u32) -> [u32; 32] {
+    let mut registers = operands(source, base);
+    registers[8] = held;
+    registers
+}
+
+/// After sw x8,0(x7) and then the word: the program counter, the word at the address that x7 was, and x5, x6 and x7.
+fn after_atomic(
+    rt: &impl Abort,
+    alloc: Global,
+    word: u32,
+    registers: [u32; 32],
+) -> Result<(u32, u32, [u32; 3]), Fail> {
+    let code = [0x0083_a023, word];
+    let mut machine = Machine::new(alloc, &code, START, START, registers);
+    machine.step()?;
+    machine.step()?;
+    let found = [
+        value(rt, &machine, 5),
+        value(rt, &machine, 6),
+        value(rt, &machine, 7),
+    ];
+    Ok((machine.pc(), stored(&machine, registers[7]), found))
+}
+
+fn compare_atomics(rt: &impl Abort, alloc: Global, base: u32) -> Result<(), Fail> {
     for (word, held, source, left, answer, text) in ATOMICS {
-        let code = [0x0083_a023, word];
-        let mut registers = operands(source, base);
-        registers[8] = held;
-        let mut machine = Machine::new(alloc, &code, START, START, registers);
-        assert!(rt; machine.step().is_ok());
-        assert!(rt; machine.step().is_ok());
-        assert_eq!(rt; machine.pc(), START + 8, "{text}");
+        let (pc, word, found) = after_atomic(rt, alloc, word, holding(held, source, base))?;
         assert_eq!(rt;
-            (stored(&machine, base), value(rt, &machine, 5)),
-            (left, answer),
+            (pc, word, found[0]),
+            (START + 8, left, answer),
             "{text} on {held} and {source}"
         );
     }
+    Ok(())
 }
 
 // At an even address, an odd one, and two that wrap.
 #[test]
-fn atomics_do_what_the_manual_says(rt: HostRuntime) {
+fn atomics_do_what_the_manual_says(rt: HostRuntime) -> Result<(), Fail> {
     for base in [0x20000, 0x20001, 0xffff_fffe, 0xffff_ffff] {
-        compare_atomics(&rt, rt.alloc(), base);
+        compare_atomics(&rt, rt.alloc(), base)?;
     }
+    Ok(())
 }
 
 #[test]
 fn atomics_read_before_they_write(rt: HostRuntime) -> Result<(), Fail> {
     for (word, held, source, left, sixth, seventh, text) in SHARED {
-        let code = [0x0083_a023, word];
-        let mut registers = operands(source, 0xffff_fffe);
-        registers[8] = held;
-        let mut machine = Machine::new(rt.alloc(), &code, START, START, registers);
-        assert!(rt; machine.step().is_ok());
-        assert!(rt; machine.step().is_ok());
-        assert_eq!(rt; stored(&machine, 0xffff_fffe), left, "{text}");
-        assert_eq!(rt; value(&rt, &machine, 6), sixth, "{text}");
-        assert_eq!(rt; value(&rt, &machine, 7), seventh, "{text}");
+        let (_, word, found) = after_atomic(
+            &rt,
+            rt.alloc(),
+            word,
+            holding(held, source, 0xffff_fffe),
+        )?;
+        assert_eq!(rt;
+            (word, found[1], found[2]),
+            (left, sixth, seventh),
+            "{text}"
+        );
     }
     Ok(())
 }
@@ -180,11 +221,8 @@ const QUOTIENTS: [(u32, u32, u32, u32); 4] = [
 #[test]
 fn division_by_zero_and_overflow_have_results(rt: HostRuntime) -> Result<(), Fail> {
     for (word, first, second, result) in QUOTIENTS {
-        let code = [word];
-        let registers = operands(first, second);
-        let mut machine = Machine::new(rt.alloc(), &code, START, START, registers);
-        assert!(rt; machine.step().is_ok());
-        assert_eq!(rt; value(&rt, &machine, 5), result, "{first} by {second}");
+        let (_, _, found) = step_one(&rt, rt.alloc(), word, operands(first, second))?;
+        assert_eq!(rt; found, result, "{first} by {second}");
     }
     Ok(())
 }
@@ -207,24 +245,32 @@ const OTHERS: [(u32, u32, u32, [u32; 3]); 14] = [
     (0x0013_0013, 7, 0x10004, [0, 7, 9]), // addi x0,x6,1
 ];
 
+/// The next address and whether the row is a call, where x10 is 9; and x5, x6, x10 and x0 after it.
+fn after_other(
+    rt: &impl Abort,
+    alloc: Global,
+    word: u32,
+    first: u32,
+) -> Result<(u32, bool, [u32; 3], u32), Fail> {
+    let code = [word];
+    let mut registers = operands(first, 0);
+    registers[0] = 77;
+    registers[10] = 9;
+    let mut machine = Machine::new(alloc, &code, START, START, registers);
+    let row = machine.step()?;
+    let found = [
+        value(rt, &machine, 5),
+        value(rt, &machine, 6),
+        value(rt, &machine, 10),
+    ];
+    Ok((row.next, row.call, found, value(rt, &machine, 0)))
+}
+
 #[test]
 fn jumps_calls_and_counters_are_those_of_the_manual(rt: HostRuntime) -> Result<(), Fail> {
     for (word, first, next, values) in OTHERS {
-        let code = [word];
-        let mut registers = operands(first, 0);
-        registers[0] = 77;
-        registers[10] = 9;
-        let mut machine = Machine::new(rt.alloc(), &code, START, START, registers);
-        let row = machine.step()?;
-        assert_eq!(rt; row.next, next, "{word}");
-        assert_eq!(rt; row.call, word == 0x73);
-        let after = [
-            value(&rt, &machine, 5),
-            value(&rt, &machine, 6),
-            value(&rt, &machine, 10),
-        ];
-        assert_eq!(rt; after, values, "{word}");
-        assert_eq!(rt; value(&rt, &machine, 0), 0);
+        let told = after_other(&rt, rt.alloc(), word, first)?;
+        assert_eq!(rt; told, (next, word == 0x73, values, 0), "{word}");
     }
     Ok(())
 }

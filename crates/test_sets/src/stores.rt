@@ -160,9 +160,14 @@ const TABLE: [(Call, Answer); 48] = [
 ];
 
 #[test]
-fn both_stores_answer_the_same(rt: HostRuntime) -> Result<(), Fail> {
+fn plain_facts_answer(rt: HostRuntime) -> Result<(), Fail> {
     let mut plain = PlainFacts::make(rt.alloc(), 100, 8)?;
     assert_eq!(rt; first_wrong(&mut plain, &TABLE)?, None);
+    Ok(())
+}
+
+#[test]
+fn spans_of_facts_answer_the_same(rt: HostRuntime) -> Result<(), Fail> {
     let mut spans = SpanFacts::make(rt.alloc(), 100, 8)?;
     assert_eq!(rt; first_wrong(&mut spans, &TABLE)?, None);
     Ok(())

@@ -48,51 +48,55 @@ fn listed(alloc: Global, bytes: usize) -> Result<Writings, OutOfMemory> {
 }
 
 /// Looks up each address of a table from an index on.
+const NEXT: [(usize, u32, Option<usize>); 23] = [
+    (0, 100, Some(0)),
+    (1, 100, Some(2)),
+    (3, 100, Some(3)),
+    (4, 100, Some(5)),
+    (6, 100, None),
+    (9, 100, None),
+    (1, 102, Some(2)),
+    (3, 102, Some(5)),
+    (0, 104, Some(2)),
+    (3, 104, None),
+    (0, 90, Some(2)),
+    (0, 89, None),
+    (0, 120, Some(2)),
+    (0, 121, None),
+    (0, 0xffff_fffd, None),
+    (0, 0xffff_fffe, Some(1)),
+    (0, 0xffff_ffff, Some(1)),
+    (0, 0, Some(1)),
+    (0, 1, Some(1)),
+    (0, 2, None),
+    (2, 0, None),
+    (0, 500, Some(3)),
+    (4, 500, None),
+];
+
 fn look(rt: &impl Abort, writings: &Writings) {
-    for (k, a, expected) in [
-        (0, 100, Some(0)),
-        (1, 100, Some(2)),
-        (3, 100, Some(3)),
-        (4, 100, Some(5)),
-        (6, 100, None),
-        (9, 100, None),
-        (1, 102, Some(2)),
-        (3, 102, Some(5)),
-        (0, 104, Some(2)),
-        (3, 104, None),
-        (0, 90, Some(2)),
-        (0, 89, None),
-        (0, 120, Some(2)),
-        (0, 121, None),
-        (0, 0xffff_fffd, None),
-        (0, 0xffff_fffe, Some(1)),
-        (0, 0xffff_ffff, Some(1)),
-        (0, 0, Some(1)),
-        (0, 1, Some(1)),
-        (0, 2, None),
-        (2, 0, None),
-        (0, 500, Some(3)),
-        (4, 500, None),
-    ] {
+    for (k, a, expected) in NEXT {
         assert_eq!(rt; writings.next_hit(k, a), expected);
     }
 }
 
 /// Looks up the place after the last row with a lower number that may write an address, and how many rows have lower ones.
+const PAST: [(u32, u32, usize); 11] = [
+    (10, 100, 0),
+    (11, 100, 1),
+    (13, 100, 3),
+    (14, 102, 3),
+    (16, 100, 6),
+    (99, 104, 3),
+    (13, 500, 0),
+    (14, 500, 4),
+    (16, 500, 4),
+    (12, 1, 2),
+    (16, 0xffff_fffd, 0),
+];
+
 fn look_back(rt: &impl Abort, writings: &Writings) {
-    for (row, a, expected) in [
-        (10, 100, 0),
-        (11, 100, 1),
-        (13, 100, 3),
-        (14, 102, 3),
-        (16, 100, 6),
-        (99, 104, 3),
-        (13, 500, 0),
-        (14, 500, 4),
-        (16, 500, 4),
-        (12, 1, 2),
-        (16, 0xffff_fffd, 0),
-    ] {
+    for (row, a, expected) in PAST {
         assert_eq!(rt; writings.past_hit(row, a), expected);
     }
     for (row, expected) in [(0, 0), (10, 0), (11, 1), (13, 3), (15, 5), (16, 6), (99, 6)] {

@@ -2,185 +2,140 @@
 //! RISC-V unprivileged manual 20191213, chapters 2.4 to 2.8, 7, 8 and 10: one instruction of each kind and form. That an ECALL answers in
 //! x10, and that x0 is read and never written, are the project's own.
 
-use rept_isa::{Kind, Reg, StepRow, Turn, decode, kind, reads, turn, writes};
+use rept_isa::{Instr, Kind, Reg, StepRow, Turn, decode, kind, reads, turn, writes};
 use std::test::Fail;
 
-/// A word and its text, what it does to the path, the register that it writes, and those in the places of rs1 and rs2.
-type Row = (
-    u32,
-    &'static str,
-    Kind,
-    Option<u8>,
-    (Option<u8>, Option<u8>),
-);
+/// What an instruction does to the path, the register that it writes, and those in the places of rs1 and rs2.
+type Told = (Kind, Option<u8>, (Option<u8>, Option<u8>));
+
+/// A word and its text, and what is told of it.
+type Row = (u32, &'static str, Told);
 
 const ROWS: [Row; 29] = [
     (
         0x1234_52b7,
         "lui x5,0x12345",
-        Kind::Plain,
-        Some(5),
-        (None, None),
+        (Kind::Plain, Some(5), (None, None)),
     ),
     (
         0x1234_5037,
         "lui x0,0x12345",
-        Kind::Plain,
-        None,
-        (None, None),
+        (Kind::Plain, None, (None, None)),
     ),
     (
         0x0000_1f97,
         "auipc x31,0x1",
-        Kind::Plain,
-        Some(31),
-        (None, None),
+        (Kind::Plain, Some(31), (None, None)),
     ),
-    (0x0080_00ef, "jal x1,+8", Kind::Jump, Some(1), (None, None)),
-    (0x0080_006f, "jal x0,+8", Kind::Jump, None, (None, None)),
+    (
+        0x0080_00ef,
+        "jal x1,+8",
+        (Kind::Jump, Some(1), (None, None)),
+    ),
+    (0x0080_006f, "jal x0,+8", (Kind::Jump, None, (None, None))),
     (
         0x0003_00e7,
         "jalr x1,0(x6)",
-        Kind::FarJump,
-        Some(1),
-        (Some(6), None),
+        (Kind::FarJump, Some(1), (Some(6), None)),
     ),
     (
         0x0000_8067,
         "jalr x0,0(x1)",
-        Kind::FarJump,
-        None,
-        (Some(1), None),
+        (Kind::FarJump, None, (Some(1), None)),
     ),
     (
         0x0080_02e7,
         "jalr x5,8(x0)",
-        Kind::Jump,
-        Some(5),
-        (Some(0), None),
+        (Kind::Jump, Some(5), (Some(0), None)),
     ),
     (
         0x0073_0463,
         "beq x6,x7,+8",
-        Kind::Branch,
-        None,
-        (Some(6), Some(7)),
+        (Kind::Branch, None, (Some(6), Some(7))),
     ),
     (
         0x0070_5463,
         "bge x0,x7,+8",
-        Kind::Branch,
-        None,
-        (Some(0), Some(7)),
+        (Kind::Branch, None, (Some(0), Some(7))),
     ),
     (
         0x0043_2283,
         "lw x5,4(x6)",
-        Kind::Load,
-        Some(5),
-        (Some(6), None),
+        (Kind::Load, Some(5), (Some(6), None)),
     ),
     (
         0x0043_4003,
         "lbu x0,4(x6)",
-        Kind::Load,
-        None,
-        (Some(6), None),
+        (Kind::Load, None, (Some(6), None)),
     ),
     (
         0x0073_2223,
         "sw x7,4(x6)",
-        Kind::Store,
-        None,
-        (Some(6), Some(7)),
+        (Kind::Store, None, (Some(6), Some(7))),
     ),
     (
         0x0003_0223,
         "sb x0,4(x6)",
-        Kind::Store,
-        None,
-        (Some(6), Some(0)),
+        (Kind::Store, None, (Some(6), Some(0))),
     ),
     (
         0x0013_0293,
         "addi x5,x6,1",
-        Kind::Plain,
-        Some(5),
-        (Some(6), None),
+        (Kind::Plain, Some(5), (Some(6), None)),
     ),
     (
         0x0000_0013,
         "addi x0,x0,0",
-        Kind::Plain,
-        None,
-        (Some(0), None),
+        (Kind::Plain, None, (Some(0), None)),
     ),
     (
         0x4073_5293,
         "srai x5,x6,7",
-        Kind::Plain,
-        Some(5),
-        (Some(6), None),
+        (Kind::Plain, Some(5), (Some(6), None)),
     ),
     (
         0x0073_02b3,
         "add x5,x6,x7",
-        Kind::Plain,
-        Some(5),
-        (Some(6), Some(7)),
+        (Kind::Plain, Some(5), (Some(6), Some(7))),
     ),
     (
         0x4073_0033,
         "sub x0,x6,x7",
-        Kind::Plain,
-        None,
-        (Some(6), Some(7)),
+        (Kind::Plain, None, (Some(6), Some(7))),
     ),
     (
         0x0273_42b3,
         "div x5,x6,x7",
-        Kind::Plain,
-        Some(5),
-        (Some(6), Some(7)),
+        (Kind::Plain, Some(5), (Some(6), Some(7))),
     ),
     (
         0x1003_a2af,
         "lr.w x5,(x7)",
-        Kind::Plain,
-        Some(5),
-        (Some(7), None),
+        (Kind::Plain, Some(5), (Some(7), None)),
     ),
     (
         0x1863_a02f,
         "sc.w x0,x6,(x7)",
-        Kind::Plain,
-        None,
-        (Some(7), Some(6)),
+        (Kind::Plain, None, (Some(7), Some(6))),
     ),
     (
         0x0063_a2af,
         "amoadd.w x5,x6,(x7)",
-        Kind::Plain,
-        Some(5),
-        (Some(7), Some(6)),
+        (Kind::Plain, Some(5), (Some(7), Some(6))),
     ),
-    (0x0ff0_000f, "fence", Kind::Plain, None, (None, None)),
-    (0x0000_100f, "fence.i", Kind::Plain, None, (None, None)),
-    (0x0000_0073, "ecall", Kind::Call, Some(10), (None, None)),
-    (0x0010_0073, "ebreak", Kind::Stop, None, (None, None)),
+    (0x0ff0_000f, "fence", (Kind::Plain, None, (None, None))),
+    (0x0000_100f, "fence.i", (Kind::Plain, None, (None, None))),
+    (0x0000_0073, "ecall", (Kind::Call, Some(10), (None, None))),
+    (0x0010_0073, "ebreak", (Kind::Stop, None, (None, None))),
     (
         0xc000_22f3,
         "csrrs x5,cycle,x0",
-        Kind::Counter,
-        Some(5),
-        (None, None),
+        (Kind::Counter, Some(5), (None, None)),
     ),
     (
         0xc820_2073,
         "csrrs x0,instreth,x0",
-        Kind::Counter,
-        None,
-        (None, None),
+        (Kind::Counter, None, (None, None)),
     ),
 ];
 
@@ -191,14 +146,21 @@ fn number(register: Option<Reg>) -> Option<u8> {
     }
 }
 
+/// What an instruction does to the path, the register that it writes, and those in the places of rs1 and rs2.
+fn told(instr: &Instr) -> Told {
+    let (first, second) = reads(instr);
+    (
+        kind(instr),
+        number(writes(instr)),
+        (number(first), number(second)),
+    )
+}
+
 #[test]
 fn kinds_and_registers_by_hand(rt: HostRuntime) -> Result<(), Fail> {
-    for (word, text, wanted, written, read) in ROWS {
+    for (word, text, wanted) in ROWS {
         let instr = decode(word).ok_or(text)?;
-        assert_eq!(rt; kind(&instr), wanted, "{text}");
-        assert_eq!(rt; number(writes(&instr)), written, "{text}");
-        let (first, second) = reads(&instr);
-        assert_eq!(rt; (number(first), number(second)), read, "{text}");
+        assert_eq!(rt; told(&instr), wanted, "{text}");
     }
     Ok(())
 }

@@ -1,9 +1,0 @@
-use Rattle.std.proofs.Common.{arith}
-use Rattle.rept_threads.proofs.Fitting.{file_fits}
-use Rattle.rept_threads.proofs.tests.times.Goals as goal
-
-pub survey_all-requires : goal.survey_all-requires
-survey_all-requires c =
-    let fits = file_fits c.args.bytes.now c.in-Ok.streams c.in-Ok.ensures.opens in
-    let few = c.requires in
-    omega (arith, fits, few)

@@ -1,0 +1,11 @@
+//! Files of executables and of crashes, small ones by hand and a real one, with each refusal. There are tests alone.
+#![tactic(auto)]
+
+#[cfg(test)]
+mod dump;
+#[cfg(test)]
+mod elf;
+#[cfg(test)]
+mod mapped;
+#[cfg(test)]
+mod maps;

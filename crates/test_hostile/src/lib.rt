@@ -1,6 +1,0 @@
-//! Damaged files and failing ports, through the top call. There are tests alone.
-
-#![tactic(auto)]
-
-#[cfg(test)]
-mod tests;
