@@ -1,11 +1,12 @@
 -- Payloads without the copies at their end.
-use Rattle.std.proofs.Common.{◌≡◌, ◌≢◌, ℕ, ◌+◌, ◌-◌, ◌*◌, ◌/◌, ◌%◌, ◌^◌, ◌<◌, ◌≤◌, ◌==◌, nat_le, min, List, [], ◌∷◌, ◌++◌, length, take, get_or, cond, Bool, Ok, sym, ◌∙◌, ap, subst, arith}
+use Rattle.std.proofs.Common.{◌≡◌, ◌≢◌, ℕ, ◌+◌, ◌-◌, ◌*◌, ◌/◌, ◌%◌, ◌^◌, ◌<◌, ◌≤◌, ◌==◌, nat_le, min, List, [], ◌∷◌, ◌++◌, length, take, get_or, cond, Ok, sym, ◌∙◌, ap, subst, arith}
 use Rattle.std.proofs.lemmas.List.{take_more, length-take}
 use Rattle.std.proofs.lemmas.List.Elements.{All-nil, All-cons}
 use Rattle.std.proofs.lemmas.Bool.Decides.{nat_tests}
 use Rattle.rept_word.specs.Bits.{bit_of}
 use Rattle.rept_trace.specs.declared.packet.Packet.{Packet}
-use Rattle.rept_trace.specs.Grammar.{untimed, IsPacket}
+use Rattle.rept_trace.specs.declared.parameters.Parameters.{Parameters}
+use Rattle.rept_trace.specs.Grammar.{IsPacket}
 use Rattle.rept_trace.specs.Shortened.{filler, IsShortened}
 use Rattle.rept_trace.proofs.LeftOut.{shortened}
 use Rattle.rept_encode.specs.Written.{fill_after, IsCut}
@@ -23,8 +24,8 @@ filler_is payload n size lt =
 get_front : (xs ys : List ℕ) (i : ℕ) → i < length xs → get_or (xs ++ ys) i 0 ≡ get_or xs i 0
 get_front xs ys i lt = grind (arith, Rattle.std.proofs.lemmas.Grind.common_steps)
 
-pub cut_more : (halves : Bool) (payload : List ℕ) (size : ℕ) (x : Packet) → 1 < size → size ≤ length payload → get_or payload (size - 2) 0 < 256 → get_or payload (size - 1) 0 ≡ fill_after (get_or payload (size - 2) 0) → IsPacket (untimed halves) (take size payload) x → IsPacket (untimed halves) (take (size - 1) payload) x
-cut_more halves payload size x some within small same h =
+pub cut_more : (widths : Parameters) (payload : List ℕ) (size : ℕ) (x : Packet) → 1 < size → size ≤ length payload → get_or payload (size - 2) 0 < 256 → get_or payload (size - 1) 0 ≡ fill_after (get_or payload (size - 2) 0) → IsPacket widths (take size payload) x → IsPacket widths (take (size - 1) payload) x
+cut_more widths payload size x some within small same h =
     let front = take (size - 1) payload in
     let last = get_or payload (size - 1) 0 in
     let n : length (take (size - 1) payload) ≡ size - 1 = simp length-take (omega arith) in
@@ -35,7 +36,7 @@ cut_more halves payload size x some within small same h =
     let f : filler (take (size - 1) payload) ≡ fill_after (get_or (take (size - 1) payload) (size - 2) 0) = filler_is (take (size - 1) payload) (size - 2) (omega arith) (rw g small) in
     let fill : get_or payload (size - 1) 0 ≡ filler (take (size - 1) payload) = same ∙ ap fill_after (sym g) ∙ sym f in
     let s : IsShortened (take (size - 1) payload) (take size payload) = record { some = omega arith; left_out = get_or payload (size - 1) 0 ∷ []; whole = whole; copies = All-cons (λ (byte : ℕ). byte ≡ filler (take (size - 1) payload)) (get_or payload (size - 1) 0) [] fill (All-nil (λ (byte : ℕ). byte ≡ filler (take (size - 1) payload))) } in
-    let both = shortened (untimed halves) (take (size - 1) payload) (take size payload) 0 (Ok x) s in
+    let both = shortened widths (take (size - 1) payload) (take size payload) 0 (Ok x) s in
     both.1 h
 
 pub is_cut : (payload : List ℕ) (size : ℕ) → size ≤ length payload → (1 < size → get_or payload (size - 1) 0 ≢ fill_after (get_or payload (size - 2) 0)) → IsCut (take size payload)

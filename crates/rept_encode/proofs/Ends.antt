@@ -1,6 +1,6 @@
 -- The first packet, what a call makes of a trace, and the end of the path.
-use Rattle.std.proofs.Common.{◌≡◌, ℕ, ◌%◌, ◌<◌, ◌==◌, List, [], ◌∷◌, ◌++◌, length, reverse, slice_get, Option, None, Some, Bool, true, false, cond, Result, Ok, refl, sym, ◌∙◌, ap, subst, arith}
-use Rattle.std.proofs.lemmas.List.{append-nil, reverse-append, reverse-reverse}
+use Rattle.std.proofs.Common.{◌≡◌, ℕ, ◌%◌, ◌<◌, ◌≤◌, ◌==◌, List, [], ◌∷◌, ◌++◌, length, reverse, slice_get, Option, None, Some, Bool, true, false, cond, Result, Ok, refl, sym, ◌∙◌, ap, subst, arith}
+use Rattle.std.proofs.lemmas.List.{append-nil, reverse-append, reverse-reverse, length-reverse}
 use Rattle.std.proofs.lemmas.Bool.Decides.{eqb_tells, nat_tests}
 use Rattle.std.proofs.lemmas.List.Folds.{list_any-append}
 use Rattle.rept_path.specs.Code.{Code}
@@ -26,7 +26,9 @@ use Rattle.rept_path.proofs.MoveLemmas.{branch_of}
 use Rattle.rept_encode.specs.Bits.{passed_by, passed, branch_row, bit_list, start_bit}
 use Rattle.rept_encode.specs.Walkable.{MayLead, calls, IsStepped}
 use Rattle.rept_encode.proofs.Turns.{length_bits, get_bit, position_ok, branch_to, onward_is, either_onward}
-use Rattle.rept_encode.specs.State.{Coded, start_at, Begun}
+use Rattle.rept_steps.specs.Linked.{EndBefore}
+use Rattle.rept_encode.specs.Encoded.{start_at, LeadsOver}
+use Rattle.rept_encode.specs.State.{Coded, Begun}
 use Rattle.rept_encode.proofs.Coding.{Stepping, leg_after}
 
 if_start : (b x y : Bool) → cond b (cond b x true ∷ []) [] ≡ cond b (x ∷ []) []
@@ -141,9 +143,6 @@ module _ (code : Code) (packets : List Packet) (here next : StepRow) (rows : Lis
         bit = λ t. rw (b, e) (get_bit next [] 0 t refl);
       }
 
-window : (packets : List Packet) → Begun packets → Window packets 0 0
-window packets b = record { may = record { late = omega arith; start = b.start; whole = b.whole }; first = λ i m. omega arith }
-
 starts_front : (xs ys : List Packet) → starts (slice_get xs 0) ≡ true → starts (slice_get (xs ++ ys) 0) ≡ true
 starts_front [] ys h = absurd (cc)
 starts_front (x ∷ xs) ys h = h
@@ -157,20 +156,41 @@ begun_on packets packet b keeps =
     let one : Begun (reverse packets ++ packet ∷ []) = record { start = starts_front (reverse packets) (packet ∷ []) b.start; whole = let e = list_any-append loses (reverse packets) (packet ∷ []) in let w = b.whole in rw (e, w, keeps) refl } in
     subst (λ (xs : List Packet). Begun xs) (sym (reverse-cons packet packets)) one
 
--- A trace that stands at the last row is one of all rows.
-pub ends : (code : Code) (packets : List Packet) (here : StepRow) (rows : List StepRow) → Coded code packets [] [] here rows → CarriesCode code here → IsStepped code.halves here → length rows < 65536 → Begun (reverse packets) → IsPath (record { code = code; packets = reverse packets; from = 0; pc = here.next }) 0 (reverse (here ∷ rows))
-ends code packets here rows c h s lt b =
+-- Packets that stand at the last row lead over it.
+pub leads_on : (code : Code) (packets : List Packet) (here : StepRow) (rows : List StepRow) → Coded code packets [] [] here rows → CarriesCode code here → IsStepped code.halves here → LeadsOver code packets (reverse (here ∷ rows))
+leads_on code packets here rows c h s = record {
+  legs = c.legs;
+  route = c.stands.route;
+  last = here;
+  all = ap (λ (xs : List StepRow). reverse (here ∷ xs)) c.seen;
+  cross = λ stand otherwise bits_are at branches room.
+      let e = append-nil (bits code packets) in
+      let bit : branch_row here ≡ true → slice_get stand.bits stand.place.branches ≡ Some (passed here) = λ t. rw (bits_are, branches) (rw e at (c.bit t)) in
+      gap_row code stand otherwise here (at ∙ c.at) h s bit room;
+}
+
+window : (packets : List Packet) → Begun packets → Window packets 0 0
+window packets b = record { may = record { late = omega arith; start = b.start; whole = b.whole }; first = λ i m. omega arith }
+
+last_goes : (rows : List StepRow) (last : StepRow) (pc : ℕ) → EndBefore (rows ++ last ∷ []) pc → last.next ≡ pc
+last_goes [] last pc h = h
+last_goes (r ∷ []) last pc h = h
+last_goes (r ∷ (q ∷ rows)) last pc h = last_goes (q ∷ rows) last pc h
+
+-- Packets that lead over the last row have the path of all rows.
+pub path_of : (code : Code) (packets : List Packet) (rows : List StepRow) (pc : ℕ) → (l : LeadsOver code packets rows) → Begun (reverse packets) → length rows ≤ 65536 → EndBefore rows pc → IsPath (record { code = code; packets = reverse packets; from = 0; pc = pc }) 0 rows
+path_of code packets rows pc l b few end =
     let back : reverse (reverse packets) ≡ packets = reverse-reverse packets in
-    let seen : rows ≡ (place code packets c.legs).rows = c.seen in
-    let short : length (place code packets c.legs).rows < 65536 = rw seen at lt in
-    let e = append-nil (bits code packets) in
-    let bit : branch_row here ≡ true → slice_get (bits code packets) (place code packets c.legs).branches ≡ Some (passed here) = λ t. rw e at (c.bit t) in
-    let cross = gap_row code (stand_after code (length (reverse packets)) packets c.legs) (End (place code packets c.legs).at here.next) here c.at h s bit short in
-    record {
+    let order : rows ≡ reverse (place code packets l.legs).rows ++ l.last ∷ [] = l.all ∙ reverse-append (l.last ∷ []) (place code packets l.legs).rows in
+    let goes : l.last.next ≡ pc = last_goes (reverse (place code packets l.legs).rows) l.last pc (subst (λ (xs : List StepRow). EndBefore xs pc) order end) in
+    let size : length rows ≡ length (l.last ∷ (place code packets l.legs).rows) = ap (length {A = StepRow}) l.all ∙ length-reverse (l.last ∷ (place code packets l.legs).rows) in
+    let cross = l.cross (stand_after code (length (reverse packets)) packets l.legs) (End (place code packets l.legs).at l.last.next) refl refl refl (omega arith) in
+    let here : IsPath (record { code = code; packets = reverse packets; from = 0; pc = l.last.next }) 0 rows = record {
       window = window (reverse packets) b;
-      legs = c.legs;
-      route = rw back c.stands.route;
-      last = here ∷ [];
+      legs = l.legs;
+      route = rw back l.route;
+      last = l.last ∷ [];
       end = rw back cross;
-      order = let all : rows ≡ (place code (reverse (reverse packets)) c.legs).rows = rw back seen in ap (λ (xs : List StepRow). reverse (here ∷ xs)) all;
-    }
+      order = rw back l.all;
+    } in
+    subst (λ (a : ℕ). IsPath (record { code = code; packets = reverse packets; from = 0; pc = a }) 0 rows) goes here

@@ -1,18 +1,20 @@
 -- What each thing that is sent makes of the packets before it.
-use Rattle.std.proofs.Common.{◌≡◌, ℕ, zero, suc, ◌+◌, ◌*◌, ◌%◌, ◌^◌, ◌<◌, ◌≤◌, List, [], ◌∷◌, ◌++◌, length, reverse, take, get_or, slice_get, Option, Some, Bool, true, false, Ok, refl, sym, ◌∙◌, ap, subst, arith, inl, inr, length-append, append_assoc}
+use Rattle.std.proofs.Common.{◌≡◌, ℕ, zero, suc, ◌+◌, ◌*◌, ◌%◌, ◌^◌, ◌<◌, ◌≤◌, ◌-◌, List, [], ◌∷◌, ◌++◌, length, reverse, take, get_or, slice_get, Option, Some, Bool, true, false, Ok, refl, sym, ◌∙◌, ap, subst, arith, inl, inr, length-append, append_assoc}
 use Rattle.std.specs.List.{All}
 use Rattle.std.proofs.lemmas.List.{append-nil, reverse-append, length-reverse, reverse-reverse, take_more, length-take}
 use Rattle.std.proofs.lemmas.List.Elements.{All-get_or}
 use Rattle.std.proofs.lemmas.Option.{slice_get_within, slice_get-get_or, get_or_from_slice_get}
-use Rattle.std.proofs.lemmas.Bool.{cases_eq}
+use Rattle.std.proofs.lemmas.Bool.{cases_eq, cases_lt}
 use Rattle.std.proofs.Math.Seq.{take-length}
 use Rattle.rept_path.specs.Code.{Code}
 use Rattle.rept_isa.specs.declared.row.StepRow.{StepRow}
-use Rattle.rept_steps.specs.Linked.{AreLinked, EndBefore}
+use Rattle.rept_steps.specs.Linked.{AreLinked}
 use Rattle.rept_trace.specs.declared.packet.Report.{Report}
 use Rattle.rept_trace.specs.declared.packet.Packet.{Packet}
 use Rattle.rept_trace.specs.declared.packet.Packet.TheVariants.{Support, Map}
 use Rattle.rept_trace.specs.declared.packet.Qual.TheVariants.{EndedRep}
+use Rattle.rept_trace.specs.declared.parameters.Parameters.{Parameters}
+use Rattle.rept_trace.specs.Grammar.{untimed, IsPacket}
 use Rattle.rept_trace.specs.Stream.{header, plain, Hold}
 use Rattle.rept_path.specs.declared.flow.Flow.{Flow}
 use Rattle.rept_path.specs.declared.flow.Flow.TheVariants.{Plain, Branch, Jump, Fixed, Far, Call, Stop}
@@ -23,12 +25,12 @@ use Rattle.rept_path.specs.Trace.{loses, IsPath}
 use Rattle.rept_encode.specs.declared.bits.Bits.{Bits}
 use Rattle.rept_encode.specs.declared.sender.Sender.{Sender}
 use Rattle.rept_encode.specs.Bits.{branch_row, bit_list}
-use Rattle.rept_encode.specs.Walkable.{alignment_by, calls, IsStepped}
-use Rattle.rept_encode.specs.Written.{Appends}
-use Rattle.rept_encode.specs.Encoded.{Tells, coded}
-use Rattle.rept_encode.specs.State.{Coded, start_at, report_packet, Begun, said, waiting_bits, IsText, Run, run_of, Carries, LeadTo, IsNear, Sent, Stood, tail_bytes, AreSendable, IsBegun, IsReported, IsSent, IsRestarted, IsWaiting, IsMapped}
+use Rattle.rept_encode.specs.Walkable.{alignment_by, calls, AreStraight, IsStepped}
+use Rattle.rept_encode.specs.Written.{Appends, AreWritten}
+use Rattle.rept_encode.specs.Encoded.{Tells, TellsAfter, LeadsOver, coded, start_at, IsReport, AreReports}
+use Rattle.rept_encode.specs.State.{Coded, report_packet, Begun, said, waiting_bits, IsText, Run, run_of, Carries, LeadTo, IsNear, Sent, Stood, tail_bytes, AreSendable, IsBegun, IsReported, IsSent, IsRestarted, IsWaiting, IsMapped}
 use Rattle.rept_encode.proofs.Coding.{Stepping, onward, report_reported, by_report, by_branch, by_call, by_map, by_jump}
-use Rattle.rept_encode.proofs.Ends.{starts_at, by_start, begun_on, reverse-cons, ends}
+use Rattle.rept_encode.proofs.Ends.{starts_at, by_start, begun_on, reverse-cons, leads_on, path_of}
 use Rattle.rept_encode.proofs.Maps.{no_low, length_low}
 
 -- rows by their numbers
@@ -68,19 +70,42 @@ call_straight Far h = refl
 call_straight Call h = refl
 call_straight Stop h = refl
 
+fewer : (rows : List StepRow) (i n : ℕ) → i ≤ n → AreStraight rows n → AreStraight rows i
+fewer rows i n le all j row lt get = all j row (omega arith) get
+
+pub reports_on : (packets : List Packet) (packet : Packet) → AreReports packets → IsReport packet → AreReports (packets ++ packet ∷ [])
+reports_on [] packet all one = (one, tt)
+reports_on (p ∷ packets) packet all one = (all.0, reports_on packets packet all.1 one)
+
+written_on : (widths : Parameters) (bytes : List ℕ) (packets : List Packet) (packet : Packet) (payload : List ℕ) → AreWritten widths bytes packets → 0 < length payload → IsPacket widths payload packet → AreWritten widths (bytes ++ length payload ∷ payload) (packets ++ packet ∷ [])
+written_on widths bytes [] packet payload w some spells =
+    let e = append-nil payload in
+    rw w (payload, [], ap (λ (xs : List ℕ). length payload ∷ xs) (sym e), some, spells, refl)
+written_on widths bytes (p ∷ packets) packet payload w some spells =
+    let front : List ℕ = w.0 in
+    let rest : List ℕ = w.1 in
+    (front, rest ++ length payload ∷ payload, ap (λ (xs : List ℕ). xs ++ length payload ∷ payload) w.2 ∙ ap (λ (xs : List ℕ). length front ∷ xs) (append_assoc front rest (length payload ∷ payload)), w.3, w.4, written_on widths rest packets packet payload w.5 some spells)
+
+-- Packets that are written are held by their bytes.
+pub written_held : (widths : Parameters) (bytes : List ℕ) (packets : List Packet) → AreWritten widths bytes packets → Hold (record { widths = widths; bytes = bytes }) packets
+written_held widths bytes [] w = record { zeros = 0; layout = w }
+written_held widths bytes (p ∷ packets) w = (record { widths = widths; bytes = w.1 }, (w.0, (w.3, record { zeros = 0; layout = w.2 }), w.4, refl), written_held widths w.1 packets w.5)
+
 -- the text with one packet more
-pub text_on : (halves : Bool) (text new : List ℕ) (packets : List Packet) (packet : Packet) → IsText halves text packets → Appends halves text new packet → IsText halves new (packet ∷ packets)
-text_on halves text new packets packet t a =
-    let frame : List ℕ = length a.payload ∷ a.payload in
+pub text_on : (run : Run) (i n : ℕ) (text new : List ℕ) (packets : List Packet) (packet : Packet) → IsText run i text packets → Appends run.halves text new packet → (AreStraight run.rows n → AreStraight run.rows i × IsReport packet) → IsText run n new (packet ∷ packets)
+text_on run i n text new packets packet t a tells =
     record {
-      rest = t.rest ++ length a.payload ∷ a.payload;
-      layout = a.appended ∙ ap (λ (xs : List ℕ). xs ++ length a.payload ∷ a.payload) t.layout ∙ append_assoc (header halves) t.rest (length a.payload ∷ a.payload);
-      holds = λ later more h.
-          let one : Hold (plain halves (t.rest ++ (length a.payload ∷ (a.payload ++ later)))) (reverse packets ++ packet ∷ more) = t.holds (length a.payload ∷ (a.payload ++ later)) (packet ∷ more) (plain halves later, (a.payload, (a.some, record { zeros = 0; layout = refl }), a.spells, refl), h) in
-          let e : (t.rest ++ length a.payload ∷ a.payload) ++ later ≡ t.rest ++ (length a.payload ∷ (a.payload ++ later)) = append_assoc t.rest (length a.payload ∷ a.payload) later in
-          let f : reverse (packet ∷ packets) ++ more ≡ reverse packets ++ packet ∷ more = ap (λ (xs : List Packet). xs ++ more) (reverse-cons packet packets) ∙ append_assoc (reverse packets) (packet ∷ []) more in
-          subst (λ (xs : List ℕ). Hold (plain halves xs) (reverse (packet ∷ packets) ++ more)) (sym e) (subst (λ (ps : List Packet). Hold (plain halves (t.rest ++ (length a.payload ∷ (a.payload ++ later)))) ps) (sym f) one);
+      first = t.first;
+      begins = t.begins;
+      more = t.more ++ packet ∷ [];
+      order = reverse-cons packet packets ∙ ap (λ (ps : List Packet). ps ++ packet ∷ []) t.order;
+      written = (let e = a.appended in rw e (written_on (untimed run.halves) text t.more packet a.payload t.written a.some a.spells));
+      told = λ all. let x = tells all in reports_on t.more packet (t.told x.0) x.1;
     }
+
+-- the same text, some rows later or earlier
+text_same : (run : Run) (i n : ℕ) (text : List ℕ) (packets : List Packet) → IsText run i text packets → (AreStraight run.rows n → AreStraight run.rows i) → IsText run n text packets
+text_same run i n text packets t back = record { first = t.first; begins = t.begins; more = t.more; order = t.order; written = t.written; told = λ all. t.told (back all) }
 
 pub longer : (halves : Bool) (text new : List ℕ) (packet : Packet) → Appends halves text new packet → length new ≤ length text + 11
 longer halves text new packet a =
@@ -91,6 +116,10 @@ longer halves text new packet a =
 report_keeps : (count map : ℕ) (report : Report) → loses (report_packet count map report) ≡ false
 report_keeps zero map report = refl
 report_keeps (suc count) map report = refl
+
+report_told : (count map : ℕ) (report : Report) → IsReport (report_packet count map report)
+report_told zero map report = tt
+report_told (suc count) map report = tt
 
 nothing_waits : (b : Bits) → b.count ≡ 0 → waiting_bits b ≡ []
 nothing_waits b h = rw h (no_low b.map)
@@ -134,14 +163,14 @@ unfolding reported
 map_reported map packets = refl
 
 -- A report was added, after which the walk stands.
-reported_stood : (run : Run) (n most : ℕ) (old new : Sender) (b : Bits) (row : StepRow) (notify : Bool) (packets : List Packet) → IsText run.halves old.text packets → length old.text + 11 ≤ most → Begun (reverse packets) → reported packets ≡ old.reported → row.at % alignment_by run.halves ≡ 0 → slice_get run.rows n ≡ Some row → (r : IsReported run.halves old b new row.at notify n) → ((code : Code) → Carries run code → sum (reported packets) r.difference ≡ row.at → Coded code (report_packet b.count b.map (said r.difference notify) ∷ packets) [] [] row (reverse (take n run.rows))) → Stood run n new most
-reported_stood run n most old new b row notify packets text few begun last even get r lead =
+reported_stood : (run : Run) (i n most : ℕ) (old new : Sender) (b : Bits) (row : StepRow) (notify : Bool) (packets : List Packet) → IsText run i old.text packets → (AreStraight run.rows n → AreStraight run.rows i) → length old.text + 11 ≤ most → Begun (reverse packets) → reported packets ≡ old.reported → row.at % alignment_by run.halves ≡ 0 → slice_get run.rows n ≡ Some row → (r : IsReported run.halves old b new row.at notify n) → ((code : Code) → Carries run code → sum (reported packets) r.difference ≡ row.at → Coded code (report_packet b.count b.map (said r.difference notify) ∷ packets) [] [] row (reverse (take n run.rows))) → Stood run n new most
+reported_stood run i n most old new b row notify packets text back few begun last even get r lead =
     let to : sum (reported packets) r.difference ≡ row.at = rw last r.there in
     let more = longer run.halves old.text new.text (report_packet b.count b.map (said r.difference notify)) r.text in
     let reported_is = r.stands.reported in
     record {
       packets = report_packet b.count b.map (said r.difference notify) ∷ packets;
-      text = text_on run.halves old.text new.text packets (report_packet b.count b.map (said r.difference notify)) text r.text;
+      text = text_on run i n old.text new.text packets (report_packet b.count b.map (said r.difference notify)) text r.text (λ all. (back all, report_told b.count b.map (said r.difference notify)));
       few = omega arith;
       begun = begun_on packets (report_packet b.count b.map (said r.difference notify)) begun (report_keeps b.count b.map (said r.difference notify));
       last = report_reported b.count b.map (said r.difference notify) packets ∙ to ∙ sym r.stands.reported;
@@ -171,11 +200,14 @@ module _ (run : Run) (given : AreSendable run) (i : ℕ) (here next : StepRow) (
   room_here : length (reverse (take i run.rows)) < 65536
   room_here = room_at run.rows i here get given.few
 
+  before : AreStraight run.rows (i + 1) → AreStraight run.rows i
+  before = fewer run.rows i (i + 1) (omega arith)
+
   -- after an uninferable jump
   pub sent_jump : (old new : Sender) → Sent run i old → jumps_far (flow_of here.instr) ≡ true → IsSent run.halves old new next false (i + 1) → Sent run (i + 1) new
   sent_jump old new s far x =
       let few = s.few in
-      stood_sent run (i + 1) new (reported_stood run (i + 1) (30 + 22 * (i + 1)) old new x.b next false s.packets s.text (omega arith) s.begun s.last step_next.aligned then x.report (λ code carry to. rw seen_more (by_jump code s.packets (waiting_bits old.bits) s.kept here next (reverse (take i run.rows)) (s.lead code here carry get) (stepping code carry) (far_plain (flow_of here.instr) far) room_here x.b.count x.b.map x.list far x.report.difference to)))
+      stood_sent run (i + 1) new (reported_stood run i (i + 1) (30 + 22 * (i + 1)) old new x.b next false s.packets s.text before (omega arith) s.begun s.last step_next.aligned then x.report (λ code carry to. rw seen_more (by_jump code s.packets (waiting_bits old.bits) s.kept here next (reverse (take i run.rows)) (s.lead code here carry get) (stepping code carry) (far_plain (flow_of here.instr) far) room_here x.b.count x.b.map x.list far x.report.difference to)))
 
   -- a row that is kept
   kept_on : (old : Sender) (s : Sent run i old) → calls (flow_of here.instr) ≡ false → jumps_far (flow_of here.instr) ≡ false → (n map : ℕ) → low_bits n map ≡ waiting_bits old.bits ++ bit_list next → (code : Code) → Carries run code → Coded code s.packets (low_bits n map) (here ∷ s.kept) next (here ∷ reverse (take i run.rows))
@@ -186,16 +218,19 @@ module _ (run : Run) (given : AreSendable run) (i : ℕ) (here next : StepRow) (
   pub sent_call : (old new : Sender) → Sent run i old → calls (flow_of here.instr) ≡ false → jumps_far (flow_of here.instr) ≡ false → calls (flow_of next.instr) ≡ true → IsSent run.halves old new next true (i + 1) → Sent run (i + 1) new
   sent_call old new s plain near call x =
       let few = s.few in
-      stood_sent run (i + 1) new (reported_stood run (i + 1) (30 + 22 * (i + 1)) old new x.b next true s.packets s.text (omega arith) s.begun s.last step_next.aligned then x.report (λ code carry to. rw seen_more (by_call code s.packets x.b.count x.b.map here s.kept next (here ∷ reverse (take i run.rows)) (kept_on old s plain near x.b.count x.b.map x.list code carry) (stepping code carry).there.instr call x.report.difference to)))
+      stood_sent run (i + 1) new (reported_stood run i (i + 1) (30 + 22 * (i + 1)) old new x.b next true s.packets s.text before (omega arith) s.begun s.last step_next.aligned then x.report (λ code carry to. rw seen_more (by_call code s.packets x.b.count x.b.map here s.kept next (here ∷ reverse (take i run.rows)) (kept_on old s plain near x.b.count x.b.map x.list code carry) (stepping code carry).there.instr call x.report.difference to)))
 
   -- a single row, from where the walk stands
   pub sent_single : (most : ℕ) (old new : Sender) → Stood run i old most → calls (flow_of here.instr) ≡ false → jumps_far (flow_of here.instr) ≡ false → IsSent run.halves old new next true (i + 1) → Stood run (i + 1) new (most + 11)
   sent_single most old new s plain near x =
       let few = s.few in
       let w : low_bits x.b.count x.b.map ≡ [] ++ bit_list next = x.list ∙ ap (λ (xs : List Bool). xs ++ bit_list next) (nothing_waits old.bits s.count) in
-      reported_stood run (i + 1) (most + 11) old new x.b next true s.packets s.text (omega arith) s.begun s.last step_next.aligned then x.report (λ code carry to.
+      reported_stood run i (i + 1) (most + 11) old new x.b next true s.packets s.text before (omega arith) s.begun s.last step_next.aligned then x.report (λ code carry to.
       let c : Coded code s.packets (low_bits x.b.count x.b.map) (here ∷ []) next (here ∷ reverse (take i run.rows)) = subst (λ (xs : List Bool). Coded code s.packets xs (here ∷ []) next (here ∷ reverse (take i run.rows))) (sym w) (onward code s.packets [] [] here (reverse (take i run.rows)) (s.lead code here carry get) next (stepping code carry) plain room_here near) in
       rw seen_more (by_report code s.packets x.b.count x.b.map here [] next (here ∷ reverse (take i run.rows)) c (stepping code carry).there.instr x.report.difference to tt))
+
+  crooked : AreStraight run.rows (i + 1) → calls (flow_of here.instr) ≡ true → ⊥
+  crooked all call = let one : here.call ≡ false = all i here (omega arith) get in let two : here.call ≡ calls (flow_of here.instr) = step_here.call in cc
 
   -- after a call
   pub sent_restart : (old new : Sender) → Sent run i old → calls (flow_of here.instr) ≡ true → IsRestarted run.halves old new next (i + 1) → Sent run (i + 1) new
@@ -208,7 +243,7 @@ module _ (run : Run) (given : AreSendable run) (i : ℕ) (here next : StepRow) (
       let reported_is = stands.reported in
       stood_sent run (i + 1) new (record {
         packets = start_at next ∷ Support false EndedRep ∷ s.packets;
-        text = text_on run.halves x.middle new.text (Support false EndedRep ∷ s.packets) (start_at next) (text_on run.halves old.text x.middle s.packets (Support false EndedRep) s.text x.end) x.start;
+        text = text_on run (i + 1) (i + 1) x.middle new.text (Support false EndedRep ∷ s.packets) (start_at next) (text_on run i (i + 1) old.text x.middle s.packets (Support false EndedRep) s.text x.end (λ all. absurd (crooked all call))) x.start (λ all. absurd (crooked all call));
         few = omega arith;
         begun = begun_on (Support false EndedRep ∷ s.packets) (start_at next) (begun_on s.packets (Support false EndedRep) s.begun refl) refl;
         last = start_reported next (Support false EndedRep ∷ s.packets) ∙ sym stands.reported;
@@ -233,7 +268,7 @@ module _ (run : Run) (given : AreSendable run) (i : ℕ) (here next : StepRow) (
       let stands = x.stands in
       stood_sent run (i + 1) new (record {
         packets = Map x.map ∷ s.packets;
-        text = text_on run.halves old.text new.text s.packets (Map x.map) s.text x.text;
+        text = text_on run i (i + 1) old.text new.text s.packets (Map x.map) s.text x.text (λ all. (before all, tt));
         few = omega arith;
         begun = begun_on s.packets (Map x.map) s.begun refl;
         last = map_reported x.map s.packets ∙ s.last ∙ sym stands.reported;
@@ -255,8 +290,8 @@ module _ (run : Run) (given : AreSendable run) (i : ℕ) (here next : StepRow) (
         let same : next ≡ to = (let e : ◌≡◌ {A = Option StepRow} (Some next) (Some to) = sym then ∙ there in cc) in
         subst (λ (y : StepRow). Coded code s.packets (waiting_bits new.bits) (here ∷ s.kept) y (reverse (take (i + 1) run.rows))) same (rw seen_more (kept_on old s plain near new.bits.count new.bits.map x.list code carry))
 
-    text_same : IsText run.halves new.text s.packets
-    text_same = let e = x.text in rw e s.text
+    text_there : IsText run (i + 1) new.text s.packets
+    text_there = let e = x.text in rw e (text_same run i (i + 1) old.text s.packets s.text before)
 
     few_same : length new.text ≤ 30 + 22 * (i + 1)
     few_same = let e = ap (length {A = ℕ}) x.text in let few = s.few in omega arith
@@ -282,7 +317,7 @@ module _ (run : Run) (given : AreSendable run) (i : ℕ) (here next : StepRow) (
         let base : new.base ≡ i + 1 = x.base ∙ rw branch refl in
         record {
           packets = s.packets;
-          text = text_same;
+          text = text_there;
           few = few_same;
           begun = s.begun;
           last = s.last ∙ sym x.reported;
@@ -310,7 +345,7 @@ module _ (run : Run) (given : AreSendable run) (i : ℕ) (here next : StepRow) (
         let below = s.below in
         record {
           packets = s.packets;
-          text = text_same;
+          text = text_there;
           few = few_same;
           begun = s.begun;
           last = s.last ∙ sym x.reported;
@@ -335,15 +370,16 @@ module _ (run : Run) (given : AreSendable run) (i : ℕ) (here next : StepRow) (
         }
 
 -- The first row.
-pub begun_stood : (run : Run) (s : Sender) (first : StepRow) → slice_get run.rows 0 ≡ Some first → first.at % alignment_by run.halves ≡ 0 → IsBegun run.halves s first → Stood run 0 s 30
+pub begun_stood : (run : Run) (s : Sender) (first : StepRow) → slice_get run.rows 0 ≡ Some first → first.at % alignment_by run.halves ≡ 0 → IsBegun s first → Stood run 0 s 30
 begun_stood run s first get even x =
     let stands = x.stands in
     let reported_is = stands.reported in
-    let empty : IsText run.halves (header run.halves) [] = record { rest = []; layout = refl; holds = λ later more h. h } in
-    let more = longer run.halves (header run.halves) s.text (start_at first) x.text in
+    let nothing = x.text in
+    let empty : IsText run 0 [] (start_at first ∷ []) = record { first = first; begins = get; more = []; order = refl; written = refl; told = λ all. tt } in
+    let size = ap (length {A = ℕ}) nothing in
     record {
       packets = start_at first ∷ [];
-      text = text_on run.halves (header run.halves) s.text [] (start_at first) empty x.text;
+      text = rw nothing empty;
       few = omega arith;
       begun = record { start = refl; whole = refl };
       last = start_reported first [] ∙ sym stands.reported;
@@ -358,20 +394,27 @@ begun_stood run s first get even x =
           subst (λ (y : StepRow). Coded code (start_at first ∷ []) [] [] y []) same (starts_at code first (all_at (CarriesCode code) run.rows 0 first get carry.placed).instr);
     }
 
+-- Rows from the base on are no calls.
+calm_back : (run : Run) (i : ℕ) (s : Sender) → AreSendable run → Sent run i s → AreStraight run.rows s.base → AreStraight run.rows i
+calm_back run i s given t all j row lt get = elim (cases_lt j s.base) [
+  | inl early ↦ all j row early get
+  | inr late ↦ let step = all_at (IsStepped run.halves) run.rows j row get given.walkable.steps in let c = t.calm j row late lt get in step.call ∙ c.0
+]
+
 -- The last branch is reported, if the walk hasn't come to it.
 pub sent_base : (run : Run) (i : ℕ) (old new : Sender) (row : StepRow) → AreSendable run → Sent run i old → old.walked < old.base → slice_get run.rows old.base ≡ Some row → IsReported run.halves old old.bits new row.at true old.base → Stood run old.base new (41 + 22 * i)
 sent_base run i old new row given s after get x =
     let step = all_at (IsStepped run.halves) run.rows old.base row get given.walkable.steps in
     let few = s.few in
-    reported_stood run old.base (41 + 22 * i) old new old.bits row true s.packets s.text (omega arith) s.begun s.last step.aligned get x (λ code carry to. held s.held (let size = s.size in omega arith) code (s.base code row carry get) (all_at (CarriesCode code) run.rows old.base row get carry.placed).instr (s.branch row after get) to)
+    reported_stood run i old.base (41 + 22 * i) old new old.bits row true s.packets s.text (calm_back run i old given s) (omega arith) s.begun s.last step.aligned get x (λ code carry to. held s.held (let size = s.size in omega arith) code (s.base code row carry get) (all_at (CarriesCode code) run.rows old.base row get carry.placed).instr (s.branch row after get) to)
   where
     held : (kept : List StepRow) → 0 < length kept → (code : Code) → Coded code s.packets (waiting_bits old.bits) kept row (reverse (take old.base run.rows)) → look code row.at ≡ Ok row.instr → branch_row row ≡ true → sum (reported s.packets) x.difference ≡ row.at → Coded code (report_packet old.bits.count old.bits.map (said x.difference true) ∷ s.packets) [] [] row (reverse (take old.base run.rows))
     held [] some code c placed branch to = absurd (omega arith)
     held (k ∷ kept) some code c placed branch to = by_branch code s.packets old.bits.count old.bits.map k kept row (reverse (take old.base run.rows)) c placed branch x.difference to
 
 -- The walk may have come to the base already.
-pub sent_there : (run : Run) (i : ℕ) (s : Sender) → Sent run i s → s.base ≤ s.walked → Stood run s.base s (41 + 22 * i)
-sent_there run i s t there =
+pub sent_there : (run : Run) (i : ℕ) (s : Sender) → AreSendable run → Sent run i s → s.base ≤ s.walked → Stood run s.base s (41 + 22 * i)
+sent_there run i s given t there =
     let none : s.bits.count ≡ 0 = t.none there in
     let few = t.few in
     let size = t.size in
@@ -379,7 +422,7 @@ sent_there run i s t there =
     let w : waiting_bits s.bits ≡ [] = nothing_waits s.bits none in
     record {
       packets = t.packets;
-      text = t.text;
+      text = text_same run i s.base s.text t.packets t.text (calm_back run i s given t);
       few = omega arith;
       begun = t.begun;
       last = t.last;
@@ -395,30 +438,43 @@ sent_there run i s t there =
     empty [] none code here c = c
     empty (k ∷ kept) none code here c = absurd (omega arith)
 
-end_is : (rows : List StepRow) (n : ℕ) (last : StepRow) (pc : ℕ) → slice_get rows n ≡ Some last → n + 1 ≡ length rows → EndBefore rows pc → last.next ≡ pc
-end_is [] n last pc get size end = cc
-end_is (r ∷ []) zero last pc get size end = let e : r ≡ last = (cc) in rw (← e) end
-end_is (r ∷ []) (suc n) last pc get size end = cc
-end_is (r ∷ (q ∷ rows)) zero last pc get size end = absurd (omega arith)
-end_is (r ∷ (q ∷ rows)) (suc n) last pc get size end = end_is (q ∷ rows) n last pc get (omega arith) end
-
 -- The walk stands at the last row.
-pub stood_tells : (run : Run) (n most : ℕ) (s : Sender) (last : StepRow) → AreSendable run → Stood run n s most → slice_get run.rows n ≡ Some last → n + 1 ≡ length run.rows → Tells run.halves s.text run.rows
+pub stood_tells : (run : Run) (n most : ℕ) (s : Sender) (last : StepRow) → AreSendable run → Stood run n s most → slice_get run.rows n ≡ Some last → n + 1 ≡ length run.rows → TellsAfter run.halves s.text run.rows
 stood_tells run n most s last given t get size = record {
-  rest = t.text.rest;
-  layout = t.text.layout;
-  path = λ contents pc carry end.
+  first = t.text.first;
+  begins = t.text.begins;
+  packets = t.text.more;
+  written = t.text.written;
+  whole = (let e = t.text.order in let w = t.begun.whole in rw e at w);
+  told = λ all. t.text.told (fewer run.rows n (length run.rows - 1) (omega arith) all);
+  leads = λ contents carry.
       let code : Code = coded run.halves contents in
       let carries : Carries run (coded run.halves contents) = record { kind = refl; placed = carry } in
-      let held : Hold (plain run.halves (t.text.rest ++ [])) (reverse t.packets ++ []) = t.text.holds [] [] (record { zeros = 0; layout = refl }) in
-      let whole : Hold (plain run.halves t.text.rest) (reverse t.packets) = subst (λ (xs : List ℕ). Hold (plain run.halves xs) (reverse t.packets)) (append-nil t.text.rest) (subst (λ (ps : List Packet). Hold (plain run.halves (t.text.rest ++ [])) ps) (append-nil (reverse t.packets)) held) in
       let c = t.lead code last carries get in
       let step = all_at (IsStepped run.halves) run.rows n last get given.walkable.steps in
-      let p = ends code t.packets last (reverse (take n run.rows)) c (all_at (CarriesCode code) run.rows n last get carry) step (room_at run.rows n last get given.few) t.begun in
+      let p = leads_on code t.packets last (reverse (take n run.rows)) c (all_at (CarriesCode code) run.rows n last get carry) step in
       let all : reverse (last ∷ reverse (take n run.rows)) ≡ run.rows = ap (reverse {A = StepRow}) (sym (rows_more run.rows n last get)) ∙ reverse-reverse (take (n + 1) run.rows) ∙ rw size (take-length run.rows) in
-      let there : last.next ≡ pc = end_is run.rows n last pc get size end in
-      (reverse t.packets, whole, subst (λ (a : ℕ). IsPath (record { code = code; packets = reverse t.packets; from = 0; pc = a }) 0 run.rows) there (subst (λ (xs : List StepRow). IsPath (record { code = code; packets = reverse t.packets; from = 0; pc = last.next }) 0 xs) all p));
+      let order : t.packets ≡ reverse (start_at t.text.first ∷ t.text.more) = sym (reverse-reverse t.packets) ∙ ap (reverse {A = Packet}) t.text.order in
+      subst (λ (ps : List Packet). LeadsOver code ps run.rows) order (subst (λ (xs : List StepRow). LeadsOver code t.packets xs) all p);
 }
+
+-- A header, the start packet at the first row, and then the other packets.
+pub whole_tells : (halves : Bool) (rows : List StepRow) (first : StepRow) (front body trace : List ℕ) → length rows ≤ 65536 → slice_get rows 0 ≡ Some first → Appends halves (header halves) front (start_at first) → TellsAfter halves body rows → trace ≡ front ++ body → Tells halves trace rows
+whole_tells halves rows first front body trace few get a t is =
+    let same : first ≡ t.first = (let e : ◌≡◌ {A = Option StepRow} (Some first) (Some t.first) = sym get ∙ t.begins in cc) in
+    let rest : Hold (plain halves body) t.packets = written_held (untimed halves) body t.packets t.written in
+    let all : Hold (plain halves ((length a.payload ∷ a.payload) ++ body)) (start_at first ∷ t.packets) = (plain halves body, (a.payload, (a.some, record { zeros = 0; layout = refl }), a.spells, refl), rest) in
+    record {
+      rest = (length a.payload ∷ a.payload) ++ body;
+      layout = is ∙ ap (λ (xs : List ℕ). xs ++ body) a.appended ∙ append_assoc (header halves) (length a.payload ∷ a.payload) body;
+      path = λ contents pc carry end.
+          let code : Code = coded halves contents in
+          let back : reverse (reverse (start_at t.first ∷ t.packets)) ≡ start_at t.first ∷ t.packets = reverse-reverse (start_at t.first ∷ t.packets) in
+          let begun : Begun (start_at t.first ∷ t.packets) = record { start = refl; whole = t.whole } in
+          let path : IsPath (record { code = code; packets = reverse (reverse (start_at t.first ∷ t.packets)); from = 0; pc = pc }) 0 rows = path_of code (reverse (start_at t.first ∷ t.packets)) rows pc (t.leads contents carry) (subst (λ (ps : List Packet). Begun ps) (sym back) begun) few end in
+          let there : IsPath (record { code = code; packets = start_at t.first ∷ t.packets; from = 0; pc = pc }) 0 rows = subst (λ (ps : List Packet). IsPath (record { code = code; packets = ps; from = 0; pc = pc }) 0 rows) back path in
+          (start_at first ∷ t.packets, all, subst (λ (row : StepRow). IsPath (record { code = code; packets = start_at row ∷ t.packets; from = 0; pc = pc }) 0 rows) (sym same) there);
+    }
 
 pub get_at : (rows : List StepRow) (i : ℕ) (row : StepRow) → row ≡ get_or rows i row → i < length rows → slice_get rows i ≡ Some row
 get_at rows i row is lt = slice_get-get_or rows i row lt ∙ ap (λ (x : StepRow). Some x) (sym is)
@@ -439,8 +495,8 @@ single_on run i next given lt is near old new s x =
     let n = near (get_or run.rows i next) get in
     stood_more run (i + 1) (tail_bytes run.rows i + 11) (tail_bytes run.rows (i + 1)) new (sent_single run given i (get_or run.rows i next) next get (get_at run.rows (i + 1) next is lt) (tail_bytes run.rows i) old new s n.0 n.1 x) (omega arith)
 
-pub stood_all : (halves : Bool) (rows : List StepRow) (n most : ℕ) (s : Sender) → AreSendable (run_of halves rows) → Stood (run_of halves rows) n s most → n + 1 ≡ length rows → Tells halves s.text rows
+pub stood_all : (halves : Bool) (rows : List StepRow) (n most : ℕ) (s : Sender) → AreSendable (run_of halves rows) → Stood (run_of halves rows) n s most → n + 1 ≡ length rows → TellsAfter halves s.text rows
 stood_all halves rows n most s given t size = go rows given t size where
-  go : (rows : List StepRow) → AreSendable (run_of halves rows) → Stood (run_of halves rows) n s most → n + 1 ≡ length rows → Tells halves s.text rows
+  go : (rows : List StepRow) → AreSendable (run_of halves rows) → Stood (run_of halves rows) n s most → n + 1 ≡ length rows → TellsAfter halves s.text rows
   go [] given t size = absurd (omega arith)
   go (r ∷ rows) given t size = stood_tells (run_of halves (r ∷ rows)) n most s (get_or (r ∷ rows) n r) given t (slice_get-get_or (r ∷ rows) n r (omega arith)) size

@@ -6,9 +6,9 @@ use Rattle.rept_isa.specs.declared.instr.Instr.{Instr}
 use Rattle.rept_isa.specs.declared.row.StepRow.{StepRow}
 use Rattle.rept_trace.specs.declared.packet.Report.{Report}
 use Rattle.rept_trace.specs.declared.packet.Packet.{Packet}
-use Rattle.rept_trace.specs.declared.packet.Packet.TheVariants.{Start, Support, Address, Map, MapAddress}
+use Rattle.rept_trace.specs.declared.packet.Packet.TheVariants.{Support, Address, Map, MapAddress}
 use Rattle.rept_trace.specs.declared.packet.Qual.TheVariants.{EndedRep}
-use Rattle.rept_trace.specs.Stream.{header, plain, Hold}
+use Rattle.rept_trace.specs.Grammar.{untimed}
 use Rattle.rept_steps.specs.Linked.{AreLinked}
 use Rattle.rept_path.specs.Code.{look, is_short, flow_of, sum, jumps_far}
 use Rattle.rept_path.specs.Packets.{low_bits, bits, reported, waiting}
@@ -18,9 +18,10 @@ use Rattle.rept_path.specs.Rows.{CarryCode}
 use Rattle.rept_path.specs.Trace.{starts, loses}
 use Rattle.rept_encode.specs.declared.bits.Bits.{Bits}
 use Rattle.rept_encode.specs.declared.sender.Sender.{Sender}
-use Rattle.rept_encode.specs.Bits.{passed, branch_row, count, bit_list, start_bit}
-use Rattle.rept_encode.specs.Walkable.{alignment_by, calls, IsStepped, IsWalkable, IsJumpEnd}
-use Rattle.rept_encode.specs.Written.{Appends}
+use Rattle.rept_encode.specs.Bits.{passed, branch_row, count, bit_list}
+use Rattle.rept_encode.specs.Walkable.{alignment_by, calls, AreStraight, IsStepped, IsWalkable, IsJumpEnd}
+use Rattle.rept_encode.specs.Encoded.{start_at, AreReports}
+use Rattle.rept_encode.specs.Written.{Appends, AreWritten}
 
 -- The row is the step from a place, where so many bits are known.
 pub record Moved (code : Code) (all : List Bool) (p : Place) (row : StepRow) : Type 0 where
@@ -57,10 +58,6 @@ pub record Coded (code : Code) (packets : List Packet) (wait : List Bool) (kept 
   pub size : length (bits code packets ++ wait) ≡ (along code (place code packets legs) kept).branches + count here
   pub bit : branch_row here ≡ true → slice_get (bits code packets ++ wait) (along code (place code packets legs) kept).branches ≡ Some (passed here)
 
--- the start packet at a row
-abbrev pub start_at : StepRow → Packet
-start_at row = Start (start_bit row) 0 row.at 0 0
-
 -- an address packet, with a map where there are bits to send
 abbrev pub report_packet : ℕ → ℕ → Report → Packet
 report_packet zero map report = Address report
@@ -83,12 +80,6 @@ pub record AreBits (b : Bits) (most : ℕ) : Type 0 where
 abbrev pub waiting_bits : Bits → List Bool
 waiting_bits b = low_bits b.count b.map
 
--- The text is a header and these packets, newest first, and nothing more.
-pub record IsText (halves : Bool) (text : List ℕ) (packets : List Packet) : Type 0 where
-  pub rest : List ℕ
-  pub layout : text ≡ header halves ++ rest
-  pub holds : (later : List ℕ) (more : List Packet) → Hold (plain halves later) more → Hold (plain halves (rest ++ later)) (reverse packets ++ more)
-
 -- rows, and whether their code may be compressed
 pub record Run : Type 0 where
   pub halves : Bool
@@ -96,6 +87,16 @@ pub record Run : Type 0 where
 
 abbrev pub run_of : Bool → List StepRow → Run
 run_of halves rows = record { halves = halves; rows = rows }
+
+-- The text is the packets, newest first, but for the first one, the start packet at the first row. Where no row before this number is a call, each of them
+-- tells branches or an address.
+pub record IsText (run : Run) (i : ℕ) (text : List ℕ) (packets : List Packet) : Type 0 where
+  pub first : StepRow
+  pub begins : slice_get run.rows 0 ≡ Some first
+  pub more : List Packet
+  pub order : reverse packets ≡ start_at first ∷ more
+  pub written : AreWritten (untimed run.halves) text more
+  pub told : AreStraight run.rows i → AreReports more
 
 -- The code may be compressed as that of the rows, and has their instructions.
 pub record Carries (run : Run) (code : Code) : Type 0 where
@@ -110,7 +111,7 @@ LeadTo run packets b kept i = (code : Code) (here : StepRow) → Carries run cod
 -- branch, or that at which the walk stands; from there on no row is a call or an uninferable jump.
 pub record Sent (run : Run) (i : ℕ) (s : Sender) : Type 0 where
   pub packets : List Packet
-  pub text : IsText run.halves s.text packets
+  pub text : IsText run i s.text packets
   pub few : length s.text ≤ 30 + 22 * i
   pub begun : Begun (reverse packets)
   pub last : reported packets ≡ s.reported
@@ -136,9 +137,9 @@ pub record StandsAt (s : Sender) (a n : ℕ) : Type 0 where
   pub walked : s.walked ≡ n
   pub base : s.base ≡ n
 
--- The text has the header and the start packet of a row.
-pub record IsBegun (halves : Bool) (s : Sender) (first : StepRow) : Type 0 where
-  pub text : Appends halves (header halves) s.text (start_at first)
+-- Nothing was written, and the walk stands at a row.
+pub record IsBegun (s : Sender) (first : StepRow) : Type 0 where
+  pub text : s.text ≡ []
   pub stands : StandsAt s first.at 0
 
 -- The report of an address was added, with these bits, after so much text and so an address.
@@ -185,7 +186,7 @@ pub record IsStanding (old new : Sender) (a n : ℕ) : Type 0 where
 -- The same where the walk stands at row n, no bits wait and the text has at most so many bytes.
 pub record Stood (run : Run) (n : ℕ) (s : Sender) (most : ℕ) : Type 0 where
   pub packets : List Packet
-  pub text : IsText run.halves s.text packets
+  pub text : IsText run n s.text packets
   pub few : length s.text ≤ most
   pub begun : Begun (reverse packets)
   pub last : reported packets ≡ s.reported

@@ -41,6 +41,10 @@ pub record IsWalkable (halves : Bool) (rows : List StepRow) : Type 0 where
   pub some : 0 < length rows
   pub steps : All (IsStepped halves) rows
 
+-- No row before this number is a call.
+abbrev pub AreStraight : List StepRow → ℕ → Type 0
+AreStraight rows i = (j : ℕ) (row : StepRow) → j < i → slice_get rows j ≡ Some row → row.call ≡ false
+
 -- The row of this number is a call, and the one before it an uninferable jump.
 pub record IsJumpEnd (rows : List StepRow) (i : ℕ) : Type 0 where
   pub jump : StepRow

@@ -9,6 +9,8 @@ mod sender;
 mod step;
 mod writer;
 
+pub use branch::start_bit;
 pub use fault::{EncodeFault, StepFault};
+pub use payload::cut;
 pub use step::{Site, push_step, step_between};
-pub use writer::encode;
+pub use writer::{encode, encode_after_start};

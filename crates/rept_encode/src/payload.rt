@@ -1,7 +1,8 @@
 //! The payloads of packets, as short as the format allows.
 
-ghost use Rattle.std.specs.Prelude.{◌≡◌, ◌+◌, ◌<◌, ◌≤◌, ◌^◌, ◌*◌, Bool, List, ℕ, length, ◌∷◌, [], true, false, IfOk, OnOk, OnErr};
+ghost use Rattle.std.specs.Prelude.{◌≡◌, ◌+◌, ◌<◌, ◌≤◌, ◌^◌, ◌*◌, List, ℕ, length, ◌∷◌, [], true, false, IfOk, OnOk, OnErr};
 ghost use Rattle.rept_trace.specs.declared.packet.Packet.{Packet};
+ghost use Rattle.rept_trace.specs.declared.parameters.Parameters.{Parameters};
 ghost use Rattle.rept_trace.specs.Fits.{FieldsFit};
 ghost use Rattle.rept_trace.specs.Grammar.{untimed, map_width, qual_number, IsPacket};
 ghost use Rattle.rept_encode.specs.Written.{bit, copies, high, sent, past_address, report_number, number_of, fill_after, IsSilent, IsCut, Appends};
@@ -130,12 +131,12 @@ fn filler(before: u8) -> u8
     if before >= 128 { 255 } else { 0 }
 }
 
-/// A payload without the bytes at its end that are made of copies of the bit before them.
-fn cut(payload: &[u8]) -> &[u8]
+/// A payload without the bytes at its end that are made of copies of the bit before them. It spells the same, whatever the widths of the fields are.
+pub fn cut(payload: &[u8]) -> &[u8]
     requires { 0 < length payload.now }
     ensures some { 0 < length result.now }
     ensures few { length result.now ≤ length payload.now }
-    ensures spells { (halves : Bool) (packet : Packet) → IsPacket (untimed halves) payload.now packet → IsPacket (untimed halves) result.now packet }
+    ensures spells { (widths : Parameters) (packet : Packet) → IsPacket widths payload.now packet → IsPacket widths result.now packet }
     ensures cut { IsCut result.now }
 {
     let mut size = payload.len();

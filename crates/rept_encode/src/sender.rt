@@ -6,7 +6,8 @@ ghost use Rattle.rept_trace.specs.declared.packet.Qual.TheVariants.{EndedRep};
 ghost use Rattle.rept_trace.specs.Fits.{FieldsFit};
 ghost use Rattle.rept_trace.specs.Grammar.{untimed};
 ghost use Rattle.rept_trace.specs.Stream.{header};
-ghost use Rattle.rept_encode.specs.State.{AreBits, said, start_at, report_packet, IsBegun, IsReported, IsSent, IsRestarted, IsWaiting, IsMapped, IsStanding};
+ghost use Rattle.rept_encode.specs.State.{AreBits, said, report_packet, IsBegun, IsReported, IsSent, IsRestarted, IsWaiting, IsMapped, IsStanding};
+ghost use Rattle.rept_encode.specs.Encoded.{start_at};
 ghost use Rattle.rept_encode.specs.Walkable.{alignment_by};
 ghost use Rattle.rept_encode.specs.Written.{IsSilent, Appends};
 
@@ -18,7 +19,7 @@ use rept_trace::{Packet, Qual, Report};
 use rept_word::{OutOfMemory, Text};
 use std::alloc::Global;
 
-/// A trace that is being written.
+/// What follows the first start packet of a trace that is being written.
 #[derive(Drop)]
 pub struct Sender {
     /// The bytes so far.
@@ -73,7 +74,7 @@ fn start_packet(branch: bool, address: u32) -> Packet
 }
 
 /// Adds a start packet at the row.
-fn push_start(text: &mut Text, halves: bool, row: &StepRow) -> Result<(), OutOfMemory>
+pub fn push_start(text: &mut Text, halves: bool, row: &StepRow) -> Result<(), OutOfMemory>
     requires { row.now.at % alignment_by halves ≡ 0 }
     ensures { OnOk result (Appends halves text.old text.new (start_at row.now)) }
 {
@@ -82,7 +83,7 @@ fn push_start(text: &mut Text, halves: bool, row: &StepRow) -> Result<(), OutOfM
 }
 
 /// The header of a trace.
-fn header(alloc: Global, halves: bool) -> Result<Text, OutOfMemory>
+pub fn header(alloc: Global, halves: bool) -> Result<Text, OutOfMemory>
     ensures { IfOk result (λ text. text ≡ header halves) }
 {
     let mut text = Text::new(alloc);
@@ -90,20 +91,17 @@ fn header(alloc: Global, halves: bool) -> Result<Text, OutOfMemory>
     Ok(text)
 }
 
-/// A trace that begins at the row.
-pub fn begin(alloc: Global, halves: bool, first: &StepRow) -> Result<Sender, OutOfMemory>
-    requires { first.now.at % alignment_by halves ≡ 0 }
-    ensures { IfOk result (λ sender. IsBegun halves sender first.now) }
+/// What follows the start packet at the row: nothing yet.
+pub fn begin(alloc: Global, first: &StepRow) -> Sender
+    ensures { IsBegun result first.now }
 {
-    let mut text = header(alloc, halves)?;
-    push_start(&mut text, halves, first)?;
-    Ok(Sender {
-        text,
+    Sender {
+        text: Text::new(alloc),
         reported: first.at,
         bits: no_bits(),
         walked: 0,
         base: 0,
-    })
+    }
 }
 
 impl Sender {

@@ -3,11 +3,11 @@
 ghost use Rattle.std.specs.Prelude.{◌≡◌, ◌+◌, ◌-◌, ◌*◌, ◌<◌, ◌^◌, ℕ, length, ◌&&◌, OnOk, IfOk, IfSome, IfNone, IfErr, Err};
 ghost use Rattle.rept_path.specs.Code.{flow_of, jumps_far};
 ghost use Rattle.rept_encode.specs.Walkable.{IsWalkable, IsJumpEnd, IsFirstJumpEnd};
-ghost use Rattle.rept_encode.specs.Encoded.{Tells, IsRefusal};
+ghost use Rattle.rept_encode.specs.Encoded.{Tells, TellsAfter, IsRefusal};
 ghost use Rattle.rept_encode.specs.State.{AreSendable, IsNear, Sent, Stood, run_of, tail_bytes};
 
 use crate::fault::EncodeFault;
-use crate::sender::{Sender, begin};
+use crate::sender::{Sender, begin, header, push_start};
 use rept_isa::StepRow;
 use rept_path::flow::jumps_far;
 use rept_steps::Steps;
@@ -107,19 +107,32 @@ fn finish(
     Ok(())
 }
 
-/// A trace of the rows.
+/// The packets after the start packet at the first row.
 fn send_all(alloc: Global, halves: bool, rows: &[StepRow]) -> Result<Text, OutOfMemory>
     requires given { AreSendable (run_of halves rows.now) }
-    ensures tells { IfOk result (λ trace. Tells halves trace rows.now) }
-    ensures few { IfOk result (λ trace. length trace < 2 ^ 32) }
+    ensures tells { IfOk result (λ bytes. TellsAfter halves bytes rows.now) }
+    ensures few { IfOk result (λ bytes. length bytes < 2 ^ 31) }
 {
     let last = rows.len() - 1;
-    let mut sender = begin(alloc, halves, &rows[0])?;
+    let mut sender = begin(alloc, &rows[0]);
     for i in 0..last {
         pass(&mut sender, halves, rows, i)?;
     }
     finish(&mut sender, halves, rows, last)?;
     Ok(sender.text)
+}
+
+/// A trace of the rows.
+fn write_all(alloc: Global, halves: bool, rows: &[StepRow]) -> Result<Text, OutOfMemory>
+    requires given { AreSendable (run_of halves rows.now) }
+    ensures tells { IfOk result (λ trace. Tells halves trace rows.now) }
+    ensures few { IfOk result (λ trace. length trace < 2 ^ 32) }
+{
+    let mut trace = header(alloc, halves)?;
+    push_start(&mut trace, halves, &rows[0])?;
+    let body = send_all(alloc, halves, rows)?;
+    trace.push(body.bytes())?;
+    Ok(trace)
 }
 
 /// A trace of the steps, as the bytes of a file: `rept_path::rebuild` reads it back as these steps, over each dump whose code has
@@ -137,8 +150,27 @@ pub fn encode(alloc: Global, halves: bool, steps: &Steps) -> Result<Text, Encode
     let rows = steps.rows();
     match first_jump_end(rows) {
         Some(i) => Err(EncodeFault::JumpEnds(i as u32)),
-        None => match send_all(alloc, halves, rows) {
+        None => match write_all(alloc, halves, rows) {
             Ok(trace) => Ok(trace),
+            Err(_) => Err(EncodeFault::OutOfMemory),
+        },
+    }
+}
+
+/// The packets of the steps after a start packet at the first one, for a writer of traces that sends the start packet itself. What `encode` asks for is asked for here, and what it
+/// refuses is refused. Where no step but the last is a call, no packet starts the trace or ends it, so that packets of such steps may follow one another in a stream.
+pub fn encode_after_start(alloc: Global, halves: bool, steps: &Steps) -> Result<Text, EncodeFault>
+    requires { IsWalkable halves steps.now }
+    ensures tells { IfOk result (λ bytes. TellsAfter halves bytes steps.now) }
+    ensures few { IfOk result (λ bytes. length bytes < 2 ^ 31) }
+    ensures refusal { IfErr result (λ fault. IsRefusal steps.now fault) }
+    ensures jump_ends { (i : ℕ) → IsFirstJumpEnd steps.now i → result ≡ Err (EncodeFault.JumpEnds i) }
+{
+    let rows = steps.rows();
+    match first_jump_end(rows) {
+        Some(i) => Err(EncodeFault::JumpEnds(i as u32)),
+        None => match send_all(alloc, halves, rows) {
+            Ok(bytes) => Ok(bytes),
             Err(_) => Err(EncodeFault::OutOfMemory),
         },
     }

@@ -10,5 +10,5 @@ loop-size-preserved c =
     record {
       some = omega arith;
       within = omega arith;
-      spells = λ halves packet h. cut_more halves c.args.payload.now c.loop-size.size packet more i.within (omega (arith, c.type_inv.payload (c.loop-size.size - 2))) (c.if-payload-size.true ∙ c.filler.ensures) (i.spells halves packet h);
+      spells = λ widths packet h. cut_more widths c.args.payload.now c.loop-size.size packet more i.within (omega (arith, c.type_inv.payload (c.loop-size.size - 2))) (c.if-payload-size.true ∙ c.filler.ensures) (i.spells widths packet h);
     }

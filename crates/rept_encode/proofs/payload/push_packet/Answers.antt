@@ -7,7 +7,7 @@ use Rattle.rept_encode.proofs.payload.push_packet.Goals as goal
 pub returns : goal.returns
 returns c =
     let f = c.cut-payload.ensures.few in
-    let s = c.cut-payload.ensures.spells c.args.halves c.args.packet.now in
+    let s = c.cut-payload.ensures.spells (untimed c.args.halves) c.args.packet.now in
     let n = c.number_of.ensures in
     let t = c.to_le_bytes-bytes.ensures in
     record {

@@ -8,7 +8,7 @@ pub returns-then-base-sender : goal.returns-then-base-sender
 returns-then-base-sender c =
     let last = c.requires.last in
     let s = c.requires.sent in
-    stood_more (run_of c.args.halves c.args.rows.now) c.args.sender.now.base _ _ c.args.sender.now (sent_there (run_of c.args.halves c.args.rows.now) c.args.last c.args.sender.now s c.if-base-sender.true) (omega arith)
+    stood_more (run_of c.args.halves c.args.rows.now) c.args.sender.now.base _ _ c.args.sender.now (sent_there (run_of c.args.halves c.args.rows.now) c.args.last c.args.sender.now c.requires.given s c.if-base-sender.true) (omega arith)
 
 pub returns : goal.returns
 returns c =

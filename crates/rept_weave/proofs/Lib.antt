@@ -1,0 +1,4 @@
+mod Bytes
+mod Clock
+mod Stamping
+mod Weaving

@@ -1,0 +1,3 @@
+pub mod Stamped
+pub mod Steps
+pub mod Woven
