@@ -1,3 +1,4 @@
 pub mod FileMap
+pub mod NamesLeft
 pub mod Told
 pub mod Views

@@ -37,7 +37,7 @@ pub struct Named<'a> {
 }
 
 /// The part of the bytes that the first zero byte ends.
-fn first_name(bytes: &[u8]) -> Option<Named<'_>>
+pub fn first_name(bytes: &[u8]) -> Option<Named<'_>>
     ensures { MatchOption result (length (parts bytes.now) ≡ 1) (λ n. parts bytes.now ≡ n.name.now ∷ parts n.after.now) }
 {
     let end = first_zero(bytes)?;
@@ -58,7 +58,7 @@ fn is_text(bytes: &[u8]) -> bool
 }
 
 /// The text of bytes that are text.
-fn text_of(bytes: &[u8]) -> &str
+pub fn text_of(bytes: &[u8]) -> &str
     requires { IsTrue (is_utf8 bytes.now) }
     ensures { result.now ≡ bytes.now }
 {

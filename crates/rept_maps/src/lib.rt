@@ -6,8 +6,10 @@ mod entry;
 mod fault;
 mod images;
 mod maps;
+mod names;
 
 pub use entry::{Entry, Place};
 pub use fault::MapFault;
 pub use images::Images;
 pub use maps::Maps;
+pub use names::Names;

@@ -7,7 +7,8 @@ ghost use Rattle.rept_maps.specs.FileMap.{IsMap, map_count, most_entries};
 
 use crate::entry::{Entry, Place, is_map, name_at, place_at};
 use crate::fault::MapFault;
-use rept_elf::{Image, word};
+use crate::names::Names;
+use rept_elf::{Image, after, word};
 use rept_notes::{Found, Note, find_notes};
 
 /// The type of a note that lists mapped files.
@@ -25,7 +26,9 @@ pub struct Maps<'a> {
 }
 
 impl<'a> Maps<'a> {
-    ghost use Rattle.rept_maps.specs.FileMap.{entry_at};
+    ghost use Rattle.std.specs.Prelude.{take};
+    ghost use Rattle.rept_maps.specs.FileMap.{entry_at, names};
+    ghost use Rattle.rept_maps.specs.NamesLeft.{names_left};
     ghost use Rattle.rept_maps.specs.Told.{FirstSays, MapsSay, NoteSays};
     ghost use Rattle.std.specs.Option.{option_map};
     ghost use Rattle.rept_maps.specs.Views.{desc_of, entry_of, said_of};
@@ -76,6 +79,17 @@ impl<'a> Maps<'a> {
         ensures few { result ≤ most_entries }
     {
         word(self.desc, 0)
+    }
+
+    /// The names of the entries, in table order.
+    pub fn names(&self) -> Names<'a>
+        ensures { names_left result ≡ take (map_count (desc_of self.now)) (names (desc_of self.now)) }
+    {
+        let count = word(self.desc, 0);
+        Names {
+            rest: after(self.desc, 8 + 12 * count as usize),
+            left: count,
+        }
     }
 
     /// The addresses and the offset of the entry of this index, without its name.

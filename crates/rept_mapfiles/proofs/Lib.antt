@@ -1,0 +1,3 @@
+mod Distinct
+mod Keeping
+mod BoundLemmas
