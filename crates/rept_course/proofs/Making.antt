@@ -156,7 +156,7 @@ module _ (C : Course) where
         | inr past ↦ rw (le-ltb (suc r.step) (length (rows_of C r.thread)) past) (last r.thread r.step (omega arith) refl)
       ]
 
-  next_last : (r : Row) → last_of C (next_point C r) ≡ next_point C r
+  pub next_last : (r : Row) → last_of C (next_point C r) ≡ next_point C r
   next_last r =
       elim (cases_lt (suc r.step) (length (rows_of C r.thread))) [
         | inl less ↦ rw (lt-ltb (suc r.step) (length (rows_of C r.thread)) less) refl
@@ -416,7 +416,7 @@ module _ (C : Course) (sound : IsSound C) (L : List Moment) (is_list : IsListing
   distinct_named : Distinct (named_by C L)
   distinct_named = (λ h. (lasts_in C L at_end h).2 refl, distinct_lasts C L)
 
-  last_named : (m : Moment) → IsMoment C m → ranked (named_by C L) (name_by C L m) ≡ last_of C m
+  pub last_named : (m : Moment) → IsMoment C m → ranked (named_by C L) (name_by C L m) ≡ last_of C m
   last_named m is = at_rank (named_by C L) (last_of C m) (last_in (last_of C m) (last_moment C m is) (last_last C m))
 
   link_is : (m w : ℕ) (x : Stretch) → link_by C L m w ≡ Some x → (is_link C L m w x ≡ true) × InS (from_each (moments_in C) (moments_in C)) x

@@ -88,10 +88,10 @@ module _ (C : Course) (sound : IsSound C) where
           let count : length (lasts C (in_order C)) ≡ length n.list = ap (λ (ms : List Moment). length ms) (sym kept) ∙ count_same C n.list in
           omega arith
 
-      row_placed : IsRow C (row_on C s.point)
+      pub row_placed : IsRow C (row_on C s.point)
       row_placed = at_row C s.is_after (row_on C s.point) (subst (λ (y : Moment). IsMoment C y) placed (names.named m early).0)
 
-      name_placed : (numbers_of C).name (moment_at C s) ≡ m
+      pub name_placed : (numbers_of C).name (moment_at C s) ≡ m
       name_placed = ap (numbers_of C).name (sym placed) ∙ (names.named m early).1
 
       pub leads_placed : is_some (leg_row C s.point) ≡ true

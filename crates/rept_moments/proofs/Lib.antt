@@ -8,3 +8,12 @@ pub mod Numbering
 pub mod Places
 pub mod Told
 pub mod Falls
+pub mod Nearest
+pub mod Sooner
+pub mod Keeping
+pub mod Halving
+pub mod Offers
+pub mod Neighbours
+pub mod Offering
+pub mod Alone
+pub mod Former

@@ -74,7 +74,7 @@ next_thread (thread ∷ threads) zero below = omega arith
 next_thread (thread ∷ threads) (suc t) below = let rest = next_thread threads t (omega arith) in omega arith
 
 -- what the table of points says
-module _ (C : Course) (list : List Place) (its : ArePoints C list) where
+module _ (C : Course) (list : List Place) (firsts : List ℕ) (its : ArePoints C list firsts) where
   pub places_count : length list ≡ points_in C
   places_count = ap (λ (xs : List Place). length xs) its.places ∙ by_point_length (place_on C) (points_in C)
 
@@ -118,6 +118,17 @@ module _ (C : Course) (list : List Place) (its : ArePoints C list) where
       let below : g < length list = omega arith in
       place_is g p (slice_get-get_or list g d below ∙ ap (λ (ys : List Place). Some (get_or ys g d)) (sym same) ∙ ap (λ (q : Place). Some q) (sym read)) ∙ ap (λ (D : Course). row_on D g) view
 
+  pub place_value : (V : Course) (g : ℕ) (p d : Place) (xs : List Place) → C ≡ V → xs ≡ list → g < points_in V → p ≡ get_or xs g d → p ≡ place_on V g
+  place_value V g p d xs view same less read =
+      let count = places_count in
+      let whole : points_in C ≡ points_in V = ap (λ (D : Course). points_in D) view in
+      let long : length xs ≡ length list = ap (λ (ys : List Place). length ys) same in
+      let below : g < length list = omega arith in
+      some_same (ap (λ (q : Place). Some q) read ∙ ap (λ (ys : List Place). Some (get_or ys g d)) same ∙ sym (slice_get-get_or list g d below) ∙ place_at g below) ∙ ap (λ (D : Course). place_on D g) view
+    where
+      some_same : {x y : Place} → Some x ≡ Some y → x ≡ y
+      some_same k = cc
+
 -- one more point of a thread
 pub add_place : (C : Course) (t i : ℕ) (xs ys : List Place) → t < length C.threads → i ≤ length (rows_of C t) → xs ≡ by_point (place_on C) (points_before C.threads t + i) → ys ≡ xs ++ record { thread = t; step = i } ∷ [] → ys ≡ by_point (place_on C) (points_before C.threads t + (i + 1))
 add_place C t i xs ys below few before e =
@@ -158,3 +169,45 @@ next_row C g is =
 
 pub some_below : (xs : List StepRow) (k : ℕ) → IsSome (slice_get xs k) → k < length xs
 some_below xs k e = let found = some_is (slice_get xs k) e in slice_get_within xs k found.0 found.1
+
+pub points_most : (threads : List ThreadRows) (t : ℕ) → t ≤ length threads → points_before threads t ≤ points_before threads (length threads)
+points_most [] zero few = omega arith
+points_most [] (suc t) few = absurd (omega arith)
+points_most (thread ∷ threads) zero few = omega arith
+points_most (thread ∷ threads) (suc t) few = let rest = points_most threads t (omega arith) in omega arith
+
+-- the first points, one thread after the other
+abbrev pub AreStarts : List ThreadRows → ℕ → List ℕ → ℕ → Type 0
+AreStarts threads t starts point = record {
+  starts : starts ≡ by_point (points_before threads) t;
+  point : point ≡ points_before threads t;
+}
+
+pub start_next : (C : Course) (t n point : ℕ) → t < length C.threads → n ≡ length (rows_of C t) → point ≡ points_before C.threads t → point + (n + 1) ≡ points_before C.threads (t + 1)
+start_next C t n point below rows e =
+    let next = next_thread C.threads t below in
+    let one : t + 1 ≡ suc t = omega arith in
+    let same : points_before C.threads (t + 1) ≡ points_before C.threads (suc t) = ap (points_before C.threads) one in
+    omega arith
+
+pub start_fits : (C : Course) (t n point : ℕ) → t < length C.threads → n ≡ length (rows_of C t) → point ≡ points_before C.threads t → points_in C ≤ 66560 → point + (n + 1) ≤ 66560
+start_fits C t n point below rows e few =
+    let next = start_next C t n point below rows e in
+    let most = points_most C.threads (t + 1) (omega arith) in
+    omega arith
+
+pub starts_more : (C : Course) (t : ℕ) (xs ys : List ℕ) (point : ℕ) → xs ≡ by_point (points_before C.threads) t → point ≡ points_before C.threads t → ys ≡ xs ++ point ∷ [] → ys ≡ by_point (points_before C.threads) (t + 1)
+starts_more C t xs ys point are e pushed =
+    let one : suc t ≡ t + 1 = omega arith in
+    pushed ∙ ap (λ (zs : List ℕ). zs ++ point ∷ []) are ∙ ap (λ (k : ℕ). by_point (points_before C.threads) t ++ k ∷ []) e ∙ ap (by_point (points_before C.threads)) one
+
+pub start_at : (C V : Course) (t : ℕ) (xs : List ℕ) (d : ℕ) → C ≡ V → xs ≡ by_point (points_before C.threads) (length C.threads) → t < length V.threads → get_or xs t d ≡ points_before V.threads t
+start_at C V t xs d view are less =
+    let whole : length C.threads ≡ length V.threads = ap (λ (D : Course). length D.threads) view in
+    let below : t < length C.threads = omega arith in
+    let count = by_point_length (points_before C.threads) (length C.threads) in
+    let long : length xs ≡ length (by_point (points_before C.threads) (length C.threads)) = ap (λ (ys : List ℕ). length ys) are in
+    some_number (sym (slice_get-get_or xs t d (omega arith)) ∙ ap (λ (ys : List ℕ). slice_get ys t) are ∙ by_point_get (points_before C.threads) (length C.threads) t below) ∙ ap (λ (D : Course). points_before D.threads t) view
+  where
+    some_number : {x y : ℕ} → Some x ≡ Some y → x ≡ y
+    some_number e = cc

@@ -1,9 +1,36 @@
 -- The rows and moments that a course of the code stands for.
+use Rattle.std.specs.Prelude.{ℕ, ◌+◌, Bool, true, false, length}
+use Rattle.rept_order.specs.Legs.{points_before}
 use Rattle.rept_moments.specs.declared.course.Course.{Course}
 use Rattle.rept_moments.specs.declared.course.Course as courses
 use Rattle.rept_moments.specs.Seen.{Seen, seen_alone}
 use Rattle.rept_moments.specs.Several.{seen_of}
+use Rattle.rept_moments.specs.declared.side.Place.{Place}
+use Rattle.rept_moments.specs.Points.{points_in, place_on}
 
 abbrev pub seen_in : Course → Seen
 seen_in (courses.TheVariants.One steps) = seen_alone steps.now
 seen_in (courses.TheVariants.Many many) = seen_of many
+
+-- how many threads there are, the first point of each, and the thread of a point with its number there
+abbrev pub threads_in : Course → ℕ
+threads_in (courses.TheVariants.One steps) = 1
+threads_in (courses.TheVariants.Many many) = length many.threads
+
+abbrev pub first_in : Course → ℕ → ℕ
+first_in (courses.TheVariants.One steps) t = 0
+first_in (courses.TheVariants.Many many) t = points_before many.threads t
+
+abbrev pub place_in : Course → ℕ → Place
+place_in (courses.TheVariants.One steps) g = record { thread = 0; step = g }
+place_in (courses.TheVariants.Many many) g = place_on many g
+
+-- how many points there are
+abbrev pub count_in : Course → ℕ
+count_in (courses.TheVariants.One steps) = length steps.now + 1
+count_in (courses.TheVariants.Many many) = points_in many
+
+-- whether it is of one thread in one slice, all of which is told
+abbrev pub is_one : Course → Bool
+is_one (courses.TheVariants.One steps) = true
+is_one (courses.TheVariants.Many many) = false

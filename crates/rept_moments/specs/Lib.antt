@@ -6,6 +6,8 @@ pub mod Writers
 pub mod Latest
 pub mod Merging
 pub mod Numbering
+pub mod Halves
+pub mod Nexts
 pub mod Tables
 pub mod Between
 pub mod Several

@@ -17,7 +17,8 @@ abbrev pub by_point : {A : Type 0} → (ℕ → A) → ℕ → List A
 by_point f zero = []
 by_point f (suc g) = by_point f g ++ f g ∷ []
 
-pub record ArePoints (C : Course) (list : List Place) : Type 0 where
+pub record ArePoints (C : Course) (list : List Place) (firsts : List ℕ) : Type 0 where
   pub sound : IsSound C
   pub few : points_in C ≤ 66560
   pub places : list ≡ by_point (place_on C) (points_in C)
+  pub starts : firsts ≡ by_point (points_before C.threads) (length C.threads)

@@ -1,12 +1,14 @@
 //! The rows and moments of any run, by numbers.
 
-ghost use Rattle.std.specs.Prelude.{◌≡◌, ◌≤◌, true, Some, None, IfOk, IsOk, IsSome, MatchOption};
+ghost use Rattle.std.specs.Prelude.{◌≡◌, ◌≤◌, ◌<◌, ℕ, length, true, Some, None, IfOk, IsOk, IsSome, MatchOption};
 ghost use Rattle.rept_steps.specs.Course.{IsSound};
 ghost use Rattle.rept_steps.specs.Runs.{course_of};
+ghost use Rattle.rept_order.specs.Legs.{points_before};
 ghost use Rattle.rept_moments.specs.Points.{points_in};
-ghost use Rattle.rept_moments.specs.Seen.{seen, alone_by, moment_in};
+ghost use Rattle.rept_moments.specs.Seen.{seen, alone_by, moment_in, IsNextFrom};
 
 use crate::many::Many;
+use crate::side::Place;
 use rept_isa::StepRow;
 use rept_steps::{Run, Steps};
 use std::alloc::{AllocError as OutOfMemory, Global};
@@ -40,15 +42,18 @@ fn alone<'a>(run: &'a Run) -> Option<&'a Steps>
 }
 
 impl<'a> Course<'a> {
-    ghost use Rattle.rept_moments.specs.Courses.{seen_in};
+    ghost use Rattle.rept_moments.specs.Courses.{seen_in, threads_in, first_in, place_in, count_in, is_one};
 
-    /// The rows and moments of this run, which must be sound. Of one thread in one slice, all of which is told, it takes no memory; else memory for one entry a
-    /// slice and one number a point.
+    /// The rows and moments of this run, which must be sound and have at most 66,560 points: those of 65,536 rows and 1,024 threads. Of one thread in one slice, all of which
+    /// is told, it takes no memory; else memory for a few entries a point.
     pub fn new(alloc: Global, run: &'a Run) -> Result<Course<'a>, OutOfMemory>
         requires sound { IsSound (course_of run.now) }
         requires few { points_in (course_of run.now) ≤ 66560 }
         ensures ok { IfOk result (λ c. seen_in c ≡ seen (course_of run.now)) }
+        ensures threads { IfOk result (λ c. threads_in c ≡ length run.now.threads) }
+        ensures firsts { IfOk result (λ c. (t : ℕ) → t < length run.now.threads → first_in c t ≡ points_before run.now.threads t) }
         ensures alone { IsSome (alone_by run.now.threads run.now.dark) → IsOk result }
+        ensures one { IsSome (alone_by run.now.threads run.now.dark) → IfOk result (λ c. is_one c ≡ true) }
     {
         match alone(run) {
             Some(steps) => Ok(Course::One { steps }),
@@ -63,6 +68,41 @@ impl<'a> Course<'a> {
         match self {
             Course::One { steps } => steps.len(),
             Course::Many(many) => many.last_point(),
+        }
+    }
+
+    /// How many threads there are.
+    pub fn threads(&self) -> u32
+        ensures { result ≡ threads_in self.now }
+    {
+        match self {
+            Course::One { .. } => 1,
+            Course::Many(many) => many.threads(),
+        }
+    }
+
+    /// The first point of a thread.
+    pub fn first(&self, thread: u32) -> u32
+        requires { thread < threads_in self.now }
+        ensures { result ≡ first_in self.now thread }
+    {
+        match self {
+            Course::One { .. } => 0,
+            Course::Many(many) => many.first(thread),
+        }
+    }
+
+    /// The thread of a point, and its number there.
+    pub fn place(&self, point: u32) -> Place
+        requires { point < count_in self.now }
+        ensures { result ≡ place_in self.now point }
+    {
+        match self {
+            Course::One { .. } => Place {
+                thread: 0,
+                step: point,
+            },
+            Course::Many(many) => many.place(point),
         }
     }
 
@@ -119,6 +159,34 @@ impl<'a> Course<'a> {
         match self {
             Course::One { .. } => point,
             Course::Many(many) => many.moment_at(point),
+        }
+    }
+
+    /// The least of the numbers next to one, from a number on: of those that a later moment has, with none between.
+    pub fn next_from(&self, number: u32, least: u32) -> Option<u32>
+        requires { number ≤ (seen_in self.now).moments.end }
+        ensures { IsNextFrom (seen_in self.now).moments number least result }
+    {
+        match self {
+            Course::One { steps } => {
+                if number < steps.len() && least <= number + 1 {
+                    Some(number + 1)
+                } else {
+                    None
+                }
+            }
+            Course::Many(many) => many.next_from(number, least),
+        }
+    }
+
+    /// Whether the second number is next to the first.
+    pub fn is_next(&self, m: u32, w: u32) -> bool
+        requires { m ≤ (seen_in self.now).moments.end }
+        ensures { result ≡ (seen_in self.now).moments.next m w }
+    {
+        match self {
+            Course::One { steps } => m < steps.len() && w == m + 1,
+            Course::Many(many) => many.is_next(m, w),
         }
     }
 

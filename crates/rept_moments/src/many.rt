@@ -1,24 +1,29 @@
 //! The numbers of the moments of several threads.
 
-ghost use Rattle.std.specs.Prelude.{◌≡◌, ◌≤◌, ◌<◌, ◌^◌, [], true, length, IfOk, IfSome, IsSome, OnOk};
-ghost use Rattle.rept_steps.specs.Course.{IsSound};
+ghost use Rattle.std.specs.Prelude.{◌≡◌, ◌≤◌, ◌<◌, ◌^◌, [], ◌+◌, Some, true, length, IfOk, IfSome, IsSome, OnOk};
+ghost use Rattle.rept_steps.specs.Course.{rows_of, IsSound};
 ghost use Rattle.rept_steps.specs.Runs.{course_of};
+ghost use Rattle.rept_order.specs.Legs.{points_before};
 ghost use Rattle.rept_order.specs.Runs.{moment_named};
+ghost use Rattle.rept_order.specs.Times.{begin_of};
 ghost use Rattle.rept_course.specs.Making.{lasts, rank};
-ghost use Rattle.rept_moments.specs.Points.{by_point, points_in};
-ghost use Rattle.rept_moments.specs.Ordering.{in_order, in_time, moment_at};
+ghost use Rattle.rept_moments.specs.Points.{by_point, place_on, points_in};
+ghost use Rattle.rept_moments.specs.Ordering.{in_order, in_time, moment_at, event_at};
 ghost use Rattle.rept_moments.specs.Merging.{merged_at};
 ghost use Rattle.rept_moments.specs.Numbers.{numbers_of};
 ghost use Rattle.rept_moments.specs.Numbering.{kept_with};
 ghost use Rattle.rept_moments.specs.Between.{own_to, IsBetween};
-ghost use Rattle.rept_moments.specs.Seen.{moment_in};
+ghost use Rattle.rept_moments.specs.Seen.{moment_in, IsNextFrom};
+ghost use Rattle.rept_moments.specs.Nexts.{first_later, later_to, offers_at, offers_to, nexts_of, merged_nexts, point_nexts, side_nexts, last_nexts, ends_to, offered_all};
 ghost use Rattle.rept_moments.specs.Tables.{moments_at};
 
 use crate::merging::merged;
+use crate::nexts::{first_later, is_not_past, later_of};
 use crate::numbers::Numbers;
 use crate::ordering::in_time;
 use crate::points::Points;
-use crate::side::{Side, Timed};
+use crate::search::{Later, Search, offer};
+use crate::side::{Place, Side, Timed};
 use crate::writers::Writers;
 use crate::writing::{both, neither};
 use rept_isa::{Instr, StepRow};
@@ -110,6 +115,39 @@ impl<'a> Many<'a> {
         ensures { result ≡ (seen_of self.now).legs.count }
     {
         self.points.count().saturating_sub(1)
+    }
+
+    /// How many threads there are.
+    pub fn threads(&self) -> u32
+        ensures { result ≡ length self.now.threads }
+    {
+        self.points.threads()
+    }
+
+    /// The first point of a thread.
+    pub fn first(&self, thread: u32) -> u32
+        requires { thread < length self.now.threads }
+        ensures { result ≡ points_before self.now.threads thread }
+    {
+        self.points.first(thread)
+    }
+
+    /// How many rows a thread has.
+    fn rows(&self, thread: u32) -> u32
+        requires { thread < length self.now.threads }
+        ensures value { result ≡ length (rows_of self.now thread) }
+        ensures inside { points_before self.now.threads thread + result < points_in self.now }
+        ensures few { points_in self.now ≤ 66560 }
+    {
+        self.points.rows(thread)
+    }
+
+    /// The thread of a point, and its number there.
+    pub fn place(&self, point: u32) -> Place
+        requires { point < points_in self.now }
+        ensures { result ≡ place_on self.now point }
+    {
+        self.points.place(point)
     }
 
     /// The row that leads from a point, if one does.
@@ -292,6 +330,190 @@ impl<'a> Many<'a> {
                 if !calls && same { Some(row) } else { None }
             }
             None => None,
+        }
+    }
+
+    /// The number of a moment of a row.
+    fn name(&self, side: Side) -> u32
+        requires { IsSome ((seen_of self.now).legs.row side.point) }
+        ensures { result ≡ (numbers_of self.now).name (moment_at self.now side) }
+    {
+        if side.is_after {
+            self.after(side.point)
+        } else {
+            let number = self.before(side.point);
+            number
+        }
+    }
+
+    /// The first moment of a thread that is later than one of a row.
+    fn first_later(&self, side: Side, thread: u32) -> Option<Side>
+        requires row { IsSome ((seen_of self.now).legs.row side.point) }
+        requires thread { thread < length self.now.threads }
+        ensures value { result ≡ first_later self.now (moment_at self.now side) thread }
+        ensures row { IfSome result (λ s. IsSome ((seen_of self.now).legs.row s.point)) }
+    {
+        first_later(&self.points, self.points.moment(side), thread)
+    }
+
+    /// What the first moments of all threads that are later than one of a row leave to be next to it.
+    fn later(&self, side: Side) -> Later
+        requires { IsSome ((seen_of self.now).legs.row side.point) }
+        ensures { result ≡ later_to self.now (moment_at self.now side) (length self.now.threads) }
+    {
+        later_of(&self.points, self.points.moment(side))
+    }
+
+    /// The time before which a moment of a row doesn't come.
+    fn begin(&self, side: Side) -> u64
+        requires { IsSome ((seen_of self.now).legs.row side.point) }
+        ensures { result ≡ begin_of self.now (event_at self.now side) }
+    {
+        self.points.begin(side)
+    }
+
+    /// Offers the number of a moment that is the first later one of its thread, if it may come by a time.
+    fn offer_first(&self, search: Search, last: Option<u64>, first: Option<Side>) -> Search
+        requires { IfSome first (λ s. IsSome ((seen_of self.now).legs.row s.point)) }
+        ensures { result ≡ offered_all search (offers_at self.now last first) }
+    {
+        match first {
+            Some(side) => self.offer_in_time(search, last, side),
+            None => search,
+        }
+    }
+
+    /// The same, of a moment.
+    fn offer_in_time(&self, search: Search, last: Option<u64>, side: Side) -> Search
+        requires { IsSome ((seen_of self.now).legs.row side.point) }
+        ensures { result ≡ offered_all search (offers_at self.now last (Some side)) }
+    {
+        let begin = self.begin(side);
+        if is_not_past(last, begin) {
+            offer(search, self.name(side))
+        } else {
+            search
+        }
+    }
+
+    /// Offers the numbers of the moments that are next to one of a row.
+    fn offer_nexts(&self, search: Search, side: Side) -> Search
+        requires { IsSome ((seen_of self.now).legs.row side.point) }
+        ensures { result ≡ offered_all search (nexts_of self.now (moment_at self.now side)) }
+    {
+        let later = self.later(side);
+        if later.some {
+            self.offer_firsts(search, side, later.last)
+        } else {
+            offer(search, self.end())
+        }
+    }
+
+    /// Offers the numbers of the first moments of all threads that are later than one of a row, of those that may come by a time.
+    fn offer_firsts(&self, search: Search, side: Side, last: Option<u64>) -> Search
+        requires { IsSome ((seen_of self.now).legs.row side.point) }
+        ensures { result ≡ offered_all search (offers_to self.now (moment_at self.now side) last (length self.now.threads)) }
+    {
+        let mut found = search;
+        for thread in 0..self.threads() {
+            let first = self.first_later(side, thread);
+            found = self.offer_first(found, last, first);
+        }
+        found
+    }
+
+    /// The same of the moment after the row that leads from a point, if it is one with the thread's next one.
+    fn offer_merged(&self, search: Search, point: u32) -> Search
+        requires { point < points_in self.now }
+        ensures { result ≡ offered_all search (merged_nexts self.now point) }
+    {
+        if self.is_merged(point) {
+            self.offer_nexts(
+                search,
+                Side {
+                    point,
+                    is_after: true,
+                },
+            )
+        } else {
+            search
+        }
+    }
+
+    /// The same of the moment after the row that leads to a point, if it is one with the thread's next one.
+    fn offer_point(&self, search: Search, point: u32) -> Search
+        requires { point < points_in self.now }
+        ensures { result ≡ offered_all search (point_nexts self.now point) }
+    {
+        if point == 0 {
+            search
+        } else {
+            self.offer_merged(search, point - 1)
+        }
+    }
+
+    /// The same of all moments that go by the number of a row's moment.
+    fn offer_side(&self, search: Search, side: Side) -> Search
+        requires { IsSome ((seen_of self.now).legs.row side.point) }
+        ensures { result ≡ offered_all search (side_nexts self.now side) }
+    {
+        let own = self.offer_nexts(search, side);
+        if side.is_after {
+            own
+        } else {
+            self.offer_point(own, side.point)
+        }
+    }
+
+    /// The same of all moments that are one with the end.
+    fn offer_ends(&self, search: Search) -> Search
+        ensures { result ≡ offered_all search (ends_to self.now (length self.now.threads)) }
+    {
+        let mut found = search;
+        for thread in 0..self.threads() {
+            found = self.offer_last(found, thread);
+        }
+        found
+    }
+
+    /// The same of the moment after a thread's last row.
+    fn offer_last(&self, search: Search, thread: u32) -> Search
+        requires { thread < length self.now.threads }
+        ensures { result ≡ offered_all search (last_nexts self.now thread (length (rows_of self.now thread))) }
+    {
+        let first = self.first(thread);
+        let rows = self.rows(thread);
+        if rows == 0 {
+            search
+        } else {
+            self.offer_merged(search, first + (rows - 1))
+        }
+    }
+
+    /// The least of the numbers next to one, from a number on: of those that a later moment has, with none between.
+    pub fn next_from(&self, number: u32, least: u32) -> Option<u32>
+        requires { number ≤ (seen_of self.now).moments.end }
+        ensures { IsNextFrom (seen_of self.now).moments number least result }
+    {
+        let search = Search {
+            own: number,
+            least,
+            found: None,
+        };
+        match self.numbers.at(number) {
+            Some(side) => self.offer_side(search, side).found,
+            None => self.offer_ends(search).found,
+        }
+    }
+
+    /// Whether the second number is next to the first.
+    pub fn is_next(&self, m: u32, w: u32) -> bool
+        requires { m ≤ (seen_of self.now).moments.end }
+        ensures { result ≡ (seen_of self.now).moments.next m w }
+    {
+        match self.next_from(m, w) {
+            Some(found) => found == w,
+            None => false,
         }
     }
 

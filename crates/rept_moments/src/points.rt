@@ -1,12 +1,12 @@
 //! The points of a run, their rows, and the times of these.
 
-ghost use Rattle.std.specs.Prelude.{◌≡◌, ◌+◌, ◌<◌, ◌≤◌, length, IfOk, OnOk};
+ghost use Rattle.std.specs.Prelude.{◌≡◌, ◌+◌, ◌<◌, ◌≤◌, ◌↔◌, length, IfOk, IsTrue, OnOk};
 ghost use Rattle.std.specs.Option.{is_some};
-ghost use Rattle.rept_steps.specs.Course.{row_at, row_of, IsSound};
+ghost use Rattle.rept_steps.specs.Course.{row_at, row_of, rows_of, IsSound};
 ghost use Rattle.rept_steps.specs.Runs.{course_of};
 ghost use Rattle.rept_order.specs.Events.{event_slice};
 ghost use Rattle.rept_order.specs.Legs.{points_before, leg_row};
-ghost use Rattle.rept_order.specs.Moments.{stores};
+ghost use Rattle.rept_order.specs.Moments.{IsMoment, Earlier, stores};
 ghost use Rattle.rept_order.specs.Moments.Act.{row as row_act};
 ghost use Rattle.rept_order.specs.Ordered.{course_in};
 ghost use Rattle.rept_order.specs.Runs.{act_named, edge_event, moment_named};
@@ -30,6 +30,8 @@ use std::marker::Model;
 pub struct Points<'a> {
     run: &'a Run,
     places: Vec<Place>,
+    /// the first point of each thread
+    starts: Vec<u32>,
 }
 
 impl<'a> Model for Points<'a> {
@@ -41,7 +43,16 @@ impl<'a> Model for Points<'a> {
 
     ghost view = { λ p. course_of p.run.now };
 
-    ghost invariant = { λ p. ArePoints (course_of p.run.now) p.places.items };
+    ghost invariant = { λ p. ArePoints (course_of p.run.now) p.places.items p.starts.items };
+}
+
+/// How many rows a thread has.
+pub fn row_count(run: &Run, thread: usize) -> u32
+    requires { thread < length run.now.threads }
+    ensures value { result ≡ length (rows_of (course_of run.now) thread) }
+    ensures few { result ≤ 65536 }
+{
+    run.threads.all()[thread].steps.len()
 }
 
 /// Adds the points of a thread.
@@ -51,7 +62,7 @@ fn add_thread(places: &mut Vec<Place>, run: &Run, thread: usize) -> Result<(), O
     requires before { places.old.items ≡ by_point (place_on (course_of run.now)) (points_before run.now.threads thread) }
     ensures { OnOk result (places.new.items ≡ by_point (place_on (course_of run.now)) (points_before run.now.threads (thread + 1))) }
 {
-    let rows = run.threads.all()[thread].steps.len();
+    let rows = row_count(run, thread);
     for step in 0..rows + 1 {
         places.push(Place {
             thread: thread as u32,
@@ -71,6 +82,21 @@ fn places(alloc: Global, run: &Run) -> Result<Vec<Place>, OutOfMemory>
         add_thread(&mut places, run, thread)?;
     }
     Ok(places)
+}
+
+/// The first point of each thread.
+fn starts(alloc: Global, run: &Run) -> Result<Vec<u32>, OutOfMemory>
+    requires { points_in (course_of run.now) ≤ 66560 }
+    ensures { IfOk result (λ v. v.items ≡ by_point (points_before run.now.threads) (length run.now.threads)) }
+{
+    let mut starts = Vec::new(alloc);
+    let mut point = 0;
+    for thread in 0..run.threads.all().len() {
+        let rows = row_count(run, thread);
+        starts.push(point)?;
+        point += rows + 1;
+    }
+    Ok(starts)
 }
 
 /// The row that leads from the point, if one does.
@@ -94,7 +120,12 @@ impl<'a> Points<'a> {
         ensures { IfOk result (λ p. p ≡ course_of run.now) }
     {
         let places = places(alloc, run)?;
-        Ok(Points { run, places })
+        let starts = starts(alloc, run)?;
+        Ok(Points {
+            run,
+            places,
+            starts,
+        })
     }
 
     /// How many points there are.
@@ -115,12 +146,42 @@ impl<'a> Points<'a> {
     }
 
     /// The thread and the number in it.
-    fn place(&self, point: u32) -> Place
+    pub fn place(&self, point: u32) -> Place
         requires { point < points_in self.now }
-        ensures { row_of result.thread result.step ≡ row_on self.now point }
+        ensures row { row_of result.thread result.step ≡ row_on self.now point }
+        ensures value { result ≡ place_on self.now point }
     {
         let places = self.places.as_slice();
         places[point as usize]
+    }
+
+    /// How many threads there are.
+    pub fn threads(&self) -> u32
+        ensures value { result ≡ length self.now.threads }
+        ensures sound { IsSound self.now }
+    {
+        let starts = self.starts.as_slice();
+        starts.len() as u32
+    }
+
+    /// The first point of a thread.
+    pub fn first(&self, thread: u32) -> u32
+        requires { thread < length self.now.threads }
+        ensures { result ≡ points_before self.now.threads thread }
+    {
+        let starts = self.starts.as_slice();
+        starts[thread as usize]
+    }
+
+    /// How many rows a thread has.
+    pub fn rows(&self, thread: u32) -> u32
+        requires { thread < length self.now.threads }
+        ensures value { result ≡ length (rows_of self.now thread) }
+        ensures inside { points_before self.now.threads thread + result < points_in self.now }
+        ensures few { points_in self.now ≤ 66560 }
+        ensures sound { IsSound self.now }
+    {
+        row_count(self.run, thread as usize)
     }
 
     /// The thread.
@@ -191,6 +252,17 @@ impl<'a> Points<'a> {
     {
         let Place { thread, step } = self.place(point);
         Act::Row { thread, step }
+    }
+
+    /// Whether a moment is earlier than one of a row.
+    pub fn is_earlier(&self, m: Moment, side: Side) -> bool
+        requires moment { IsMoment self.now (moment_named m) }
+        requires inside { side.point < points_in self.now }
+        requires row { IsMoment self.now (moment_at self.now side) }
+        ensures { IsTrue result ↔ Earlier self.now (moment_named m) (moment_at self.now side) }
+    {
+        let other = self.moment(side);
+        self.order().earlier(m, other)
     }
 
     /// The time before which the moment doesn't come.

@@ -1,0 +1,435 @@
+-- The numbers that are offered are those that are next to a number.
+use Rattle.std.proofs.Common.{◌≡◌, ◌≢◌, ℕ, zero, suc, ◌+◌, ◌<◌, ◌≤◌, ◌⊎◌, ◌&&◌, ◌||◌, eqb, nat_lt, nat_le, cond, Bool, true, false, List, [], ◌∷◌, ◌++◌, length, Option, Some, None, inl, inr, refl, sym, ap, ◌∙◌, subst, arith}
+use Rattle.std.specs.Option.{is_some}
+use Rattle.std.proofs.lemmas.Bool.{false≢true, cases_Bool, cases_lt, cases_eq, and_from, eq-eqb, ne_eqb, eqb-true, lt-ltb, le-ltb, ltb-true, ltb-false, leb-true, le-leb}
+use Rattle.rept_steps.specs.Course.{Course, Row, row_of, rows_of, IsRow, row_at, IsSound}
+use Rattle.rept_order.specs.Moments.{Moment, IsMoment, NotLater, IsNext, Stretch, stretch, ArePause, AreOne}
+use Rattle.rept_order.specs.Moments.Moment.{before, after, at_end}
+use Rattle.rept_order.specs.Moments.ArePause.{between, last}
+use Rattle.rept_order.specs.Runs.{beside_by}
+use Rattle.rept_order.specs.Legs.{points_before, number_of, leg_row}
+use Rattle.rept_order.proofs.Legs.{number_point, thread_inside}
+use Rattle.rept_course.specs.Names.{AreNames, IsLink}
+use Rattle.rept_course.specs.Making.{is_still, next_point, last_of, lasts, link_by, named_by, rank}
+use Rattle.rept_course.specs.Numbered.{row_on}
+use Rattle.rept_course.proofs.Naming.{some_is}
+use Rattle.rept_course.proofs.Making.{next_last, last_named}
+use Rattle.rept_moments.specs.declared.side.Side.{Side}
+use Rattle.rept_moments.specs.declared.search.Search.{Search}
+use Rattle.rept_moments.specs.Ordering.{side, moment_at, in_order}
+use Rattle.rept_moments.specs.Merging.{merged_at}
+use Rattle.rept_moments.specs.Numbers.{numbers_of, numbered, unless}
+use Rattle.rept_moments.specs.Numbering.{at_place, Numbered}
+use Rattle.rept_moments.specs.Seen.{IsNextFrom}
+use Rattle.rept_moments.specs.Tables.{moments_at}
+use Rattle.rept_moments.specs.Nexts.{nexts_of, merged_nexts, point_nexts, side_nexts, last_nexts, ends_to, numbers_next, lower, offered, offered_all}
+use Rattle.rept_moments.proofs.Places.{row_there, there_row, point_of_row, row_point, next_row}
+use Rattle.rept_moments.proofs.Listing.{are_listed, at_row, row_at_side}
+use Rattle.rept_moments.proofs.Numbering.{count_same, told}
+use Rattle.rept_moments.proofs.Told.{told_is}
+use Rattle.rept_moments.proofs.Falls.{row_placed, name_placed}
+use Rattle.rept_moments.proofs.Apart.{are_numbers}
+use Rattle.rept_moments.proofs.Offers.{Member, member_left, member_right, member_parts, IsNeighbour, next_has, has_next}
+
+not_so : (b : Bool) → (b ≡ true → ⊥) → b ≡ false
+not_so true k = absurd (k refl)
+not_so false k = refl
+
+some_none : {A : Type 0} {x : A} → Some x ≡ None → ⊥
+some_none e = cc
+
+none_some : {A : Type 0} {x : A} → None ≡ Some x → ⊥
+none_some e = cc
+
+some_same : {A : Type 0} {x y : A} → Some x ≡ Some y → x ≡ y
+some_same e = cc
+
+before_same : {q r : Row} → before q ≡ before r → q ≡ r
+before_same e = cc
+
+before_after : {q r : Row} → before q ≡ after r → ⊥
+before_after e = cc
+
+after_before : {q r : Row} → after q ≡ before r → ⊥
+after_before e = cc
+
+before_end : {q : Row} → before q ≡ at_end → ⊥
+before_end e = cc
+
+after_end : {q : Row} → after q ≡ at_end → ⊥
+after_end e = cc
+
+-- a search for the least of some numbers
+pub record IsSearch (S : ℕ → Type 0) (s : Search) : Type 0 where
+  pub none : s.found ≡ None → (v : ℕ) → S v → v ≢ s.own → s.least ≤ v → ⊥
+  pub one : (w : ℕ) → s.found ≡ Some w → S w × (w ≢ s.own) × (s.least ≤ w) × ((v : ℕ) → S v → v ≢ s.own → s.least ≤ v → w ≤ v)
+
+widen : (S T : ℕ → Type 0) (s : Search) → ((v : ℕ) → S v → T v) → ((v : ℕ) → T v → S v) → IsSearch S s → IsSearch T s
+widen S T s to from its = record {
+  none = λ e v h other low. its.none e v (from v h) other low;
+  one = λ w e. let k = its.one w e in (to w k.0, k.1, k.2, λ v h other low. k.3 v (from v h) other low);
+}
+
+lower_none : (o : Option ℕ) (n : ℕ) → lower o n ≡ None → ⊥
+lower_none None n e = some_none e
+lower_none (Some k) n e =
+    elim (cases_Bool (nat_le k n)) [
+      | inl low ↦ some_none (sym (ap (λ (b : Bool). cond b (Some k) (Some n)) low) ∙ e)
+      | inr high ↦ some_none (sym (ap (λ (b : Bool). cond b (Some k) (Some n)) high) ∙ e)
+    ]
+
+module _ (S : ℕ → Type 0) (s : Search) (n : ℕ) (its : IsSearch S s) where
+  left_out : (n ≡ s.own) ⊎ (n < s.least) → IsSearch (λ v. (n ≡ v) ⊎ S v) s
+  left_out why = record {
+    none = λ e v h other low.
+        elim h [
+          | inl same ↦ out v same other low
+          | inr k ↦ its.none e v k other low
+        ];
+    one = λ w e. let k = its.one w e in (
+      inr k.0,
+      k.1,
+      k.2,
+      λ v h other low.
+          elim h [
+            | inl same ↦ absurd (out v same other low)
+            | inr j ↦ k.3 v j other low
+          ],
+    );
+  }
+    where
+      out : (v : ℕ) → n ≡ v → v ≢ s.own → s.least ≤ v → ⊥
+      out v same other low =
+          elim why [
+            | inl own ↦ other (sym same ∙ own)
+            | inr less ↦ absurd (omega arith)
+          ]
+
+  taken_by : (o : Option ℕ) → s.found ≡ o → n ≢ s.own → s.least ≤ n → IsSearch (λ v. (n ≡ v) ⊎ S v) (record { own = s.own; least = s.least; found = lower o n })
+  taken_by None e other low = record {
+    none = λ k. absurd (some_none k);
+    one = λ w k.
+        let same : n ≡ w = some_same k in (
+          inl same,
+          λ own. other (same ∙ own),
+          omega arith,
+          λ v h out least.
+              elim h [
+                | inl is ↦ omega arith
+                | inr j ↦ absurd (its.none e v j out least)
+              ],
+        );
+  }
+  taken_by (Some k) e other low =
+      let old = its.one k e in
+      elim (cases_lt n k) [
+        | inl less ↦ rw (over k n less) (record {
+          none = λ j. absurd (some_none j);
+          one = λ w j.
+              let same : n ≡ w = some_same j in (
+                inl same,
+                λ own. other (same ∙ own),
+                omega arith,
+                λ v h out least.
+                    elim h [
+                      | inl is ↦ omega arith
+                      | inr i ↦ let most = old.3 v i out least in omega arith
+                    ],
+              );
+        })
+        | inr past ↦ rw (le-leb k n past) (record {
+          none = λ j. absurd (some_none j);
+          one = λ w j.
+              let same : k ≡ w = some_same j in (
+                inr (subst S same old.0),
+                λ own. old.1 (same ∙ own),
+                subst (λ (i : ℕ). s.least ≤ i) same old.2,
+                λ v h out least.
+                    elim h [
+                      | inl is ↦ omega arith
+                      | inr i ↦ let most = old.3 v i out least in omega arith
+                    ],
+              );
+        })
+      ]
+    where
+      over : (a b : ℕ) → b < a → nat_le a b ≡ false
+      over a b less = not_so (nat_le a b) (λ t. let j = leb-true a b t in omega arith)
+
+  step : IsSearch (λ v. (n ≡ v) ⊎ S v) (offered s n)
+  step =
+      elim (cases_eq n s.own) [
+        | inl own ↦ rw (eq-eqb n s.own own) (left_out (inl own))
+        | inr other ↦
+            elim (cases_lt n s.least) [
+              | inl less ↦ rw (ne_eqb n s.own other, lt-ltb n s.least less) (left_out (inr less))
+              | inr low ↦ rw (ne_eqb n s.own other, le-ltb n s.least low) (taken_by s.found refl other low)
+            ]
+      ]
+
+all_steps : (S : ℕ → Type 0) (s : Search) (ns : List ℕ) → IsSearch S s → IsSearch (λ v. Member ns v ⊎ S v) (offered_all s ns)
+all_steps S s [] its = widen S (λ v. ⊥ ⊎ S v) s (λ v h. inr h) (λ v h. elim h [ inl k ↦ absurd k | inr k ↦ k ]) its
+all_steps S s (n ∷ ns) its =
+    widen (λ v. Member ns v ⊎ ((n ≡ v) ⊎ S v)) (λ v. ((n ≡ v) ⊎ Member ns v) ⊎ S v) (offered_all (offered s n) ns)
+    (λ v h. elim h [ inl k ↦ inl (inr k) | inr k ↦ elim k [ inl same ↦ inl (inl same) | inr j ↦ inr j ] ])
+    (λ v h. elim h [ inl k ↦ elim k [ inl same ↦ inr (inl same) | inr j ↦ inl j ] | inr k ↦ inr (inr k) ])
+    (all_steps (λ v. (n ≡ v) ⊎ S v) (offered s n) ns (step S s n its))
+
+pub searched : (own least : ℕ) (ns : List ℕ) → IsSearch (λ v. Member ns v ⊎ ⊥) (offered_all (record { own = own; least = least; found = None }) ns)
+searched own least ns = all_steps (λ v. ⊥) (record { own = own; least = least; found = None }) ns (record { none = λ e v h other low. h; one = λ w e. absurd (none_some e) })
+
+keeps_by : (b : Bool) (s : Search) (o : Option ℕ) → ((cond b s (record { own = s.own; least = s.least; found = o })).own ≡ s.own) × ((cond b s (record { own = s.own; least = s.least; found = o })).least ≡ s.least)
+keeps_by true s o = (refl, refl)
+keeps_by false s o = (refl, refl)
+
+keeps_own : (s : Search) (n : ℕ) → ((offered s n).own ≡ s.own) × ((offered s n).least ≡ s.least)
+keeps_own s n = keeps_by (eqb n s.own || nat_lt n s.least) s (lower s.found n)
+
+pub keeps_all : (s : Search) (ns : List ℕ) → ((offered_all s ns).own ≡ s.own) × ((offered_all s ns).least ≡ s.least)
+keeps_all s [] = (refl, refl)
+keeps_all s (n ∷ ns) = let rest = keeps_all (offered s n) ns in let one = keeps_own s n in (rest.0 ∙ one.0, rest.1 ∙ one.1)
+
+module _ (C : Course) (sound : IsSound C) where
+  names : AreNames C (numbers_of C)
+  names = are_numbers C sound
+
+  -- a moment of the one number, to which one of the other is next
+  pub record IsStep (n v : ℕ) : Type 0 where
+    pub from : Moment
+    pub from_is : IsMoment C from
+    pub from_name : (numbers_of C).name from ≡ n
+    pub to : Moment
+    pub to_is : IsMoment C to
+    pub to_name : (numbers_of C).name to ≡ v
+    pub next : IsNext C from to
+
+  is_some_from : {A : Type 0} (o : Option A) → o ≢ None → is_some o ≡ true
+  is_some_from None out = absurd (out refl)
+  is_some_from (Some d) out = refl
+
+  pub step_next : (n v : ℕ) → n ≢ v → IsStep n v → (numbered C).next n v ≡ true
+  step_next n v other its =
+      let apart : (numbers_of C).name its.from ≢ (numbers_of C).name its.to = λ same. other (sym its.from_name ∙ same ∙ its.to_name) in
+      let linked : (numbers_of C).link ((numbers_of C).name its.from) ((numbers_of C).name its.to) ≢ None = names.linked its.from its.to its.from_is its.to_is its.next apart in
+      ap (λ (k : ℕ). is_some ((numbers_of C).link k v)) (sym its.from_name) ∙ ap (λ (k : ℕ). is_some ((numbers_of C).link ((numbers_of C).name its.from) k)) (sym its.to_name) ∙ is_some_from ((numbers_of C).link ((numbers_of C).name its.from) ((numbers_of C).name its.to)) linked
+
+  pub next_step : (n v : ℕ) → (numbered C).next n v ≡ true → (n ≢ v) × IsStep n v
+  next_step n v e =
+      let found = some_is ((numbers_of C).link n v) e in
+      let link = names.links n v found.0 found.1 in (
+        λ same. none_some (sym (ap (λ (b : Bool). unless b (link_by C (in_order C) n v)) (eq-eqb n v same)) ∙ found.1),
+        record { from = found.0.from; from_is = link.from; from_name = link.from_name; to = found.0.to; to_is = link.to; to_name = link.to_name; next = link.next },
+      )
+
+  -- moments that are one have one number
+  still_at : (g : ℕ) → merged_at C g ≡ true → (is_some (leg_row C g) ≡ true) × (is_still C (stretch (after (row_on C g)) (next_point C (row_on C g))) ≡ true)
+  still_at g e = parts (is_some (leg_row C g)) (is_still C (stretch (after (row_on C g)) (next_point C (row_on C g)))) e
+    where
+      parts : (a b : Bool) → (a && b) ≡ true → (a ≡ true) × (b ≡ true)
+      parts true b k = (refl, k)
+      parts false b k = absurd (false≢true k)
+
+  merged_name : (g : ℕ) → merged_at C g ≡ true → (numbers_of C).name (after (row_on C g)) ≡ (numbers_of C).name (next_point C (row_on C g))
+  merged_name g e = ap (rank (named_by C (in_order C))) (ap (λ (b : Bool). cond b (next_point C (row_on C g)) (after (row_on C g))) (still_at g e).1 ∙ sym (next_last C (row_on C g)))
+
+  next_before : (g : ℕ) → IsRow C (row_on C g) → IsRow C (row_on C (suc g)) → next_point C (row_on C g) ≡ before (row_on C (suc g))
+  next_before g is its =
+      let next = next_row C g is in
+      let inside : suc (row_on C g).step < length (rows_of C (row_on C g).thread) = subst (λ (q : Row). IsRow C q) next its in
+      ap (λ (b : Bool). cond b (before (row_of (row_on C g).thread (suc (row_on C g).step))) at_end) (lt-ltb (suc (row_on C g).step) (length (rows_of C (row_on C g).thread)) inside) ∙ ap before (sym next)
+
+  -- what is offered is next
+  merged_by : (b : Bool) (g n v : ℕ) → merged_at C g ≡ b → (merged_at C g ≡ true → (numbers_of C).name (after (row_on C g)) ≡ n) → Member (cond b (nexts_of C (after (row_on C g))) []) v → IsStep n v
+  merged_by true g n v e name h =
+      let is = there_row C (row_on C g) (still_at g e).0 in
+      let its = has_next C sound (after (row_on C g)) is v after_end h in
+      record { from = after (row_on C g); from_is = is; from_name = name e; to = its.moment; to_is = its.is_one; to_name = its.name; next = its.next }
+  merged_by false g n v e name h = absurd h
+
+  merged_step : (g n v : ℕ) → (merged_at C g ≡ true → (numbers_of C).name (after (row_on C g)) ≡ n) → Member (merged_nexts C g) v → IsStep n v
+  merged_step g n v name h = merged_by (merged_at C g) g n v refl name h
+
+  own_step : (s : Side) (v : ℕ) → IsRow C (row_on C s.point) → Member (nexts_of C (moment_at C s)) v → IsStep ((numbers_of C).name (moment_at C s)) v
+  own_step s v is h =
+      let its = has_next C sound (moment_at C s) (row_at_side C s.is_after (row_on C s.point) is) v (not_end s.is_after) h in
+      record { from = moment_at C s; from_is = row_at_side C s.is_after (row_on C s.point) is; from_name = refl; to = its.moment; to_is = its.is_one; to_name = its.name; next = its.next }
+    where
+      not_end : (b : Bool) → beside_by (row_on C s.point) b ≢ at_end
+      not_end false = before_end
+      not_end true = after_end
+
+  point_step : (p v : ℕ) → IsRow C (row_on C p) → Member (point_nexts C p) v → IsStep ((numbers_of C).name (before (row_on C p))) v
+  point_step zero v is h = absurd h
+  point_step (suc g) v is h = merged_step g ((numbers_of C).name (before (row_on C (suc g)))) v (λ e. merged_name g e ∙ ap (numbers_of C).name (next_before g (there_row C (row_on C g) (still_at g e).0) is)) h
+
+  rest_step : (b : Bool) (p v : ℕ) → IsRow C (row_on C p) → Member (cond b [] (point_nexts C p)) v → IsStep ((numbers_of C).name (beside_by (row_on C p) b)) v
+  rest_step true p v is h = absurd h
+  rest_step false p v is h = point_step p v is h
+
+  pub side_step : (s : Side) (v : ℕ) → IsRow C (row_on C s.point) → Member (side_nexts C s) v → IsStep ((numbers_of C).name (moment_at C s)) v
+  side_step s v is h =
+      elim (member_parts (nexts_of C (moment_at C s)) (cond s.is_after [] (point_nexts C s.point)) v h) [
+        | inl k ↦ own_step s v is k
+        | inr k ↦ rest_step s.is_after s.point v is k
+      ]
+
+  last_step : (t n v : ℕ) → n ≡ length (rows_of C t) → Member (last_nexts C t n) v → IsStep (numbers_of C).end v
+  last_step t zero v all h = absurd h
+  last_step t (suc n) v all h =
+      let is : IsRow C (row_of t n) = omega arith in
+      let here : row_on C (number_of C t n) ≡ row_of t n = row_point C (row_of t n) is in
+      merged_step (number_of C t n) (numbers_of C).end v (λ e.
+      merged_name (number_of C t n) e
+      ∙ ap (λ (q : Row). (numbers_of C).name (next_point C q)) here
+      ∙ ap (λ (b : Bool). (numbers_of C).name (cond b (before (row_of t (suc n))) at_end)) (le-ltb (suc n) (length (rows_of C t)) (omega arith))
+      ∙ names.end) h
+
+  pub ends_step : (n v : ℕ) → Member (ends_to C n) v → IsStep (numbers_of C).end v
+  ends_step zero v h = absurd h
+  ends_step (suc t) v h =
+      elim (member_parts (ends_to C t) (last_nexts C t (length (rows_of C t))) v h) [
+        | inl k ↦ ends_step t v k
+        | inr k ↦ last_step t (length (rows_of C t)) v refl k
+      ]
+
+  -- and all that is next is offered
+  ends_in : (n t v : ℕ) → t < n → Member (last_nexts C t (length (rows_of C t))) v → Member (ends_to C n) v
+  ends_in zero t v less h = absurd (omega arith)
+  ends_in (suc n) t v less h =
+      elim (cases_lt t n) [
+        | inl low ↦ member_left (ends_to C n) (last_nexts C n (length (rows_of C n))) v (ends_in n t v low h)
+        | inr past ↦ let same : t ≡ n = omega arith in member_right (ends_to C n) (last_nexts C n (length (rows_of C n))) v (subst (λ (k : ℕ). Member (last_nexts C k (length (rows_of C k))) v) same h)
+      ]
+
+  merged_here : (r : Row) (w : Moment) → IsRow C r → (numbers_of C).last ((numbers_of C).name (after r)) ≡ w → after r ≢ w → merged_at C (point_of_row C r) ≡ true
+  merged_here r w is last_is other =
+      let here = row_point C r is in
+      subst (λ (q : Row). (is_some (row_at C q) && is_still C (stretch (after q) (next_point C q))) ≡ true) (sym here) (and_from (is_some (row_at C r)) (is_still C (stretch (after r) (next_point C r))) (row_there C r is) (still_by (is_still C (stretch (after r) (next_point C r))) refl))
+    where
+      still_by : (b : Bool) → is_still C (stretch (after r) (next_point C r)) ≡ b → is_still C (stretch (after r) (next_point C r)) ≡ true
+      still_by true e = e
+      still_by false e = absurd (other (sym (ap (λ (c : Bool). cond c (next_point C r) (after r)) e) ∙ sym (last_named C sound (in_order C) (are_listed C) (after r) is) ∙ last_is))
+
+  held_merged : (r : Row) (v : ℕ) → IsRow C r → merged_at C (point_of_row C r) ≡ true → Member (nexts_of C (after r)) v → Member (merged_nexts C (point_of_row C r)) v
+  held_merged r v is e h = subst (λ (b : Bool). Member (cond b (nexts_of C (after (row_on C (point_of_row C r)))) []) v) (sym e) (subst (λ (q : Row). Member (nexts_of C (after q)) v) (sym (row_point C r is)) h)
+
+  end_last : (w : Moment) → IsNext C at_end w → ⊥
+  end_last (before r) next = next.later.0
+  end_last (after r) next = next.later.0
+  end_last at_end next = next.later.1 refl
+
+  module _ (n v : ℕ) (st : IsStep n v) where
+    here : (m : Moment) → st.from ≡ m → Member (nexts_of C m) v
+    here m same =
+        let is : IsMoment C m = subst (λ (y : Moment). IsMoment C y) same st.from_is in
+        let next : IsNext C m st.to = subst (λ (y : Moment). IsNext C y st.to) same st.next in
+        subst (λ (k : ℕ). Member (nexts_of C m) k) st.to_name (next_has C sound m is st.to st.to_is next)
+
+    -- by the last moment of the number itself
+    by_itself : (o : Option Side) → st.from ≡ told C o → Member (numbers_next C o) v
+    by_itself None same = absurd (end_last st.to (subst (λ (y : Moment). IsNext C y st.to) same st.next))
+    by_itself (Some s) same = member_left (nexts_of C (moment_at C s)) (cond s.is_after [] (point_nexts C s.point)) v (here (moment_at C s) same)
+
+    -- by a moment that is one with it
+    by_side : (b : Bool) (p t i : ℕ) (xs : List ℕ) → IsRow C (row_of t i) → st.from ≡ after (row_of t i) → merged_at C (point_of_row C (row_of t i)) ≡ true → beside_by (row_on C p) b ≡ before (row_of t (suc i)) → Member (xs ++ cond b [] (point_nexts C p)) v
+    by_side true p t i xs is same e final = absurd (after_before final)
+    by_side false p t i xs is same e final =
+        let rows : row_on C p ≡ row_of t (suc i) = before_same final in
+        let place : p ≡ suc (number_of C t i) = sym (number_point C p) ∙ ap (λ (q : Row). number_of C q.thread q.step) rows ∙ up (points_before C.threads t) i in
+        member_right xs (point_nexts C p) v (subst (λ (k : ℕ). Member (point_nexts C k) v) (sym place) (held_merged (row_of t i) v is e (here (after (row_of t i)) same)))
+      where
+        up : (a b : ℕ) → a + suc b ≡ suc (a + b)
+        up a b = omega arith
+
+    by_between : (o : Option Side) (t i : ℕ) → suc i < length (rows_of C t) → told C o ≡ before (row_of t (suc i)) → st.from ≡ after (row_of t i) → merged_at C (point_of_row C (row_of t i)) ≡ true → Member (numbers_next C o) v
+    by_between None t i less final same e = absurd (before_end (sym final))
+    by_between (Some s) t i less final same e = by_side s.is_after s.point t i (nexts_of C (moment_at C s)) (omega arith) same e final
+
+    no_side : (b : Bool) (r : Row) → beside_by r b ≡ at_end → ⊥
+    no_side false r e = before_end e
+    no_side true r e = after_end e
+
+    by_end : (o : Option Side) (t i : ℕ) → suc i ≡ length (rows_of C t) → told C o ≡ at_end → st.from ≡ after (row_of t i) → merged_at C (point_of_row C (row_of t i)) ≡ true → Member (numbers_next C o) v
+    by_end None t i all final same e =
+        let is : IsRow C (row_of t i) = omega arith in
+        ends_in (length C.threads) t v (thread_inside C (row_of t i) is) (subst (λ (k : ℕ). Member (last_nexts C t k) v) all (held_merged (row_of t i) v is e (here (after (row_of t i)) same)))
+    by_end (Some s) t i all final same e = absurd (no_side s.is_after (row_on C s.point) final)
+
+    by_pause : (o : Option Side) (w : Moment) (x : Stretch) → told C o ≡ w → (numbers_of C).last n ≡ w → x ≡ stretch st.from w → ArePause C x → Member (numbers_next C o) v
+    by_pause o w x place last_is is (between t i less same) =
+        let from : st.from ≡ after (row_of t i) = ap (λ (y : Stretch). y.from) (sym is ∙ same) in
+        let to : w ≡ before (row_of t (suc i)) = ap (λ (y : Stretch). y.to) (sym is ∙ same) in
+        let last_at : (numbers_of C).last ((numbers_of C).name (after (row_of t i))) ≡ w = ap (λ (y : Moment). (numbers_of C).last ((numbers_of C).name y)) (sym from) ∙ ap (numbers_of C).last st.from_name ∙ last_is in
+        by_between o t i less (place ∙ to) from (merged_here (row_of t i) w (omega arith) last_at (λ e. after_before (e ∙ to)))
+    by_pause o w x place last_is is (last t i all same) =
+        let from : st.from ≡ after (row_of t i) = ap (λ (y : Stretch). y.from) (sym is ∙ same) in
+        let to : w ≡ at_end = ap (λ (y : Stretch). y.to) (sym is ∙ same) in
+        let last_at : (numbers_of C).last ((numbers_of C).name (after (row_of t i))) ≡ w = ap (λ (y : Moment). (numbers_of C).last ((numbers_of C).name y)) (sym from) ∙ ap (numbers_of C).last st.from_name ∙ last_is in
+        by_end o t i all (place ∙ to) from (merged_here (row_of t i) w (omega arith) last_at (λ e. after_end (e ∙ to)))
+
+    covered : (o : Option Side) → told C o ≡ (numbers_of C).last n → Member (numbers_next C o) v
+    covered o place =
+        elim (names.own st.from st.from_is) [
+          | inl same ↦ by_itself o (same ∙ ap (numbers_of C).last st.from_name ∙ sym place)
+          | inr one ↦ by_pause o ((numbers_of C).last n) (stretch st.from ((numbers_of C).last ((numbers_of C).name st.from))) place refl (ap (λ (k : ℕ). stretch st.from ((numbers_of C).last k)) st.from_name) one.pause
+        ]
+
+  place_there : (list : List Side) (n : ℕ) → at_place list n ≡ None → length list ≤ n
+  place_there list n e =
+      elim (cases_lt n (length list)) [
+        | inr past ↦ past
+        | inl less ↦ absurd (held list less e)
+      ]
+    where
+      held : (xs : List Side) → n < length xs → at_place xs n ≡ None → ⊥
+      held [] less k = omega arith
+      held (x ∷ xs) less k =
+          elim (cases_eq n (length xs)) [
+            | inl same ↦ some_none (sym (ap (λ (b : Bool). cond b (Some x) (at_place xs n)) (eq-eqb n (length xs) same)) ∙ k)
+            | inr other ↦ held xs (omega arith) (sym (ap (λ (b : Bool). cond b (Some x) (at_place xs n)) (ne_eqb n (length xs) other)) ∙ k)
+          ]
+
+  module _ (num : Numbered) (kept : moments_at C num.list ≡ lasts C (in_order C)) (n : ℕ) (early : n ≤ (numbers_of C).end) where
+    told_here : told C (at_place num.list n) ≡ (numbers_of C).last n
+    told_here = told_is C C num n (at_place num.list n) (told C (at_place num.list n)) refl kept refl refl
+
+    steps_by : (o : Option Side) (v : ℕ) → at_place num.list n ≡ o → Member (numbers_next C o) v → IsStep n v
+    steps_by None v e h =
+        let past = place_there num.list n e in
+        let count : length (lasts C (in_order C)) ≡ length num.list = ap (λ (ms : List Moment). length ms) (sym kept) ∙ count_same C num.list in
+        let same : (numbers_of C).end ≡ n = omega arith in
+        subst (λ (k : ℕ). IsStep k v) same (ends_step (length C.threads) v h)
+    steps_by (Some s) v e h = subst (λ (k : ℕ). IsStep k v) (name_placed C sound num kept n s e) (side_step s v (row_placed C sound num kept n s e) h)
+
+    module _ (least : ℕ) where
+      abbrev numbers : List ℕ
+      numbers = numbers_next C (at_place num.list n)
+
+      abbrev start : Search
+      start = record { own = n; least = least; found = None }
+
+      by_result : (r : Option ℕ) → (offered_all start numbers).found ≡ r → IsNextFrom (numbered C) n least r
+      by_result None e =
+          let its = searched n least numbers in
+          let kept_own = keeps_all start numbers in
+          λ w low. not_so ((numbered C).next n w) (λ t.
+          let st = next_step n w t in
+          its.none e w (inl (covered n w st.1 (at_place num.list n) told_here)) (λ same. st.0 (sym (same ∙ kept_own.0))) (subst (λ (k : ℕ). k ≤ w) (sym kept_own.1) low))
+      by_result (Some w) e =
+          let its = searched n least numbers in
+          let kept_own = keeps_all start numbers in
+          let k = its.one w e in (
+            step_next n w (λ same. k.1 (sym same ∙ sym kept_own.0)) (steps_by (at_place num.list n) w refl (member_of w k.0)),
+            subst (λ (i : ℕ). i ≤ w) kept_own.1 k.2,
+            λ v low less. not_so ((numbered C).next n v) (λ t.
+                let st = next_step n v t in
+                let most : w ≤ v = k.3 v (inl (covered n v st.1 (at_place num.list n) told_here)) (λ same. st.0 (sym (same ∙ kept_own.0))) (subst (λ (i : ℕ). i ≤ v) (sym kept_own.1) low) in
+                omega arith),
+          )
+        where
+          member_of : (w : ℕ) → Member numbers w ⊎ ⊥ → Member numbers w
+          member_of w (inl h) = h
+          member_of w (inr h) = absurd h
+
+      pub next_from_is : IsNextFrom (numbered C) n least (offered_all start numbers).found
+      next_from_is = by_result (offered_all start numbers).found refl
