@@ -12,19 +12,20 @@ use Rattle.rept_trace.specs.declared.packet.Packet.{Packet}
 use Rattle.rept_path.specs.Code.{Code}
 use Rattle.rept_path.specs.Packets.{begins, bits, waits_after}
 use Rattle.rept_path.specs.State.{here, Counts}
-use Rattle.rept_threads.specs.Stamps.{is_start, closes, running_after}
-use Rattle.rept_threads.specs.Parts.{Told, inner, told_from}
-use Rattle.rept_threads.specs.Stretches.{same_stretch, stretch, Walked, last_place, within, rows_of, Ran, ran_by}
-use Rattle.rept_threads.specs.Joins.{ran_rows}
-use Rattle.rept_threads.specs.Entries.{AreTold}
-use Rattle.rept_threads.specs.Kept.{IsRan, AreRan, first_or, kept_by}
-use Rattle.rept_threads.specs.declared.telling.Entry.{Entry}
+use Rattle.rept_slices.specs.Stamps.{is_start, closes, running_after}
+use Rattle.rept_slices.specs.Parts.{Told, inner, told_from}
+use Rattle.rept_slices.specs.Stretches.{same_stretch, stretch, Walked, last_place, within, rows_of, Ran, ran_by}
+use Rattle.rept_slices.specs.Joins.{ran_rows}
+use Rattle.rept_slices.specs.Entries.{AreTold}
+use Rattle.rept_threads.specs.Kept.{IsRan, AreRan, kept_by}
+use Rattle.rept_slices.specs.Ends.{first_or}
+use Rattle.rept_slices.specs.declared.telling.Entry.{Entry}
 use Rattle.rept_threads.specs.declared.walks.Kept.{Kept}
-use Rattle.rept_threads.proofs.InTime.{Each}
-use Rattle.rept_threads.proofs.Calm.{each_append}
-use Rattle.rept_threads.proofs.Going.{same_off}
-use Rattle.rept_threads.proofs.Following.{From, each_from_less, told_from_on}
-use Rattle.rept_threads.proofs.Packs.{IsOpen, IsEnd, IsInner, kind, stretch_on, rows_by, rows_more, counts_from, Cut, first_rows, nothing_more, ends_at}
+use Rattle.rept_slices.proofs.InTime.{Each}
+use Rattle.rept_slices.proofs.Calm.{each_append}
+use Rattle.rept_slices.proofs.Going.{same_off}
+use Rattle.rept_slices.proofs.Following.{From, each_from_less, told_from_on}
+use Rattle.rept_slices.proofs.Packs.{IsOpen, IsEnd, IsInner, kind, stretch_on, rows_by, rows_more, counts_from, Cut, first_rows, nothing_more, ends_at}
 
 -- a stretch is no longer than its stream
 pub stretch_short : (waits : Bool) (later : List Packet) → length (same_stretch waits later) ≤ length later

@@ -5,13 +5,13 @@ use Rattle.std.specs.List.{filter}
 use Rattle.std.proofs.lemmas.Bool.Decides.{leb_tells}
 use Rattle.rept_trace.specs.declared.packet.Packet.{Packet}
 use Rattle.rept_path.specs.Code.{Code}
-use Rattle.rept_threads.specs.Stamps.{is_start, running_after, context_of}
-use Rattle.rept_threads.specs.Parts.{Told, told_from}
-use Rattle.rept_threads.specs.Stretches.{same_stretch, stretch, Walked, within, Ran, ran_by}
-use Rattle.rept_threads.proofs.InTime.{Each}
-use Rattle.rept_threads.proofs.Calm.{each_append}
-use Rattle.rept_threads.proofs.Following.{From, HeadFirst, head_first_told, each_from_less}
-use Rattle.rept_threads.proofs.Packs.{IsOpen, IsEnd, IsInner, kind, stretch_on}
+use Rattle.rept_slices.specs.Stamps.{is_start, running_after, context_of}
+use Rattle.rept_slices.specs.Parts.{Told, told_from}
+use Rattle.rept_slices.specs.Stretches.{same_stretch, stretch, Walked, within, Ran, ran_by}
+use Rattle.rept_slices.proofs.InTime.{Each}
+use Rattle.rept_slices.proofs.Calm.{each_append}
+use Rattle.rept_slices.proofs.Following.{From, HeadFirst, head_first_told, each_from_less}
+use Rattle.rept_slices.proofs.Packs.{IsOpen, IsEnd, IsInner, kind, stretch_on}
 use Rattle.rept_threads.proofs.Cutting.{stretch_short, after_stretch}
 
 -- the slices up to the next one with which a stretch begins
@@ -31,7 +31,7 @@ module _ (w : Walked) where
   abbrev end : ℕ
   end = w.head.number + length (stretch w.head)
 
-  out : (ts : List Told) → Each (From end) ts → filter (within w) ts ≡ []
+  pub out : (ts : List Told) → Each (From end) ts → filter (within w) ts ≡ []
   out [] h = refl
   out (t ∷ ts) h = elim (leb_tells (suc t.number) end) [
     | inl x ↦ absurd (let lt = x.1 in let le = h.0 in omega (arith, lt, le))

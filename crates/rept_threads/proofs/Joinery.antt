@@ -1,7 +1,7 @@
 -- Slices of a thread joined one to the next.
-use Rattle.std.proofs.Common.{◌≡◌, ◌⊎◌, inl, inr, ℕ, zero, suc, ◌+◌, ◌-◌, ◌<◌, ◌≤◌, ◌==◌, nat_le, List, [], ◌∷◌, ◌++◌, length, map, get_or, set, reverse, take, drop, Bool, true, false, cond, Option, Some, None, Result, Ok, Err, refl, sym, ◌∙◌, ap, subst, arith, append_assoc, length-append, length-drop}
+use Rattle.std.proofs.Common.{◌≡◌, ◌⊎◌, inl, inr, ℕ, zero, suc, ◌+◌, ◌-◌, ◌<◌, ◌≤◌, ◌==◌, nat_le, List, [], ◌∷◌, ◌++◌, length, map, get_or, set, reverse, drop, Bool, true, false, cond, Option, Some, None, Result, Ok, Err, refl, sym, ◌∙◌, ap, subst, arith, append_assoc, length-append, length-drop}
 use Rattle.std.specs.Prelude.{slice_get, option_map, is_none}
-use Rattle.std.specs.List.{filter, flat_map, sum_by}
+use Rattle.std.specs.List.{filter, flat_map}
 use Rattle.std.proofs.lemmas.Bool.Decides.{leb_tells}
 use Rattle.rept_threads.specs.Notes.{known_by}
 use Rattle.rept_threads.specs.declared.notes.Note.{Note as KeptNote}
@@ -21,20 +21,22 @@ use Rattle.rept_path.specs.Moves.{Stand, Place, ◌>>=◌}
 use Rattle.rept_path.specs.Program.{code_of}
 use Rattle.rept_path.specs.State.{here}
 use Rattle.rept_path.proofs.MoveLemmas.{bind_ok}
-use Rattle.rept_threads.specs.Stamps.{address_of, clock_of, context_of}
-use Rattle.rept_threads.specs.Parts.{Told, thread_of, begin_of, end_before}
+use Rattle.rept_slices.specs.Stamps.{address_of, clock_of, context_of}
+use Rattle.rept_slices.specs.Parts.{Told, thread_of, begin_of, end_before}
 use Rattle.std.specs.List.Sorted.{IsPermutation}
 use Rattle.std.proofs.lemmas.List.Sorted.{IsPermutation-map}
-use Rattle.rept_threads.specs.Order.{put, by_time, head_of, slices_of}
+use Rattle.rept_slices.specs.Order.{put, by_time, head_of, slices_of}
 use Rattle.rept_threads.proofs.MeetLemmas.{map_filter}
-use Rattle.rept_threads.proofs.Apart.{told_slices}
-use Rattle.rept_threads.proofs.Until.{told_permuted}
-use Rattle.rept_threads.specs.Stretches.{Ran}
-use Rattle.rept_threads.specs.Joins.{Note, Ground, Ending, ending, stand_at, bridge, Joined, with_rows, join, slice_by, slices, thread, of_thread, rows_in, ran_rows, threads}
+use Rattle.rept_slices.proofs.Apart.{told_slices}
+use Rattle.rept_slices.proofs.Until.{told_permuted}
+use Rattle.rept_slices.specs.Stretches.{Ran}
+use Rattle.rept_steps.specs.Linked.{EndBefore}
+use Rattle.rept_threads.specs.Linking.{Chained, Ready}
+use Rattle.rept_slices.specs.Joins.{Note, Ground, Ending, ending, stand_at, bridge, Joined, with_rows, join, slices, thread, of_thread, rows_in, ran_rows, threads}
 use Rattle.rept_threads.specs.Joining.{onward, ending_of, ground_of, slice_before, begin_of_ran, AreRanInOrder, GoesOn}
-use Rattle.rept_threads.specs.Entries.{IsTold, AreTold}
+use Rattle.rept_slices.specs.Entries.{IsTold, AreTold}
 use Rattle.rept_threads.specs.Kept.{IsRan, AreRan}
-use Rattle.rept_threads.specs.declared.telling.Entry.{Entry}
+use Rattle.rept_slices.specs.declared.telling.Entry.{Entry}
 use Rattle.rept_threads.specs.declared.walks.Kept.{Kept}
 use Rattle.rept_threads.specs.declared.walks.Walked.{Walked}
 use Rattle.rept_threads.specs.declared.joins.Joins.{Joins}
@@ -170,6 +172,7 @@ pub record Joining (e : Ending) (start : ℕ) (rs : List Ran) (all : List Kept) 
   pub told : now.slices ≡ slices_to 0 done (option_map begin_of_ran (head_of later))
   pub counted : count + ran_rows rs ≡ start + rows_in done + ran_rows later
   pub grows : start ≤ count
+  pub ready : Chained rs → Chained later × Ready now.steps (head_of later)
 
 pub none_joined : (e : Ending) (start : ℕ) (rs : List Ran) (all : List Kept) (ws : List Walked) (now : ThreadRows) → AreRan all ws rs → now.steps ≡ [] → now.slices ≡ [] → Joining e start rs all ws start now
 none_joined e start rs all ws now a steps told = record {
@@ -181,7 +184,12 @@ none_joined e start rs all ws now a steps told = record {
   told = told;
   counted = omega arith;
   grows = omega arith;
+  ready = λ c. (c, subst (λ (xs : List StepRow). Ready xs (head_of rs)) (sym steps) (nothing (head_of rs)));
 } where
+  nothing : (o : Option Ran) → Ready [] o
+  nothing None = tt
+  nothing (Some r) = tt
+
   whole : (r : Result (List Joined) PathFault) → r ≡ (r >>= (λ others. Ok ([] ++ others)))
   whole (Ok js) = refl
   whole (Err f) = refl
@@ -198,6 +206,7 @@ pub record NextJoin (e : Ending) (start : ℕ) (rs : List Ran) (all : List Kept)
   pub told : now.slices ≡ slices_to 0 done (Some (begin_of_ran r))
   pub counted : count + ran_rows rs ≡ start + rows_in done + ran_rows (r ∷ later)
   pub grows : start ≤ count
+  pub ready : Chained rs → Chained (r ∷ later) × EndBefore now.steps (address_of r.told.start)
 
 split_ran : (all : List Kept) (w : Walked) (ws : List Walked) (rs : List Ran) → AreRan all (w ∷ ws) rs → (r : Ran) × (later : List Ran) × (rs ≡ r ∷ later) × IsRan all w r × AreRan all ws later
 split_ran all w ws [] a = absurd a
@@ -223,6 +232,7 @@ next_join e start rs all ws i count now within g = go (drop i ws) refl where
         told = g.told ∙ ap (λ (xs : List Ran). slices_to 0 g.done (option_map begin_of_ran (head_of xs))) s.2;
         counted = omega (arith, counted, sums);
         grows = g.grows;
+        ready = λ c. (let x = g.ready c in (subst Chained s.2 x.0, subst (λ (xs : List Ran). Ready now.steps (head_of xs)) s.2 x.1));
       }
 
 join_ok : (e : Ending) (count : ℕ) (r : Ran) (rs : List Ran) (more : List StepRow) (done : List Joined) → bridge e count r (head_of rs) ≡ Ok more
@@ -240,8 +250,8 @@ join_err e count r rs f done h = ap (λ (x : Result (List StepRow) PathFault). (
 
 pub one_joined : (e : Ending) (start : ℕ) (rs : List Ran) (all : List Kept) (ws rest : List Walked) (count : ℕ) (old new : ThreadRows) (g : NextJoin e start rs all ws rest count old) (more : List StepRow) → bridge e count g.r (head_of g.later) ≡ Ok more
     → new ≡ record { steps = old.steps ++ (with_rows g.r more).rows; slices = old.slices ++ slice_before (with_rows g.r more) (option_map begin_of_ran (head_of g.later)) (length old.steps) ∷ [] }
-    → Joining e start rs all rest (count + length more) new
-one_joined e start rs all ws rest count old new g more h new_is =
+    → (Chained rs → Ready new.steps (head_of g.later)) → Joining e start rs all rest (count + length more) new
+one_joined e start rs all ws rest count old new g more h new_is ready =
     let j = with_rows g.r more in
     let steps_new = ap (λ (t : ThreadRows). t.steps) new_is in
     let slices_new = ap (λ (t : ThreadRows). t.slices) new_is in
@@ -261,6 +271,7 @@ one_joined e start rs all ws rest count old new g more h new_is =
       told = slices_new ∙ ap (λ (ss : List Slice). ss ++ slice_before j (option_map begin_of_ran (head_of g.later)) (length old.steps) ∷ []) g.told ∙ ap (λ (n : ℕ). slices_to 0 g.done (Some (begin_of_ran g.r)) ++ slice_before j (option_map begin_of_ran (head_of g.later)) n ∷ []) first ∙ sym (slices_more 0 g.done j (option_map begin_of_ran (head_of g.later)));
       counted = omega (arith, counted, pushed, own, size, back);
       grows = omega (arith, grows);
+      ready = λ c. ((g.ready c).0.1, ready c);
     }
 
 pub one_unjoined : (e : Ending) (start : ℕ) (rs : List Ran) (all : List Kept) (ws rest : List Walked) (count : ℕ) (old : ThreadRows) (g : NextJoin e start rs all ws rest count old) (f : PathFault) → (f ≡ OutOfMemory) ⊎ (bridge e count g.r (head_of g.later) ≡ Err f) → (f ≡ OutOfMemory) ⊎ (join e start rs ≡ Err f)

@@ -5,18 +5,18 @@ use Rattle.std.specs.List.{filter}
 use Rattle.std.specs.Option.{option_or}
 use Rattle.std.proofs.lemmas.List.{at_drop_all, at_drop_more, drop-drop, take_all}
 use Rattle.rept_path.specs.declared.fault.PathFault.TheVariants.{SliceOverlap}
-use Rattle.rept_threads.specs.Stamps.{clock_of, context_of}
-use Rattle.rept_threads.specs.Parts.{Told, thread_of, begin_of}
-use Rattle.rept_threads.specs.Order.{head_of, meets, overlap}
-use Rattle.rept_threads.specs.Checks.{first_fault}
-use Rattle.rept_threads.specs.Many.{overlap_fault}
-use Rattle.rept_threads.specs.Kept.{IsBefore, InTurn, met_next, first_met}
-use Rattle.rept_threads.specs.Entries.{IsTold, AreTold}
-use Rattle.rept_threads.specs.declared.telling.Entry.{Entry}
+use Rattle.rept_slices.specs.Stamps.{clock_of, context_of}
+use Rattle.rept_slices.specs.Parts.{Told, thread_of, begin_of}
+use Rattle.rept_slices.specs.Order.{head_of, meets, overlap}
+use Rattle.rept_slices.specs.Checks.{first_fault}
+use Rattle.rept_slices.specs.Many.{overlap_fault}
+use Rattle.rept_slices.specs.Ends.{IsBefore, InTurn, met_next, first_met}
+use Rattle.rept_slices.specs.Entries.{IsTold, AreTold}
+use Rattle.rept_slices.specs.declared.telling.Entry.{Entry}
 use Rattle.rept_threads.specs.declared.walks.Walked.{Walked}
-use Rattle.rept_threads.proofs.StrangerLemmas.{split_told}
-use Rattle.rept_threads.proofs.Apart.{told_filter}
-use Rattle.rept_threads.proofs.Checking.{fault_on, fault_here}
+use Rattle.rept_slices.proofs.StrangerLemmas.{split_told}
+use Rattle.rept_slices.proofs.Apart.{told_filter}
+use Rattle.rept_slices.proofs.Checking.{fault_on, fault_here}
 
 abbrev pub slices_in : List Walked → List Entry
 slices_in ws = map (λ (w : Walked). w.slice) ws

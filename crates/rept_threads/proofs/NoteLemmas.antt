@@ -2,9 +2,9 @@
 use Rattle.std.proofs.Common.{◌≡◌, ℕ, zero, suc, ◌+◌, ◌≤◌, List, [], ◌∷◌, ◌++◌, length, map, take, Some, sym, ◌∙◌, ap, arith}
 use Rattle.std.specs.Prelude.{slice_get}
 use Rattle.std.proofs.lemmas.List.{map_push, take_all}
-use Rattle.rept_threads.specs.Joins.{Note}
+use Rattle.rept_slices.specs.Joins.{Note}
 use Rattle.rept_threads.specs.Notes.{known_by}
-use Rattle.rept_threads.specs.Raw.{note_in}
+use Rattle.rept_slices.specs.Raw.{note_in}
 use Rattle.rept_threads.specs.declared.notes.Note.{Note as KeptNote}
 
 take_next : (descs : List (List ℕ)) (t : ℕ) (desc : List ℕ) → slice_get descs t ≡ Some desc → take (suc t) descs ≡ take t descs ++ desc ∷ []

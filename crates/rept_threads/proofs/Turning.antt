@@ -6,17 +6,17 @@ use Rattle.std.specs.Option.{option_or}
 use Rattle.std.proofs.lemmas.Bool.Decides.{leb_tells, eqb_tells}
 use Rattle.rept_trace.specs.declared.packet.Packet.{Packet}
 use Rattle.rept_trace.specs.declared.packet.Packet.TheVariants.{Start, Context, Support, Address, Map, MapAddress}
-use Rattle.rept_threads.specs.Stamps.{time_of, clock_of, is_start, is_past, closes, ends, running_after}
-use Rattle.rept_threads.specs.Parts.{Told, thread_of, begin_of, inner, beyond, told_from, told}
-use Rattle.rept_threads.specs.Order.{put, by_time, head_of, slices_of, starts_past, lasts_past, meets, least, overlap}
-use Rattle.rept_threads.specs.Skipping.{kept}
-use Rattle.rept_threads.specs.Checks.{check}
-use Rattle.rept_threads.specs.Kept.{first_met, InTurn, KeepTurn}
-use Rattle.rept_threads.proofs.InTime.{Each, Ascend, FromTime, ascends, each_put, each_by_time, each_filter}
-use Rattle.rept_threads.proofs.Calm.{Calm, CalmTold, From as FromClock, each_append, left_calm}
-use Rattle.rept_threads.proofs.Lasting.{lasts, lasts_here, lasts_after}
-use Rattle.rept_threads.proofs.Whether.{Started, starts_told}
-use Rattle.rept_threads.proofs.Following.{Following, FromStream, kept_follow}
+use Rattle.rept_slices.specs.Stamps.{time_of, clock_of, is_start, is_past, closes, ends, running_after}
+use Rattle.rept_slices.specs.Parts.{Told, thread_of, begin_of, inner, beyond, told_from, told}
+use Rattle.rept_slices.specs.Order.{put, by_time, head_of, slices_of, starts_past, lasts_past, meets, least, overlap}
+use Rattle.rept_slices.specs.Skipping.{kept}
+use Rattle.rept_slices.specs.Checks.{check}
+use Rattle.rept_slices.specs.Ends.{first_met, InTurn, KeepTurn}
+use Rattle.rept_slices.proofs.InTime.{Each, Ascend, FromTime, ascends, each_put, each_by_time, each_filter}
+use Rattle.rept_slices.proofs.Calm.{Calm, CalmTold, From as FromClock, each_append, left_calm}
+use Rattle.rept_slices.proofs.Lasting.{lasts, lasts_here, lasts_after}
+use Rattle.rept_slices.proofs.Whether.{Started, starts_told}
+use Rattle.rept_slices.proofs.Following.{Following, FromStream, kept_follow}
 
 -- no time is told that is later than this
 past_not : (n m : ℕ) → m ≤ n → is_past n (Some m) ≡ false
@@ -137,7 +137,7 @@ abbrev pub Among : Told → List Told → Type 0
 Among t [] = ⊥
 Among t (u ∷ us) = (t ≡ u) ⊎ Among t us
 
-among_each : (P : Told → Type 0) (t : Told) (us : List Told) → Each P us → Among t us → P t
+pub among_each : (P : Told → Type 0) (t : Told) (us : List Told) → Each P us → Among t us → P t
 among_each P t [] e m = absurd m
 among_each P t (u ∷ us) e (inl is) = subst P (sym is) e.0
 among_each P t (u ∷ us) e (inr m) = among_each P t us e.1 m
@@ -201,10 +201,10 @@ among_filter f t (u ∷ us) m = go (f u) refl (among_filter f t us) m where
   go false e more k = let r = more k in (inr r.0, r.1)
 
 -- what it is to meet
-record Meet (t u : Told) : Type 0 where
-  apart : t.stream ≢ u.stream
-  same : thread_of t ≡ thread_of u
-  when : (begin_of t ≡ begin_of u) ⊎ ((begin_of t < begin_of u) × (lasts_past (begin_of u) t ≡ true))
+pub record Meet (t u : Told) : Type 0 where
+  pub apart : t.stream ≢ u.stream
+  pub same : thread_of t ≡ thread_of u
+  pub when : (begin_of t ≡ begin_of u) ⊎ ((begin_of t < begin_of u) × (lasts_past (begin_of u) t ≡ true))
 
 both_true : (b c : Bool) → (b && c) ≡ true → (b ≡ true) × (c ≡ true)
 both_true true c h = (refl, h)
@@ -240,15 +240,15 @@ meet_of t u h =
       ];
     }
 
-true_and : (b c : Bool) → b ≡ true → c ≡ true → (b && c) ≡ true
+pub true_and : (b c : Bool) → b ≡ true → c ≡ true → (b && c) ≡ true
 true_and true c h k = k
 true_and false c h k = absurd (cc)
 
-true_or : (b c : Bool) → c ≡ true → (b || c) ≡ true
+pub true_or : (b c : Bool) → c ≡ true → (b || c) ≡ true
 true_or true c h = refl
 true_or false c h = h
 
-of_meet : (t u : Told) → Meet t u → meets t u ≡ true
+pub of_meet : (t u : Told) → Meet t u → meets t u ≡ true
 of_meet t u m =
     true_and (not (t.stream == u.stream) && thread_of t == thread_of u) (begin_of t == begin_of u || (nat_lt (begin_of t) (begin_of u) && lasts_past (begin_of u) t))
     (true_and (not (t.stream == u.stream)) (thread_of t == thread_of u) (apart_is (eqb_tells t.stream u.stream)) (same_is (eqb_tells (thread_of t) (thread_of u))))
@@ -459,10 +459,10 @@ module _ (n : ℕ) (ts : List Told) where
   abbrev met : Told → Bool
   met u = thread_of u == n && list_any (λ t. meets t u) ts
 
-  in_thread : (t : Told) → Among t (slices_of n ts) → Among t ts × ((thread_of t == n) ≡ true)
+  pub in_thread : (t : Told) → Among t (slices_of n ts) → Among t ts × ((thread_of t == n) ≡ true)
   in_thread t m = among_filter test t ts (among_time t (filter test ts) m)
 
-  of_thread_in : (t : Told) → Among t ts → (thread_of t == n) ≡ true → Among t (slices_of n ts)
+  pub of_thread_in : (t : Told) → Among t ts → (thread_of t == n) ≡ true → Among t (slices_of n ts)
   of_thread_in t m h = time_among t (filter test ts) (filter_among test t ts m h)
 
   pair : (u : Told) → Among u ts → met u ≡ true → (t : Told) × Among t (slices_of n ts) × Among u (slices_of n ts) × (meets t u ≡ true)
@@ -502,11 +502,15 @@ module _ (n : ℕ) (ts : List Told) where
     | inr x ↦ subst (Each (λ (t : Told). thread_of t ≡ n)) (sym (ap (λ (b : Bool). cond b (u ∷ filter test us) (filter test us)) x.0)) (all_threads us)
   ]
 
-  slices_alike : Each (λ (t : Told). thread_of t ≡ n) (slices_of n ts)
+  pub slices_alike : Each (λ (t : Told). thread_of t ≡ n) (slices_of n ts)
   slices_alike = each_by_time begin_of (λ (t : Told). thread_of t ≡ n) (filter test ts) (all_threads ts)
 
-  keep_turn : Lined ts → first_met (slices_of n ts) ≡ overlap ts n
+  pub keep_turn : Lined ts → first_met (slices_of n ts) ≡ overlap ts n
   keep_turn l = same_least (first_met (slices_of n ts)) (overlap ts n) (least_met n (slices_of n ts) (lined_by_time (filter test ts) (lined_filter test ts l)) (ascends begin_of (filter test ts)) slices_alike) (least_of met ts)
+
+-- the first slice of a thread that is met has the least begin of all that are
+pub least_met_of : (n : ℕ) (ts : List Told) → Lined ts → IsLeast (slices_of n ts) (first_met (slices_of n ts))
+least_met_of n ts l = least_met n (slices_of n ts) (lined_by_time (filter (λ (t : Told). thread_of t == n) ts) (lined_filter (λ (t : Told). thread_of t == n) ts l)) (ascends begin_of (filter (λ (t : Told). thread_of t == n) ts)) (slices_alike n ts)
 
 -- slices in order are in turn
 in_turn_by : (n : ℕ) (xs : List Told) → Ascend begin_of xs → Each (λ (t : Told). thread_of t ≡ n) xs → InTurn xs

@@ -21,46 +21,47 @@ use Rattle.rept_path.specs.Packets.{bits}
 use Rattle.rept_path.specs.Route.{Origin, earlier_by}
 use Rattle.rept_path.specs.State.{here, Counts, Stands}
 use Rattle.rept_path.specs.Trace.{StopsAt}
-use Rattle.rept_threads.specs.Stamps.{is_start}
-use Rattle.rept_threads.specs.Parts.{Told, told_from, told}
-use Rattle.rept_threads.specs.Skipping.{kept}
-use Rattle.rept_threads.specs.Stretches.{same_stretch, stretch, heads, Walked, last_place, count_of, origin_after, Goes, Walks as AreWalks, WalksFault, Ran, within, ran_by, ran_in, ran, marks}
-use Rattle.rept_threads.specs.Joins.{ran_rows}
-use Rattle.rept_threads.specs.Entries.{IsTold, AreTold}
-use Rattle.rept_threads.specs.Kept.{AreRan, first_or, kept_by, AreKept}
-use Rattle.rept_threads.specs.declared.telling.Entry.{Entry}
+use Rattle.rept_slices.specs.Stamps.{is_start}
+use Rattle.rept_slices.specs.Parts.{Told, told_from, told}
+use Rattle.rept_slices.specs.Skipping.{kept}
+use Rattle.rept_slices.specs.Stretches.{same_stretch, stretch, heads, Walked, last_place, count_of, origin_after, Goes, Walks as AreWalks, WalksFault, Ran, within, ran_by, ran_in, ran, marks}
+use Rattle.rept_slices.specs.Joins.{ran_rows}
+use Rattle.rept_slices.specs.Entries.{IsTold, AreTold}
+use Rattle.rept_threads.specs.Kept.{AreRan, kept_by, AreKept}
+use Rattle.rept_slices.specs.Ends.{first_or}
+use Rattle.rept_slices.specs.declared.telling.Entry.{Entry}
 use Rattle.rept_threads.specs.declared.walks.Kept.{Kept}
 use Rattle.rept_threads.specs.declared.walks.Walked.{Walked as WalkedSlice}
 use Rattle.rept_threads.specs.declared.walks.Walks.{Walks}
-use Rattle.rept_threads.proofs.InTime.{Each}
-use Rattle.rept_threads.proofs.Apart.{each_middle}
-use Rattle.rept_threads.proofs.Whether.{Started, starts_told}
-use Rattle.rept_threads.proofs.Following.{From, Follows, Following, Few, later_numbers, kept_follow, kept_few, kept_heads}
-use Rattle.rept_threads.proofs.Lasting.{drop_next}
-use Rattle.rept_threads.proofs.StrangerLemmas.{split_told}
-use Rattle.rept_threads.proofs.Packs.{IsOpen, kind, stretch_on, rows_by, counts_from, Cut}
+use Rattle.rept_slices.proofs.InTime.{Each}
+use Rattle.rept_slices.proofs.Apart.{each_middle}
+use Rattle.rept_slices.proofs.Whether.{Started, starts_told}
+use Rattle.rept_slices.proofs.Following.{From, Follows, Following, Few, later_numbers, kept_follow, kept_few, kept_heads}
+use Rattle.rept_slices.proofs.Lasting.{drop_next}
+use Rattle.rept_slices.proofs.StrangerLemmas.{split_told}
+use Rattle.rept_slices.proofs.Packs.{IsOpen, kind, stretch_on, rows_by, counts_from, Cut}
 use Rattle.rept_threads.proofs.Routed.{none_begins, Rowed, rowed}
 use Rattle.rept_threads.proofs.Cutting.{kept_from}
 use Rattle.rept_threads.proofs.Gathering.{inner_slices, none_inner, told_back, gathered}
 
 -- slices of earlier packets than this one
-abbrev Earlier : ℕ → Told → Type 0
+abbrev pub Earlier : ℕ → Told → Type 0
 Earlier n t = t.number < n
 
-before_earlier : (before : List Told) (t : Told) (later : List Told) → Each Started (before ++ t ∷ later) → Following (before ++ t ∷ later) → Each (Earlier t.number) before
+pub before_earlier : (before : List Told) (t : Told) (later : List Told) → Each Started (before ++ t ∷ later) → Following (before ++ t ∷ later) → Each (Earlier t.number) before
 before_earlier [] t later s f = tt
 before_earlier (b ∷ before) t later s f =
     let le = each_middle (From (suc b.number)) before t later (later_numbers b (before ++ t ∷ later) s.0 f.0) in
     (omega (arith, le), before_earlier before t later s.1 f.1)
 
-follow_there : (before : List Told) (t : Told) (later : List Told) → Following (before ++ t ∷ later) → Follows t later
+pub follow_there : (before : List Told) (t : Told) (later : List Told) → Following (before ++ t ∷ later) → Follows t later
 follow_there [] t later f = f.0
 follow_there (b ∷ before) t later f = follow_there before t later f.1
 
-started_there : (before : List Told) (t : Told) (later : List Told) → Each Started (before ++ t ∷ later) → Started t
+pub started_there : (before : List Told) (t : Told) (later : List Told) → Each Started (before ++ t ∷ later) → Started t
 started_there before t later s = each_middle Started before t later s
 
-none_before : (w : Walked) (before xs : List Told) → Each (Earlier w.head.number) before → filter (within w) (before ++ xs) ≡ filter (within w) xs
+pub none_before : (w : Walked) (before xs : List Told) → Each (Earlier w.head.number) before → filter (within w) (before ++ xs) ≡ filter (within w) xs
 none_before w [] xs h = refl
 none_before w (b ∷ before) xs h = elim (leb_tells w.head.number b.number) [
   | inl x ↦ absurd (let le = x.1 in let lt = h.0 in omega (arith, le, lt))
@@ -162,7 +163,7 @@ module _ (code : Code) (from : ℕ) (lists : List (List Packet)) (before later :
       wrong h = let starts : is_start t.start ≡ true = started_there before t later parts.0 in cc
 
     sheet : Rowed code t.start (same_stretch false t.later) legs
-    sheet = rowed code (origin_after old.rows t) t.start (same_stretch false t.later) legs opens.waits (none_begins false t.later) s.route
+    sheet = rowed code (origin_after old.rows t) t.start (same_stretch false t.later) legs opens.start opens.waits (none_begins false t.later) s.route
 
     size : count_of code w ≡ length walk.steps
     size = let e = ap (λ (p : Place). length p.rows) s.seen in let n = length-reverse walk.steps in omega (arith, e, n)

@@ -1,6 +1,6 @@
 -- The run of a file of several streams, from its parts.
-use Rattle.std.proofs.Common.{◌≡◌, ◌⊎◌, inl, inr, ℕ, ◌+◌, ◌<◌, ◌≤◌, ◌^◌, ◌==◌, List, [], ◌∷◌, length, map, Bool, true, false, cond, Option, Some, None, Result, Ok, Err, refl, sym, ◌∙◌, ap, subst, arith}
-use Rattle.std.specs.Prelude.{nat_lt, IfOk, IfErr, MatchResult}
+use Rattle.std.proofs.Common.{◌≡◌, ◌⊎◌, inl, inr, ℕ, ◌<◌, ◌^◌, List, [], ◌∷◌, length, map, Bool, cond, Option, Some, None, Result, Ok, Err, refl, sym, ◌∙◌, ap, subst, arith}
+use Rattle.std.specs.Prelude.{IfOk, IfErr, MatchResult}
 use Rattle.std.specs.List.{All, sum_by}
 use Rattle.std.proofs.lemmas.List.Elements.{All-nil, All-cons, All-same}
 use Rattle.rept_steps.specs.Course.{IsSound}
@@ -9,7 +9,6 @@ use Rattle.rept_trace.specs.declared.packet.Packet.TheVariants.{Start, Context, 
 use Rattle.rept_trace.specs.Grammar.{timed, IsPacket}
 use Rattle.rept_trace.specs.Fits.{FieldsFit}
 use Rattle.rept_trace.proofs.Fitting.{fits}
-use Rattle.rept_dump.specs.Dump.{exe_of}
 use Rattle.rept_dump.specs.declared.dump.Dump.{Dump}
 use Rattle.rept_steps.specs.declared.run.Run.{Run}
 use Rattle.rept_steps.specs.declared.threads.ThreadRows.{ThreadRows}
@@ -20,21 +19,21 @@ use Rattle.rept_path.specs.Code.{Code}
 use Rattle.rept_path.specs.declared.fault.PathFault.{PathFault}
 use Rattle.rept_path.specs.declared.fault.PathFault.TheVariants.{NoStart, OutOfMemory}
 use Rattle.rept_path.specs.declared.fault.PathFault.TheVariants as fault
-use Rattle.rept_threads.specs.Stamps.{clock_of}
-use Rattle.rept_threads.proofs.Sound.{is_sound}
-use Rattle.rept_threads.proofs.Only.{one_run, one_refusal, run_or_refusal}
-use Rattle.rept_threads.proofs.OneSurvey.{same_lists, held_or_refused, same_refused}
+use Rattle.rept_slices.specs.Stamps.{clock_of}
+use Rattle.rept_slices.proofs.Sound.{is_sound}
+use Rattle.rept_slices.proofs.Only.{one_run, one_refusal, run_or_refusal}
+use Rattle.rept_slices.proofs.OneSurvey.{same_lists, held_or_refused, same_refused}
 use Rattle.rept_path.specs.Moves.{◌>>=◌}
-use Rattle.rept_threads.specs.Parts.{Told, told}
-use Rattle.rept_threads.specs.Skipping.{windows, full_from, opening, greatest, ends_of, kept, skipped, dark}
-use Rattle.rept_threads.specs.Checks.{first_fault, check}
-use Rattle.rept_threads.specs.Stretches.{heads, Walked, Walks, WalksFault, ran}
-use Rattle.rept_threads.specs.Joins.{Note, Ground, ran_rows, threads}
-use Rattle.rept_threads.specs.Many.{Traces, processes, left, ground, overlap_fault, unmet, run_by, joined, IsRun, IsRefused}
-use Rattle.rept_threads.specs.Raw.{streams_of, HoldEach, Files, code_in, traces, IsRunOf, HasNoRun, Looked, IsRefusedBefore, PassBefore, note_in, files_of}
+use Rattle.rept_slices.specs.Parts.{Told, told}
+use Rattle.rept_slices.specs.Skipping.{windows, greatest, ends_of, kept, skipped, dark}
+use Rattle.rept_slices.specs.Checks.{first_fault, check}
+use Rattle.rept_slices.specs.Stretches.{heads, Walked, Walks, WalksFault, ran}
+use Rattle.rept_slices.specs.Joins.{Note, ran_rows, threads}
+use Rattle.rept_slices.specs.Many.{Traces, processes, ground, overlap_fault, unmet, run_by, joined, IsRun, IsRefused}
+use Rattle.rept_slices.specs.Raw.{streams_of, HoldEach, Files, code_in, traces, IsRunOf, HasNoRun, IsRefusedBefore, PassBefore, note_in, files_of}
 use Rattle.rept_threads.specs.Notes.{known_by}
-use Rattle.rept_threads.specs.Surveyed.{IsSurvey}
-use Rattle.rept_threads.specs.declared.survey.Survey.{Survey}
+use Rattle.rept_slices.specs.Surveyed.{IsSurvey}
+use Rattle.rept_slices.specs.declared.survey.Survey.{Survey}
 use Rattle.rept_threads.specs.declared.notes.Note.{Note as KeptNote}
 
 -- what is told before a row is walked, and the notes

@@ -3,13 +3,13 @@ use Rattle.std.specs.Prelude.{◌≡◌, ◌==◌, ℕ, List, length, Option, So
 use Rattle.std.specs.List.{filter}
 use Rattle.rept_path.specs.Program.{code_of}
 use Rattle.rept_path.specs.declared.fault.PathFault.TheVariants.{Gap, End}
-use Rattle.rept_threads.specs.Stamps.{address_of, context_of}
-use Rattle.rept_threads.specs.Joins.{Ending, Ground, Joined, of_thread}
-use Rattle.rept_threads.specs.Parts.{begin_of, end_before}
+use Rattle.rept_slices.specs.Stamps.{address_of, context_of}
+use Rattle.rept_slices.specs.Joins.{Ending, Ground, Joined, of_thread}
+use Rattle.rept_slices.specs.Parts.{begin_of, end_before}
 use Rattle.rept_steps.specs.declared.slice.Slice.{Slice}
 use Rattle.rept_threads.specs.Kept.{AreRan}
-use Rattle.rept_threads.specs.Stretches.{Ran}
-use Rattle.rept_threads.specs.declared.telling.Entry.{Entry}
+use Rattle.rept_slices.specs.Stretches.{Ran}
+use Rattle.rept_slices.specs.declared.telling.Entry.{Entry}
 use Rattle.rept_threads.specs.declared.walks.Kept.{Kept}
 use Rattle.rept_threads.specs.declared.walks.Walked.{Walked}
 use Rattle.rept_threads.specs.declared.joins.Joins.{Joins}

@@ -1,5 +1,5 @@
 -- The notes of threads as they are kept. This project's own.
-use Rattle.rept_threads.specs.Joins.{Note}
+use Rattle.rept_slices.specs.Joins.{Note}
 use Rattle.rept_threads.specs.declared.notes.Note.{Note as KeptNote}
 
 abbrev pub known_by : KeptNote → Note

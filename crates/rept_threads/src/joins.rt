@@ -1,34 +1,35 @@
 //! The slices of each thread, joined one to the next, and the last one to the end.
 
-ghost use Rattle.std.specs.Prelude.{◌≡◌, ◌==◌, ◌⊎◌, ◌+◌, ◌-◌, ◌≤◌, take, drop, ◌++◌, ◌∷◌, [], true, length, List, map, reverse, slice_get, option_map, Ok, Err, OnOk, IfOk, IfErr};
+ghost use Rattle.std.specs.Prelude.{◌≡◌, ◌==◌, ◌⊎◌, ◌+◌, ◌-◌, ◌≤◌, take, drop, ◌++◌, ◌∷◌, [], ℕ, length, List, map, reverse, slice_get, option_map, Ok, Err, OnOk, IfOk, IfErr};
 ghost use Rattle.std.specs.List.{filter};
 ghost use Rattle.std.specs.List.Sorted.{IsNonDecreasingBy};
 ghost use Rattle.rept_path.specs.Gap.{gap};
 ghost use Rattle.rept_path.specs.Program.{code_of};
 ghost use Rattle.rept_path.specs.State.{here, Counts};
-ghost use Rattle.rept_threads.specs.Entries.{IsTold};
+ghost use Rattle.rept_slices.specs.Entries.{IsTold};
 ghost use Rattle.rept_isa.specs.declared.row.StepRow.{StepRow};
-ghost use Rattle.rept_threads.specs.Joins.{Joined, bridge, with_rows, join, thread, threads, rows_in, ran_rows};
-ghost use Rattle.rept_threads.specs.Order.{head_of};
+ghost use Rattle.rept_threads.specs.Linking.{Goes, onward_to, Chained, Ready};
+ghost use Rattle.rept_slices.specs.Joins.{Joined, of_thread as slices_in_order, bridge, with_rows, join, thread, threads, rows_in, ran_rows};
+ghost use Rattle.rept_slices.specs.Order.{head_of};
 ghost use Rattle.rept_threads.specs.Kept.{AreRan};
 ghost use Rattle.rept_threads.specs.Joining.{onward, ending_of, ground_of, AreRanInOrder, GoesOn, slice_before, begin_of_ran};
 ghost use Rattle.rept_threads.specs.Notes.{known_by};
-ghost use Rattle.rept_threads.specs.Parts.{Told, begin_of, end_before};
-ghost use Rattle.rept_threads.specs.Stretches.{Ran};
-ghost use Rattle.rept_threads.specs.declared.telling.Entry.{Entry};
+ghost use Rattle.rept_slices.specs.Parts.{Told, begin_of, end_before};
+ghost use Rattle.rept_slices.specs.Stretches.{Ran};
+ghost use Rattle.rept_slices.specs.declared.telling.Entry.{Entry};
 ghost use Rattle.rept_threads.specs.declared.walks.Walked.{Walked};
 ghost use Rattle.rept_path.specs.declared.fault.PathFault.TheVariants.{OutOfMemory};
-ghost use Rattle.rept_threads.specs.Stamps.{address_of, clock_of, context_of};
+ghost use Rattle.rept_slices.specs.Stamps.{address_of, clock_of, context_of};
 ghost use Rattle.rept_steps.specs.Linked.{EndBefore};
 
-use crate::dark::end_before;
 use crate::notes::Note;
-use crate::order::begin_of;
-use crate::telling::Entry;
 use crate::walks::{Kept, Walked, of_thread};
 use rept_isa::StepRow;
 use rept_path::PathFault;
 use rept_path::program::Program;
+use rept_slices::dark::end_before;
+use rept_slices::order::begin_of;
+use rept_slices::telling::Entry;
 use rept_steps::{LIMIT, Slice, Slices, Steps, ThreadRows, Threads};
 use rept_trace::Packet;
 use std::alloc::Global;
@@ -67,25 +68,13 @@ fn address_of(packet: Packet) -> u32
     }
 }
 
-/// Whether the last one of steps leads to an address.
-fn lead_to(steps: &Steps, address: u32) -> bool
-    ensures { result ≡ true → EndBefore steps.now address }
-{
-    if steps.len() == 0 {
-        return true;
-    }
-    steps.end_pc() == address
-}
-
-/// Adds a step after others. They lead to it: no two streams tell of a thread at one time, so a slice that begins while the trace runs stands right after the one before it in its
-/// stream, and all others stand after rows that were made for them.
+/// Adds a step after others, which lead to it.
 fn add_row(steps: &mut Steps, row: &StepRow) -> Result<(), PathFault>
+    requires { EndBefore steps.old row.now.at }
     ensures ok { OnOk result (steps.new ≡ steps.old ++ row.now ∷ []) }
+    ensures ends { OnOk result (EndBefore steps.new row.now.next) }
     ensures err { IfErr result (λ e. e ≡ OutOfMemory) }
 {
-    if !lead_to(steps, row.at) {
-        return Err(PathFault::OutOfMemory);
-    }
     let instr = row.instr;
     let row = StepRow {
         at: row.at,
@@ -100,8 +89,9 @@ fn add_row(steps: &mut Steps, row: &StepRow) -> Result<(), PathFault>
     }
 }
 
-/// Adds steps after others.
+/// Adds steps after others, which lead to them.
 fn add_rows(steps: &mut Steps, rows: &[StepRow]) -> Result<(), PathFault>
+    requires { (a : ℕ) × (b : ℕ) × EndBefore steps.old a × Goes rows.now a b }
     ensures ok { OnOk result (steps.new ≡ steps.old ++ rows.now) }
     ensures err { IfErr result (λ e. e ≡ OutOfMemory) }
 {
@@ -238,11 +228,14 @@ impl<'a> Joins<'a> {
         pc: u32,
     ) -> Result<(), PathFault>
         requires few { self.old.count ≤ 65536 }
-        requires ran { (r : Ran) × (rs : List Ran) × AreRan self.old.stretches.items walked.now (r ∷ rs) }
+        requires ran { (r : Ran) × (rs : List Ran) × AreRan self.old.stretches.items walked.now (r ∷ rs) × EndBefore thread.old.steps (address_of r.told.start) × Goes r.rows (address_of r.told.start) (onward_to r (head_of rs)) }
         ensures ok { (r : Ran) (rs : List Ran) → AreRan self.old.stretches.items walked.now (r ∷ rs) →
             OnOk result ((more : List StepRow) × (bridge (ending_of self.old pc) self.old.count r (head_of rs) ≡ Ok more) × GoesOn self.old self.new (self.old.count + length more)
             × (self.old.count + length more ≤ 65536) × (thread.new ≡ record { steps = thread.old.steps ++ (with_rows r more).rows; slices = thread.old.slices ++ slice_before (with_rows r more) (option_map begin_of_ran (head_of rs)) (length thread.old.steps) ∷ [] })) }
         ensures err { (r : Ran) (rs : List Ran) → AreRan self.old.stretches.items walked.now (r ∷ rs) → IfErr result (λ e. (e ≡ OutOfMemory) ⊎ (bridge (ending_of self.old pc) self.old.count r (head_of rs) ≡ Err e)) }
+
+        // The rows lead to the next slice.
+        ensures ready { (r : Ran) (rs : List Ran) → AreRan self.old.stretches.items walked.now (r ∷ rs) → EndBefore thread.old.steps (address_of r.told.start) → Goes r.rows (address_of r.told.start) (onward_to r (head_of rs)) → OnOk result (Ready thread.new.steps (head_of rs)) }
     {
         let Some(slice) = walked.first() else {
             return Ok(());
@@ -272,7 +265,7 @@ impl<'a> Joins<'a> {
         pc: u32,
     ) -> Result<ThreadRows, PathFault>
         requires few { self.old.count ≤ 65536 }
-        requires ran { (rs : List Ran) × AreRan self.old.stretches.items walked.now rs }
+        requires ran { (rs : List Ran) × AreRan self.old.stretches.items walked.now rs × Chained rs }
         ensures ok { (rs : List Ran) → AreRan self.old.stretches.items walked.now rs →
             IfOk result (λ rows. (js : List Joined) × (join (ending_of self.old pc) self.old.count rs ≡ Ok js) × (rows ≡ thread js) × GoesOn self.old self.new (self.old.count + (rows_in js - ran_rows rs)) × (self.new.count ≤ 65536)) }
         ensures err { (rs : List Ran) → AreRan self.old.stretches.items walked.now rs → IfErr result (λ e. (e ≡ OutOfMemory) ⊎ (join (ending_of self.old pc) self.old.count rs ≡ Err e)) }
@@ -297,7 +290,7 @@ impl<'a> Joins<'a> {
         notes: &[Note],
     ) -> Result<Threads, PathFault>
         requires few { self.old.count ≤ 65536 }
-        requires ran { (rs : List Ran) × AreRanInOrder self.old.stretches.items walked.now rs }
+        requires ran { (rs : List Ran) × AreRanInOrder self.old.stretches.items walked.now rs × ((process : ℕ) → Chained (slices_in_order process rs)) }
         requires order { IsNonDecreasingBy (λ (w : Walked). context_of w.slice.start) walked.now }
         ensures ok { (rs : List Ran) → AreRanInOrder self.old.stretches.items walked.now rs → IfOk result (λ all. threads (ground_of self.old) self.old.count (map known_by notes.now) rs ≡ Ok all) }
         ensures err { (rs : List Ran) → AreRanInOrder self.old.stretches.items walked.now rs → IfErr result (λ e. (e ≡ OutOfMemory) ⊎ (threads (ground_of self.old) self.old.count (map known_by notes.now) rs ≡ Err e)) }

@@ -6,21 +6,21 @@ ghost use Rattle.std.specs.List.Sorted.{IsNonDecreasingBy};
 ghost use Rattle.rept_trace.specs.declared.packet.Packet.{Packet};
 ghost use Rattle.rept_trace.specs.Packets.{rest_of};
 ghost use Rattle.rept_trace.specs.Stream.{Hold};
-ghost use Rattle.rept_threads.specs.Stamps.{time_of, is_past, context_of};
-ghost use Rattle.rept_threads.specs.Parts.{Told, thread_of, begin_of};
-ghost use Rattle.rept_threads.specs.Entries.{IsTold, AreTold};
-ghost use Rattle.rept_threads.specs.Order.{head_of, starts_past, lasts_past, meets, slices_of};
-ghost use Rattle.rept_threads.specs.Checks.{first_fault};
-ghost use Rattle.rept_threads.specs.Many.{overlap_fault};
-ghost use Rattle.rept_threads.specs.Kept.{IsBefore, InTurn, KeepTurn, met_next, first_met};
+ghost use Rattle.rept_slices.specs.Stamps.{time_of, is_past, context_of};
+ghost use Rattle.rept_slices.specs.Parts.{Told, thread_of, begin_of};
+ghost use Rattle.rept_slices.specs.Entries.{IsTold, AreTold};
+ghost use Rattle.rept_slices.specs.Order.{head_of, starts_past, lasts_past, meets, slices_of};
+ghost use Rattle.rept_slices.specs.Checks.{first_fault};
+ghost use Rattle.rept_slices.specs.Many.{overlap_fault};
+ghost use Rattle.rept_slices.specs.Ends.{IsBefore, InTurn, KeepTurn, met_next, first_met};
 ghost use Rattle.rept_threads.specs.declared.walks.Walked.{Walked};
 
-use crate::order::{begin_of, process_of};
-use crate::scan::{closes, time_of};
-use crate::telling::{Entry, is_start};
 use crate::walks::{Walked, of_thread};
 use rept_path::PathFault;
 use rept_path::window::next_packet;
+use rept_slices::order::{begin_of, process_of};
+use rept_slices::scan::{closes, time_of};
+use rept_slices::telling::{Entry, is_start};
 use rept_trace::{Packet, Packets};
 
 /// Whether a packet has a time, which is later than this one.

@@ -3,7 +3,7 @@
 ghost use Rattle.std.specs.Prelude.{◌≡◌, ◌<◌, ℕ, List, length, map, slice_get, Some, IfOk, IfErr};
 ghost use Rattle.rept_dump.specs.Dump.{HasThreads, threads_of};
 ghost use Rattle.rept_path.specs.declared.fault.PathFault.TheVariants.{OutOfMemory};
-ghost use Rattle.rept_threads.specs.Raw.{note_in};
+ghost use Rattle.rept_slices.specs.Raw.{note_in};
 ghost use Rattle.rept_threads.specs.Notes.{known_by};
 ghost use Rattle.rept_threads.specs.declared.notes.Note.{Note};
 

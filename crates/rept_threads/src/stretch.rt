@@ -11,14 +11,14 @@ ghost use Rattle.rept_path.specs.Program.{code_of};
 ghost use Rattle.rept_path.specs.Route.{earlier_by};
 ghost use Rattle.rept_path.specs.State.{Stands};
 ghost use Rattle.rept_path.specs.Trace.{starts, StopsAt};
-ghost use Rattle.rept_threads.specs.Stamps.{is_start};
-ghost use Rattle.rept_threads.specs.Stretches.{same_stretch, marks};
+ghost use Rattle.rept_slices.specs.Stamps.{is_start};
+ghost use Rattle.rept_slices.specs.Stretches.{same_stretch, marks};
 
-use crate::telling::is_start;
 use rept_path::PathFault;
 use rept_path::program::Program;
 use rept_path::walk::Walk;
 use rept_path::window::{Begin, next_packet};
+use rept_slices::telling::is_start;
 use rept_trace::{Packet, Packets};
 use std::alloc::Global;
 

@@ -1,5 +1,5 @@
 use Rattle.std.proofs.Common.{◌∷◌, List, drop, subst, sym}
-use Rattle.rept_threads.specs.Entries.{AreTold}
+use Rattle.rept_slices.specs.Entries.{AreTold}
 use Rattle.rept_threads.specs.declared.walks.Walked.{Walked}
 use Rattle.rept_threads.proofs.MeetLemmas.{slices_in, rest_whole, told_drop, one_unmet}
 use Rattle.rept_threads.proofs.meeting.first_met.Goals as goal

@@ -1,7 +1,7 @@
 use Rattle.std.proofs.Common.{List, drop}
-use Rattle.rept_threads.specs.Parts.{Told}
-use Rattle.rept_threads.specs.Entries.{AreTold}
-use Rattle.rept_threads.specs.Kept.{InTurn}
+use Rattle.rept_slices.specs.Parts.{Told}
+use Rattle.rept_slices.specs.Entries.{AreTold}
+use Rattle.rept_slices.specs.Ends.{InTurn}
 use Rattle.rept_threads.proofs.MeetLemmas.{Meets, slices_in}
 use Rattle.rept_threads.proofs.meeting.first_met.Given as goal
 

@@ -1,7 +1,7 @@
 use Rattle.std.proofs.Common.{sym, ◌∙◌, true}
 use Rattle.rept_trace.specs.Packets.{rest_of, number_of}
-use Rattle.rept_threads.proofs.Lasting.{lasts, lasts_here, lasts_past_it, lasts_after}
-use Rattle.rept_threads.proofs.Scanning.{same_first, same_on, same_found, same_none}
+use Rattle.rept_slices.proofs.Lasting.{lasts, lasts_here, lasts_past_it, lasts_after}
+use Rattle.rept_slices.proofs.Scanning.{same_first, same_on, same_found, same_none}
 use Rattle.rept_threads.proofs.meeting.lasts_past.Goals as goal
 
 pub loop-packet-init : goal.loop-packet-init

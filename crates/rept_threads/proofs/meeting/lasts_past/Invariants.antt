@@ -1,7 +1,7 @@
 use Rattle.std.proofs.Common.{length}
 use Rattle.rept_trace.specs.Packets.{rest_of}
-use Rattle.rept_threads.proofs.Lasting.{lasts}
-use Rattle.rept_threads.proofs.Scanning.{Same}
+use Rattle.rept_slices.proofs.Lasting.{lasts}
+use Rattle.rept_slices.proofs.Scanning.{Same}
 use Rattle.rept_threads.proofs.meeting.lasts_past.Given as goal
 
 abbrev pub invariant-loop-packet : goal.invariant-loop-packet

@@ -1,6 +1,6 @@
 use Rattle.std.proofs.Common.{◌∷◌, List, sym, subst, ◌∙◌}
-use Rattle.rept_threads.specs.Entries.{AreTold}
-use Rattle.rept_threads.specs.Order.{head_of}
+use Rattle.rept_slices.specs.Entries.{AreTold}
+use Rattle.rept_slices.specs.Order.{head_of}
 use Rattle.rept_threads.specs.declared.walks.Walked.{Walked}
 use Rattle.rept_threads.proofs.MeetLemmas.{slices_in, next_told, first_told, met_here, is_before}
 use Rattle.rept_threads.proofs.meeting.next_met.Goals as goal

@@ -1,7 +1,7 @@
 use Rattle.std.proofs.Common.{◌∙◌, List, get_or, sym, subst}
 use Rattle.std.proofs.lemmas.List.{get_or_default}
-use Rattle.rept_threads.specs.Order.{slices_of}
-use Rattle.rept_threads.specs.Entries.{AreTold}
+use Rattle.rept_slices.specs.Order.{slices_of}
+use Rattle.rept_slices.specs.Entries.{AreTold}
 use Rattle.rept_threads.specs.declared.walks.Walked.{Walked}
 use Rattle.rept_threads.proofs.Turning.{slices_in_turn}
 use Rattle.rept_threads.proofs.MeetLemmas.{slices_in, told_of_thread, none_here, found_here}

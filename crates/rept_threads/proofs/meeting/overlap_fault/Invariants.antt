@@ -1,12 +1,12 @@
 use Rattle.std.proofs.Common.{◌≡◌, ◌==◌, ℕ, List, map, drop}
 use Rattle.std.specs.List.{filter}
-use Rattle.rept_threads.specs.Stamps.{context_of}
-use Rattle.rept_threads.specs.Parts.{Told}
-use Rattle.rept_threads.specs.Order.{slices_of}
-use Rattle.rept_threads.specs.Checks.{first_fault}
-use Rattle.rept_threads.specs.Many.{overlap_fault}
-use Rattle.rept_threads.specs.Entries.{AreTold}
-use Rattle.rept_threads.specs.Kept.{KeepTurn}
+use Rattle.rept_slices.specs.Stamps.{context_of}
+use Rattle.rept_slices.specs.Parts.{Told}
+use Rattle.rept_slices.specs.Order.{slices_of}
+use Rattle.rept_slices.specs.Checks.{first_fault}
+use Rattle.rept_slices.specs.Many.{overlap_fault}
+use Rattle.rept_slices.specs.Entries.{AreTold}
+use Rattle.rept_slices.specs.Ends.{KeepTurn}
 use Rattle.rept_threads.specs.declared.walks.Walked.{Walked}
 use Rattle.rept_threads.proofs.meeting.overlap_fault.Given as goal
 

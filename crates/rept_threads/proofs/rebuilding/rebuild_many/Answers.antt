@@ -1,7 +1,7 @@
 use Rattle.std.proofs.lemmas.Result.{IfOk-weaker}
 use Rattle.rept_steps.specs.Course.{IsSound}
 use Rattle.rept_steps.specs.declared.run.Run.{Run}
-use Rattle.rept_threads.specs.Raw.{Files, files_of, IsRunOf, HasNoRun}
+use Rattle.rept_slices.specs.Raw.{Files, files_of, IsRunOf, HasNoRun}
 use Rattle.rept_threads.proofs.Wholes.{file_sound, one_run_of, run_or_none, one_refusal_of, only_found, only_fault}
 use Rattle.rept_threads.proofs.rebuilding.rebuild_many.Goals as goal
 

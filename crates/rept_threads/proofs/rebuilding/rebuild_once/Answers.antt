@@ -1,28 +1,27 @@
-use Rattle.std.proofs.Common.{◌≡◌, ◌==◌, ◌⊎◌, ◌∙◌, inl, inr, ℕ, List, Ok, Err, Some, None, map, refl, sym, subst, ap}
-use Rattle.rept_path.specs.declared.fault.PathFault.{PathFault}
+use Rattle.std.proofs.Common.{◌≡◌, ◌==◌, ◌⊎◌, ◌∙◌, inl, inr, ℕ, List, Ok, Err, map, sym, subst, ap}
 use Rattle.rept_path.specs.declared.fault.PathFault.TheVariants.{OutOfMemory}
 use Rattle.rept_path.specs.Program.{code_of}
 use Rattle.rept_dump.specs.Dump.{exe_of}
 use Rattle.rept_dump.specs.Program.{contents}
-use Rattle.rept_trace.specs.declared.packet.Packet.{Packet}
-use Rattle.rept_threads.specs.Checks.{first_fault}
-use Rattle.rept_threads.specs.Entries.{AreTold}
-use Rattle.rept_threads.specs.Joining.{AreRanInOrder, ground_of}
-use Rattle.rept_threads.specs.Joins.{Note, threads}
-use Rattle.rept_threads.specs.Many.{overlap_fault}
+use Rattle.rept_slices.specs.Checks.{first_fault}
+use Rattle.rept_slices.specs.Entries.{AreTold}
+use Rattle.rept_threads.specs.Joining.{AreRanInOrder}
+use Rattle.rept_slices.specs.Joins.{threads}
+use Rattle.rept_slices.specs.Many.{overlap_fault}
 use Rattle.rept_threads.specs.Notes.{known_by}
 use Rattle.std.specs.List.{filter}
 use Rattle.std.specs.List.Sorted.{IsNonDecreasingBy}
-use Rattle.rept_threads.specs.Order.{slices_of}
-use Rattle.rept_threads.specs.Stamps.{context_of}
-use Rattle.rept_threads.specs.Parts.{Told, told}
-use Rattle.rept_threads.specs.Raw.{note_in, code_in, files_of}
-use Rattle.rept_threads.specs.Skipping.{windows, kept}
-use Rattle.rept_threads.specs.Stretches.{ran}
+use Rattle.rept_slices.specs.Order.{slices_of}
+use Rattle.rept_slices.specs.Stamps.{context_of}
+use Rattle.rept_slices.specs.Parts.{told}
+use Rattle.rept_slices.specs.Raw.{code_in, files_of}
+use Rattle.rept_slices.specs.Skipping.{kept}
+use Rattle.rept_slices.specs.Stretches.{ran}
 use Rattle.rept_threads.specs.declared.notes.Note.{Note as KeptNote}
-use Rattle.rept_threads.specs.declared.telling.Entry.{Entry}
 use Rattle.rept_threads.specs.declared.walks.Walked.{Walked}
 use Rattle.rept_threads.proofs.Turning.{keeps_turn}
+use Rattle.rept_threads.proofs.Apting.{apt_of}
+use Rattle.rept_threads.proofs.Chaining.{thread_chained, all_chained}
 use Rattle.rept_threads.proofs.Walking.{all_gathered}
 use Rattle.rept_threads.proofs.Joinery.{ran_in_order, told_in_order, told_again}
 use Rattle.rept_threads.proofs.Wholes.{Parts, some_stream, dark_is, no_walk, no_turn, no_join, has_run, refused_before}
@@ -103,7 +102,17 @@ threads-requires-clause-ran c =
     let old = c.in-Ok-walk_all.walks.slices.items in
     let new = c.put_in_order.new.slices.items in
     let all = c.in-Ok-walk_all.walks.stretches.items in
-    (rs, subst (λ (ws : List Walked). AreRanInOrder all ws rs) (sym c.deref-6.ensures.value) (ran_in_order all old new rs w.2.slices c.in_ok-put_in_order.ensures.times))
+    let processes = c.deref-2.result.now in
+    let gathered = all_gathered (code_of c.new-program.result) c.args.from lists w.0 w.1 in
+    let same_processes : c.deref-5.result.now ≡ processes = c.deref-5.ensures.value ∙ sym c.deref-2.ensures.value in
+    let times = told_in_order all old new rs ts w.2.slices gathered c.in_ok-put_in_order.ensures.times in
+    let seen = subst (λ (ws : List Walked). (n : ℕ) → AreTold (map (λ (v : Walked). v.slice) (filter (λ (v : Walked). context_of v.slice.start == n) ws)) (slices_of n ts)) (sym c.deref-4.ensures.value) times in
+    let found = c.overlap_fault.ensures ts seen (keeps_turn c.args.from processes lists s.1.1) ∙ ap (first_fault (overlap_fault ts)) same_processes in
+    let none = sym found ∙ c.in_default.is in (
+      rs,
+      subst (λ (ws : List Walked). AreRanInOrder all ws rs) (sym c.deref-6.ensures.value) (ran_in_order all old new rs w.2.slices c.in_ok-put_in_order.ensures.times),
+      (λ process. thread_chained (code_of c.new-program.result) rs ts process gathered (all_chained (code_of c.new-program.result) c.args.from lists w.0 w.1) (apt_of c.args.from processes lists process s.1.1 none)),
+    )
 
 pub returns-in-Ok-threads-clause-ok : goal.returns-in-Ok-threads-clause-ok
 returns-in-Ok-threads-clause-ok c = λ descs h e.

@@ -2,8 +2,8 @@ use Rattle.std.proofs.Common.{◌∙◌, sym, ap, List}
 use Rattle.rept_trace.specs.declared.packet.Packet.{Packet}
 use Rattle.rept_trace.specs.Packets.{rest_of, number_of}
 use Rattle.rept_path.proofs.Packeting.{none_left}
-use Rattle.rept_threads.specs.Stretches.{same_stretch}
-use Rattle.rept_threads.proofs.Going.{ends_there}
+use Rattle.rept_slices.specs.Stretches.{same_stretch}
+use Rattle.rept_slices.proofs.Going.{ends_there}
 use Rattle.rept_threads.proofs.stretch.next_of_stretch.Goals as goal
 
 pub returns-in-None-clause-none : goal.returns-in-None-clause-none

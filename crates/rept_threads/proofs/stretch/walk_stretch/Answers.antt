@@ -10,9 +10,9 @@ use Rattle.rept_path.specs.declared.fault.PathFault.TheVariants.{OutOfMemory}
 use Rattle.rept_path.specs.State.{met, Followed, Stands, from_to}
 use Rattle.rept_path.specs.Route.{Origin, FaultBy, earlier_by}
 use Rattle.rept_path.specs.Trace.{StopsAt}
-use Rattle.rept_threads.specs.Stretches.{same_stretch, marks}
-use Rattle.rept_threads.specs.Stamps.{is_start}
-use Rattle.rept_threads.proofs.Going.{Head, Going, counts_on, goes_first, goes_on, stops_or, arrives, room}
+use Rattle.rept_slices.specs.Stretches.{same_stretch, marks}
+use Rattle.rept_slices.specs.Stamps.{is_start}
+use Rattle.rept_slices.proofs.Going.{Head, Going, counts_on, goes_first, goes_on, stops_or, arrives, room}
 use Rattle.rept_threads.proofs.stretch.walk_stretch.Goals as goal
 
 pub returns-in_err-follow-clause-err : goal.returns-in_err-follow-clause-err

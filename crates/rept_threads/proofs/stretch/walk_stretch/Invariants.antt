@@ -3,7 +3,7 @@ use Rattle.rept_path.specs.Program.{code_of}
 use Rattle.rept_trace.specs.declared.packet.Packet.{Packet}
 use Rattle.rept_trace.specs.Packets.{rest_of}
 use Rattle.rept_trace.specs.Stream.{Hold}
-use Rattle.rept_threads.proofs.Going.{Going}
+use Rattle.rept_slices.proofs.Going.{Going}
 use Rattle.rept_threads.proofs.stretch.walk_stretch.Given as goal
 
 abbrev pub invariant-loop-packet : goal.invariant-loop-packet

@@ -1,8 +1,8 @@
 use Rattle.std.proofs.Common.{rules, ℕ}
 use Rattle.std.proofs.lemmas.List.Sorted.{IsPermutation-trans, IsNonDecreasingBy-from_sort_by_key, answers_always}
-use Rattle.rept_threads.specs.Stamps.{clock_of, context_of}
+use Rattle.rept_slices.specs.Stamps.{clock_of, context_of}
 use Rattle.rept_threads.specs.declared.walks.Walked.{Walked}
-use Rattle.rept_threads.proofs.Sorting.{sorted_twice}
+use Rattle.rept_slices.proofs.Sorting.{sorted_twice}
 use Rattle.rept_threads.proofs.walks.put_in_order.Goals as goal
 
 pub returns-clause-permutation : goal.returns-clause-permutation

@@ -1,10 +1,10 @@
 use Rattle.std.proofs.Common.{◌∷◌, ◌+◌, List, drop, refl, sym, subst}
 use Rattle.rept_path.specs.Program.{code_of}
-use Rattle.rept_threads.specs.Parts.{told}
-use Rattle.rept_threads.specs.Skipping.{kept}
-use Rattle.rept_threads.specs.Entries.{AreTold}
-use Rattle.rept_threads.specs.declared.telling.Entry.{Entry}
-use Rattle.rept_threads.proofs.Lasting.{rest_whole}
+use Rattle.rept_slices.specs.Parts.{told}
+use Rattle.rept_slices.specs.Skipping.{kept}
+use Rattle.rept_slices.specs.Entries.{AreTold}
+use Rattle.rept_slices.specs.declared.telling.Entry.{Entry}
+use Rattle.rept_slices.proofs.Lasting.{rest_whole}
 use Rattle.rept_threads.proofs.Walking.{none_walked, first_left, one_walked, all_walked, may_walk}
 use Rattle.rept_threads.proofs.walks.walk_all.Goals as goal
 

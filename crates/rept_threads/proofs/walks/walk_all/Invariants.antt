@@ -1,9 +1,9 @@
 use Rattle.std.proofs.Common.{ℕ, List, drop}
 use Rattle.rept_trace.specs.declared.packet.Packet.{Packet}
 use Rattle.rept_path.specs.Program.{code_of}
-use Rattle.rept_threads.specs.Parts.{told}
-use Rattle.rept_threads.specs.Skipping.{kept}
-use Rattle.rept_threads.specs.Entries.{AreTold}
+use Rattle.rept_slices.specs.Parts.{told}
+use Rattle.rept_slices.specs.Skipping.{kept}
+use Rattle.rept_slices.specs.Entries.{AreTold}
 use Rattle.rept_threads.proofs.Walking.{SoFar}
 use Rattle.rept_threads.proofs.walks.walk_all.Given as goal
 

@@ -1,11 +1,11 @@
-use Rattle.std.proofs.Common.{◌≡◌, ◌⊎◌, ◌+◌, inl, inr, Ok, Err, List, length, reverse, set, refl, sym, subst, ap, ◌∙◌, arith}
+use Rattle.std.proofs.Common.{◌≡◌, inl, inr, Ok, List, length, reverse, set, refl, sym, subst, ap, ◌∙◌, arith}
 use Rattle.std.proofs.lemmas.List.{length-reverse}
 use Rattle.rept_isa.specs.declared.row.StepRow.{StepRow}
 use Rattle.rept_path.specs.State.{Counts}
 use Rattle.rept_path.specs.Program.{code_of}
-use Rattle.rept_threads.specs.Order.{head_of}
+use Rattle.rept_slices.specs.Order.{head_of}
 use Rattle.rept_threads.specs.declared.walks.Kept.{Kept}
-use Rattle.rept_threads.specs.declared.telling.Entry.{Entry}
+use Rattle.rept_slices.specs.declared.telling.Entry.{Entry}
 use Rattle.std.specs.Prelude.{Option}
 use Rattle.rept_threads.proofs.Joinery.{NextRan, first_walked, next_ran, there_within, there_is, set_same, leads_on, leads_nowhere, leads_fit}
 use Rattle.rept_threads.proofs.joins.Joins.bridge.Goals as goal

@@ -1,7 +1,7 @@
-use Rattle.std.proofs.Common.{◌≡◌, ◌⊎◌, ◌+◌, ℕ, List, Ok, Err, length, drop, refl, sym, subst, ◌∙◌, arith}
+use Rattle.std.proofs.Common.{◌≡◌, ◌⊎◌, ◌+◌, ℕ, Ok, Err, length, drop, refl, sym, subst, arith}
 use Rattle.rept_path.specs.declared.fault.PathFault.TheVariants.{OutOfMemory}
-use Rattle.rept_threads.specs.Order.{head_of}
-use Rattle.rept_threads.specs.Joins.{Ending, bridge}
+use Rattle.rept_slices.specs.Order.{head_of}
+use Rattle.rept_slices.specs.Joins.{Ending, bridge}
 use Rattle.rept_threads.specs.Joining.{ending_of}
 use Rattle.rept_threads.proofs.MeetLemmas.{rest_whole}
 use Rattle.rept_threads.proofs.Joinery.{Joining, none_joined, next_join, one_joined, one_unjoined, all_joined, asked_slice, same_ending, goes_on, goes_to}
@@ -21,7 +21,8 @@ add_slice-requires-clause-ran c =
     let ws = c.args.walked.now in
     let i = c.loop-i.i in
     let n = next_join (ending_of j c.args.pc) j.count q.0 j.stretches.items ws i c.loop-i.self.count c.loop-i.rows c.loop-i-test.true (c.loop-i.invariant.0 q.0 q.1) in
-    (n.r, n.later, asked_slice j c.loop-i.self c.loop-i.self.count (drop i ws) _ n.r n.later c.loop-i.invariant.1 (rest_whole ws i) n.are)
+    let x = n.ready q.2 in
+    (n.r, n.later, asked_slice j c.loop-i.self c.loop-i.self.count (drop i ws) _ n.r n.later c.loop-i.invariant.1 (rest_whole ws i) n.are, x.1, (x.0).0)
 
 pub returns-in-Err-clause-err : goal.returns-in-Err-clause-err
 returns-in-Err-clause-err c = λ rs a.
@@ -50,7 +51,7 @@ loop-i-preserved c =
           let h = c.in_default.ensures.ok n.r n.later (asked_slice j c.loop-i.self c.loop-i.self.count (drop i ws) _ n.r n.later g (rest_whole ws i) n.are) in
           let b = subst (λ (e : Ending). bridge e c.loop-i.self.count n.r (head_of n.later) ≡ Ok h.0) (same_ending j c.loop-i.self c.loop-i.self.count c.args.pc g) h.1 in
           subst (λ (m : ℕ). Joining (ending_of j c.args.pc) j.count rs j.stretches.items (drop (i + 1) ws) m new.thread) (sym h.2.count)
-          (one_joined (ending_of j c.args.pc) j.count rs j.stretches.items (drop i ws) (drop (i + 1) ws) c.loop-i.self.count c.loop-i.rows new.thread n h.0 b h.4)),
+          (one_joined (ending_of j c.args.pc) j.count rs j.stretches.items (drop i ws) (drop (i + 1) ws) c.loop-i.self.count c.loop-i.rows new.thread n h.0 b h.4 (λ k. (let x = n.ready k in c.in_default.ensures.ready n.r n.later (asked_slice j c.loop-i.self c.loop-i.self.count (drop i ws) _ n.r n.later g (rest_whole ws i) n.are) x.1 (x.0).0)))),
       goes_on j c.loop-i.self new.self c.loop-i.self.count (c.loop-i.self.count + length there.0) g there.2,
       let few = there.3 in let count = there.2.count in omega (arith, few, count),
     )

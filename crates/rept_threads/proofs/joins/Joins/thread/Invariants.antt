@@ -1,5 +1,5 @@
-use Rattle.std.proofs.Common.{◌≡◌, ◌≤◌, List, drop}
-use Rattle.rept_threads.specs.Stretches.{Ran}
+use Rattle.std.proofs.Common.{◌≤◌, List, drop}
+use Rattle.rept_slices.specs.Stretches.{Ran}
 use Rattle.rept_threads.specs.Kept.{AreRan}
 use Rattle.rept_threads.specs.Joining.{ending_of, GoesOn}
 use Rattle.rept_threads.proofs.Joinery.{Joining}

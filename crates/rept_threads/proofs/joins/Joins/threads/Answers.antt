@@ -1,8 +1,8 @@
-use Rattle.std.proofs.Common.{◌≡◌, ◌⊎◌, ◌+◌, ◌∷◌, ◌++◌, [], ℕ, List, Ok, Err, length, get_or, map, drop, refl, sym, subst, ap, ◌∙◌, arith}
+use Rattle.std.proofs.Common.{◌≡◌, ◌⊎◌, ◌+◌, List, Ok, Err, get_or, map, drop, subst}
 use Rattle.std.proofs.lemmas.List.{at_drop_all, get_or_default}
 use Rattle.rept_path.specs.declared.fault.PathFault.TheVariants.{OutOfMemory}
-use Rattle.rept_threads.specs.Joins.{Note, Ending, join, of_thread, threads}
-use Rattle.rept_threads.specs.Joining.{ending_of, ground_of}
+use Rattle.rept_slices.specs.Joins.{Note, Ending, join, of_thread, threads}
+use Rattle.rept_threads.specs.Joining.{ground_of}
 use Rattle.rept_threads.specs.Notes.{known_by}
 use Rattle.rept_threads.specs.declared.notes.Note.{Note as KeptNote}
 use Rattle.rept_threads.proofs.Joinery.{Left, one_thread, one_thread_fails, all_threads, asked_thread, same_ending, goes_on, note_left}
@@ -13,7 +13,7 @@ thread-requires-clause-ran c =
     let q = c.requires.ran in
     let note : KeptNote = get_or c.args.notes.now c.loop-note.note-index (record { process = 0; pc = 0 }) in
     let process = note.process in
-    (of_thread process q.0, asked_thread c.args.self.now c.loop-note.self c.loop-note.self.count _ _ (of_thread process q.0) c.loop-note.invariant.1 c.slices_of-own.ensures (q.1 process))
+    (of_thread process q.0, asked_thread c.args.self.now c.loop-note.self c.loop-note.self.count _ _ (of_thread process q.0) c.loop-note.invariant.1 c.slices_of-own.ensures (q.1 process), q.2 process)
 
 pub returns-in-Err-clause-err : goal.returns-in-Err-clause-err
 returns-in-Err-clause-err c = λ rs a.

@@ -1,7 +1,7 @@
 use Rattle.std.proofs.Common.{◌≡◌, ◌≤◌, ◌++◌, List, Ok, map, drop}
 use Rattle.rept_path.specs.Moves.{◌>>=◌}
-use Rattle.rept_threads.specs.Stretches.{Ran}
-use Rattle.rept_threads.specs.Joins.{threads}
+use Rattle.rept_slices.specs.Stretches.{Ran}
+use Rattle.rept_slices.specs.Joins.{threads}
 use Rattle.rept_threads.specs.Joining.{ground_of, AreRanInOrder, GoesOn}
 use Rattle.rept_threads.specs.Notes.{known_by}
 use Rattle.rept_threads.proofs.joins.Joins.threads.Given as goal

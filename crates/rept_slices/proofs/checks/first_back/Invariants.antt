@@ -1,0 +1,10 @@
+use Rattle.std.proofs.Common.{ℕ, List, drop}
+use Rattle.rept_trace.specs.declared.packet.Packet.{Packet}
+use Rattle.rept_trace.specs.Stream.{Stream}
+use Rattle.rept_slices.specs.Checks.{time_back}
+use Rattle.rept_slices.specs.Windows.{AreAll}
+use Rattle.rept_slices.proofs.Checking.{Rest}
+use Rattle.rept_slices.proofs.checks.first_back.Given as goal
+
+abbrev pub invariant-loop-window : goal.invariant-loop-window
+invariant-loop-window l = (from : ℕ) (streams : List Stream) (lists : List (List Packet)) → AreAll from streams lists l.windows → Rest time_back from lists (drop l.window-index l.windows) l.window-index

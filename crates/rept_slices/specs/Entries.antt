@@ -1,0 +1,29 @@
+-- Slices as they are kept, one after the other. This project's own.
+use Rattle.std.specs.Prelude.{◌≡◌, ◌==◌, ℕ, List, [], ◌∷◌, Option, Some, None, if◌then◌else◌}
+use Rattle.std.specs.List.{list_any}
+use Rattle.rept_path.specs.declared.fault.PathFault.{PathFault}
+use Rattle.rept_path.specs.declared.fault.PathFault.TheVariants.{UnknownThread, OtherThread}
+use Rattle.rept_trace.specs.Packets.{rest_of}
+use Rattle.rept_trace.specs.Stream.{Hold}
+use Rattle.rept_slices.specs.Parts.{Told}
+use Rattle.rept_slices.specs.declared.telling.Entry.{Entry}
+
+pub record IsTold (e : Entry) (t : Told) : Type 0 where
+  pub stream : e.stream ≡ t.stream
+  pub number : e.number ≡ t.number
+  pub start : e.start ≡ t.start
+  pub later : Hold (rest_of e.later) t.later
+  pub inside : e.inside ≡ t.inside
+
+abbrev pub AreTold : List Entry → List Told → Type 0
+AreTold [] ts = ts ≡ []
+AreTold (e ∷ es) [] = ⊥
+AreTold (e ∷ es) (t ∷ ts) = IsTold e t × AreTold es ts
+
+-- why a slice is refused for its thread: by the number of its start packet, its thread, and the thread that runs as it begins
+abbrev pub judged_inside : ℕ → ℕ → Option ℕ → Option PathFault
+judged_inside number thread None = None
+judged_inside number thread (Some inside) = if inside == thread then None else Some (OtherThread number thread)
+
+abbrev pub judged : List ℕ → ℕ → ℕ → Option ℕ → Option PathFault
+judged threads number thread inside = if list_any (λ known. known == thread) threads then judged_inside number thread inside else Some (UnknownThread number thread)

@@ -1,0 +1,16 @@
+pub mod Stamps
+pub mod Parts
+pub mod Skipping
+pub mod Checks
+pub mod Stretches
+pub mod Order
+pub mod Joins
+pub mod Many
+pub mod Worked
+pub mod Latest
+pub mod Lefts
+pub mod Raw
+pub mod Windows
+pub mod Entries
+pub mod Surveyed
+pub mod Ends

@@ -1,0 +1,152 @@
+//! Until when streams don't tell what happened, and how many packets are skipped.
+
+ghost use Rattle.std.specs.Prelude.{◌≡◌, ◌∷◌, ◌==◌, ◌+◌, ◌<◌, ◌≤◌, ◌^◌, nat_lt, [], ℕ, List, length, slice_get, Some, None, if◌then◌else◌, IfOk, IfErr};
+ghost use Rattle.std.specs.List.{cons_option, filter_map, sum_by};
+ghost use Rattle.rept_trace.specs.declared.packet.Packet.{Packet};
+ghost use Rattle.rept_trace.specs.Packets.{rest_of};
+ghost use Rattle.rept_trace.specs.Stream.{Hold};
+ghost use Rattle.rept_path.specs.declared.fault.PathFault.TheVariants.{OutOfMemory};
+ghost use Rattle.rept_slices.specs.Stamps.{clock_of, context_of};
+ghost use Rattle.rept_slices.specs.Parts.{Left, Told, told, begin_of, thread_of, end_before, lesser};
+ghost use Rattle.rept_slices.specs.Entries.{IsTold, AreTold};
+ghost use Rattle.rept_slices.specs.Lefts.{IsLeft, AreLeft};
+ghost use Rattle.rept_slices.specs.Ends.{next_begin, early, ends_in};
+ghost use Rattle.rept_slices.specs.Order.{head_of};
+ghost use Rattle.rept_slices.specs.Windows.{skipped_of};
+ghost use Rattle.rept_slices.specs.Skipping.{windows as all_windows, opening, greatest, ends_of};
+ghost use Rattle.rept_slices.specs.declared.telling.Entry.{Entry};
+ghost use Rattle.rept_slices.specs.declared.reading.Window.{Window};
+
+use crate::keeping::{later_by, opening};
+use crate::order::{begin_of, process_of, put_in_order};
+use crate::reading::Window;
+use crate::scan::{beyond, first_time};
+use crate::telling::Entry;
+use rept_path::PathFault;
+
+/// The lesser of a time and another one, if there is one.
+fn lesser(time: u64, other: Option<u64>) -> u64
+    ensures { result ≡ lesser time other }
+{
+    match other {
+        None => time,
+        Some(other) => { if time <= other { time } else { other } }
+    }
+}
+
+/// The time at which a slice has ended, where the next one of its thread begins at this time, if there is a next one.
+pub fn end_before(slice: &Entry<'_>, next: Option<u64>) -> u64
+    requires { (list : List Packet) × Hold (rest_of slice.now.later) list }
+    ensures { (t : Told) → IsTold slice.now t → result ≡ end_before t next }
+{
+    let own = lesser(u64::MAX, first_time(beyond(slice.later)));
+    lesser(own, next)
+}
+
+/// The begin of the next slice of a thread, which is the first one of these, of slices that stand in order; if it has one.
+fn begin_next(slices: &[Entry<'_>], process: u32) -> Option<u64>
+    ensures { (ts : List Told) (t : Told) → AreTold slices.now ts → process ≡ thread_of t → result ≡ next_begin t (head_of ts) }
+{
+    let next = slices.first()?;
+    if process_of(next) == process {
+        Some(begin_of(next))
+    } else {
+        None
+    }
+}
+
+/// The end of the first one of slices that stand in order, if it begins before a time.
+fn end_early(slices: &[Entry<'_>], time: u64) -> Option<u64>
+    requires { (ts : List Told) × AreTold slices.now ts }
+    ensures { (t : Told) (later : List Told) → AreTold slices.now (t ∷ later) → result ≡ early time t (head_of later) }
+{
+    let (slice, later) = slices.split_first()?;
+    if begin_of(slice) < time {
+        Some(end_before(slice, begin_next(later, process_of(slice))))
+    } else {
+        None
+    }
+}
+
+/// The greatest of a time and of the ends of the slices that begin before it, of slices that stand in order.
+fn last_end(slices: &[Entry<'_>], time: u64) -> u64
+    requires { (ts : List Told) × AreTold slices.now ts }
+    ensures { (ts : List Told) → AreTold slices.now ts → result ≡ greatest (time ∷ ends_in time ts) }
+{
+    let mut last = time;
+    for i in 0..slices.len() {
+        last = later_by(last, end_early(&slices[i..], time));
+    }
+    last
+}
+
+/// 1 of a stream of which a packet is left, 0 of another one.
+fn opens(window: &Window<'_>) -> usize
+    ensures opening { (l : Left) → IsLeft window.now l → result ≡ length (cons_option (opening l) []) }
+    ensures few { result ≤ 1 }
+{
+    match opening(window) {
+        None => 0,
+        Some(_) => 1,
+    }
+}
+
+/// Whether two or more streams have a window.
+pub fn several(windows: &[Window<'_>]) -> bool
+    ensures { (lefts : List Left) → AreLeft windows.now lefts → result ≡ nat_lt 1 (length (filter_map opening lefts)) }
+{
+    let mut count = 0usize;
+    for window in windows {
+        count += opens(window);
+    }
+    count > 1
+}
+
+/// How many packets streams have.
+pub fn packets(windows: &[Window<'_>]) -> u32
+    requires { sum_by (λ (w : Window). w.count) windows.now < 2 ^ 32 }
+    ensures { result ≡ sum_by (λ (w : Window). w.count) windows.now }
+{
+    let mut count = 0u32;
+    for window in windows {
+        count += window.count;
+    }
+    count
+}
+
+/// How many packets of a stream are skipped.
+fn skipped_in(window: &Window<'_>) -> u32
+    ensures { result ≡ skipped_of window.now }
+{
+    match window.begin {
+        None => window.count,
+        Some(begin) => begin.number,
+    }
+}
+
+/// How many packets of streams are skipped.
+pub fn skipped(windows: &[Window<'_>]) -> u32
+    requires { sum_by skipped_of windows.now < 2 ^ 32 }
+    ensures { result ≡ sum_by skipped_of windows.now }
+{
+    let mut count = 0u32;
+    for window in windows {
+        count += skipped_in(window);
+    }
+    count
+}
+
+/// The time until which anything may have happened, of the slices of all windows, of the time from which on all streams tell, and of whether they are several. The slices
+/// are put in order.
+pub fn dark(slices: &mut Vec<Entry<'_>>, time: u64, several: bool) -> Result<Option<u64>, PathFault>
+    requires { (ts : List Told) × AreTold slices.old.items ts }
+    ensures ok { (from : ℕ) (lists : List (List Packet)) → AreTold slices.old.items (told (all_windows from lists)) →
+        IfOk result (λ dark. dark ≡ (if several then Some (greatest (time ∷ ends_of time (told (all_windows from lists)))) else None)) }
+    ensures err { IfErr result (λ e. e ≡ OutOfMemory) }
+{
+    if !several {
+        return Ok(None);
+    }
+    put_in_order(slices)?;
+    Ok(Some(last_end(slices, time)))
+}

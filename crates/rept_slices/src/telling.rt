@@ -1,0 +1,137 @@
+//! The slices that a stream tells, before a row is walked.
+
+ghost use Rattle.std.specs.Prelude.{◌≡◌, ◌++◌, ◌+◌, ◌<◌, ◌^◌, ◌∷◌, [], List, ℕ, length, None, OnOk, IfOk, IfErr, if◌then◌else◌};
+ghost use Rattle.rept_trace.specs.declared.packet.Packet.{Packet};
+ghost use Rattle.rept_trace.specs.Packets.{rest_of};
+ghost use Rattle.rept_trace.specs.Stream.{Hold};
+ghost use Rattle.rept_path.specs.declared.fault.PathFault.TheVariants.{OutOfMemory};
+ghost use Rattle.rept_slices.specs.Stamps.{is_start, running_after};
+ghost use Rattle.rept_slices.specs.Lefts.{IsLeft, AreLeft};
+ghost use Rattle.rept_slices.specs.Parts.{Left, told_from, told_in, told};
+ghost use Rattle.rept_slices.specs.Entries.{AreTold};
+ghost use Rattle.rept_slices.specs.declared.telling.Entry.{Entry};
+
+use crate::reading::Window;
+use rept_path::PathFault;
+use rept_path::window::next_packet;
+use rept_trace::{Packet, Packets, Qual};
+use std::alloc::Global;
+
+/// A slice as its stream tells it.
+#[derive(Clone, Copy)]
+pub struct Entry<'a> {
+    /// The number of its stream.
+    pub stream: u32,
+    /// The number of its start packet among the packets of all streams.
+    pub number: u32,
+    /// Its start packet.
+    pub start: Packet,
+    /// The packets of its stream after that.
+    pub later: Packets<'a>,
+    /// The process of the thread that runs as the start packet comes, if the trace runs there.
+    pub inside: Option<u32>,
+}
+
+/// Whether a packet is a start packet.
+pub fn is_start(packet: Packet) -> bool
+    ensures { result ≡ is_start packet }
+{
+    matches!(packet, Packet::Start { .. })
+}
+
+/// The process of the thread that runs after a packet.
+fn running_after(packet: Packet, before: Option<u32>) -> Option<u32>
+    ensures { result ≡ running_after packet before }
+{
+    match packet {
+        Packet::Start { context, .. } => Some(context),
+        Packet::Support { status, .. } => match status {
+            Qual::EndedRep | Qual::EndedNtr => None,
+            Qual::NoChange | Qual::TraceLost => before,
+        },
+        Packet::Context { .. }
+        | Packet::Address { .. }
+        | Packet::Map { .. }
+        | Packet::MapAddress { .. } => before,
+    }
+}
+
+/// Adds a slice, if the packet that it begins with is a start packet.
+fn add_start<'a>(entries: &mut Vec<Entry<'a>>, slice: Entry<'a>) -> Result<(), PathFault>
+    ensures ok { OnOk result (entries.new.items ≡ entries.old.items ++ (if is_start slice.entry.start then slice.entry ∷ [] else [])) }
+    ensures err { IfErr result (λ e. e ≡ OutOfMemory) }
+{
+    if !is_start(slice.start) {
+        return Ok(());
+    }
+    if let Err(_) = entries.push(slice) {
+        return Err(PathFault::OutOfMemory);
+    }
+    Ok(())
+}
+
+/// Adds the slices of a stream from this packet on, which has this number among the packets of all streams and before which the trace doesn't run.
+pub fn tell<'a>(
+    entries: &mut Vec<Entry<'a>>,
+    stream: u32,
+    number: u32,
+    start: Packet,
+    later: Packets<'a>,
+) -> Result<(), PathFault>
+    requires { (list : List Packet) × Hold (rest_of later) list × (number + 1 + length list < 2 ^ 32) }
+    ensures ok { (list : List Packet) → Hold (rest_of later.entry) list → OnOk result ((more : List Entry) × (entries.new.items ≡ entries.old.items ++ more) × AreTold more (told_from stream number None (start ∷ list))) }
+    ensures err { IfErr result (λ e. e ≡ OutOfMemory) }
+{
+    let first = Entry {
+        stream,
+        number,
+        start,
+        later,
+        inside: None,
+    };
+    add_start(entries, first)?;
+    let mut inside = running_after(start, None);
+    let mut rest = later;
+    let mut k = number + 1;
+    while let Some(packet) = next_packet(&mut rest) {
+        let entry = Entry {
+            stream,
+            number: k,
+            start: packet,
+            later: rest,
+            inside,
+        };
+        add_start(entries, entry)?;
+        inside = running_after(packet, inside);
+        k += 1;
+    }
+    Ok(())
+}
+
+/// Adds the slices of what is left of a stream.
+fn tell_window<'a>(entries: &mut Vec<Entry<'a>>, window: &Window<'a>) -> Result<(), PathFault>
+    requires { (l : Left) × IsLeft window.now l }
+    ensures ok { (l : Left) → IsLeft window.now l → OnOk result ((more : List Entry) × (entries.new.items ≡ entries.old.items ++ more) × AreTold more (told_in l)) }
+    ensures err { IfErr result (λ e. e ≡ OutOfMemory) }
+{
+    match window.begin {
+        None => Ok(()),
+        Some(begin) => {
+            let number = window.number + begin.number;
+            tell(entries, window.stream, number, begin.first, begin.later)
+        }
+    }
+}
+
+/// The slices of what is left of several streams: stream by stream, in the order of their start packets.
+pub fn tell_all<'a>(alloc: Global, windows: &[Window<'a>]) -> Result<Vec<Entry<'a>>, PathFault>
+    requires { (lefts : List Left) × AreLeft windows.now lefts }
+    ensures ok { (lefts : List Left) → AreLeft windows.now lefts → IfOk result (λ entries. AreTold entries.items (told lefts)) }
+    ensures err { IfErr result (λ e. e ≡ OutOfMemory) }
+{
+    let mut entries = Vec::new(alloc);
+    for window in windows {
+        tell_window(&mut entries, window)?;
+    }
+    Ok(entries)
+}

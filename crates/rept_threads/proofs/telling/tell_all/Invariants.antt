@@ -1,8 +1,0 @@
-use Rattle.std.proofs.Common.{List, drop}
-use Rattle.rept_threads.specs.Parts.{Left}
-use Rattle.rept_threads.specs.Lefts.{AreLeft}
-use Rattle.rept_threads.proofs.WindowLemmas.{Tells}
-use Rattle.rept_threads.proofs.telling.tell_all.Given as goal
-
-abbrev pub invariant-loop-window : goal.invariant-loop-window
-invariant-loop-window l = (lefts : List Left) → AreLeft l.windows lefts → Tells lefts (drop l.window-index l.windows) l.entries.items
