@@ -26,6 +26,11 @@ is_last request.Detach = true
 is_last request.Kill = true
 is_last _ = false
 
+-- what is written in reply to a packet; nothing to `k`
+abbrev pub written_to : Request → List ℕ → List ℕ
+written_to request.Kill reply = []
+written_to _ reply = packet_of reply
+
 abbrev pub sign : Dialog → List ℕ → List ℕ
 sign d text = if d.acknowledges then text else []
 
@@ -34,14 +39,14 @@ abbrev pub after_packet : Told → Dialog → List ℕ → List ℕ → Dialog
 after_packet t d bytes reply = record {
   stand = stand_after t.shown d.stand bytes;
   acknowledges = acknowledges_after d.acknowledges (request_of bytes);
-  last = packet_of reply;
+  last = written_to (request_of bytes) reply;
   is_over = is_last (request_of bytes);
 }
 
--- What is written at an arrival, and the dialog after it. A packet is acknowledged and answered; one that is broken is refused; the last reply is
+-- What is written at an arrival, and the dialog after it. A packet is acknowledged and, but for `k`, answered; one that is broken is refused; the last reply is
 -- written again where it is wished for.
 abbrev pub IsTurn : Told → ℕ → Dialog → Arrived → List ℕ → Dialog → Type 0
-IsTurn t signal d (packet bytes) text new = (reply : List ℕ) × IsAnswer t signal d.stand bytes reply × (text ≡ sign d (codes "+") ++ packet_of reply) × (new ≡ after_packet t d bytes reply)
+IsTurn t signal d (packet bytes) text new = (reply : List ℕ) × IsAnswer t signal d.stand bytes reply × (text ≡ sign d (codes "+") ++ written_to (request_of bytes) reply) × (new ≡ after_packet t d bytes reply)
 IsTurn t signal d broken text new = (text ≡ sign d (codes "-")) × (new ≡ d)
 IsTurn t signal d large text new = (text ≡ sign d (codes "+") ++ packet_of error) × (new ≡ record d { last = packet_of error })
 IsTurn t signal d again text new = (text ≡ d.last) × (new ≡ d)

@@ -5,7 +5,7 @@ ghost use Rattle.rept_remote.specs.Escapes.{packet_of};
 ghost use Rattle.rept_remote.specs.Frames.{arrived};
 ghost use Rattle.rept_remote.specs.Frames.Arrived.{packet};
 ghost use Rattle.rept_session.specs.Shown.{SameReasons, told};
-ghost use Rattle.rept_dialog.specs.Dialog.{IsTurn, acknowledges_after, is_last, sign, start_at};
+ghost use Rattle.rept_dialog.specs.Dialog.{IsTurn, acknowledges_after, is_last, sign, start_at, written_to};
 
 use rept_remote::{Arrival, push_packet};
 use rept_request::{Request, parse};
@@ -21,7 +21,7 @@ pub struct Dialog {
     pub stand: Stand,
     /// whether packets are acknowledged
     pub acknowledges: bool,
-    /// the packet of the last reply
+    /// the packet of the last reply, empty where there was none
     pub last: Text,
     /// whether the debugger has left
     pub is_over: bool,
@@ -82,12 +82,22 @@ fn answer<F: Findings>(
 {
     let request = parse(carried);
     let reply = answer_packet(alloc, findings, setting, &mut dialog.stand, carried)?;
-    let written = packed(alloc, reply.bytes())?;
+    let written = written_to(alloc, request, reply.bytes())?;
     let text = replied(alloc, dialog.acknowledges, written.bytes())?;
     dialog.acknowledges = acknowledges_after(dialog.acknowledges, request);
     dialog.is_over = is_last(request);
     dialog.last = written;
     Ok(text)
+}
+
+/// What is written in reply to a packet; nothing to `k`.
+fn written_to(alloc: Global, request: Request, reply: &[u8]) -> Result<Text, OutOfMemory>
+    ensures { IfOk result (λ text. text ≡ written_to request reply.now) }
+{
+    match request {
+        Request::Kill => Ok(Text::new(alloc)),
+        _ => packed(alloc, reply),
+    }
 }
 
 /// The answer to a packet that is too large.

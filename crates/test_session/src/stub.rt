@@ -103,7 +103,8 @@ const PACKETS: &[u8] = b"$?#3f$?#40-$bs#d5\x03$QStartNoAckMode#b0$p20#d2$D#44$?#
 
 const REPLIES: &[u8] = b"+$T0b#e6-$T0b#e6+$T05#b9+$OK#9a$04000100#85$OK#9a";
 
-// A dialog up to `D`, whose second packet has a wrong sum; one whose input ends within a packet, and one whose output fails.
+// A dialog up to `D`, whose second packet has a wrong sum; one up to `k`, to which nothing is replied; one whose input ends within a packet, and one
+// whose output fails.
 #[test]
 fn dialogs_end(rt: HostRuntime) -> Result<(), Fail> {
     let alloc = rt.alloc();
@@ -111,8 +112,9 @@ fn dialogs_end(rt: HostRuntime) -> Result<(), Fail> {
         skipped: 0,
         signal: 11,
     };
-    let table: [(&[u8], &[u64], &[u8], Conversed); 3] = [
+    let table: [(&[u8], &[u64], &[u8], Conversed); 4] = [
         (PACKETS, &[], REPLIES, Conversed::Left),
+        (b"$k#6b$?#3f", &[], b"+", Conversed::Left),
         (b"$?#3", &[], b"", Conversed::Ended(Ending::InPacket)),
         (b"$?#3f", &[1], b"", Conversed::OutputFault),
     ];
