@@ -140,7 +140,7 @@ pub(crate) fn load_within<H: Shelf>(
     let mut room = most;
     for place in 0..names.len() {
         let Some(name) = names.get(place) else {
-            return Err(LoadStop::OutOfMemory);
+            unreachable!();
         };
         let limit = MOST_BYTES.min(room);
         let size = match load_next(alloc, shelf, *name, limit, &mut kept) {
