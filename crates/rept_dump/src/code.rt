@@ -1,6 +1,6 @@
 //! The code of an executable, looked up by address.
 
-ghost use Rattle.std.specs.Prelude.{◌≡◌, ◌≤◌, ◌<◌, ◌&&◌, Some, None, if◌then◌else◌};
+ghost use Rattle.std.specs.Prelude.{◌≡◌, ◌≤◌, ◌<◌, ◌&&◌, Some, None, map, IfOk, if◌then◌else◌};
 ghost use Rattle.std.specs.Option.{option_map};
 ghost use Rattle.rept_elf.specs.Header.{half_at, word_at};
 ghost use Rattle.rept_elf.specs.Symbols.{symbol_of};
@@ -11,6 +11,7 @@ ghost use Rattle.rept_dump.specs.Stretch.{AnswersAlike, sought_code, sought_half
 use crate::search::{Allowed, held_bytes};
 use crate::stretch::{NOWHERE, Stretch, stretch_near};
 use rept_elf::{Image, Segment, Symbol, half, word};
+use std::alloc::{AllocError, Global};
 
 /// The word of code at an address, if this segment has all of it.
 fn word_in(segment: &Segment<'_>, a: u32) -> Option<u32>
@@ -87,6 +88,17 @@ impl<'a> Code<'a> {
         ensures { option_map symbol_of result ≡ (code_of self.now).symbol a }
     {
         self.exe.symbol(a)
+    }
+
+    /// The functions that have these addresses, as `Image::symbols` answers them.
+    pub fn symbols(
+        &self,
+        alloc: Global,
+        addresses: &[u32],
+    ) -> Result<Vec<Option<Symbol<'a>>>, AllocError>
+        ensures { IfOk result (λ found. map (option_map symbol_of) found.items ≡ map (code_of self.now).symbol addresses.now) }
+    {
+        self.exe.symbols(alloc, addresses)
     }
 
     /// The same code, which finds words near this address without a search among all segments.

@@ -1,6 +1,6 @@
 //! An executable and the core file of its crash, as one.
 
-ghost use Rattle.std.specs.Prelude.{◌≡◌, ◌≤◌, ◌<◌, ℕ, List, Result, Some, length, IfOk};
+ghost use Rattle.std.specs.Prelude.{◌≡◌, ◌≤◌, ◌<◌, ℕ, List, Result, Some, length, map, IfOk};
 ghost use Rattle.std.specs.Option.{option_map};
 ghost use Rattle.rept_elf.specs.Symbols.{symbol_of};
 ghost use Rattle.rept_elf.specs.Image.{file_of, segments_of};
@@ -20,6 +20,7 @@ use crate::threads::{find_threads, search_core};
 use rept_elf::{Image, Symbol};
 use rept_mapped::Mapped;
 use rept_maps::{Images, Maps};
+use std::alloc::{AllocError, Global};
 
 /// An executable and the core file of its crash, whose notes are whole and have the registers of one thread, or of several. Threads are
 /// numbered from 0, in the order of their notes.
@@ -197,6 +198,18 @@ impl<'a> Dump<'a> {
         ensures { option_map symbol_of result ≡ (contents (exe_of self.now)).symbol a }
     {
         self.files.symbol(a)
+    }
+
+    /// The functions that have these addresses, one answer for each, as `symbol` gives it. The symbol table of an executable is gone over once
+    /// for all of them, where `symbol` goes over it at each call. The only refusal is of memory.
+    pub fn symbols(
+        &self,
+        alloc: Global,
+        addresses: &[u32],
+    ) -> Result<Vec<Option<Symbol<'a>>>, AllocError>
+        ensures { IfOk result (λ found. map (option_map symbol_of) found.items ≡ map (contents (exe_of self.now)).symbol addresses.now) }
+    {
+        self.files.symbols(alloc, addresses)
     }
 
     /// The same dump, which finds words of code near this address without a search among all segments.

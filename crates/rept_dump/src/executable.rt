@@ -1,6 +1,6 @@
 //! An executable, in which code and constants of a program are looked up.
 
-ghost use Rattle.std.specs.Prelude.{◌≡◌, ◌≤◌, ◌<◌, ◌&&◌, Some, None, slice_index, if◌then◌else◌};
+ghost use Rattle.std.specs.Prelude.{◌≡◌, ◌≤◌, ◌<◌, ◌&&◌, Some, None, map, slice_index, IfOk, if◌then◌else◌};
 ghost use Rattle.std.specs.Option.{option_map};
 ghost use Rattle.rept_elf.specs.Image.{file_of, segment_of};
 ghost use Rattle.rept_elf.specs.Symbols.{symbol_of};
@@ -12,6 +12,7 @@ use crate::code::Code;
 use crate::search::{Allowed, held_bytes};
 use crate::stretch::{NOWHERE, Stretch, stretch_near};
 use rept_elf::{Image, Segment, Symbol};
+use std::alloc::{AllocError, Global};
 
 /// An executable, the end of its image, and where bytes of it that can't be written were looked for last.
 #[derive(Clone, Copy)]
@@ -75,6 +76,17 @@ impl<'a> Executable<'a> {
         ensures { option_map symbol_of result ≡ (held_in self.now).symbol a }
     {
         self.code.symbol(a)
+    }
+
+    /// The functions that have these addresses.
+    pub fn symbols(
+        &self,
+        alloc: Global,
+        addresses: &[u32],
+    ) -> Result<Vec<Option<Symbol<'a>>>, AllocError>
+        ensures { IfOk result (λ found. map (option_map symbol_of) found.items ≡ map (held_in self.now).symbol addresses.now) }
+    {
+        self.code.symbols(alloc, addresses)
     }
 
     /// The end of the image.

@@ -1,12 +1,13 @@
 //! The files of a program, in which its code and constants are looked up.
 
-ghost use Rattle.std.specs.Prelude.{◌≡◌};
+ghost use Rattle.std.specs.Prelude.{◌≡◌, map, IfOk};
 ghost use Rattle.std.specs.Option.{option_map};
 ghost use Rattle.rept_elf.specs.Symbols.{symbol_of};
 
 use crate::executable::Executable;
 use rept_elf::Symbol;
 use rept_mapped::Mapped;
+use std::alloc::{AllocError, Global};
 
 /// The files of a program.
 #[derive(Clone, Copy)]
@@ -58,6 +59,20 @@ impl<'a> Files<'a> {
         match self {
             Files::Executable(executable) => executable.symbol(a),
             Files::Mapped(mapped) => mapped.symbol(a),
+        }
+    }
+
+    /// The functions that have these addresses.
+    pub fn symbols(
+        &self,
+        alloc: Global,
+        addresses: &[u32],
+    ) -> Result<Vec<Option<Symbol<'a>>>, AllocError>
+        ensures { IfOk result (λ found. map (option_map symbol_of) found.items ≡ map (contents (program_of self.now)).symbol addresses.now) }
+    {
+        match self {
+            Files::Executable(executable) => executable.symbols(alloc, addresses),
+            Files::Mapped(mapped) => mapped.symbols(alloc, addresses),
         }
     }
 

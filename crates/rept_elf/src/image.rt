@@ -1,6 +1,6 @@
 //! A file whose checks passed, and its segments.
 
-ghost use Rattle.std.specs.Prelude.{◌≡◌, ◌<◌, ◌≤◌, length, slice_get, Some, IfOk};
+ghost use Rattle.std.specs.Prelude.{◌≡◌, ◌<◌, ◌≤◌, length, map, slice_get, Some, IfOk};
 ghost use Rattle.std.specs.Result.{result_err};
 ghost use Rattle.rept_elf.specs.Checks.{checks, first_failure};
 ghost use Rattle.rept_elf.specs.Header.{HasTable};
@@ -9,8 +9,10 @@ ghost use Rattle.rept_elf.specs.Segments.{greatest_end};
 use crate::checks::{check_header, check_segments};
 use crate::entries::{entry, entry_count};
 use crate::fault::{ElfFault, Want};
+use crate::naming::find_symbols;
 use crate::segment::{PT_LOAD, Segment};
 use crate::symbol::{Symbol, find_symbol};
+use std::alloc::{AllocError, Global};
 
 /// An executable or a core file whose header and segments passed the checks. It borrows the file's bytes.
 #[derive(Clone, Copy)]
@@ -90,5 +92,17 @@ impl<'a> Image<'a> {
         ensures { option_map symbol_of result ≡ symbol_at (file_of self.now) vaddr }
     {
         find_symbol(self.bytes, vaddr)
+    }
+
+    /// The symbols of the functions that have these addresses, one after the other, each as `symbol` answers it. The symbol table
+    /// is gone over once. The only refusal is of memory.
+    pub fn symbols(
+        &self,
+        alloc: Global,
+        vaddrs: &[u32],
+    ) -> Result<Vec<Option<Symbol<'a>>>, AllocError>
+        ensures { IfOk result (λ found. map (option_map symbol_of) found.items ≡ map (symbol_at (file_of self.now)) vaddrs.now) }
+    {
+        find_symbols(alloc, self.bytes, vaddrs)
     }
 }

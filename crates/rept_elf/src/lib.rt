@@ -7,6 +7,7 @@ mod entries;
 mod fault;
 mod fields;
 mod image;
+mod naming;
 mod section;
 mod segment;
 mod symbol;

@@ -2,10 +2,10 @@
 
 ghost use Rattle.std.specs.Prelude.{◌≡◌, ◌≤◌, ◌+◌, length};
 ghost use Rattle.std.specs.List.{find};
-ghost use Rattle.std.specs.Option.{option_map};
+ghost use Rattle.std.specs.Option.{option_and_then, option_map};
 ghost use Rattle.rept_elf.specs.Header.{header_size};
 ghost use Rattle.rept_elf.specs.SectionParts.{entry_of, tables_of};
-ghost use Rattle.rept_elf.specs.Symbols.{symbol_from, symbols, is_function_at as is_function_of, name_at as name_of, symbol_tables, symbol_at, symbol_of};
+ghost use Rattle.rept_elf.specs.Symbols.{symbol_from, symbols, is_function_at as is_function_of, name_at as name_of, named as named_by, symbol_tables, symbol_at, symbol_of};
 
 use crate::fields::{after, first_zero, word};
 use crate::section::{contents, section_at, section_count, symbol_section};
@@ -14,7 +14,7 @@ use crate::section::{contents, section_at, section_count, symbol_section};
 const STT_FUNC: u8 = 2;
 
 /// The bytes of a symbol.
-const SYMBOL_SIZE: usize = 16;
+pub const SYMBOL_SIZE: usize = 16;
 
 /// A function's name, and where it begins.
 #[derive(Clone, Copy, Debug)]
@@ -48,7 +48,7 @@ pub struct Tables<'a> {
 }
 
 /// The symbol at an offset of a symbol table.
-fn table_entry(table: &[u8], at: usize) -> TableEntry
+pub fn table_entry(table: &[u8], at: usize) -> TableEntry
     requires { at + 16 ≤ length table.now }
     ensures { entry_of result ≡ symbol_from table.now at }
 {
@@ -61,7 +61,7 @@ fn table_entry(table: &[u8], at: usize) -> TableEntry
 }
 
 /// Whether the symbol is that of a function that has this address.
-fn is_function_at(entry: &TableEntry, a: u32) -> bool
+pub fn is_function_at(entry: &TableEntry, a: u32) -> bool
     ensures { result ≡ is_function_of a (entry_of entry.now) }
 {
     let end = u64::from(entry.value) + u64::from(entry.size.max(1));
@@ -90,6 +90,18 @@ fn name_at(names: &[u8], offset: u32) -> Option<&[u8]>
     Some(&name[..end])
 }
 
+/// A symbol with its name, where the table of names has it with its end.
+pub fn named<'a>(names: &'a [u8], found: Option<TableEntry>) -> Option<Symbol<'a>>
+    ensures { option_map symbol_of result ≡ option_and_then (named_by names.now) (option_map entry_of found) }
+{
+    let entry = found?;
+    let name = name_at(names, entry.name)?;
+    Some(Symbol {
+        name,
+        value: entry.value,
+    })
+}
+
 /// The first symbol table of a file and the table of its names, where the file holds them.
 pub fn find_tables(bytes: &[u8]) -> Option<Tables<'_>>
     requires { header_size ≤ length bytes.now }
@@ -111,10 +123,5 @@ pub fn find_symbol(bytes: &[u8], a: u32) -> Option<Symbol<'_>>
     ensures { option_map symbol_of result ≡ symbol_at bytes.now a }
 {
     let tables = find_tables(bytes)?;
-    let found = function_at(tables.entries, a)?;
-    let name = name_at(tables.names, found.name)?;
-    Some(Symbol {
-        name,
-        value: found.value,
-    })
+    named(tables.names, function_at(tables.entries, a))
 }

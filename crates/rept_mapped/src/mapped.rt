@@ -1,6 +1,6 @@
 //! Mapped images, looked up by address.
 
-ghost use Rattle.std.specs.Prelude.{◌≡◌, ◌≤◌, ◌<◌, ◌+◌, ◌^◌, length, slice_get, IfSome, Some, not};
+ghost use Rattle.std.specs.Prelude.{◌≡◌, ◌≤◌, ◌<◌, ◌+◌, ◌^◌, length, map, slice_get, IfOk, IfSome, Some, not};
 ghost use Rattle.std.specs.Option.{option_map, option_and_then};
 ghost use Rattle.rept_elf.specs.Header.{half_at, word_at};
 ghost use Rattle.rept_elf.specs.Segments.{is_executable, is_writable};
@@ -13,6 +13,7 @@ ghost use Rattle.rept_mapped.specs.Views.{mapping_of, spot_of};
 use crate::find::{Bounds, Mapping, Spot, bytes_at, has_all, has_some, spot_of_mapping};
 use rept_elf::{PF_W, PF_X, Symbol, half, word};
 use rept_maps::{Images, Maps};
+use std::alloc::{AllocError, Global};
 
 /// The files that a process had mapped, with their images by place.
 #[derive(Clone, Copy)]
@@ -80,6 +81,21 @@ impl<'a> Mapped<'a> {
             name: symbol.name,
             value: symbol.value.wrapping_add(a.wrapping_sub(own)),
         })
+    }
+
+    /// The functions that have these addresses, one answer for each, as `symbol` gives it. The only refusal is of memory.
+    pub fn symbols(
+        &self,
+        alloc: Global,
+        addresses: &[u32],
+    ) -> Result<Vec<Option<Symbol<'a>>>, AllocError>
+        ensures { IfOk result (λ found. map (option_map symbol_of) found.items ≡ map (mapped_symbol (mappings_of self.now)) addresses.now) }
+    {
+        let mut found = Vec::new(alloc);
+        for address in addresses {
+            found.push(self.symbol(*address))?;
+        }
+        Ok(found)
     }
 
     /// The mapping of this index.

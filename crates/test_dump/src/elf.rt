@@ -296,12 +296,21 @@ fn with_symbols(alloc: Global, changes: &[(usize, u32)]) -> Result<Vec<u8>, Allo
 fn symbols(rt: HostRuntime) -> Result<(), Fail> {
     for (i, (changes, address, wanted)) in SOUGHT.iter().enumerate() {
         let file = with_symbols(rt.alloc(), changes)?;
-        let found = Image::read(file.as_slice(), Want::Exec)?.symbol(*address);
+        let image = Image::read(file.as_slice(), Want::Exec)?;
+        let found = image.symbol(*address);
         assert_eq!(rt;
             found.map(|symbol| (symbol.name, symbol.value)),
             *wanted,
             "case {i}"
         );
+        let together = image.symbols(rt.alloc(), [*address, *address].as_slice())?;
+        for found in &together {
+            assert_eq!(rt;
+                found.map(|symbol| (symbol.name, symbol.value)),
+                *wanted,
+                "case {i}"
+            );
+        }
     }
     Ok(())
 }
