@@ -1,5 +1,5 @@
 -- A search for the first one whose bounds have some of the numbers, which has to have all.
-use Rattle.std.proofs.Common.{◌≡◌, ℕ, suc, zero, ◌+◌, ◌≤◌, List, [], ◌∷◌, length, drop, Bool, true, false, cond, sym, ap, ◌∙◌, arith, refl}
+use Rattle.std.proofs.Common.{◌≡◌, ℕ, suc, zero, ◌+◌, ◌≤◌, List, [], ◌∷◌, length, drop, Bool, true, false, cond, ap, ◌∙◌, arith, refl}
 use Rattle.std.specs.Prelude.{Option, None, Some, slice_get}
 use Rattle.std.specs.List.{find}
 use Rattle.std.specs.Option.{option_and_then, option_map}
@@ -7,7 +7,7 @@ use Rattle.rept_elf.proofs.SymbolLemmas.{find_hit, find_none}
 use Rattle.rept_elf.specs.Image.{file_of}
 use Rattle.rept_elf.specs.declared.image.Image.{Image}
 use Rattle.rept_maps.specs.FileMap.{entry_at}
-use Rattle.rept_mapped.specs.Mapped.{Mapping, mapping_by, mappings_from, mappings, only_with, has_some, has_all}
+use Rattle.rept_mapped.specs.Mapped.{mapping_by, mappings_from, mappings, only_with, has_some, has_all}
 use Rattle.rept_mapped.specs.declared.find.Bounds.{Bounds}
 
 module _ {X : Type 0} (bounds : X → Bounds) (count a : ℕ) (xs : List X) (i : ℕ) where

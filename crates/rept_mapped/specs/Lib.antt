@@ -1,3 +1,4 @@
 pub mod Mapped
 pub mod Mappings
+pub mod Naming
 pub mod Views

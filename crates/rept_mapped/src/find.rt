@@ -29,6 +29,8 @@ pub struct Mapping<'a> {
     pub offset: u64,
     /// The file's image, where it is there.
     pub image: Option<Image<'a>>,
+    /// Its index in the table.
+    pub index: u32,
 }
 
 /// Where some bytes stand.

@@ -3,5 +3,6 @@
 
 mod find;
 mod mapped;
+mod naming;
 
 pub use mapped::Mapped;

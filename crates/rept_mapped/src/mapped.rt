@@ -8,9 +8,11 @@ ghost use Rattle.rept_elf.specs.Symbols.{symbol_of};
 ghost use Rattle.rept_maps.specs.FileMap.{map_count};
 ghost use Rattle.rept_maps.specs.Views.{desc_of};
 ghost use Rattle.rept_mapped.specs.Mapped.{addresses, bytes_at, mapped_byte, mapped_half, mapped_symbol, mapped_word, mappings, moved, only_with, own_address, spot_at};
-ghost use Rattle.rept_mapped.specs.Views.{mapping_of, spot_of};
+ghost use Rattle.rept_mapped.specs.Naming.{found_of, in_the_end, named_at, so_far, with_file};
+ghost use Rattle.rept_mapped.specs.Views.{asked_of, mapping_of, spot_of};
 
 use crate::find::{Bounds, Mapping, Spot, bytes_at, has_all, has_some, spot_of_mapping};
+use crate::naming::{Asked, Home, ask, found_of, has_home};
 use rept_elf::{PF_W, PF_X, Symbol, half, word};
 use rept_maps::{Images, Maps};
 use std::alloc::{AllocError, Global};
@@ -83,7 +85,8 @@ impl<'a> Mapped<'a> {
         })
     }
 
-    /// The functions that have these addresses, one answer for each, as `symbol` gives it. The only refusal is of memory.
+    /// The functions that have these addresses, one answer for each, as `symbol` gives it. The symbols of each mapping's file are gone over once
+    /// at most. The only refusal is of memory.
     pub fn symbols(
         &self,
         alloc: Global,
@@ -91,11 +94,58 @@ impl<'a> Mapped<'a> {
     ) -> Result<Vec<Option<Symbol<'a>>>, AllocError>
         ensures { IfOk result (λ found. map (option_map symbol_of) found.items ≡ map (mapped_symbol (mappings_of self.now)) addresses.now) }
     {
-        let mut found = Vec::new(alloc);
-        for address in addresses {
-            found.push(self.symbol(*address))?;
+        let mut asked = self.homes(alloc, addresses)?;
+        for i in 0..self.maps.count() {
+            asked = self.asked_with(alloc, i, asked)?;
         }
-        Ok(found)
+        found_of(alloc, asked.as_slice())
+    }
+
+    /// The addresses with the mappings that have them, of which no function is found yet.
+    fn homes(&self, alloc: Global, addresses: &[u32]) -> Result<Vec<Asked<'a>>, AllocError>
+        ensures homes { IfOk result (λ asked. map (in_the_end (mappings_of self.now)) (map asked_of asked.items) ≡ map (mapped_symbol (mappings_of self.now)) addresses.now) }
+        ensures found { IfOk result (λ asked. map found_of (map asked_of asked.items) ≡ map (so_far (mappings_of self.now) 0) (map asked_of asked.items)) }
+    {
+        let mut asked = Vec::new(alloc);
+        for address in addresses {
+            asked.push(Asked {
+                home: self.home(*address),
+                found: None,
+            })?;
+        }
+        Ok(asked)
+    }
+
+    /// What is found with the file of one mapping more.
+    fn asked_with(
+        &self,
+        alloc: Global,
+        i: u32,
+        asked: Vec<Asked<'a>>,
+    ) -> Result<Vec<Asked<'a>>, AllocError>
+        requires { i < map_count (desc_of self.now.maps) }
+        ensures { IfOk result (λ more. map asked_of more.items ≡ map (with_file (mappings_of self.now) i) (map asked_of asked.entry.items)) }
+    {
+        if !has_home(asked.as_slice(), i) {
+            return Ok(asked);
+        }
+        match self.images.image(i) {
+            Some(image) => ask(alloc, &image, i, asked.as_slice()),
+            None => Ok(asked),
+        }
+    }
+
+    /// Where the function of an address is sought.
+    fn home(&self, a: u32) -> Option<Home>
+        ensures { mapped_symbol (mappings_of self.now) a ≡ option_and_then (named_at (mappings_of self.now)) result }
+    {
+        let mapping = self.mapping_with(1, a)?;
+        let spot = spot_of_mapping(&mapping, 1, a)?;
+        Some(Home {
+            mapping: mapping.index,
+            own: own_address(&spot),
+            address: a,
+        })
     }
 
     /// The mapping of this index.
@@ -103,6 +153,7 @@ impl<'a> Mapped<'a> {
         requires { i < map_count (desc_of self.now.maps) }
         ensures mapping { slice_get (mappings_of self.now) i ≡ Some (mapping_of result) }
         ensures small { result.offset + 2 ^ 32 < 2 ^ 64 }
+        ensures index { result.index ≡ i }
     {
         let place = self.maps.place(i);
         Mapping {
@@ -110,6 +161,7 @@ impl<'a> Mapped<'a> {
             end: place.end,
             offset: place.offset,
             image: self.images.image(i),
+            index: i,
         }
     }
 
@@ -119,6 +171,7 @@ impl<'a> Mapped<'a> {
         ensures mapping { option_map mapping_of result ≡ only_with addresses count a (mappings_of self.now) }
         ensures within { IfSome result (λ m. (m.start ≤ a) × (a + count ≤ m.end)) }
         ensures small { IfSome result (λ m. m.offset + 2 ^ 32 < 2 ^ 64) }
+        ensures index { IfSome result (λ m. slice_get (mappings_of self.now) m.index ≡ Some (mapping_of m)) }
     {
         let at = u64::from(a);
         for i in 0..self.maps.count() {

@@ -162,14 +162,35 @@ fn images_of(alloc: Global, file: &[u8]) -> Result<Images<'_>, Fail>
     Ok(images)
 }
 
-fn check_files(rt: &impl Abort, core: Image<'_>, images: &Images<'_>) -> Result<(), Fail>
+// The functions of the same addresses, asked for together.
+fn check_together(rt: &impl Abort, alloc: Global, mapped: &Mapped<'_>) -> Result<(), Fail> {
+    let mut addresses = Vec::new(alloc);
+    for (a, _, _, _, _) in CASES {
+        addresses.push(*a)?;
+    }
+    let found = mapped.symbols(alloc, addresses.as_slice())?;
+    assert_eq!(rt; found.len(), CASES.len());
+    for (symbol, (a, _, _, _, function)) in found.iter().zip(CASES.iter()) {
+        let found = symbol.and_then(|s| s.name.first().map(|b| (*b, s.value)));
+        assert_eq!(rt; found, *function, "function at {a:#x} together");
+    }
+    Ok(())
+}
+
+fn check_files(
+    rt: &impl Abort,
+    alloc: Global,
+    core: Image<'_>,
+    images: &Images<'_>,
+) -> Result<(), Fail>
     requires { length images.now ≡ 4 }
 {
     match Maps::read(core) {
         Ok(maps) => {
             assert_eq!(rt; maps.count(), 4);
-            check_cases(rt, &Mapped::new(maps, images));
-            Ok(())
+            let mapped = Mapped::new(maps, images);
+            check_cases(rt, &mapped);
+            check_together(rt, alloc, &mapped)
         }
         Err(fault) => Err(fault.into()),
     }
@@ -180,5 +201,6 @@ fn mapped_files_are_looked_up(rt: HostRuntime) -> Result<(), Fail> {
     let file = file_of(rt.alloc(), HEADER, WORDS, SECTIONS)?;
     let core = file_of(rt.alloc(), CORE, ENTRIES, &[])?;
     let images = images_of(rt.alloc(), file.as_slice())?;
-    check_files(&rt, Image::read(core.as_slice(), Want::Core)?, &images)
+    let core = Image::read(core.as_slice(), Want::Core)?;
+    check_files(&rt, rt.alloc(), core, &images)
 }

@@ -1,10 +1,9 @@
-use Rattle.std.proofs.Common.{◌≡◌, ◌≤◌, ℕ, length, true, false, ap, sym, ◌∙◌, arith}
+use Rattle.std.proofs.Common.{◌≡◌, ◌≤◌, length, true, false, ap, sym, ◌∙◌, arith}
 use Rattle.rept_elf.proofs.SymbolLemmas.{find_miss}
 use Rattle.rept_maps.specs.Views.{desc_of}
 use Rattle.rept_mapped.specs.Mapped.{addresses, has_all, has_some}
 use Rattle.rept_mapped.specs.Mappings.{mappings_of}
 use Rattle.rept_mapped.specs.Views.{mapping_of}
-use Rattle.rept_mapped.specs.declared.find.Bounds.{Bounds}
 use Rattle.rept_mapped.proofs.Searches.{length-mappings_from, met_whole, met_in_part, met_nowhere}
 use Rattle.rept_mapped.proofs.mapped.Mapped.mapping_with.Goals as goal
 

@@ -1,9 +1,10 @@
-use Rattle.std.proofs.Common.{◌≡◌, map, take}
-use Rattle.std.specs.Option.{option_map}
-use Rattle.rept_elf.specs.Symbols.{symbol_of}
+use Rattle.std.proofs.Common.{◌≡◌, map}
 use Rattle.rept_mapped.specs.Mapped.{mapped_symbol}
 use Rattle.rept_mapped.specs.Mappings.{mappings_of}
+use Rattle.rept_mapped.specs.Naming.{found_of, in_the_end, so_far}
+use Rattle.rept_mapped.specs.Views.{asked_of}
 use Rattle.rept_mapped.proofs.mapped.Mapped.symbols.Given as goal
 
-abbrev pub invariant-loop-address : goal.invariant-loop-address
-invariant-loop-address l = map (option_map symbol_of) l.found.items ≡ map (mapped_symbol (mappings_of l.self)) (take l.address-index l.addresses)
+abbrev pub invariant-loop-i : goal.invariant-loop-i
+invariant-loop-i l = (map (in_the_end (mappings_of l.self)) (map asked_of l.asked.items) ≡ map (mapped_symbol (mappings_of l.self)) l.addresses)
+    × (map found_of (map asked_of l.asked.items) ≡ map (so_far (mappings_of l.self) l.i) (map asked_of l.asked.items))
