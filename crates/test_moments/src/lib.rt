@@ -1,7 +1,9 @@
-//! Runs of several threads by hand: whether they are sound. There are tests alone.
+//! Runs of several threads by hand: whether they are sound, the numbers that are next to one another, and those over which a byte is carried. There are tests alone.
 #![tactic(auto)]
 
 #[cfg(test)]
 mod runs;
 #[cfg(test)]
 mod soundness;
+#[cfg(test)]
+mod tests;

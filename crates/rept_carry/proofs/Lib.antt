@@ -1,0 +1,4 @@
+pub mod Linking
+pub mod Carrying
+pub mod Sparing
+pub mod Keeping

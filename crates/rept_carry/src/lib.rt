@@ -1,0 +1,10 @@
+//! To which moments a byte's value is carried from one: those next to it, onward and back, between which no row that may write the byte falls.
+#![tactic(auto)]
+
+pub mod laws;
+mod links;
+mod passing;
+mod ways;
+
+pub use laws::what_passes_is_carried;
+pub use ways::Ways;

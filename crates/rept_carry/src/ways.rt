@@ -1,0 +1,169 @@
+//! A course whose moments are gone through in both directions.
+
+ghost use Rattle.std.specs.Prelude.{◌≡◌, ◌≤◌, ◌<◌, ℕ, true, length, IfOk, IsOk, IsSome, IfSome};
+ghost use Rattle.std.specs.List.{All};
+ghost use Rattle.rept_steps.specs.Course.{IsSound};
+ghost use Rattle.rept_steps.specs.Runs.{course_of};
+ghost use Rattle.rept_order.specs.Legs.{points_before};
+ghost use Rattle.rept_report.specs.Moments.{AreMoments, points_of};
+ghost use Rattle.rept_moments.specs.Points.{points_in};
+ghost use Rattle.rept_moments.specs.Seen.{seen, alone_by};
+ghost use Rattle.rept_moments.specs.Courses.{seen_in, threads_in, first_in, is_one};
+ghost use Rattle.rept_carry.specs.Links.{IsLeastFrom, IsPreviousFrom};
+ghost use Rattle.rept_carry.specs.Passing.{Ground, Passes, ground_of};
+ghost use Rattle.rept_carry.specs.Course.{AreWays};
+
+use crate::links::{Links, following};
+use crate::passing::passes;
+use rept_moments::{Course, numbers_are_names};
+use rept_steps::Run;
+use std::alloc::{AllocError as OutOfMemory, Global};
+use std::marker::Model;
+
+/// A course with what leads back from each of its numbers. Contracts see the course.
+#[derive(Drop)]
+pub struct Ways<'a> {
+    course: Course<'a>,
+    /// of one thread alone none is kept
+    links: Links,
+}
+
+impl<'a> Model for Ways<'a> {
+    ghost use Rattle.rept_moments.specs.declared.course.Course.{Course};
+    ghost use Rattle.rept_report.specs.Moments.{AreMoments};
+    ghost use Rattle.rept_moments.specs.Courses.{seen_in};
+    ghost use Rattle.rept_carry.specs.Course.{AreWays};
+
+    ghost Value = { Course };
+
+    ghost view = { λ w. w.course };
+
+    ghost invariant = { λ w. record { laws : AreMoments (seen_in w.course).legs (seen_in w.course).moments; ways : AreWays w.course w.links } };
+}
+
+/// The pairs that are kept beside a course.
+fn links_of(alloc: Global, course: &Course<'_>) -> Result<Links, OutOfMemory>
+    requires { AreMoments (seen_in course.now).legs (seen_in course.now).moments }
+    ensures ways { IfOk result (λ l. AreWays course.now l) }
+    ensures alone { is_one course.now ≡ true → IsOk result }
+{
+    match course {
+        Course::One { .. } => Ok(Links::none(alloc)),
+        Course::Many(_) => Links::new(alloc, course),
+    }
+}
+
+/// A course with its pairs.
+fn with_links<'a>(alloc: Global, course: Course<'a>) -> Result<Ways<'a>, OutOfMemory>
+    requires { AreMoments (seen_in course).legs (seen_in course).moments }
+    ensures ok { IfOk result (λ w. w ≡ course.entry) }
+    ensures alone { is_one course.entry ≡ true → IsOk result }
+{
+    let links = links_of(alloc, &course)?;
+    Ok(Ways { course, links })
+}
+
+/// The number before one, from a number on, where the numbers are the points of one thread.
+fn one_before(last: u32, number: u32, least: u32) -> Option<u32>
+    ensures { IsPreviousFrom (points_of last) number least result }
+{
+    if number > last {
+        return None;
+    }
+    if least >= number {
+        return None;
+    }
+    Some(number - 1)
+}
+
+impl<'a> Ways<'a> {
+    /// The course of this run, which must be sound and have at most 66,560 points: those of 65,536 rows and 1,024 threads. Of one thread in one slice, all of which is told, it
+    /// takes no memory; else memory for a few entries a point and for two a pair of numbers that are next to one another.
+    pub fn new(alloc: Global, run: &'a Run) -> Result<Ways<'a>, OutOfMemory>
+        requires sound { IsSound (course_of run.now) }
+        requires few { points_in (course_of run.now) ≤ 66560 }
+        ensures ok { IfOk result (λ w. seen_in w ≡ seen (course_of run.now)) }
+        ensures threads { IfOk result (λ w. threads_in w ≡ length run.now.threads) }
+        ensures firsts { IfOk result (λ w. (t : ℕ) → t < length run.now.threads → first_in w t ≡ points_before run.now.threads t) }
+        ensures alone { IsSome (alone_by run.now.threads run.now.dark) → IsOk result }
+    {
+        numbers_are_names();
+        let course = Course::new(alloc, run)?;
+        with_links(alloc, course)
+    }
+
+    /// The course. Its rows and moments keep the laws that the report asks for.
+    pub fn course(&self) -> &Course<'a>
+        ensures value { result.now ≡ self.now }
+        ensures laws { AreMoments (seen_in self.now).legs (seen_in self.now).moments }
+    {
+        &self.course
+    }
+
+    /// The least of the numbers to which one is next, from a number on: those of earlier moments, with none between.
+    pub fn previous_from(&self, number: u32, least: u32) -> Option<u32>
+        ensures { IsPreviousFrom (seen_in self.now).moments number least result }
+    {
+        match &self.course {
+            Course::One { steps } => one_before(steps.len(), number, least),
+            Course::Many(_) => self.links.linked_from(number, least),
+        }
+    }
+
+    /// The least of the numbers to which one is next, from a number on, which is no later than the end.
+    fn preceding(&self, number: u32, from: u32) -> Option<u32>
+        ensures next { IsPreviousFrom (seen_in self.now).moments number from result }
+        ensures few { IfSome result (λ v. v ≤ (seen_in self.now).moments.end) }
+    {
+        let _course = self.course();
+        self.previous_from(number, from)
+    }
+
+    /// The least number from one on that is next to a number and to which a byte is carried from it: between the two none of these rows falls, which are to be those that may
+    /// write the byte, and nothing that isn't told. It takes no memory.
+    pub fn carried_from(&self, rows: &[u32], number: u32, least: u32) -> Option<u32>
+        requires rows { All (λ i. IsSome ((seen_in self.now).legs.row i)) rows.now }
+        requires inside { number ≤ (seen_in self.now).moments.end }
+        ensures { IsLeastFrom (λ w. Passes (ground_of self.now rows.now) number w) least result }
+    {
+        let course = self.course();
+        let end = course.end();
+        let mut from = least;
+        loop {
+            let to = match following(course, number, from) {
+                Some(to) => to,
+                None => return None,
+            };
+            if passes(course, rows, number, to) {
+                return Some(to);
+            }
+            if to >= end {
+                return None;
+            }
+            from = to + 1;
+        }
+    }
+
+    /// The least number from one on to which a number is next and from which a byte is carried to it, likewise.
+    pub fn carried_back_from(&self, rows: &[u32], number: u32, least: u32) -> Option<u32>
+        requires rows { All (λ i. IsSome ((seen_in self.now).legs.row i)) rows.now }
+        ensures { IsLeastFrom (λ v. Passes (ground_of self.now rows.now) v number) least result }
+    {
+        let course = self.course();
+        let end = course.end();
+        let mut from = least;
+        loop {
+            let to = match self.preceding(number, from) {
+                Some(to) => to,
+                None => return None,
+            };
+            if passes(course, rows, to, number) {
+                return Some(to);
+            }
+            if to >= end {
+                return None;
+            }
+            from = to + 1;
+        }
+    }
+}
