@@ -4,3 +4,4 @@ pub mod Needs
 pub mod Writes
 pub mod Atomic
 pub mod Laws
+pub mod Rows

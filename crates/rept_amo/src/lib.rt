@@ -4,8 +4,10 @@
 pub mod atomic;
 mod draw;
 pub mod form;
+pub mod laws;
 mod number;
 mod rest;
 mod sure;
 
 pub use atomic::Atomic;
+pub use laws::conclusions_are_listed;
