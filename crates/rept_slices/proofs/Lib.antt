@@ -22,3 +22,4 @@ pub mod Following
 pub mod Until
 pub mod Packs
 pub mod Lasting
+mod Leaving

@@ -1,5 +1,5 @@
 -- Going over packets to the first one of a kind.
-use Rattle.std.proofs.Common.{◌≡◌, ℕ, suc, ◌+◌, List, [], ◌∷◌, drop, Bool, true, false, not, cond, Option, Some, None, Ok, sym, ◌∙◌, ap, subst, arith}
+use Rattle.std.proofs.Common.{◌≡◌, ℕ, suc, ◌+◌, List, [], ◌∷◌, drop, Bool, true, false, not, cond, Option, Some, None, Ok, sym, ◌∙◌, ap, arith}
 use Rattle.std.specs.List.{prefix_len}
 use Rattle.std.specs.Option.{option_or}
 use Rattle.rept_trace.specs.declared.packet.Packet.{Packet}
@@ -32,6 +32,16 @@ module _ {A : Type 0} (wanted : List Packet → A) where
       let t = taken k n rest after packet s.more s.hold a in
       sym (s.same list h ∙ ap wanted t.1 ∙ is t.0)
 
+  -- the packets after it
+  pub same_later : (all rest after : Bytes) (k n : ℕ) (packet : Packet) → Same wanted all rest → Answers k rest (Ok (Some packet)) n after → (list : List Packet) × Hold after list
+  same_later all rest after k n packet s a = let t = taken k n rest after packet s.more s.hold a in (t.0, t.2)
+
+  -- a packet from which on it is found
+  pub same_from : (all rest after : Bytes) (k n : ℕ) (packet : Packet) (x : A) → Same wanted all rest → Answers k rest (Ok (Some packet)) n after → ((later : List Packet) → Hold after later → x ≡ wanted (packet ∷ later)) → (list : List Packet) → Hold all list → x ≡ wanted list
+  same_from all rest after k n packet x s a is list h =
+      let t = taken k n rest after packet s.more s.hold a in
+      is t.0 t.2 ∙ sym (s.same list h ∙ ap wanted t.1)
+
   pub same_none : (all rest after : Bytes) (k n : ℕ) → Same wanted all rest → Answers k rest (Ok None) n after → (list : List Packet) → Hold all list → wanted [] ≡ wanted list
   same_none all rest after k n s a list h =
       let none = none_left k n rest after s.more s.hold a in
@@ -56,15 +66,12 @@ time_on p later h = ap (λ (o : Option ℕ). option_or o (first_time later)) h
 pub time_here : (p : Packet) (later : List Packet) (time : ℕ) → time_of p ≡ Some time → first_time (p ∷ later) ≡ Some time
 time_here p later time h = ap (λ (o : Option ℕ). option_or o (first_time later)) h
 
--- the bytes from which the slice has ended
-pub end_stays : (all rest after : Bytes) (k n : ℕ) (packet : Packet) (s : Same from_end all rest) → Answers k rest (Ok (Some packet)) n after → closes packet ≡ true → (list : List Packet) → Hold all list → Hold rest (from_end list)
-end_stays all rest after k n packet s a ends list h =
-    let t = taken k n rest after packet s.more s.hold a in
-    let e : from_end list ≡ s.more = s.same list h ∙ ap from_end t.1 ∙ end_here packet t.0 ends ∙ sym t.1 in
-    subst (λ (xs : List Packet). Hold rest xs) (sym e) s.hold
+-- the first time from the end of the slice on
+abbrev pub time_past : List Packet → Option ℕ
+time_past list = first_time (from_end list)
 
-pub end_none : (all rest after : Bytes) (k n : ℕ) (s : Same from_end all rest) → Answers k rest (Ok None) n after → (list : List Packet) → Hold all list → Hold rest (from_end list)
-end_none all rest after k n s a list h =
-    let none = none_left k n rest after s.more s.hold a in
-    let e : from_end list ≡ s.more = s.same list h ∙ ap from_end none ∙ sym none in
-    subst (λ (xs : List Packet). Hold rest xs) (sym e) s.hold
+pub past_on : (p : Packet) (later : List Packet) → closes p ≡ false → time_past (p ∷ later) ≡ time_past later
+past_on p later h = ap first_time (end_on p later h)
+
+pub past_here : (p : Packet) (later : List Packet) → closes p ≡ true → time_past (p ∷ later) ≡ first_time (p ∷ later)
+past_here p later h = ap first_time (end_here p later h)

@@ -1,10 +1,11 @@
 -- Slices as they are kept, one after the other. This project's own.
-use Rattle.std.specs.Prelude.{◌≡◌, ◌==◌, ℕ, List, [], ◌∷◌, Option, Some, None, if◌then◌else◌}
+use Rattle.std.specs.Prelude.{◌≡◌, ◌==◌, nat_le, ℕ, List, [], ◌∷◌, Option, Some, None, if◌then◌else◌}
 use Rattle.std.specs.List.{list_any}
 use Rattle.rept_path.specs.declared.fault.PathFault.{PathFault}
 use Rattle.rept_path.specs.declared.fault.PathFault.TheVariants.{UnknownThread, OtherThread}
 use Rattle.rept_trace.specs.Packets.{rest_of}
 use Rattle.rept_trace.specs.Stream.{Hold}
+use Rattle.rept_slices.specs.Stamps.{clock_of}
 use Rattle.rept_slices.specs.Parts.{Told}
 use Rattle.rept_slices.specs.declared.telling.Entry.{Entry}
 
@@ -27,3 +28,13 @@ judged_inside number thread (Some inside) = if inside == thread then None else S
 
 abbrev pub judged : List ℕ → ℕ → ℕ → Option ℕ → Option PathFault
 judged threads number thread inside = if list_any (λ known. known == thread) threads then judged_inside number thread inside else Some (UnknownThread number thread)
+
+-- slices of a stream, the first one as it is where nothing before it is known
+abbrev pub with_head : List Entry → List Entry
+with_head [] = []
+with_head (e ∷ es) = record { stream = e.stream; number = e.number; start = e.start; later = e.later; inside = None } ∷ es
+
+-- those from the first one on that begins at a time or later
+abbrev pub entries_from : ℕ → List Entry → List Entry
+entries_from time [] = []
+entries_from time (e ∷ es) = if nat_le time (clock_of e.start) then with_head (e ∷ es) else entries_from time es

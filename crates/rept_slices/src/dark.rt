@@ -20,7 +20,7 @@ ghost use Rattle.rept_slices.specs.declared.reading.Window.{Window};
 use crate::keeping::{later_by, opening};
 use crate::order::{begin_of, process_of, put_in_order};
 use crate::reading::Window;
-use crate::scan::{beyond, first_time};
+use crate::scan::time_beyond;
 use crate::telling::Entry;
 use rept_path::PathFault;
 
@@ -39,7 +39,7 @@ pub fn end_before(slice: &Entry<'_>, next: Option<u64>) -> u64
     requires { (list : List Packet) × Hold (rest_of slice.now.later) list }
     ensures { (t : Told) → IsTold slice.now t → result ≡ end_before t next }
 {
-    let own = lesser(u64::MAX, first_time(beyond(slice.later)));
+    let own = lesser(u64::MAX, time_beyond(slice.later));
     lesser(own, next)
 }
 

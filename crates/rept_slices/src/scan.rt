@@ -1,6 +1,6 @@
 //! What the packets of a stream tell of the times of a slice.
 
-ghost use Rattle.std.specs.Prelude.{◌≡◌, List, drop, not};
+ghost use Rattle.std.specs.Prelude.{◌≡◌, ◌∷◌, List, drop, not};
 ghost use Rattle.std.specs.List.{prefix_len};
 ghost use Rattle.rept_trace.specs.declared.packet.Packet.{Packet};
 ghost use Rattle.rept_trace.specs.Packets.{rest_of};
@@ -33,28 +33,8 @@ pub fn closes(packet: Packet) -> bool
     }
 }
 
-/// The packets of a stream from the one on that ends a slice, from those after the slice's start packet.
-pub fn beyond<'a>(later: Packets<'a>) -> Packets<'a>
-    requires { (list : List Packet) × Hold (rest_of later) list }
-    ensures { (list : List Packet) → Hold (rest_of later.entry) list → Hold (rest_of result) (drop (prefix_len (λ p. not (closes p)) list) list) }
-{
-    let mut rest = later;
-    loop {
-        let mut after = rest;
-        match next_packet(&mut after) {
-            None => return rest,
-            Some(packet) => {
-                if closes(packet) {
-                    return rest;
-                }
-                rest = after;
-            }
-        }
-    }
-}
-
 /// The first time that packets tell.
-pub fn first_time(packets: Packets<'_>) -> Option<u64>
+fn first_time(packets: Packets<'_>) -> Option<u64>
     requires { (list : List Packet) × Hold (rest_of packets) list }
     ensures { (list : List Packet) → Hold (rest_of packets.entry) list → result ≡ first_time list }
 {
@@ -62,6 +42,31 @@ pub fn first_time(packets: Packets<'_>) -> Option<u64>
     while let Some(packet) = next_packet(&mut rest) {
         if let Some(time) = time_of(packet) {
             return Some(time);
+        }
+    }
+    None
+}
+
+/// The first time that a packet and those after it tell.
+fn time_from(packet: Packet, later: Packets<'_>) -> Option<u64>
+    requires { (list : List Packet) × Hold (rest_of later) list }
+    ensures { (list : List Packet) → Hold (rest_of later.entry) list → result ≡ first_time (packet ∷ list) }
+{
+    match time_of(packet) {
+        Some(time) => Some(time),
+        None => first_time(later),
+    }
+}
+
+/// The first time that a stream tells from the packet on that ends a slice, from those after the slice's start packet.
+pub fn time_beyond(later: Packets<'_>) -> Option<u64>
+    requires { (list : List Packet) × Hold (rest_of later) list }
+    ensures { (list : List Packet) → Hold (rest_of later.entry) list → result ≡ first_time (drop (prefix_len (λ p. not (closes p)) list) list) }
+{
+    let mut rest = later;
+    while let Some(packet) = next_packet(&mut rest) {
+        if closes(packet) {
+            return time_from(packet, rest);
         }
     }
     None

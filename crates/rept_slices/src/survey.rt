@@ -50,14 +50,13 @@ fn tell_slices<'a>(alloc: Global, windows: &[Window<'a>]) -> Result<Survey<'a>, 
     ensures err { IfErr result (λ e. e ≡ OutOfMemory) }
 {
     let time = full_from(windows);
-    let told = tell_all(alloc, windows)?;
+    let told = tell_all(alloc, windows, time)?;
     let left = keep_from(alloc, windows, time)?;
-    let slices = tell_all(alloc, &left)?;
     Ok(Survey {
-        windows: told,
+        windows: told.windows,
         time,
         several: several(windows),
-        slices,
+        slices: told.slices,
         packets: packets(windows),
         skipped: skipped(&left),
     })

@@ -1,6 +1,6 @@
 //! The slices that a stream tells, before a row is walked.
 
-ghost use Rattle.std.specs.Prelude.{◌≡◌, ◌++◌, ◌+◌, ◌<◌, ◌^◌, ◌∷◌, [], List, ℕ, length, None, OnOk, IfOk, IfErr, if◌then◌else◌};
+ghost use Rattle.std.specs.Prelude.{◌≡◌, ◌++◌, ◌+◌, ◌<◌, ◌^◌, ◌∷◌, [], List, ℕ, length, map, None, OnOk, IfOk, IfErr, if◌then◌else◌};
 ghost use Rattle.rept_trace.specs.declared.packet.Packet.{Packet};
 ghost use Rattle.rept_trace.specs.Packets.{rest_of};
 ghost use Rattle.rept_trace.specs.Stream.{Hold};
@@ -8,9 +8,11 @@ ghost use Rattle.rept_path.specs.declared.fault.PathFault.TheVariants.{OutOfMemo
 ghost use Rattle.rept_slices.specs.Stamps.{is_start, running_after};
 ghost use Rattle.rept_slices.specs.Lefts.{IsLeft, AreLeft};
 ghost use Rattle.rept_slices.specs.Parts.{Left, told_from, told_in, told};
-ghost use Rattle.rept_slices.specs.Entries.{AreTold};
+ghost use Rattle.rept_slices.specs.Entries.{AreTold, with_head, entries_from};
+ghost use Rattle.rept_slices.specs.Skipping.{from_time};
 ghost use Rattle.rept_slices.specs.declared.telling.Entry.{Entry};
 
+use crate::keeping::clock_of;
 use crate::reading::Window;
 use rept_path::PathFault;
 use rept_path::window::next_packet;
@@ -123,15 +125,93 @@ fn tell_window<'a>(entries: &mut Vec<Entry<'a>>, window: &Window<'a>) -> Result<
     }
 }
 
-/// The slices of what is left of several streams: stream by stream, in the order of their start packets.
-pub fn tell_all<'a>(alloc: Global, windows: &[Window<'a>]) -> Result<Vec<Entry<'a>>, PathFault>
-    requires { (lefts : List Left) × AreLeft windows.now lefts }
-    ensures ok { (lefts : List Left) → AreLeft windows.now lefts → IfOk result (λ entries. AreTold entries.items (told lefts)) }
+/// Adds slices of a stream, the first one as it is where nothing before it is known.
+fn add_left<'a>(entries: &mut Vec<Entry<'a>>, slices: &[Entry<'a>]) -> Result<(), PathFault>
+    ensures ok { OnOk result (entries.new.items ≡ entries.old.items ++ with_head slices.now) }
     ensures err { IfErr result (λ e. e ≡ OutOfMemory) }
 {
-    let mut entries = Vec::new(alloc);
-    for window in windows {
-        tell_window(&mut entries, window)?;
+    let Some((first, later)) = slices.split_first() else {
+        return Ok(());
+    };
+    let first = Entry {
+        stream: first.stream,
+        number: first.number,
+        start: first.start,
+        later: first.later,
+        inside: None,
+    };
+    if let Err(_) = entries.push(first) {
+        return Err(PathFault::OutOfMemory);
     }
-    Ok(entries)
+    if let Err(_) = entries.extend_from_slice(later) {
+        return Err(PathFault::OutOfMemory);
+    }
+    Ok(())
+}
+
+/// Adds the slices of a stream from the first one on that begins at this time or a later one.
+fn add_from<'a>(
+    entries: &mut Vec<Entry<'a>>,
+    slices: &[Entry<'a>],
+    time: u64,
+) -> Result<(), PathFault>
+    ensures ok { OnOk result (entries.new.items ≡ entries.old.items ++ entries_from time slices.now) }
+    ensures err { IfErr result (λ e. e ≡ OutOfMemory) }
+{
+    for i in 0..slices.len() {
+        if time <= clock_of(slices[i].start) {
+            return add_left(entries, &slices[i..]);
+        }
+    }
+    Ok(())
+}
+
+/// The slices of streams.
+#[derive(Drop)]
+pub struct Tellings<'a> {
+    /// Those of the windows of all streams.
+    pub windows: Vec<Entry<'a>>,
+    /// Those that are left from a time on.
+    pub slices: Vec<Entry<'a>>,
+}
+
+/// Adds the slices of what is left of a stream, and those that are left of them from this time on.
+fn tell_both<'a>(
+    both: &mut Tellings<'a>,
+    alloc: Global,
+    window: &Window<'a>,
+    time: u64,
+) -> Result<(), PathFault>
+    requires { (l : Left) × IsLeft window.now l }
+    ensures ok { (l : Left) → IsLeft window.now l → OnOk result ((more : List Entry) × (both.new.windows.items ≡ both.old.windows.items ++ more) × (both.new.slices.items ≡ both.old.slices.items ++ entries_from time more) × AreTold more (told_in l)) }
+    ensures err { IfErr result (λ e. e ≡ OutOfMemory) }
+{
+    let mut own = Vec::new(alloc);
+    tell_window(&mut own, window)?;
+    if let Err(_) = both.windows.extend_from_slice(own.as_slice()) {
+        return Err(PathFault::OutOfMemory);
+    }
+    add_from(&mut both.slices, own.as_slice(), time)?;
+    Ok(())
+}
+
+/// The slices of what is left of several streams, and those that are left of them from this time on: stream by stream, in the order of their start packets. Each packet is read once.
+pub fn tell_all<'a>(
+    alloc: Global,
+    windows: &[Window<'a>],
+    time: u64,
+) -> Result<Tellings<'a>, PathFault>
+    requires { (lefts : List Left) × AreLeft windows.now lefts }
+    ensures ok { (lefts : List Left) → AreLeft windows.now lefts → IfOk result (λ both. AreTold both.windows.items (told lefts)) }
+    ensures left { (lefts : List Left) → AreLeft windows.now lefts → IfOk result (λ both. AreTold both.slices.items (told (map (from_time time) lefts))) }
+    ensures err { IfErr result (λ e. e ≡ OutOfMemory) }
+{
+    let mut both = Tellings {
+        windows: Vec::new(alloc),
+        slices: Vec::new(alloc),
+    };
+    for window in windows {
+        tell_both(&mut both, alloc, window, time)?;
+    }
+    Ok(both)
 }
