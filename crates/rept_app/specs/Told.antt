@@ -54,8 +54,8 @@ route_of p = route p.means p.crash p.path.steps
 abbrev pub setting_of : {W : Type 0} → CrashPath W → Setting W
 setting_of p = setting p.means p.crash p.path.steps
 
--- what a session tells by: the report of the path, an order in which it was learnt, the program counter of the note, the functions that the
--- program's files name, and the count of packets that were left out
+-- what a session tells by: the report of the path, an order in which it was learnt, the program counter and the process of the note, the functions that
+-- the program's files name, and the count of packets that were left out
 pub record IsAccountOf {W : Type 0} (p : CrashPath W) (a : Account) : Type 0 where
   pub report : IsReport (setting_of p) a.known
   pub log : IsLogOf (setting_of p) a.known a.log

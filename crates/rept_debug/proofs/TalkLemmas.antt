@@ -14,8 +14,7 @@ use Rattle.rept_found.specs.Crash.{Crash, Means, crash_of, route, scene_of}
 use Rattle.rept_found.specs.Telling.{told_of}
 use Rattle.rept_found.specs.Truth.{HasNoExecution}
 use Rattle.rept_found.specs.View.{View, IsFoundIn, state_in}
-use Rattle.rept_dialog.specs.Converse.{Scene, Converses}
-use Rattle.rept_dialog.specs.Dialog.{start_at}
+use Rattle.rept_dialog.specs.Converse.{Scene, Converses, scene_over}
 use Rattle.rept_dialog.specs.declared.conversation.Conversed.{Conversed}
 use Rattle.rept_app.proofs.StudyLemmas.{account_of}
 use Rattle.rept_app.specs.Loading.{crash_bytes}
@@ -28,7 +27,7 @@ use Rattle.rept_debug.specs.declared.debugging.Talk.{Talk}
 
 module _ {W R : Type 0} (m : Means W) (v : View W R) (crash : Crash) (path : Path) (found : IsFoundIn m (route m crash path.steps) (scene_of crash) v) where
   abbrev scene_on : AnalysedPath W → ℕ → Scene
-  scene_on P signal = record { told = told_of P (account_of m v crash path found); signal = signal; start = start_at (length P.given.rows) }
+  scene_on P signal = scene_over (told_of P (account_of m v crash path found)) signal
 
   pub talks_over : (signal : ℕ) (source sink : Move Port) (end : Conversed) → signal ≡ half_at crash.note 12 → Converses (scene_on (state_in m v).path signal) source sink end → TalksOver (crash_path m crash path) source sink end
   talks_over signal source sink end is h = record {

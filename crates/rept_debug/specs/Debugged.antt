@@ -1,5 +1,5 @@
 -- A dialog over the report of a crash, and why there is none. This project's own.
-use Rattle.std.specs.Prelude.{◌≡◌, ◌⊎◌, ℕ, List, [], ◌∷◌, ◌++◌, length, codes}
+use Rattle.std.specs.Prelude.{◌≡◌, ◌⊎◌, ℕ, List, [], ◌∷◌, ◌++◌, codes}
 use Rattle.std.specs.Fmt.{decimal}
 use Rattle.std.specs.Io.KnownBytes.{Appends}
 use Rattle.rept_elf.specs.Header.{half_at}
@@ -14,8 +14,7 @@ use Rattle.rept_analysis.specs.declared.stop.Stop.{Stop}
 use Rattle.rept_analysis.specs.declared.stop.Stop.TheVariants as stop
 use Rattle.rept_found.specs.Telling.{Account, told_of}
 use Rattle.rept_found.specs.Truth.{HasNoExecution, IsTrueReport}
-use Rattle.rept_dialog.specs.Converse.{Scene, Converses}
-use Rattle.rept_dialog.specs.Dialog.{start_at}
+use Rattle.rept_dialog.specs.Converse.{Scene, Converses, scene_over}
 use Rattle.rept_dialog.specs.declared.conversation.Conversed.{Conversed}
 use Rattle.rept_app.specs.Lines.{status_of}
 use Rattle.rept_app.specs.Loading.{CrashBytes, ComesTo, MatchLoading, loading, loads_to}
@@ -58,9 +57,9 @@ abbrev pub Notices : Move Port → Type 0
 Notices errors = (errors.after ≡ errors.before) ⊎ ((from : ℕ) × IsWritten from errors)
 
 -- who talks: what a session tells of an account of the path; the signal of the register note (`pr_cursig` of `struct elf_prstatus`, at 12); and
--- a debugger that stands at the last point
+-- a debugger that stands at the end
 abbrev pub dialog_over : {W : Type 0} → CrashPath W → Account → Scene
-dialog_over p a = record { told = told_of (route_of p) a; signal = half_at p.crash.note 12; start = start_at (length p.path.steps) }
+dialog_over p a = scene_over (told_of (route_of p) a) (half_at p.crash.note 12)
 
 -- what arrived was answered over an account of the path
 pub record TalksOver {W : Type 0} (p : CrashPath W) (source sink : Move Port) (end : Conversed) : Type 0 where

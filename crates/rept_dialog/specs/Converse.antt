@@ -1,5 +1,5 @@
 -- A whole dialog over an input and an output, and how it ends. This project's own.
-use Rattle.std.specs.Prelude.{◌≡◌, ℕ, List, [], ◌++◌, length, Bool, true, false}
+use Rattle.std.specs.Prelude.{◌≡◌, ◌⊎◌, ℕ, List, [], ◌++◌, length, Bool, true, false}
 use Rattle.std.specs.Io.KnownBytes.{Appends, Consumes}
 use Rattle.rept_ports.specs.Causes.{OneFault, AppendsPrefix}
 use Rattle.rept_ports.specs.Port.{Port, Move, move}
@@ -7,7 +7,7 @@ use Rattle.rept_remote.specs.Frames.{Arrived, Arrives}
 use Rattle.rept_remote.specs.Reading.{Stops, taking}
 use Rattle.rept_remote.specs.declared.arrival.Ending.{Ending}
 use Rattle.rept_session.specs.Shown.{Told}
-use Rattle.rept_dialog.specs.Dialog.{IsTurn, Talks}
+use Rattle.rept_dialog.specs.Dialog.{IsTurn, Talks, start_at}
 use Rattle.rept_dialog.specs.declared.turn.Dialog.{Dialog}
 use Rattle.rept_dialog.specs.declared.conversation.Conversed.{Conversed}
 use Rattle.rept_dialog.specs.declared.conversation.Conversed.TheVariants as conversed
@@ -17,6 +17,10 @@ pub record Scene : Type 1 where
   pub told : Told
   pub signal : ℕ
   pub start : Dialog
+
+-- a dialog that begins over what is told
+abbrev pub scene_over : Told → ℕ → Scene
+scene_over t signal = record { told = t; signal = signal; start = start_at t.shown }
 
 -- the bytes that were taken of an input and those that were written to an output, neither of which failed, are those of the arrivals so far and of
 -- what was written at each
@@ -68,8 +72,12 @@ pub record Broke (scene : Scene) (source sink : Move Port) : Type 0 where
   pub wrote : AppendsPrefix before.bytes sink.after.bytes text
   pub fault : OneFault before.faults sink.after.faults
 
+-- Memory ran out for the answer to an arrival; or for the cursors, before the first one.
+abbrev pub Stopped : Scene → Move Port → Move Port → Type 0
+Stopped scene source sink = Arrival scene source sink ⊎ ((source.after ≡ source.before) × (sink.after ≡ sink.before))
+
 abbrev pub Converses : Scene → Move Port → Move Port → Conversed → Type 0
 Converses scene source sink conversed.Left = Left scene source sink
 Converses scene source sink (conversed.Ended why) = Ended scene source sink why
 Converses scene source sink conversed.OutputFault = Broke scene source sink
-Converses scene source sink conversed.OutOfMemory = Arrival scene source sink
+Converses scene source sink conversed.OutOfMemory = Stopped scene source sink

@@ -7,14 +7,15 @@ use Rattle.rept_remote.specs.Frames.Arrived.{packet, broken, large, again, inter
 use Rattle.rept_request.specs.Requests.{request_of}
 use Rattle.rept_request.specs.declared.request.Request.{Request}
 use Rattle.rept_request.specs.declared.request.Request.TheVariants as request
-use Rattle.rept_session.specs.Shown.{Told}
+use Rattle.rept_session.specs.Shown.{Shown, Told}
 use Rattle.rept_stub.specs.Answers.{IsAnswer, stand_after}
 use Rattle.rept_stub.specs.Replies.{error}
+use Rattle.rept_stub.specs.Standing.{start_of}
 use Rattle.rept_dialog.specs.declared.turn.Dialog.{Dialog}
 
--- a dialog as it begins, at this point and without breakpoints
-abbrev pub start_at : ℕ → Dialog
-start_at point = record { stand = record { point = point; spots = record { breaks = []; regions = [] } }; acknowledges = true; last = []; is_over = false }
+-- a dialog as it begins, with each thread's cursor at its last point, thread 0 selected, and no breakpoints
+abbrev pub start_at : Shown → Dialog
+start_at s = record { stand = start_of s (record { breaks = []; regions = [] }); acknowledges = true; last = []; is_over = false }
 
 -- packets are acknowledged until the debugger asks for none
 abbrev pub acknowledges_after : Bool → Request → Bool

@@ -1,12 +1,13 @@
 //! The loop over what arrives.
 
-ghost use Rattle.std.specs.Prelude.{◌≡◌, length};
+ghost use Rattle.std.specs.Prelude.{◌≡◌};
 ghost use Rattle.rept_ports.specs.Port.{move};
 ghost use Rattle.rept_session.specs.Shown.{SameReasons, told};
-ghost use Rattle.rept_dialog.specs.Converse.{Converses};
+ghost use Rattle.rept_stub.specs.Standing.{IsStanding};
+ghost use Rattle.rept_dialog.specs.Converse.{Converses, scene_over};
 ghost use Rattle.rept_dialog.specs.Dialog.{start_at};
 
-use crate::turn::{begin, take_turn};
+use crate::turn::{Dialog, begin, take_turn};
 use rept_ports::{Sink, Source, write_all};
 use rept_remote::{Ending, Packets};
 use rept_session::Findings;
@@ -26,7 +27,7 @@ pub enum Conversed {
     OutOfMemory,
 }
 
-/// Answers what arrives, each before the next one is read, with the debugger at the last point first. In each case the findings stay as they
+/// Answers what arrives, each before the next one is read, with each thread's cursor at its last point first. In each case the findings stay as they
 /// were.
 pub fn converse<F: Findings, S: Source, K: Sink>(
     alloc: Global,
@@ -35,11 +36,32 @@ pub fn converse<F: Findings, S: Source, K: Sink>(
     input: &mut S,
     out: &mut K,
 ) -> Conversed
-    ensures talk { Converses (record { told = told (F.shown findings.old) setting.skipped (F.reasons findings.old); signal = setting.signal; start = start_at (length (F.shown findings.old).rows) }) (move (S.port input.old) (S.port input.new)) (move (K.port out.old) (K.port out.new)) result }
+    ensures talk { Converses (scene_over (told (F.shown findings.old) setting.skipped (F.reasons findings.old)) setting.signal) (move (S.port input.old) (S.port input.new)) (move (K.port out.old) (K.port out.new)) result }
     ensures same { F.shown findings.new ≡ F.shown findings.old }
     ensures same_reasons { SameReasons (F.reasons findings.old) (F.reasons findings.new) }
 {
-    let mut dialog = begin(alloc, findings.rows().len() as u32);
+    match begin(alloc, findings) {
+        Ok(dialog) => converse_on(alloc, findings, setting, dialog, input, out),
+        Err(_) => Conversed::OutOfMemory,
+    }
+}
+
+/// The same of a dialog that begins.
+fn converse_on<F: Findings, S: Source, K: Sink>(
+    alloc: Global,
+    findings: &mut F,
+    setting: Setting,
+    start: Dialog,
+    input: &mut S,
+    out: &mut K,
+) -> Conversed
+    requires start { start ≡ start_at (F.shown findings.old) }
+    requires within { IsStanding (F.shown findings.old) start.stand }
+    ensures talk { Converses (scene_over (told (F.shown findings.old) setting.skipped (F.reasons findings.old)) setting.signal) (move (S.port input.old) (S.port input.new)) (move (K.port out.old) (K.port out.new)) result }
+    ensures same { F.shown findings.new ≡ F.shown findings.old }
+    ensures same_reasons { SameReasons (F.reasons findings.old) (F.reasons findings.new) }
+{
+    let mut dialog = start;
     let mut packets = Packets::new();
     'dialog: loop {
         let arrival = match packets.next(input) {

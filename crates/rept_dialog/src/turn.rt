@@ -1,16 +1,17 @@
 //! One arrival, and what is written then.
 
-ghost use Rattle.std.specs.Prelude.{◌≡◌, ◌≤◌, ◌++◌, [], length, codes, IfOk, OnOk, if◌then◌else◌};
+ghost use Rattle.std.specs.Prelude.{◌≡◌, ◌++◌, [], codes, IfOk, OnOk, if◌then◌else◌};
 ghost use Rattle.rept_remote.specs.Escapes.{packet_of};
 ghost use Rattle.rept_remote.specs.Frames.{arrived};
 ghost use Rattle.rept_remote.specs.Frames.Arrived.{packet};
 ghost use Rattle.rept_session.specs.Shown.{SameReasons, told};
+ghost use Rattle.rept_stub.specs.Standing.{IsStanding};
 ghost use Rattle.rept_dialog.specs.Dialog.{IsTurn, acknowledges_after, is_last, sign, start_at, written_to};
 
 use rept_remote::{Arrival, push_packet};
 use rept_request::{Request, parse};
 use rept_session::Findings;
-use rept_stub::{Setting, Spots, Stand, answer_packet};
+use rept_stub::{Setting, Stand, answer_packet, start};
 use rept_word::{OutOfMemory, Text};
 use std::alloc::Global;
 
@@ -27,19 +28,18 @@ pub struct Dialog {
     pub is_over: bool,
 }
 
-/// A dialog that begins at a point, without breakpoints.
-pub fn begin(alloc: Global, point: u32) -> Dialog
-    ensures { result ≡ start_at point }
+/// A dialog that begins, with each thread's cursor at its last point and without breakpoints. The only refusal is out of memory.
+pub fn begin<F: Findings>(alloc: Global, findings: &F) -> Result<Dialog, OutOfMemory>
+    ensures dialog { IfOk result (λ dialog. dialog ≡ start_at (F.shown findings.now)) }
+    ensures within { IfOk result (λ dialog. IsStanding (F.shown findings.now) dialog.stand) }
 {
-    Dialog {
-        stand: Stand {
-            point,
-            spots: Spots::new(alloc),
-        },
+    let stand = start(alloc, findings)?;
+    Ok(Dialog {
+        stand,
         acknowledges: true,
         last: Text::new(alloc),
         is_over: false,
-    }
+    })
 }
 
 /// What is written at an arrival. The only refusal is out of memory. In each case the findings stay as they were.
@@ -51,9 +51,9 @@ pub fn take_turn<F: Findings>(
     arrival: Arrival,
     carried: &[u8],
 ) -> Result<Text, OutOfMemory>
-    requires { dialog.old.stand.point ≤ length (F.shown findings.old).rows }
+    requires { IsStanding (F.shown findings.old) dialog.old.stand }
     ensures turn { IfOk result (λ text. IsTurn (told (F.shown findings.old) setting.skipped (F.reasons findings.old)) setting.signal dialog.old (arrived arrival carried.now) text dialog.new) }
-    ensures within { dialog.new.stand.point ≤ length (F.shown findings.old).rows }
+    ensures within { IsStanding (F.shown findings.old) dialog.new.stand }
     ensures same { F.shown findings.new ≡ F.shown findings.old }
     ensures same_reasons { SameReasons (F.reasons findings.old) (F.reasons findings.new) }
 {
@@ -74,9 +74,9 @@ fn answer<F: Findings>(
     dialog: &mut Dialog,
     carried: &[u8],
 ) -> Result<Text, OutOfMemory>
-    requires { dialog.old.stand.point ≤ length (F.shown findings.old).rows }
+    requires { IsStanding (F.shown findings.old) dialog.old.stand }
     ensures turn { IfOk result (λ text. IsTurn (told (F.shown findings.old) setting.skipped (F.reasons findings.old)) setting.signal dialog.old (packet carried.now) text dialog.new) }
-    ensures within { dialog.new.stand.point ≤ length (F.shown findings.old).rows }
+    ensures within { IsStanding (F.shown findings.old) dialog.new.stand }
     ensures same { F.shown findings.new ≡ F.shown findings.old }
     ensures same_reasons { SameReasons (F.reasons findings.old) (F.reasons findings.new) }
 {

@@ -27,13 +27,19 @@ crash_of dump = record { exe = exe_of dump; core = core_of dump; note = register
 abbrev pub end_pc : List ℕ → ℕ
 end_pc note = word_at note 72
 
--- what a session tells of a crash besides what follows: the address after the last step, and the functions that the program's files name
+-- the process in it
+abbrev pub process : List ℕ → ℕ
+process note = word_at note 24
+
+-- what a session tells of a crash besides what follows: the address after the last step, the process, and the functions that the
+-- program's files name
 pub record Scene : Type 0 where
   pub end_pc : ℕ
+  pub process : ℕ
   pub program : Program
 
 abbrev pub scene_of : Crash → Scene
-scene_of crash = record { end_pc = end_pc crash.note; program = crash.exe }
+scene_of crash = record { end_pc = end_pc crash.note; process = process crash.note; program = crash.exe }
 
 -- the last value of a register
 abbrev pub last_value : List ℕ → ℕ → ℕ

@@ -1,5 +1,5 @@
 -- What a session tells of a report: what is known, and what follows from it. This project's own.
-use Rattle.std.specs.Prelude.{ℕ, zero, suc, ◌+◌, true, false, List, Option, Some, None, if◌then◌else◌}
+use Rattle.std.specs.Prelude.{ℕ, zero, suc, ◌+◌, true, false, List, length, Option, Some, None, if◌then◌else◌}
 use Rattle.rept_reason.specs.declared.fact.Fact.{Fact}
 use Rattle.rept_reason.specs.declared.fact.Cell.TheVariants.{Byte}
 use Rattle.rept_reason.specs.Facts.{Knowledge, register_known}
@@ -14,6 +14,7 @@ use Rattle.rept_report.specs.Why.{IsReason}
 use Rattle.rept_analysis.specs.Counts.{calls_below, stores_below, known_below}
 use Rattle.rept_analysis.specs.State.{Path, along}
 use Rattle.rept_session.specs.Shown.{Shown, Told, told}
+use Rattle.rept_session.specs.declared.place.Place.TheVariants as places
 use Rattle.rept_dump.specs.Program.{contents}
 use Rattle.rept_found.specs.Crash.{Scene}
 
@@ -41,11 +42,19 @@ counts_of S K = record {
   inexact = stores_below S.legs K false S.legs.count;
 }
 
--- what is shown of a report of a path, where it ends in such a crash
+-- what is shown of a report of a path, where it ends in such a crash: a run of one thread, whose points and moments are one
 abbrev pub shown_of : {W : Type 0} → Path W → Knowledge → Scene → Shown
 shown_of P K scene = record {
-  rows = P.given.rows;
-  end_pc = scene.end_pc;
+  threads = 1;
+  process = λ t. scene.process;
+  rows = λ t. P.given.rows;
+  end_pc = λ t. scene.end_pc;
+  first = λ t. 0;
+  points = length P.given.rows + 1;
+  point = λ p. record { thread = 0; point = p };
+  moments = length P.given.rows + 1;
+  moment = λ p. p;
+  place = λ m. record { thread = 0; place = places.Point m };
   register = register_known K;
   range = λ p r. bounds P.sets (range (way_of (along P)) K p r);
   note = λ p r. noted P.moves (range (way_of (along P)) K p r);

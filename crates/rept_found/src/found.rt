@@ -25,6 +25,7 @@ use std::marker::Model;
 pub struct Found<'a, W: Transfer, R: RowRules> {
     pub(crate) analysis: Analysis<'a, SpanFacts, W, R>,
     pub(crate) end_pc: u32,
+    pub(crate) process: u32,
     pub(crate) dump: &'a Dump<'a>,
 }
 
@@ -35,7 +36,7 @@ impl<'a, W: Transfer, R: RowRules> Model for Found<'a, W, R> {
 
     ghost Value = { View W R };
 
-    ghost view = { λ f. record { analysis = f.analysis; scene = record { end_pc = f.end_pc; program = exe_of f.dump.now } } };
+    ghost view = { λ f. record { analysis = f.analysis; scene = record { end_pc = f.end_pc; process = f.process; program = exe_of f.dump.now } } };
 
     ghost invariant = { λ f. (f.analysis.complete ≡ true) × (length f.analysis.rows ≤ 65536) };
 }
@@ -65,6 +66,7 @@ pub fn search<'a, W: Transfer, R: RowRules>(
             Ok(Found {
                 analysis,
                 end_pc: status.pc,
+                process: status.pid,
                 dump,
             })
         }

@@ -6,7 +6,7 @@ use rept_isa::{Reg, StepRow};
 use rept_partial::{Flat, Range};
 use rept_reason::{Fact, Reason};
 use rept_report::{Counts, Writer, bounds};
-use rept_session::Findings;
+use rept_session::{Findings, Place, ThreadPlace, ThreadPoint};
 use rept_span::Transfer;
 use rept_view::RowRules;
 use rept_word::OutOfMemory;
@@ -24,13 +24,48 @@ impl<'a, W: Transfer, R: RowRules> Findings for Found<'a, W, R> {
 
     ghost reasons = { λ f fact why. IsReason (along (state_in (means W.sets W.moves R.rules) f).path) (state_in (means W.sets W.moves R.rules) f).known.log fact why };
 
-    fn rows(&self) -> &[StepRow] {
+    fn threads(&self) -> u32 {
+        1
+    }
+
+    fn process(&self, _thread: u32) -> u32 {
+        self.process
+    }
+
+    fn rows(&self, _thread: u32) -> &[StepRow] {
         self.analysis.account();
         self.analysis.rows()
     }
 
-    fn end_pc(&self) -> u32 {
+    fn end_pc(&self, _thread: u32) -> u32 {
         self.end_pc
+    }
+
+    fn first(&self, _thread: u32) -> u32 {
+        0
+    }
+
+    fn points(&self) -> u32 {
+        self.analysis.account();
+        self.analysis.rows().len() as u32 + 1
+    }
+
+    fn point(&self, number: u32) -> ThreadPoint {
+        ThreadPoint {
+            thread: 0,
+            point: number,
+        }
+    }
+
+    fn moment(&self, point: u32) -> u32 {
+        point
+    }
+
+    fn place(&self, moment: u32) -> ThreadPlace {
+        ThreadPlace {
+            thread: 0,
+            place: Place::Point(moment),
+        }
     }
 
     fn reg(&self, point: u32, register: Reg) -> Option<u32> {
@@ -49,20 +84,24 @@ impl<'a, W: Transfer, R: RowRules> Findings for Found<'a, W, R> {
         self.analysis.range(point, register).note()
     }
 
-    fn byte(&self, point: u32, address: u32) -> Option<u8> {
-        self.analysis.byte(point, address)
+    fn byte(&self, moment: u32, address: u32) -> Option<u8> {
+        self.analysis.byte(moment, address)
     }
 
-    fn writer(&self, point: u32, address: u32) -> Writer {
-        self.analysis.writer(point, address)
+    fn writer(&self, moment: u32, address: u32) -> Writer {
+        self.analysis.writer(moment, address)
     }
 
     fn counts(&self) -> Counts {
         self.analysis.counts()
     }
 
-    fn symbol(&self, address: u32) -> Option<Symbol<'_>> {
-        self.dump.symbol(address)
+    fn symbols(
+        &self,
+        alloc: Global,
+        addresses: &[u32],
+    ) -> Result<Vec<Option<Symbol<'_>>>, OutOfMemory> {
+        self.dump.symbols(alloc, addresses)
     }
 
     fn why(&mut self, alloc: Global, fact: Fact) -> Result<Option<Reason>, OutOfMemory> {

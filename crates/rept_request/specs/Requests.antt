@@ -5,23 +5,27 @@ use Rattle.std.specs.List.{starts_with}
 use Rattle.std.specs.Option.{option_or}
 use Rattle.std.specs.Str.{bytes_eq}
 use Rattle.rept_request.specs.Numbers.{number_of, pair_of}
+use Rattle.rept_request.specs.Names.{acted_thread, thread_after}
 use Rattle.rept_request.specs.declared.request.Request.{Request}
 use Rattle.rept_request.specs.declared.request.Request.TheVariants as request
+use Rattle.rept_request.specs.declared.request.Way.{Way}
+use Rattle.rept_request.specs.declared.request.Way.TheVariants as way
+use Rattle.rept_request.specs.declared.request.ThreadName.TheVariants as name
 use Rattle.rept_request.specs.declared.parser.Spot.{Spot}
 use Rattle.rept_request.specs.declared.parser.Spot.TheVariants as spot
 
 -- packets that move
 abbrev pub move_named : List ℕ → Option Request
 move_named packet =
-    if bytes_eq packet (codes "s") then Some request.Step
-    else if bytes_eq packet (codes "c") then Some request.Continue
-    else if bytes_eq packet (codes "bs") then Some request.StepBack
-    else if bytes_eq packet (codes "bc") then Some request.ContinueBack
+    if bytes_eq packet (codes "s") then Some (request.Move way.Step name.Selected)
+    else if bytes_eq packet (codes "c") then Some (request.Move way.Continue name.Selected)
+    else if bytes_eq packet (codes "bs") then Some (request.Move way.StepBack name.Selected)
+    else if bytes_eq packet (codes "bc") then Some (request.Move way.ContinueBack name.Selected)
     else if bytes_eq packet (codes "D") then Some request.Detach
     else if bytes_eq packet (codes "k") then Some request.Kill
     else None
 
--- packets that ask for something of the one thread
+-- packets that ask for something of what stands there
 abbrev pub query_named : List ℕ → Option Request
 query_named packet =
     if bytes_eq packet (codes "?") then Some request.Reason
@@ -36,24 +40,35 @@ query_named packet =
 abbrev pub has_prefix : List ℕ → List ℕ → Bool
 has_prefix packet front = starts_with nat_eq packet front
 
+-- a move that `vCont;` asks for
+abbrev pub acted : List ℕ → Way → Request
+acted packet way = request.Move way (acted_thread packet)
+
 -- packets that are known by how they begin
 abbrev pub move_begun : List ℕ → Option Request
 move_begun packet =
-    if has_prefix packet (codes "vCont;s") then Some request.Step
-    else if has_prefix packet (codes "vCont;S") then Some request.Step
-    else if has_prefix packet (codes "vCont;r") then Some request.Step
-    else if has_prefix packet (codes "vCont;c") then Some request.Continue
-    else if has_prefix packet (codes "vCont;C") then Some request.Continue
+    if has_prefix packet (codes "vCont;s") then Some (acted packet way.Step)
+    else if has_prefix packet (codes "vCont;S") then Some (acted packet way.Step)
+    else if has_prefix packet (codes "vCont;r") then Some (acted packet way.Step)
+    else if has_prefix packet (codes "vCont;c") then Some (acted packet way.Continue)
+    else if has_prefix packet (codes "vCont;C") then Some (acted packet way.Continue)
     else None
 
 abbrev pub query_begun : List ℕ → Option Request
 query_begun packet =
     if has_prefix packet (codes "qSupported") then Some request.Features
     else if has_prefix packet (codes "qAttached") then Some request.Attached
-    else if has_prefix packet (codes "qThreadExtraInfo,") then Some request.ThreadText
+    else if has_prefix packet (codes "qThreadExtraInfo,") then Some (request.ThreadText (thread_after 17 packet))
     else if has_prefix packet (codes "qRcmd,") then Some request.Monitor
-    else if has_prefix packet (codes "H") then Some request.SelectThread
-    else if has_prefix packet (codes "T") then Some request.IsAlive
+    else None
+
+-- packets that name a thread
+abbrev pub thread_begun : List ℕ → Option Request
+thread_begun packet =
+    if has_prefix packet (codes "Hg") then Some (request.SelectThread (thread_after 2 packet))
+    else if has_prefix packet (codes "Hc") then Some (request.SelectMoving (thread_after 2 packet))
+    else if has_prefix packet (codes "H") then Some (request.SelectThread name.Unreadable)
+    else if has_prefix packet (codes "T") then Some (request.IsAlive (thread_after 1 packet))
     else None
 
 abbrev pub change_begun : List ℕ → Option Request
@@ -112,7 +127,7 @@ abbrev pub numbered_or_part : List ℕ → Request
 numbered_or_part packet = if is_part packet then with_pair request.Description (pair_of (drop 31 packet)) else lettered packet
 
 abbrev pub named : List ℕ → Option Request
-named packet = option_or (move_named packet) (option_or (query_named packet) (option_or (move_begun packet) (option_or (query_begun packet) (change_begun packet))))
+named packet = option_or (move_named packet) (option_or (query_named packet) (option_or (move_begun packet) (option_or (query_begun packet) (option_or (thread_begun packet) (change_begun packet)))))
 
 abbrev pub request_by : Option Request → List ℕ → Request
 request_by None packet = numbered_or_part packet

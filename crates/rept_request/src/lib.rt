@@ -2,9 +2,10 @@
 #![tactic(auto)]
 
 mod named;
+mod names;
 mod numbers;
 mod parser;
 pub mod request;
 
 pub use parser::parse;
-pub use request::Request;
+pub use request::{Request, ThreadName, Way};

@@ -1,22 +1,23 @@
 //! Packets that are known by a word.
 
 ghost use Rattle.std.specs.Prelude.{◌≡◌};
-ghost use Rattle.rept_request.specs.Requests.{change_begun, move_begun, move_named, query_begun, query_named};
+ghost use Rattle.rept_request.specs.Requests.{acted, change_begun, move_begun, move_named, query_begun, query_named, thread_begun};
 
-use crate::request::Request;
+use crate::names::{acted_thread, thread_after};
+use crate::request::{Request, ThreadName, Way};
 
 /// Packets that move.
 pub fn move_named(packet: &[u8]) -> Option<Request>
     ensures { result ≡ move_named packet.now }
 {
     if packet == b"s".as_slice() {
-        Some(Request::Step)
+        Some(Request::Move(Way::Step, ThreadName::Selected))
     } else if packet == b"c".as_slice() {
-        Some(Request::Continue)
+        Some(Request::Move(Way::Continue, ThreadName::Selected))
     } else if packet == b"bs".as_slice() {
-        Some(Request::StepBack)
+        Some(Request::Move(Way::StepBack, ThreadName::Selected))
     } else if packet == b"bc".as_slice() {
-        Some(Request::ContinueBack)
+        Some(Request::Move(Way::ContinueBack, ThreadName::Selected))
     } else if packet == b"D".as_slice() {
         Some(Request::Detach)
     } else if packet == b"k".as_slice() {
@@ -26,7 +27,7 @@ pub fn move_named(packet: &[u8]) -> Option<Request>
     }
 }
 
-/// Packets that ask for something of the one thread.
+/// Packets that ask for something of what stands there.
 pub fn query_named(packet: &[u8]) -> Option<Request>
     ensures { result ≡ query_named packet.now }
 {
@@ -49,20 +50,27 @@ pub fn query_named(packet: &[u8]) -> Option<Request>
     }
 }
 
+/// A move that `vCont;` asks for.
+fn acted(packet: &[u8], way: Way) -> Request
+    ensures { result ≡ acted packet.now way }
+{
+    Request::Move(way, acted_thread(packet))
+}
+
 /// Packets that move, by how they begin.
 pub fn move_begun(packet: &[u8]) -> Option<Request>
     ensures { result ≡ move_begun packet.now }
 {
     if packet.starts_with(b"vCont;s") {
-        Some(Request::Step)
+        Some(acted(packet, Way::Step))
     } else if packet.starts_with(b"vCont;S") {
-        Some(Request::Step)
+        Some(acted(packet, Way::Step))
     } else if packet.starts_with(b"vCont;r") {
-        Some(Request::Step)
+        Some(acted(packet, Way::Step))
     } else if packet.starts_with(b"vCont;c") {
-        Some(Request::Continue)
+        Some(acted(packet, Way::Continue))
     } else if packet.starts_with(b"vCont;C") {
-        Some(Request::Continue)
+        Some(acted(packet, Way::Continue))
     } else {
         None
     }
@@ -77,13 +85,26 @@ pub fn query_begun(packet: &[u8]) -> Option<Request>
     } else if packet.starts_with(b"qAttached") {
         Some(Request::Attached)
     } else if packet.starts_with(b"qThreadExtraInfo,") {
-        Some(Request::ThreadText)
+        Some(Request::ThreadText(thread_after(17, packet)))
     } else if packet.starts_with(b"qRcmd,") {
         Some(Request::Monitor)
+    } else {
+        None
+    }
+}
+
+/// Packets that name a thread, by how they begin.
+pub fn thread_begun(packet: &[u8]) -> Option<Request>
+    ensures { result ≡ thread_begun packet.now }
+{
+    if packet.starts_with(b"Hg") {
+        Some(Request::SelectThread(thread_after(2, packet)))
+    } else if packet.starts_with(b"Hc") {
+        Some(Request::SelectMoving(thread_after(2, packet)))
     } else if packet.starts_with(b"H") {
-        Some(Request::SelectThread)
+        Some(Request::SelectThread(ThreadName::Unreadable))
     } else if packet.starts_with(b"T") {
-        Some(Request::IsAlive)
+        Some(Request::IsAlive(thread_after(1, packet)))
     } else {
         None
     }

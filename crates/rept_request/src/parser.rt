@@ -4,7 +4,7 @@ ghost use Rattle.std.specs.Prelude.{◌≡◌, ◌≤◌, ℕ, length, true};
 ghost use Rattle.rept_request.specs.Numbers.{number_of, pair_of};
 ghost use Rattle.rept_request.specs.Requests.{is_part, lettered, named, numbered, numbered_or_part, request_of, request_at, with_number, with_pair, with_spot};
 
-use crate::named::{change_begun, move_begun, move_named, query_begun, query_named};
+use crate::named::{change_begun, move_begun, move_named, query_begun, query_named, thread_begun};
 use crate::numbers::{number_of, pair_of};
 use crate::request::Request;
 
@@ -32,6 +32,9 @@ fn named(packet: &[u8]) -> Option<Request>
         return Some(request);
     }
     if let Some(request) = query_begun(packet) {
+        return Some(request);
+    }
+    if let Some(request) = thread_begun(packet) {
         return Some(request);
     }
     change_begun(packet)

@@ -1,5 +1,31 @@
 //! What a packet asks for.
 
+/// A thread, as a packet names it. The number of a thread is that of its process.
+#[derive(Clone, Copy, Debug, PartialEq, Eq)]
+pub enum ThreadName {
+    /// The one that was selected for moves, by a packet that can name none.
+    Selected,
+    /// Any one: `0`; or all: `-1`; or a packet that could name one, and doesn't.
+    Any,
+    /// The one of this number.
+    One(u32),
+    /// What is no number of a thread.
+    Unreadable,
+}
+
+/// A move.
+#[derive(Clone, Copy, Debug, PartialEq, Eq)]
+pub enum Way {
+    /// One step forward.
+    Step,
+    /// Forward to the next stop.
+    Continue,
+    /// One step back.
+    StepBack,
+    /// Back to the last stop.
+    ContinueBack,
+}
+
 /// A request of a debugger. Addresses and counts are in bytes.
 #[derive(Clone, Copy, Debug, PartialEq, Eq)]
 pub enum Request {
@@ -17,14 +43,9 @@ pub enum Request {
     Memory(u32, u32),
     /// `x A,LEN`: the same, as they are.
     Bytes(u32, u32),
-    /// `s`, `vCont;s`, `vCont;S`, `vCont;r`: one step forward.
-    Step,
-    /// `c`, `vCont;c`, `vCont;C`: forward to the next stop.
-    Continue,
-    /// `bs`: one step back.
-    StepBack,
-    /// `bc`: back to the last stop.
-    ContinueBack,
+    /// `s`, `vCont;s`, `vCont;S`, `vCont;r`: one step forward; `c`, `vCont;c`, `vCont;C`: forward to the next stop; `bs` and `bc`: the same
+    /// back. `vCont;` may name a thread in its first action, and further actions are for other threads.
+    Move(Way, ThreadName),
     /// `vCont?`: which moves are known.
     Moves,
     /// `Z0 A`, `Z1 A`: a breakpoint is set at an address.
@@ -39,10 +60,12 @@ pub enum Request {
     Description(u32, u32),
     /// `qRcmd,`: a line of a session, in pairs of digits.
     Monitor,
-    /// `H`: a thread is selected.
-    SelectThread,
+    /// `Hg`: a thread is selected for all that isn't a move.
+    SelectThread(ThreadName),
+    /// `Hc`: a thread is selected for moves.
+    SelectMoving(ThreadName),
     /// `T`: whether a thread is alive.
-    IsAlive,
+    IsAlive(ThreadName),
     /// `qC`: the thread.
     Thread,
     /// `qfThreadInfo`: the threads.
@@ -50,7 +73,7 @@ pub enum Request {
     /// `qsThreadInfo`: further threads.
     MoreThreads,
     /// `qThreadExtraInfo`: a text about a thread.
-    ThreadText,
+    ThreadText(ThreadName),
     /// `qAttached`: whether the process was there before.
     Attached,
     /// `G`, `P`, `M`, `X`: a register or memory is to be changed.

@@ -1,13 +1,13 @@
 -- What comes of one line of a session. This project's own.
-use Rattle.std.specs.Prelude.{◌≡◌, ℕ, ◌≤◌, List, length, true, false, Option, Some, None, Err}
+use Rattle.std.specs.Prelude.{◌≡◌, ℕ, List, true, false, Option, Some, None, Err}
 use Rattle.std.specs.Io.KnownBytes.{Appends}
 use Rattle.rept_ports.specs.Causes.{OneFault, AppendsPrefix}
 use Rattle.rept_ports.specs.Port.{Port, Move}
 use Rattle.rept_ports.specs.declared.lines.limits.Line.{Line}
 use Rattle.rept_ports.specs.declared.lines.limits.Line.TheVariants as line
-use Rattle.rept_session.specs.Commands.{command_of}
-use Rattle.rept_session.specs.Session.{Said, IsReply, cursor_of, ends}
-use Rattle.rept_session.specs.Shown.{Told}
+use Rattle.rept_session.specs.Session.{Said, IsReply, cursor_of, ends, said_at}
+use Rattle.rept_session.specs.Shown.{IsAt, Shown, Told}
+use Rattle.rept_session.specs.declared.place.ThreadPoint.{ThreadPoint}
 use Rattle.rept_session.specs.declared.command.BadCommand.TheVariants.{LongLine}
 use Rattle.rept_session.specs.declared.reply.Answer.{Answer}
 use Rattle.rept_serve.specs.declared.serving.Next.{Next}
@@ -18,39 +18,39 @@ abbrev pub said_of_line : Line → Option (List ℕ)
 said_of_line (line.Text t) = Some t.now
 said_of_line line.Long = None
 
--- the command that a line is, or why it is none
-abbrev pub said_by : Told → Option (List ℕ) → Said
-said_by t None = Err LongLine
-said_by t (Some text) = command_of (length t.shown.rows) text
+-- the command that a line is at a cursor, or why it is none
+abbrev pub said_by : Shown → ThreadPoint → Option (List ℕ) → Said
+said_by s cursor None = Err LongLine
+said_by s cursor (Some text) = said_at s cursor text
 
 -- the answer to a line at a cursor
-pub record IsAnswer (t : Told) (cursor : ℕ) (said : Option (List ℕ)) (answer : Answer) : Type 0 where
-  pub text : IsReply t cursor (said_by t said) answer.text
-  pub now : answer.cursor ≡ cursor_of (length t.shown.rows) cursor (said_by t said)
-  pub within : answer.cursor ≤ length t.shown.rows
-  pub quit : answer.quit ≡ ends (said_by t said)
+pub record IsAnswer (t : Told) (cursor : ThreadPoint) (said : Option (List ℕ)) (answer : Answer) : Type 0 where
+  pub text : IsReply t cursor (said_by t.shown cursor said) answer.text
+  pub now : answer.cursor ≡ cursor_of t.shown cursor (said_by t.shown cursor said)
+  pub within : IsAt t.shown answer.cursor
+  pub quit : answer.quit ≡ ends (said_by t.shown cursor said)
 
 -- the answer was written, and this is the cursor then
-pub record Replied (t : Told) (cursor : ℕ) (said : Option (List ℕ)) (out : Move Port) (now : ℕ) : Type 0 where
+pub record Replied (t : Told) (cursor : ThreadPoint) (said : Option (List ℕ)) (out : Move Port) (now : ThreadPoint) : Type 0 where
   pub reply : List ℕ
-  pub answers : IsReply t cursor (said_by t said) reply
-  pub goes_on : ends (said_by t said) ≡ false
-  pub moved : now ≡ cursor_of (length t.shown.rows) cursor (said_by t said)
-  pub within : now ≤ length t.shown.rows
+  pub answers : IsReply t cursor (said_by t.shown cursor said) reply
+  pub goes_on : ends (said_by t.shown cursor said) ≡ false
+  pub moved : now ≡ cursor_of t.shown cursor (said_by t.shown cursor said)
+  pub within : IsAt t.shown now
   pub wrote : Appends out.before.bytes out.after.bytes reply
   pub calm : out.after.faults ≡ out.before.faults
 
 -- the output failed in the answer
-pub record FailsReply (t : Told) (cursor : ℕ) (said : Option (List ℕ)) (out : Move Port) : Type 0 where
+pub record FailsReply (t : Told) (cursor : ThreadPoint) (said : Option (List ℕ)) (out : Move Port) : Type 0 where
   pub reply : List ℕ
-  pub answers : IsReply t cursor (said_by t said) reply
-  pub goes_on : ends (said_by t said) ≡ false
+  pub answers : IsReply t cursor (said_by t.shown cursor said) reply
+  pub goes_on : ends (said_by t.shown cursor said) ≡ false
   pub wrote : AppendsPrefix out.before.bytes out.after.bytes reply
   pub fault : OneFault out.before.faults out.after.faults
 
 -- what came of a line, at a cursor
-abbrev pub Replies : Told → ℕ → Option (List ℕ) → Move Port → Next → Type 0
+abbrev pub Replies : Told → ThreadPoint → Option (List ℕ) → Move Port → Next → Type 0
 Replies t cursor said out (next.Line now) = Replied t cursor said out now
-Replies t cursor said out next.Quit = (ends (said_by t said) ≡ true) × (out.after ≡ out.before)
+Replies t cursor said out next.Quit = (ends (said_by t.shown cursor said) ≡ true) × (out.after ≡ out.before)
 Replies t cursor said out next.OutputFault = FailsReply t cursor said out
 Replies t cursor said out next.OutOfMemory = out.after ≡ out.before

@@ -1,13 +1,14 @@
 -- What a session writes, and how it ends. It answers each line of the input before it reads the next one, with the cursor at the
--- last point first. This project's own.
+-- last point of thread 0 first. This project's own.
 use Rattle.std.specs.Prelude.{◌≡◌, ◌⊎◌, ℕ, ◌≤◌, ◌<◌, List, ◌++◌, length, take, Bool, true, false, nat_le, Option, Some, if◌then◌else◌}
 use Rattle.std.specs.List.{list_any}
 use Rattle.std.specs.Io.KnownBytes.{Appends}
 use Rattle.rept_ports.specs.Causes.{OneFault, AppendsPrefix}
 use Rattle.rept_ports.specs.Lines.{lines_of, whole_lines}
 use Rattle.rept_ports.specs.Port.{Port, Move}
-use Rattle.rept_session.specs.Session.{IsSession, ends, said_of}
+use Rattle.rept_session.specs.Session.{IsSession, is_quit_line}
 use Rattle.rept_session.specs.Shown.{Told}
+use Rattle.rept_session.specs.Texts.{last_of}
 use Rattle.rept_serve.specs.declared.serving.Served.{Served}
 use Rattle.rept_serve.specs.declared.serving.Served.TheVariants as served
 
@@ -25,16 +26,16 @@ pub record Reading : Type 0 where
   pub left : Option (List ℕ)
 
 -- one of the lines is `quit`
-abbrev pub has_quit : Told → List (List ℕ) → Bool
-has_quit t lines = list_any (λ line. ends (said_of t line)) lines
+abbrev pub has_quit : List (List ℕ) → Bool
+has_quit lines = list_any is_quit_line lines
 
--- the answers to these lines, from the last point on
+-- the answers to these lines, from the last point of thread 0 on
 abbrev pub AreAnswers : Told → List (List ℕ) → List ℕ → Type 0
-AreAnswers t lines text = IsSession t (length t.shown.rows) lines text
+AreAnswers t lines text = IsSession t (last_of t.shown 0) lines text
 
 -- the input was read to its end, or to `quit`
 pub record Ended (t : Told) (input text : List ℕ) : Type 0 where
-  pub whole : (length input ≤ most_input) ⊎ (has_quit t (lines_read input) ≡ true)
+  pub whole : (length input ≤ most_input) ⊎ (has_quit (lines_read input) ≡ true)
   pub answers : AreAnswers t (lines_read input) text
 
 -- The input failed after the bytes that are no longer left of it; none of their lines is `quit`, and all whole ones are answered.
@@ -44,19 +45,19 @@ pub record Failed (t : Told) (reading : Reading) (text : List ℕ) : Type 0 wher
   pub parts : reading.input ≡ taken ++ rest
   pub rest_left : reading.left ≡ Some rest
   pub within : length taken ≤ most_input
-  pub goes_on : has_quit t (whole_lines taken) ≡ false
+  pub goes_on : has_quit (whole_lines taken) ≡ false
   pub answers : AreAnswers t (whole_lines taken) text
 
 -- the input has too many bytes, and no line that is read of it is `quit`
 pub record Overran (t : Told) (input text : List ℕ) : Type 0 where
   pub long : most_input < length input
-  pub goes_on : has_quit t (lines_read input) ≡ false
+  pub goes_on : has_quit (lines_read input) ≡ false
   pub answers : AreAnswers t (lines_read input) text
 
 -- the answers to the first lines that are read, as many as they are
 pub record FirstAnswers (t : Told) (input text : List ℕ) : Type 0 where
   pub count : ℕ
-  pub goes_on : has_quit t (take count (lines_read input)) ≡ false
+  pub goes_on : has_quit (take count (lines_read input)) ≡ false
   pub answers : AreAnswers t (take count (lines_read input)) text
 
 -- what was written by a session that ended so, where the output doesn't fail

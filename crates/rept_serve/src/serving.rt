@@ -1,14 +1,14 @@
 //! The loop over the lines of an input.
 
-ghost use Rattle.std.specs.Prelude.{◌≡◌, ◌≤◌, false, length, IfOk, IfSome};
+ghost use Rattle.std.specs.Prelude.{◌≡◌, false, IfOk, IfSome};
 ghost use Rattle.rept_ports.specs.Port.{move};
-ghost use Rattle.rept_session.specs.Shown.{SameReasons, told};
+ghost use Rattle.rept_session.specs.Shown.{IsAt, SameReasons, told};
 ghost use Rattle.rept_session.specs.Texts.{refusal_line};
 ghost use Rattle.rept_serve.specs.Replies.{IsAnswer, Replies, said_of_line};
 ghost use Rattle.rept_serve.specs.Serving.{Serves, IsCaused};
 
 use rept_ports::{BoundedLines, Line, LineFault, Sink, Source, write_all};
-use rept_session::{Answer, BadCommand, Findings, answer_line, refusal_text};
+use rept_session::{Answer, BadCommand, Findings, ThreadPoint, answer_line, last_of, refusal_text};
 use rept_word::OutOfMemory;
 use std::alloc::Global;
 
@@ -31,7 +31,7 @@ pub enum Served {
 #[derive(Clone, Copy, Debug, PartialEq, Eq)]
 pub enum Next {
     /// The next line, with the cursor at this point.
-    Line(u32),
+    Line(ThreadPoint),
     /// Nothing: the line is `quit`.
     Quit,
     /// The answer can't be written.
@@ -45,10 +45,10 @@ fn answer_to<F: Findings>(
     alloc: Global,
     findings: &mut F,
     skipped: u32,
-    cursor: u32,
+    cursor: ThreadPoint,
     line: Line<'_>,
 ) -> Result<Answer, OutOfMemory>
-    requires { cursor ≤ length (F.shown findings.old).rows }
+    requires { IsAt (F.shown findings.old) cursor }
     ensures answer { IfOk result (λ answer. IsAnswer (told (F.shown findings.old) skipped (F.reasons findings.old)) cursor (said_of_line line.entry) answer) }
     ensures same { F.shown findings.new ≡ F.shown findings.old }
     ensures same_reasons { SameReasons (F.reasons findings.old) (F.reasons findings.new) }
@@ -60,7 +60,7 @@ fn answer_to<F: Findings>(
 }
 
 /// The answer to a line of more than 256 bytes.
-fn long_line(alloc: Global, cursor: u32) -> Result<Answer, OutOfMemory>
+fn long_line(alloc: Global, cursor: ThreadPoint) -> Result<Answer, OutOfMemory>
     ensures text { IfOk result (λ answer. answer.text ≡ refusal_line BadCommand.LongLine) }
     ensures cursor { IfOk result (λ answer. answer.cursor ≡ cursor) }
     ensures quit { IfOk result (λ answer. answer.quit ≡ false) }
@@ -78,11 +78,11 @@ fn reply<F: Findings, K: Sink>(
     alloc: Global,
     findings: &mut F,
     skipped: u32,
-    cursor: u32,
+    cursor: ThreadPoint,
     line: Line<'_>,
     out: &mut K,
 ) -> Next
-    requires { cursor ≤ length (F.shown findings.old).rows }
+    requires { IsAt (F.shown findings.old) cursor }
     ensures came { Replies (told (F.shown findings.old) skipped (F.reasons findings.old)) cursor (said_of_line line.entry) (move (K.port out.old) (K.port out.new)) result }
     ensures same { F.shown findings.new ≡ F.shown findings.old }
     ensures same_reasons { SameReasons (F.reasons findings.old) (F.reasons findings.new) }
@@ -100,7 +100,7 @@ fn reply<F: Findings, K: Sink>(
     }
 }
 
-/// Answers the lines of the input, each before the next one is read, with the cursor at the last point first. `skipped` is the
+/// Answers the lines of the input, each before the next one is read, with the cursor at the last point of thread 0 first. `skipped` is the
 /// count of packets that the path was read without. In each case the findings stay as they were.
 pub fn serve<F: Findings, S: Source, K: Sink>(
     alloc: Global,
@@ -114,7 +114,8 @@ pub fn serve<F: Findings, S: Source, K: Sink>(
     ensures same { F.shown findings.new ≡ F.shown findings.old }
     ensures same_reasons { SameReasons (F.reasons findings.old) (F.reasons findings.new) }
 {
-    let mut cursor = findings.rows().len() as u32;
+    let _threads = findings.threads();
+    let mut cursor = last_of(findings, 0);
     let mut lines = BoundedLines::new(input);
     'session: loop {
         match lines.next_line() {

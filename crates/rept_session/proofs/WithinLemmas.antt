@@ -13,7 +13,7 @@ use Rattle.rept_session.specs.declared.verb.Single.{Single}
 use Rattle.rept_session.specs.declared.verb.Single.TheVariants as single
 use Rattle.rept_session.specs.declared.verb.Double.{Double}
 use Rattle.rept_session.specs.declared.verb.Double.TheVariants as double
-use Rattle.rept_session.specs.Commands.{IsWithin, begins_with_digit, command_of, command_of_first, command_of_words, double_command, double_verb, goto_command, is_count, lone_command, single_command, single_verb, verb_of, why_command, with_number, with_register}
+use Rattle.rept_session.specs.Commands.{IsWithin, begins_with_digit, command_of, command_of_first, command_of_words, double_command, double_verb, goto_command, thread_command, is_count, lone_command, single_command, single_verb, verb_of, why_command, with_number, with_register}
 use Rattle.rept_number.specs.Numbers.{number_of_word}
 use Rattle.rept_session.specs.Registers.{register_of}
 use Rattle.rept_session.specs.Words.{words_in}
@@ -23,18 +23,18 @@ either : {A : Type 0} (P : A → Type 0) (b : Bool) (x y : A) → (b ≡ true �
 either P true x y p q = p refl
 either P false x y p q = q refl
 
-module _ (last : ℕ) where
+module _ (last threads : ℕ) where
   abbrev Good : Result Command BadCommand → Type 0
-  Good r = IfOk r (IsWithin last)
+  Good r = IfOk r (IsWithin last threads)
 
   abbrev GoodVerb : Option Verb → Type 0
   GoodVerb None = Unit {0}
-  GoodVerb (Some (Lone c)) = IsWithin last c
+  GoodVerb (Some (Lone c)) = IsWithin last threads c
   GoodVerb (Some (One v)) = Unit {0}
   GoodVerb (Some (Two v)) = Unit {0}
 
   abbrev GoodLone : Option Command → Type 0
-  GoodLone o = IfSome o (IsWithin last)
+  GoodLone o = IfSome o (IsWithin last threads)
 
   lone : (word : List ℕ) → GoodLone (lone_command word)
   lone word =
@@ -50,11 +50,11 @@ module _ (last : ℕ) where
   verb_good None None (Some c) h = tt
   verb_good None None None h = tt
 
-  number_good : (f : ℕ → Command) → ((k : ℕ) → IsWithin last (f k)) → (o : Option ℕ) → Good (with_number f o)
+  number_good : (f : ℕ → Command) → ((k : ℕ) → IsWithin last threads (f k)) → (o : Option ℕ) → Good (with_number f o)
   number_good f h None = tt
   number_good f h (Some k) = h k
 
-  register_good : (f : ℕ → Command) → ((k : ℕ) → IsWithin last (f k)) → (o : Option ℕ) → Good (with_register f o)
+  register_good : (f : ℕ → Command) → ((k : ℕ) → IsWithin last threads (f k)) → (o : Option ℕ) → Good (with_register f o)
   register_good f h None = tt
   register_good f h (Some k) = h k
 
@@ -62,14 +62,19 @@ module _ (last : ℕ) where
   goto_good None = tt
   goto_good (Some i) = either Good (nat_le i last) _ _ (λ e. grind (arith, nat_tests, e)) (λ _. tt)
 
+  thread_good : (o : Option ℕ) → Good (thread_command threads o)
+  thread_good None = tt
+  thread_good (Some t) = either Good (nat_lt t threads) _ _ (λ e. grind (arith, nat_tests, e)) (λ _. tt)
+
   why_good : (o : Option ℕ) (word : List ℕ) → Good (why_command o word)
   why_good (Some r) word = tt
   why_good None word = either Good (begins_with_digit word) _ _ (λ _. number_good command.WhyByte (λ k. tt) (number_of_word word)) (λ _. tt)
 
-  single_good : (v : Single) (word : List ℕ) → Good (single_command last v word)
+  single_good : (v : Single) (word : List ℕ) → Good (single_command last threads v word)
   single_good single.Back word = number_good command.Back (λ k. tt) (number_of_word word)
   single_good single.Fwd word = number_good command.Fwd (λ k. tt) (number_of_word word)
   single_good single.Goto word = goto_good (number_of_word word)
+  single_good single.Thread word = thread_good (number_of_word word)
   single_good single.Reg word = register_good command.Reg (λ k. tt) (register_of word)
   single_good single.Range word = register_good command.Range (λ k. tt) (register_of word)
   single_good single.Writer word = number_good command.Writer (λ k. tt) (number_of_word word)
@@ -89,7 +94,7 @@ module _ (last : ℕ) where
       either Good (nat_le i last && is_count k) _ _
       (λ e. let q = both (nat_le i last) (is_count k) e in let p = both (nat_lt 0 k) (nat_le k 256) q.1 in (grind (arith, nat_tests, q.0), grind (arith, nat_tests, p.0), grind (arith, nat_tests, p.1))) (λ _. tt)
 
-  words_good : (o : Option Verb) (words : List (List ℕ)) → GoodVerb o → Good (command_of_first last o words)
+  words_good : (o : Option Verb) (words : List (List ℕ)) → GoodVerb o → Good (command_of_first last threads o words)
   words_good None words h = tt
   words_good (Some (Lone c)) [] h = h
   words_good (Some (Lone c)) (w ∷ ws) h = tt
@@ -101,9 +106,9 @@ module _ (last : ℕ) where
   words_good (Some (Two v)) (w ∷ x ∷ []) h = double_good v (number_of_word w) (number_of_word x)
   words_good (Some (Two v)) (w ∷ x ∷ y ∷ ws) h = tt
 
-  line_good : (words : List (List ℕ)) → Good (command_of_words last words)
+  line_good : (words : List (List ℕ)) → Good (command_of_words last threads words)
   line_good [] = tt
   line_good (w ∷ ws) = words_good (verb_of w) ws (verb_good (lone_command w) (single_verb w) (double_verb w) (lone w))
 
-  pub command_within : (line : List ℕ) → Good (command_of last line)
+  pub command_within : (line : List ℕ) → Good (command_of last threads line)
   command_within line = either Good (nat_lt 256 (length line)) _ _ (λ _. tt) (λ _. line_good (words_in line))

@@ -33,6 +33,7 @@ single_verb word =
     if bytes_eq word (codes "back") then Some single.Back
     else if bytes_eq word (codes "fwd") then Some single.Fwd
     else if bytes_eq word (codes "goto") then Some single.Goto
+    else if bytes_eq word (codes "thread") then Some single.Thread
     else if bytes_eq word (codes "reg") then Some single.Reg
     else if bytes_eq word (codes "range") then Some single.Range
     else if bytes_eq word (codes "writer") then Some single.Writer
@@ -64,6 +65,11 @@ abbrev pub goto_command : ℕ → Option ℕ → Result Command BadCommand
 goto_command last None = Err bad.Number
 goto_command last (Some i) = if nat_le i last then Ok (command.Goto i) else Err bad.Limit
 
+-- `thread`: one of so many
+abbrev pub thread_command : ℕ → Option ℕ → Result Command BadCommand
+thread_command threads None = Err bad.Number
+thread_command threads (Some t) = if nat_lt t threads then Ok (command.Thread t) else Err bad.Limit
+
 abbrev pub begins_with_digit : List ℕ → Bool
 begins_with_digit [] = false
 begins_with_digit (byte ∷ bytes) = is_ascii_digit byte
@@ -73,14 +79,15 @@ abbrev pub why_command : Option ℕ → List ℕ → Result Command BadCommand
 why_command (Some r) word = Ok (command.WhyReg r)
 why_command None word = if begins_with_digit word then with_number command.WhyByte (number_of_word word) else Err bad.Register
 
-abbrev pub single_command : ℕ → Single → List ℕ → Result Command BadCommand
-single_command last single.Back word = with_number command.Back (number_of_word word)
-single_command last single.Fwd word = with_number command.Fwd (number_of_word word)
-single_command last single.Goto word = goto_command last (number_of_word word)
-single_command last single.Reg word = with_register command.Reg (register_of word)
-single_command last single.Range word = with_register command.Range (register_of word)
-single_command last single.Writer word = with_number command.Writer (number_of_word word)
-single_command last single.Why word = why_command (register_of word) word
+abbrev pub single_command : ℕ → ℕ → Single → List ℕ → Result Command BadCommand
+single_command last threads single.Back word = with_number command.Back (number_of_word word)
+single_command last threads single.Fwd word = with_number command.Fwd (number_of_word word)
+single_command last threads single.Goto word = goto_command last (number_of_word word)
+single_command last threads single.Thread word = thread_command threads (number_of_word word)
+single_command last threads single.Reg word = with_register command.Reg (register_of word)
+single_command last threads single.Range word = with_register command.Range (register_of word)
+single_command last threads single.Writer word = with_number command.Writer (number_of_word word)
+single_command last threads single.Why word = why_command (register_of word) word
 
 -- a count of 1 to 256
 abbrev pub is_count : ℕ → Bool
@@ -98,24 +105,24 @@ alone c [] = Ok c
 alone c words = Err (bad.Words (length words))
 
 -- the command of a first word, and the words that come after it
-abbrev pub command_of_verb : ℕ → Verb → List (List ℕ) → Result Command BadCommand
-command_of_verb last (Lone c) words = alone c words
-command_of_verb last (One verb) (word ∷ []) = single_command last verb word
-command_of_verb last (One verb) words = Err (bad.Words (length words))
-command_of_verb last (Two verb) (word ∷ second ∷ []) = double_command last verb (number_of_word word) (number_of_word second)
-command_of_verb last (Two verb) words = Err (bad.Words (length words))
+abbrev pub command_of_verb : ℕ → ℕ → Verb → List (List ℕ) → Result Command BadCommand
+command_of_verb last threads (Lone c) words = alone c words
+command_of_verb last threads (One verb) (word ∷ []) = single_command last threads verb word
+command_of_verb last threads (One verb) words = Err (bad.Words (length words))
+command_of_verb last threads (Two verb) (word ∷ second ∷ []) = double_command last verb (number_of_word word) (number_of_word second)
+command_of_verb last threads (Two verb) words = Err (bad.Words (length words))
 
-abbrev pub command_of_first : ℕ → Option Verb → List (List ℕ) → Result Command BadCommand
-command_of_first last None words = Err bad.Unknown
-command_of_first last (Some verb) words = command_of_verb last verb words
+abbrev pub command_of_first : ℕ → ℕ → Option Verb → List (List ℕ) → Result Command BadCommand
+command_of_first last threads None words = Err bad.Unknown
+command_of_first last threads (Some verb) words = command_of_verb last threads verb words
 
-abbrev pub command_of_words : ℕ → List (List ℕ) → Result Command BadCommand
-command_of_words last [] = Ok command.Nothing
-command_of_words last (word ∷ words) = command_of_first last (verb_of word) words
+abbrev pub command_of_words : ℕ → ℕ → List (List ℕ) → Result Command BadCommand
+command_of_words last threads [] = Ok command.Nothing
+command_of_words last threads (word ∷ words) = command_of_first last threads (verb_of word) words
 
--- the command that a line is, over a path whose points end at `last`, or the first check that fails
-abbrev pub command_of : ℕ → List ℕ → Result Command BadCommand
-command_of last line = if nat_lt 256 (length line) then Err bad.LongLine else command_of_words last (words_in line)
+-- the command that a line is, over a thread whose points end at `last` in a run of so many threads, or the first check that fails
+abbrev pub command_of : ℕ → ℕ → List ℕ → Result Command BadCommand
+command_of last threads line = if nat_lt 256 (length line) then Err bad.LongLine else command_of_words last threads (words_in line)
 
 abbrev pub number_of_refusal : BadCommand → ℕ
 number_of_refusal bad.Unknown = 1
@@ -125,9 +132,10 @@ number_of_refusal bad.Register = 4
 number_of_refusal bad.Limit = 5
 number_of_refusal bad.LongLine = 6
 
--- a command whose point or step is one of the path, and whose count is 1 to 256
-abbrev pub IsWithin : ℕ → Command → Type 0
-IsWithin last (command.Goto i) = i ≤ last
-IsWithin last (command.Mem address count) = (0 < count) × (count ≤ 256)
-IsWithin last (command.List first count) = (first ≤ last) × (0 < count) × (count ≤ 256)
-IsWithin last _ = Unit {0}
+-- a command whose point or step is one of the thread, whose thread is one of the run, and whose count is 1 to 256
+abbrev pub IsWithin : ℕ → ℕ → Command → Type 0
+IsWithin last threads (command.Goto i) = i ≤ last
+IsWithin last threads (command.Thread t) = t < threads
+IsWithin last threads (command.Mem address count) = (0 < count) × (count ≤ 256)
+IsWithin last threads (command.List first count) = (first ≤ last) × (0 < count) × (count ≤ 256)
+IsWithin last threads _ = Unit {0}

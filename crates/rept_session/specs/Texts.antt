@@ -1,7 +1,7 @@
 -- What a session answers to a command. HEX below is `0x` and eight lower-case hexadecimal digits. This project's own.
-use Rattle.std.specs.Prelude.{◌≡◌, ℕ, ◌+◌, ◌-◌, ◌*◌, ◌/◌, ◌%◌, ◌^◌, min, List, [], ◌∷◌, ◌++◌, length, map, reverse, take, Bool, true, false, ◌==◌, ◌&&◌, nat_le, Option, None, Some, slice_get, codes, MatchBool, if◌then◌else◌}
+use Rattle.std.specs.Prelude.{◌≡◌, ℕ, ◌+◌, ◌-◌, ◌*◌, ◌/◌, ◌%◌, ◌^◌, min, List, [], ◌∷◌, ◌++◌, length, map, reverse, take, Bool, true, false, ◌==◌, ◌&&◌, nat_le, nat_lt, Option, None, Some, slice_get, codes, MatchBool, if◌then◌else◌}
 use Rattle.std.specs.List.{flat_map, range_with_len}
-use Rattle.std.specs.Option.{option_map_or}
+use Rattle.std.specs.Option.{option_and_then, option_map_or}
 use Rattle.std.specs.Fmt.{decimal}
 use Rattle.rept_elf.specs.Symbols.{FunctionSymbol}
 use Rattle.rept_stack.specs.Frames.{frames_of}
@@ -21,15 +21,27 @@ use Rattle.rept_session.specs.declared.command.Command.TheVariants as command
 use Rattle.rept_session.specs.declared.command.BadCommand.{BadCommand}
 use Rattle.rept_report.specs.declared.counts.Counts.{Counts}
 use Rattle.rept_session.specs.Commands.{number_of_refusal}
-use Rattle.rept_session.specs.Shown.{Shown, Told}
+use Rattle.rept_session.specs.Shown.{Shown, Told, moment_at, number}
+use Rattle.rept_session.specs.declared.place.Place.{Place}
+use Rattle.rept_session.specs.declared.place.Place.TheVariants as places
+use Rattle.rept_session.specs.declared.place.ThreadPoint.{ThreadPoint}
+use Rattle.rept_session.specs.declared.place.ThreadPlace.{ThreadPlace}
 
--- the address at a point: that of the step that begins there, or the one after the last step
-abbrev pub pc_at : Shown → ℕ → ℕ
-pc_at s point = option_map_or (λ row. row.at) (slice_get s.rows point) s.end_pc
+-- the address at a point of a thread: that of the step that begins there, or the one after the last step
+abbrev pub pc_at : Shown → ThreadPoint → ℕ
+pc_at s c = option_map_or (λ row. row.at) (slice_get (s.rows c.thread) c.point) (s.end_pc c.thread)
 
 -- `point C of N pc HEX`
-abbrev pub point_line : Shown → ℕ → List ℕ
-point_line s point = codes "point " ++ decimal point ++ codes " of " ++ decimal (length s.rows) ++ codes " pc " ++ hex_word (pc_at s point) ++ 10 ∷ []
+abbrev pub point_line : Shown → ThreadPoint → List ℕ
+point_line s c = codes "point " ++ decimal c.point ++ codes " of " ++ decimal (length (s.rows c.thread)) ++ codes " pc " ++ hex_word (pc_at s c) ++ 10 ∷ []
+
+-- `thread T pid P`, and the line of the point
+abbrev pub thread_lines : Shown → ThreadPoint → List ℕ
+thread_lines s c = codes "thread " ++ decimal c.thread ++ codes " pid " ++ decimal (s.process c.thread) ++ 10 ∷ [] ++ point_line s c
+
+-- ` of T` in a run of several threads; nothing in a run of one
+abbrev pub of_thread : Shown → ℕ → List ℕ
+of_thread s thread = if nat_lt 1 s.threads then codes " of " ++ decimal thread else []
 
 -- `xN HEX` or `xN unknown`
 abbrev pub value_text : Option ℕ → List ℕ
@@ -68,35 +80,40 @@ byte_text None = codes "??"
 byte_text (Some byte) = hex_byte byte
 
 abbrev pub byte_piece : Shown → ℕ → ℕ → List ℕ
-byte_piece s point address = codes " " ++ byte_text (s.byte point address)
+byte_piece s moment address = codes " " ++ byte_text (s.byte moment address)
 
 -- so many bytes from an address on: the address as HEX and `:`, and the bytes
 abbrev pub memory_line : Shown → ℕ → ℕ → ℕ → List ℕ
-memory_line s point address count =
-    hex_word address ++ codes ":" ++ flat_map (λ i. byte_piece s point (wrapped (address + i))) (range_with_len 0 count) ++ 10 ∷ []
+memory_line s moment address count =
+    hex_word address ++ codes ":" ++ flat_map (λ i. byte_piece s moment (wrapped (address + i))) (range_with_len 0 count) ++ 10 ∷ []
 
 -- lines of 16 bytes, the last one shorter where the count is no multiple of 16
 unfoldable pub memory_lines : Shown → ℕ → ℕ → ℕ → List ℕ
-memory_lines s point address count =
-    flat_map (λ k. memory_line s point (wrapped (address + 16 * k)) (min 16 (count - 16 * k))) (range_with_len 0 ((count + 15) / 16))
+memory_lines s moment address count =
+    flat_map (λ k. memory_line s moment (wrapped (address + 16 * k)) (min 16 (count - 16 * k))) (range_with_len 0 ((count + 15) / 16))
 
--- `writes J`, `may write J`, `several` or `none`
-abbrev pub writer_text : Writer → List ℕ
-writer_text (writer.Writes j) = codes "writes " ++ decimal j
-writer_text (writer.MayWrite j) = codes "may write " ++ decimal j
-writer_text writer.Several = codes "several"
-writer_text writer.None = codes "none"
+-- `J`, and ` of T`: a step of a thread
+abbrev pub step_text : Shown → ThreadPoint → List ℕ
+step_text s step = decimal step.point ++ of_thread s step.thread
 
-abbrev pub writer_line : Writer → List ℕ
-writer_line w = writer_text w ++ 10 ∷ []
+-- `writes J of T`, `may write J of T`, `several` or `none`
+abbrev pub writer_text : Shown → Writer → List ℕ
+writer_text s (writer.Writes j) = codes "writes " ++ step_text s (s.point j)
+writer_text s (writer.MayWrite j) = codes "may write " ++ step_text s (s.point j)
+writer_text s writer.Several = codes "several"
+writer_text s writer.None = codes "none"
+
+abbrev pub writer_line : Shown → Writer → List ℕ
+writer_line s w = writer_text s w ++ 10 ∷ []
 
 -- `J HEX TEXT`: a step, its address and its instruction; nothing where the path has no such step
 abbrev pub step_line : ℕ → Option StepRow → List ℕ
 step_line j None = []
 step_line j (Some row) = decimal j ++ codes " " ++ hex_word row.at ++ codes " " ++ instruction_text row.at row.instr ++ 10 ∷ []
 
-unfoldable pub step_lines : Shown → ℕ → ℕ → List ℕ
-step_lines s first count = flat_map (λ j. step_line j (slice_get s.rows j)) (range_with_len first count)
+-- so many steps of a thread from one on
+unfoldable pub step_lines : List StepRow → ℕ → ℕ → List ℕ
+step_lines rows first count = flat_map (λ j. step_line j (slice_get rows j)) (range_with_len first count)
 
 -- a byte of a name, or `?` where it is no visible character of ASCII
 abbrev pub visible : ℕ → ℕ
@@ -107,18 +124,22 @@ abbrev pub function_text : ℕ → Option FunctionSymbol → List ℕ
 function_text address None = []
 function_text address (Some s) = codes " " ++ map visible s.name ++ codes "+" ++ hex_text ((address + (2 ^ 32 - s.value)) % 2 ^ 32)
 
--- `#K HEX`, and the function of the address; nothing where the stack has no such place
+-- `#K HEX`, and the function that has the address; nothing where the stack has no such place
+abbrev pub place_line : ℕ → Option ℕ → Option FunctionSymbol → List ℕ
+place_line k None function = []
+place_line k (Some address) function = codes "#" ++ decimal k ++ codes " " ++ hex_word address ++ function_text address function ++ 10 ∷ []
+
+-- the same, with the function that is named of the address
 abbrev pub frame_line : Shown → ℕ → Option ℕ → List ℕ
-frame_line s k None = []
-frame_line s k (Some address) = codes "#" ++ decimal k ++ codes " " ++ hex_word address ++ function_text address (s.symbol address) ++ 10 ∷ []
+frame_line s k place = place_line k place (option_and_then s.symbol place)
 
 -- the address at a point, and those of the calls that the thread is in there, the last call first
-abbrev pub stack_at : Shown → ℕ → List ℕ
-stack_at s point = pc_at s point ∷ reverse (map (λ f. f.at) (frames_of (take point s.rows)))
+abbrev pub stack_at : Shown → ThreadPoint → List ℕ
+stack_at s c = pc_at s c ∷ reverse (map (λ f. f.at) (frames_of (take c.point (s.rows c.thread))))
 
 -- the first 256 places of the stack
-unfoldable pub stack_lines : Shown → ℕ → List ℕ
-stack_lines s point = flat_map (λ k. frame_line s k (slice_get (stack_at s point) k)) (range_with_len 0 256)
+unfoldable pub stack_lines : Shown → ThreadPoint → List ℕ
+stack_lines s c = flat_map (λ k. frame_line s k (slice_get (stack_at s c) k)) (range_with_len 0 256)
 
 -- `steps N calls C skipped S`
 abbrev pub steps_line : Counts → ℕ → List ℕ
@@ -132,61 +153,92 @@ registers_line known all = codes "registers " ++ decimal known ++ codes " of " +
 abbrev pub stores_line : Counts → List ℕ
 stores_line counts = codes "stores " ++ decimal counts.exact ++ codes " exact " ++ decimal counts.inexact ++ codes " inexact" ++ 10 ∷ []
 
--- of x1 to x31 at each of the n + 1 points, how many are known
+-- of x1 to x31 at each of the points of all threads, how many are known
 abbrev pub summary_lines : Shown → ℕ → List ℕ
-summary_lines s skipped = steps_line s.counts skipped ++ registers_line s.counts.registers (31 * (length s.rows + 1)) ++ stores_line s.counts
+summary_lines s skipped = steps_line s.counts skipped ++ registers_line s.counts.registers (31 * s.points) ++ stores_line s.counts
 
 -- `xN HEX`, or the address as HEX and the byte as two digits
 abbrev pub cell_text : Cell → ℕ → List ℕ
 cell_text (Register r) value = register_text r ++ codes " " ++ hex_word value
 cell_text (Byte a) value = hex_word a ++ codes " " ++ hex_byte (value % 2 ^ 8)
 
--- two spaces, and `point P` with a register or byte
-abbrev pub premise_line : Fact → List ℕ
-premise_line fact = codes "  point " ++ decimal fact.point ++ codes " " ++ cell_text fact.cell fact.value ++ 10 ∷ []
+-- `P`, `after-J` or `end`
+abbrev pub place_text : Place → List ℕ
+place_text (places.Point p) = decimal p
+place_text (places.After j) = codes "after-" ++ decimal j
+place_text places.End = codes "end"
 
--- two spaces, and `range P xN HEX..HEX`
-abbrev pub looked_line : Looked → List ℕ
-looked_line looked = codes "  range " ++ decimal looked.point ++ codes " " ++ range_text looked.reg looked.range ++ 10 ∷ []
+-- the thread and place at which a register or a byte has a value
+abbrev pub place_of : Shown → Cell → ℕ → ThreadPlace
+place_of s (Register r) point = record { thread = (s.point point).thread; place = places.Point (s.point point).point }
+place_of s (Byte a) moment = s.place moment
+
+-- two spaces, and `point P` with a register or byte, and ` of T`
+abbrev pub fact_line : Shown → ThreadPlace → Fact → List ℕ
+fact_line s at fact = codes "  point " ++ place_text at.place ++ codes " " ++ cell_text fact.cell fact.value ++ of_thread s at.thread ++ 10 ∷ []
+
+abbrev pub premise_line : Shown → Fact → List ℕ
+premise_line s fact = fact_line s (place_of s fact.cell fact.point) fact
+
+-- two spaces, and `range P xN HEX..HEX`, and ` of T`
+abbrev pub range_at_line : Shown → ThreadPoint → Looked → List ℕ
+range_at_line s at looked = codes "  range " ++ decimal at.point ++ codes " " ++ range_text looked.reg looked.range ++ of_thread s at.thread ++ 10 ∷ []
+
+abbrev pub looked_line : Shown → Looked → List ℕ
+looked_line s looked = range_at_line s (s.point looked.point) looked
 
 -- `rule N`, its premises, and the ranges that it looked at
-abbrev pub reason_lines : Because → List ℕ
-reason_lines why = codes "rule " ++ decimal why.rule ++ 10 ∷ [] ++ flat_map premise_line why.premises ++ flat_map looked_line why.ranges
+abbrev pub reason_lines : Shown → Because → List ℕ
+reason_lines s why = codes "rule " ++ decimal why.rule ++ 10 ∷ [] ++ flat_map (premise_line s) why.premises ++ flat_map (looked_line s) why.ranges
 
--- why a cell has this value at a point: `unknown` where it has none, else a reason of the fact
+-- why a cell has this value at a point or moment: `unknown` where it has none, else a reason of the fact
 abbrev pub IsExplained : Told → ℕ → Cell → Option ℕ → List ℕ → Type 0
 IsExplained t point cell None text = text ≡ codes "unknown" ++ 10 ∷ []
-IsExplained t point cell (Some value) text = (why : Because) × (t.reasons (record { point = point; cell = cell; value = value }) why × (text ≡ reason_lines why))
+IsExplained t point cell (Some value) text = (why : Because) × (t.reasons (record { point = point; cell = cell; value = value }) why × (text ≡ reason_lines t.shown why))
 
 -- the same of a register, of which x0 always has one value
 abbrev pub IsRegisterExplained : Told → ℕ → ℕ → List ℕ → Type 0
 IsRegisterExplained t point r text = MatchBool (r == 0) (text ≡ codes "constant" ++ 10 ∷ []) (IsExplained t point (Register r) (t.shown.register point r) text)
 
--- the cursor after a command: `back` goes down to 0 at most, `fwd` up to the last point at most
-abbrev pub cursor_after : ℕ → ℕ → Command → ℕ
-cursor_after last cursor (command.Back k) = cursor - k
-cursor_after last cursor (command.Fwd k) = min (cursor + k) last
-cursor_after last cursor (command.Goto i) = i
-cursor_after last cursor _ = cursor
+-- a point of a thread
+abbrev pub at : ℕ → ℕ → ThreadPoint
+at thread point = record { thread = thread; point = point }
+
+-- the last one
+abbrev pub last_of : Shown → ℕ → ThreadPoint
+last_of s thread = at thread (length (s.rows thread))
+
+-- the point after a command that leaves the cursor in its thread: `back` goes down to 0 at most, `fwd` up to the last point at most
+abbrev pub point_after : ℕ → ℕ → Command → ℕ
+point_after last point (command.Back k) = point - k
+point_after last point (command.Fwd k) = min (point + k) last
+point_after last point (command.Goto i) = i
+point_after last point _ = point
+
+-- the cursor after a command: `thread` goes to the last point of another thread
+abbrev pub cursor_after : Shown → ThreadPoint → Command → ThreadPoint
+cursor_after s c (command.Thread t) = last_of s t
+cursor_after s c other = at c.thread (point_after (length (s.rows c.thread)) c.point other)
 
 -- whether a text answers a command, with the cursor after it; which reason `why` tells is free
-abbrev pub IsText : Told → ℕ → Command → List ℕ → Type 0
-IsText t point command.Where text = text ≡ point_line t.shown point
-IsText t point (command.Back k) text = text ≡ point_line t.shown point
-IsText t point (command.Fwd k) text = text ≡ point_line t.shown point
-IsText t point (command.Goto i) text = text ≡ point_line t.shown point
-IsText t point command.Regs text = text ≡ register_lines t.shown point
-IsText t point (command.Reg r) text = text ≡ register_line t.shown point r
-IsText t point (command.Range r) text = text ≡ range_line t.shown point r
-IsText t point (command.Mem address count) text = text ≡ memory_lines t.shown point address count
-IsText t point (command.Writer a) text = text ≡ writer_line (t.shown.writer point a)
-IsText t point (command.WhyReg r) text = IsRegisterExplained t point r text
-IsText t point (command.WhyByte a) text = IsExplained t point (Byte a) (t.shown.byte point a) text
-IsText t point (command.List first count) text = text ≡ step_lines t.shown first count
-IsText t point command.Stack text = text ≡ stack_lines t.shown point
-IsText t point command.Summary text = text ≡ summary_lines t.shown t.skipped
-IsText t point command.Quit text = text ≡ []
-IsText t point command.Nothing text = text ≡ []
+abbrev pub IsText : Told → ThreadPoint → Command → List ℕ → Type 0
+IsText t c command.Where text = text ≡ point_line t.shown c
+IsText t c (command.Back k) text = text ≡ point_line t.shown c
+IsText t c (command.Fwd k) text = text ≡ point_line t.shown c
+IsText t c (command.Goto i) text = text ≡ point_line t.shown c
+IsText t c command.Regs text = text ≡ register_lines t.shown (number t.shown c)
+IsText t c (command.Reg r) text = text ≡ register_line t.shown (number t.shown c) r
+IsText t c (command.Range r) text = text ≡ range_line t.shown (number t.shown c) r
+IsText t c (command.Mem address count) text = text ≡ memory_lines t.shown (moment_at t.shown c) address count
+IsText t c (command.Writer a) text = text ≡ writer_line t.shown (t.shown.writer (moment_at t.shown c) a)
+IsText t c (command.WhyReg r) text = IsRegisterExplained t (number t.shown c) r text
+IsText t c (command.WhyByte a) text = IsExplained t (moment_at t.shown c) (Byte a) (t.shown.byte (moment_at t.shown c) a) text
+IsText t c (command.List first count) text = text ≡ step_lines (t.shown.rows c.thread) first count
+IsText t c (command.Thread thread) text = text ≡ thread_lines t.shown c
+IsText t c command.Stack text = text ≡ stack_lines t.shown c
+IsText t c command.Summary text = text ≡ summary_lines t.shown t.skipped
+IsText t c command.Quit text = text ≡ []
+IsText t c command.Nothing text = text ≡ []
 
 abbrev pub is_quit : Command → Bool
 is_quit command.Quit = true

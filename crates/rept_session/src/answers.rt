@@ -1,16 +1,17 @@
 //! Answering a command.
 
-ghost use Rattle.std.specs.Prelude.{◌≡◌, ◌≤◌, ◌++◌, false, length, IfOk, OnOk};
-ghost use Rattle.rept_session.specs.Commands.{IsWithin, command_of};
-ghost use Rattle.rept_session.specs.Session.{IsReply, cursor_of, ends};
-ghost use Rattle.rept_session.specs.Shown.{SameReasons, told};
-ghost use Rattle.rept_session.specs.Texts.{IsText, cursor_after, is_quit, point_line, range_line, refusal_line, register_line, registers_line, steps_line, stores_line, summary_lines, writer_line};
+ghost use Rattle.std.specs.Prelude.{◌≡◌, ℕ, ◌<◌, ◌≤◌, ◌++◌, false, length, IfOk, OnOk};
+ghost use Rattle.rept_session.specs.Commands.{IsWithin};
+ghost use Rattle.rept_session.specs.Session.{IsReply, cursor_of, ends, said_at};
+ghost use Rattle.rept_session.specs.Shown.{IsAt, SameReasons, told};
+ghost use Rattle.rept_session.specs.Texts.{IsText, cursor_after, is_quit, last_of, point_after, point_line, range_line, refusal_line, register_line, registers_line, steps_line, stores_line, summary_lines, thread_lines, writer_line};
 
 use crate::command::{BadCommand, Command};
-use crate::findings::{Findings, address_at};
+use crate::findings::{Findings, address_at, moment_of, number_of};
 use crate::lines::{memory_text, register_texts, step_texts};
 use crate::parser::parse;
 use crate::pieces::{push_note, push_numbered, push_range, push_value, push_writer};
+use crate::place::ThreadPoint;
 use crate::reasons::{why_byte, why_register};
 use crate::reply::Answer;
 use crate::stack::stack_text;
@@ -26,20 +27,19 @@ pub fn answer<F: Findings>(
     alloc: Global,
     findings: &mut F,
     skipped: u32,
-    cursor: u32,
+    cursor: ThreadPoint,
     command: &Command,
 ) -> Result<Answer, OutOfMemory>
-    requires cursor { cursor ≤ length (F.shown findings.old).rows }
-    requires command { IsWithin (length (F.shown findings.old).rows) command.now }
+    requires cursor { IsAt (F.shown findings.old) cursor }
+    requires command { IsWithin (length ((F.shown findings.old).rows cursor.thread)) (F.shown findings.old).threads command.now }
     ensures text { IfOk result (λ answer. IsText (told (F.shown findings.old) skipped (F.reasons findings.old)) answer.cursor command.now answer.text) }
-    ensures cursor { IfOk result (λ answer. answer.cursor ≡ cursor_after (length (F.shown findings.old).rows) cursor command.now) }
-    ensures within { IfOk result (λ answer. answer.cursor ≤ length (F.shown findings.old).rows) }
+    ensures cursor { IfOk result (λ answer. answer.cursor ≡ cursor_after (F.shown findings.old) cursor command.now) }
+    ensures within { IfOk result (λ answer. IsAt (F.shown findings.old) answer.cursor) }
     ensures quit { IfOk result (λ answer. answer.quit ≡ is_quit command.now) }
     ensures same { F.shown findings.new ≡ F.shown findings.old }
     ensures same_reasons { SameReasons (F.reasons findings.old) (F.reasons findings.new) }
 {
-    let last = findings.rows().len() as u32;
-    let moved = next_cursor(last, cursor, command);
+    let moved = next_cursor(findings, cursor, command);
     let text = text_of(alloc, findings, skipped, moved, command)?;
     Ok(Answer {
         cursor: moved,
@@ -55,26 +55,26 @@ pub fn answer_line<F: Findings>(
     alloc: Global,
     findings: &mut F,
     skipped: u32,
-    cursor: u32,
+    cursor: ThreadPoint,
     line: &[u8],
 ) -> Result<Answer, OutOfMemory>
-    requires { cursor ≤ length (F.shown findings.old).rows }
-    ensures text { IfOk result (λ answer. IsReply (told (F.shown findings.old) skipped (F.reasons findings.old)) cursor (command_of (length (F.shown findings.old).rows) line.now) answer.text) }
-    ensures cursor { IfOk result (λ answer. answer.cursor ≡ cursor_of (length (F.shown findings.old).rows) cursor (command_of (length (F.shown findings.old).rows) line.now)) }
-    ensures within { IfOk result (λ answer. answer.cursor ≤ length (F.shown findings.old).rows) }
-    ensures quit { IfOk result (λ answer. answer.quit ≡ ends (command_of (length (F.shown findings.old).rows) line.now)) }
+    requires { IsAt (F.shown findings.old) cursor }
+    ensures text { IfOk result (λ answer. IsReply (told (F.shown findings.old) skipped (F.reasons findings.old)) cursor (said_at (F.shown findings.old) cursor line.now) answer.text) }
+    ensures cursor { IfOk result (λ answer. answer.cursor ≡ cursor_of (F.shown findings.old) cursor (said_at (F.shown findings.old) cursor line.now)) }
+    ensures within { IfOk result (λ answer. IsAt (F.shown findings.old) answer.cursor) }
+    ensures quit { IfOk result (λ answer. answer.quit ≡ ends (said_at (F.shown findings.old) cursor line.now)) }
     ensures same { F.shown findings.new ≡ F.shown findings.old }
     ensures same_reasons { SameReasons (F.reasons findings.old) (F.reasons findings.new) }
 {
-    let last = findings.rows().len() as u32;
-    match parse(line, last) {
+    let last = findings.rows(cursor.thread).len() as u32;
+    match parse(line, last, findings.threads()) {
         Ok(command) => answer(alloc, findings, skipped, cursor, &command),
         Err(refusal) => refuse(alloc, cursor, refusal),
     }
 }
 
 /// The answer to a line that is no command, with the cursor where it was.
-fn refuse(alloc: Global, cursor: u32, refusal: BadCommand) -> Result<Answer, OutOfMemory>
+fn refuse(alloc: Global, cursor: ThreadPoint, refusal: BadCommand) -> Result<Answer, OutOfMemory>
     ensures text { IfOk result (λ answer. answer.text ≡ refusal_line refusal) }
     ensures cursor { IfOk result (λ answer. answer.cursor ≡ cursor) }
     ensures quit { IfOk result (λ answer. answer.quit ≡ false) }
@@ -98,17 +98,49 @@ pub fn refusal_text(alloc: Global, refusal: BadCommand) -> Result<Text, OutOfMem
 }
 
 /// The cursor after a command.
-fn next_cursor(last: u32, cursor: u32, command: &Command) -> u32
-    requires cursor { cursor ≤ last }
-    requires command { IsWithin last command.now }
-    ensures value { result ≡ cursor_after last cursor command.now }
+fn next_cursor<F: Findings>(findings: &F, cursor: ThreadPoint, command: &Command) -> ThreadPoint
+    requires cursor { IsAt (F.shown findings.now) cursor }
+    requires command { IsWithin (length ((F.shown findings.now).rows cursor.thread)) (F.shown findings.now).threads command.now }
+    ensures value { result ≡ cursor_after (F.shown findings.now) cursor command.now }
+    ensures within { IsAt (F.shown findings.now) result }
+{
+    match command {
+        Command::Thread(thread) => last_of(findings, *thread),
+        _ => ThreadPoint {
+            thread: cursor.thread,
+            point: next_point(
+                findings.rows(cursor.thread).len() as u32,
+                cursor.point,
+                command,
+            ),
+        },
+    }
+}
+
+/// The last point of a thread, at which a session is first, and after `thread`.
+pub fn last_of<F: Findings>(findings: &F, thread: u32) -> ThreadPoint
+    requires { thread < (F.shown findings.now).threads }
+    ensures value { result ≡ last_of (F.shown findings.now) thread }
+    ensures within { IsAt (F.shown findings.now) result }
+{
+    ThreadPoint {
+        thread,
+        point: findings.rows(thread).len() as u32,
+    }
+}
+
+/// The point after a command that leaves the cursor in its thread.
+fn next_point(last: u32, point: u32, command: &Command) -> u32
+    requires point { point ≤ last }
+    requires command { (threads : ℕ) → IsWithin last threads command.now }
+    ensures value { result ≡ point_after last point command.now }
     ensures within { result ≤ last }
 {
     match command {
-        Command::Back(count) => cursor.saturating_sub(*count),
-        Command::Fwd(count) => cursor.saturating_add(*count).min(last),
-        Command::Goto(point) => *point,
-        _ => cursor,
+        Command::Back(count) => point.saturating_sub(*count),
+        Command::Fwd(count) => point.saturating_add(*count).min(last),
+        Command::Goto(goal) => *goal,
+        _ => point,
     }
 }
 
@@ -126,48 +158,94 @@ fn text_of<F: Findings>(
     alloc: Global,
     findings: &mut F,
     skipped: u32,
-    point: u32,
+    at: ThreadPoint,
     command: &Command,
 ) -> Result<Text, OutOfMemory>
-    requires point { point ≤ length (F.shown findings.old).rows }
-    requires command { IsWithin (length (F.shown findings.old).rows) command.now }
-    ensures text { IfOk result (λ text. IsText (told (F.shown findings.old) skipped (F.reasons findings.old)) point command.now text) }
+    requires cursor { IsAt (F.shown findings.old) at }
+    requires command { IsWithin (length ((F.shown findings.old).rows at.thread)) (F.shown findings.old).threads command.now }
+    ensures text { IfOk result (λ text. IsText (told (F.shown findings.old) skipped (F.reasons findings.old)) at command.now text) }
     ensures same { F.shown findings.new ≡ F.shown findings.old }
     ensures same_reasons { SameReasons (F.reasons findings.old) (F.reasons findings.new) }
 {
     match command {
         Command::Where | Command::Back(_) | Command::Fwd(_) | Command::Goto(_) => {
-            point_text(alloc, findings, point)
+            point_text(alloc, findings, at)
         }
-        Command::Regs => register_texts(alloc, findings, point),
-        Command::Reg(register) => register_text(alloc, findings, point, *register),
-        Command::Range(register) => range_text(alloc, findings, point, *register),
-        Command::Mem { address, count } => memory_text(alloc, findings, point, *address, *count),
-        Command::Writer(address) => writer_text(alloc, findings, point, *address),
-        Command::WhyReg(register) => why_register(alloc, findings, point, *register),
-        Command::WhyByte(address) => why_byte(alloc, findings, point, *address),
-        Command::List { first, count } => step_texts(alloc, findings, *first, *count),
-        Command::Stack => stack_text(alloc, findings, point),
+        Command::Thread(_) => thread_text(alloc, findings, at),
+        Command::Regs => register_texts(alloc, findings, number_of(findings, at)),
+        Command::Reg(register) => {
+            register_text(alloc, findings, number_of(findings, at), *register)
+        }
+        Command::Range(register) => range_text(alloc, findings, number_of(findings, at), *register),
+        Command::Mem { address, count } => {
+            memory_text(alloc, findings, moment_of(findings, at), *address, *count)
+        }
+        Command::Writer(address) => {
+            writer_text(alloc, findings, moment_of(findings, at), *address)
+        }
+        Command::WhyReg(register) => {
+            let point = number_of(findings, at);
+            why_register(alloc, findings, point, *register)
+        }
+        Command::WhyByte(address) => {
+            let moment = moment_of(findings, at);
+            why_byte(alloc, findings, moment, *address)
+        }
+        Command::List { first, count } => {
+            step_texts(alloc, findings.rows(at.thread), *first, *count)
+        }
+        Command::Stack => stack_text(alloc, findings, at),
         Command::Summary => summary_text(alloc, findings, skipped),
         Command::Quit | Command::Nothing => Ok(Text::new(alloc)),
     }
 }
 
-fn point_text<F: Findings>(alloc: Global, findings: &F, point: u32) -> Result<Text, OutOfMemory>
-    requires { point ≤ length (F.shown findings.now).rows }
-    ensures { IfOk result (λ text. text ≡ point_line (F.shown findings.now) point) }
+fn point_text<F: Findings>(
+    alloc: Global,
+    findings: &F,
+    at: ThreadPoint,
+) -> Result<Text, OutOfMemory>
+    requires { IsAt (F.shown findings.now) at }
+    ensures { IfOk result (λ text. text ≡ point_line (F.shown findings.now) at) }
 {
-    let last = findings.rows().len() as u32;
-    let pc = address_at(findings, point);
     let mut text = Text::new(alloc);
-    text.push(b"point ")?;
-    text.push_decimal(point)?;
-    text.push(b" of ")?;
-    text.push_decimal(last)?;
+    push_point(&mut text, findings, at)?;
+    Ok(text)
+}
+
+/// The lines of a thread's process and of its point.
+fn thread_text<F: Findings>(
+    alloc: Global,
+    findings: &F,
+    at: ThreadPoint,
+) -> Result<Text, OutOfMemory>
+    requires { IsAt (F.shown findings.now) at }
+    ensures { IfOk result (λ text. text ≡ thread_lines (F.shown findings.now) at) }
+{
+    let mut text = Text::new(alloc);
+    push_numbered(&mut text, b"thread ", at.thread)?;
+    push_numbered(&mut text, b" pid ", findings.process(at.thread))?;
+    text.push(b"\n")?;
+    push_point(&mut text, findings, at)?;
+    Ok(text)
+}
+
+fn push_point<F: Findings>(
+    text: &mut Text,
+    findings: &F,
+    at: ThreadPoint,
+) -> Result<(), OutOfMemory>
+    requires { IsAt (F.shown findings.now) at }
+    ensures { OnOk result (text.new ≡ text.old ++ point_line (F.shown findings.now) at) }
+{
+    let last = findings.rows(at.thread).len() as u32;
+    let pc = address_at(findings, at);
+    push_numbered(text, b"point ", at.point)?;
+    push_numbered(text, b" of ", last)?;
     text.push(b" pc ")?;
     text.push_word(pc)?;
     text.push(b"\n")?;
-    Ok(text)
+    Ok(())
 }
 
 fn register_text<F: Findings>(
@@ -176,7 +254,7 @@ fn register_text<F: Findings>(
     point: u32,
     register: Reg,
 ) -> Result<Text, OutOfMemory>
-    requires { point ≤ length (F.shown findings.now).rows }
+    requires { point < (F.shown findings.now).points }
     ensures { IfOk result (λ text. text ≡ register_line (F.shown findings.now) point register) }
 {
     let value = findings.reg(point, register);
@@ -191,7 +269,7 @@ fn range_text<F: Findings>(
     point: u32,
     register: Reg,
 ) -> Result<Text, OutOfMemory>
-    requires { point ≤ length (F.shown findings.now).rows }
+    requires { point < (F.shown findings.now).points }
     ensures { IfOk result (λ text. text ≡ range_line (F.shown findings.now) point register) }
 {
     let range = findings.range(point, register);
@@ -206,15 +284,15 @@ fn range_text<F: Findings>(
 fn writer_text<F: Findings>(
     alloc: Global,
     findings: &F,
-    point: u32,
+    moment: u32,
     address: u32,
 ) -> Result<Text, OutOfMemory>
-    requires { point ≤ length (F.shown findings.now).rows }
-    ensures { IfOk result (λ text. text ≡ writer_line ((F.shown findings.now).writer point address)) }
+    requires { moment < (F.shown findings.now).moments }
+    ensures { IfOk result (λ text. text ≡ writer_line (F.shown findings.now) ((F.shown findings.now).writer moment address)) }
 {
-    let writer = findings.writer(point, address);
+    let writer = findings.writer(moment, address);
     let mut text = Text::new(alloc);
-    push_writer(&mut text, writer)?;
+    push_writer(&mut text, findings, writer)?;
     text.push(b"\n")?;
     Ok(text)
 }
@@ -222,11 +300,11 @@ fn writer_text<F: Findings>(
 fn summary_text<F: Findings>(alloc: Global, findings: &F, skipped: u32) -> Result<Text, OutOfMemory>
     ensures { IfOk result (λ text. text ≡ summary_lines (F.shown findings.now) skipped) }
 {
-    let last = findings.rows().len() as u32;
+    let points = findings.points();
     let counts = findings.counts();
     let mut text = Text::new(alloc);
     push_steps(&mut text, &counts, skipped)?;
-    push_registers(&mut text, counts.registers, 31 * (last + 1))?;
+    push_registers(&mut text, counts.registers, 31 * points)?;
     push_stores(&mut text, &counts)?;
     Ok(text)
 }

@@ -6,7 +6,8 @@ ghost use Rattle.rept_session.specs.Commands.{number_of_refusal};
 use rept_isa::Reg;
 use thiserror::Error;
 
-/// A command of a session. Points are counted from 0 before the first step of the path to n after its last one; steps from 0.
+/// A command of a session. A cursor is at a point of one thread. Points are counted from 0 before the thread's first step to n after its
+/// last one; steps from 0; threads from 0, in the order of the core file's register notes.
 #[derive(Clone, Copy, Debug, PartialEq, Eq)]
 pub enum Command {
     /// `where`: tells the cursor and the address there.
@@ -36,13 +37,15 @@ pub enum Command {
     WhyReg(Reg),
     /// `why A`: tells why the byte at an address is known.
     WhyByte(u32),
-    /// `list I K`: tells steps of the path, each with its address and instruction.
+    /// `list I K`: tells steps of the cursor's thread, each with its address and instruction.
     List {
         /// the first step
         first: u32,
         /// how many steps, 1 to 256
         count: u32,
     },
+    /// `thread T`: moves the cursor to the last point of a thread, and tells the thread's process and the cursor.
+    Thread(u32),
     /// `stack`: tells the address at the cursor and the calls that the thread is in there, the last one first, at most 256 lines.
     Stack,
     /// `summary`: tells how much is known.

@@ -8,14 +8,16 @@ mod lines;
 mod names;
 pub mod parser;
 mod pieces;
+pub mod place;
 mod reasons;
 pub mod reply;
 mod stack;
 mod verb;
 mod words;
 
-pub use answers::{answer, answer_line, refusal_text};
+pub use answers::{answer, answer_line, last_of, refusal_text};
 pub use command::{BadCommand, Command};
 pub use findings::Findings;
 pub use parser::parse;
+pub use place::{Place, ThreadPlace, ThreadPoint};
 pub use reply::Answer;

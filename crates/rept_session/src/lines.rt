@@ -1,6 +1,6 @@
 //! Answers of many lines.
 
-ghost use Rattle.std.specs.Prelude.{◌≡◌, ◌≤◌, ◌+◌, ◌++◌, codes, length, IfOk, OnOk, slice_get};
+ghost use Rattle.std.specs.Prelude.{◌≡◌, ◌<◌, ◌≤◌, ◌+◌, ◌++◌, codes, length, IfOk, OnOk, slice_get};
 ghost use Rattle.std.specs.List.{flat_map, range_with_len};
 ghost use Rattle.rept_session.specs.Texts.{byte_piece, byte_text, memory_line, memory_lines, register_lines, step_line, step_lines, wrapped};
 
@@ -19,7 +19,7 @@ pub fn register_texts<F: Findings>(
     findings: &F,
     point: u32,
 ) -> Result<Text, OutOfMemory>
-    requires { point ≤ length (F.shown findings.now).rows }
+    requires { point < (F.shown findings.now).points }
     ensures { IfOk result (λ text. text ≡ register_lines (F.shown findings.now) point) }
 {
     let mut text = Text::new(alloc);
@@ -33,17 +33,17 @@ pub fn register_texts<F: Findings>(
     Ok(text)
 }
 
-/// The lines of so many bytes from an address on, at a point.
+/// The lines of so many bytes from an address on, at a moment.
 pub fn memory_text<F: Findings>(
     alloc: Global,
     findings: &F,
-    point: u32,
+    moment: u32,
     address: u32,
     count: u32,
 ) -> Result<Text, OutOfMemory>
-    requires point { point ≤ length (F.shown findings.now).rows }
+    requires moment { moment < (F.shown findings.now).moments }
     requires count { count ≤ 256 }
-    ensures { IfOk result (λ text. text ≡ memory_lines (F.shown findings.now) point address count) }
+    ensures { IfOk result (λ text. text ≡ memory_lines (F.shown findings.now) moment address count) }
 {
     let mut text = Text::new(alloc);
     let lines = (count + 15) / LINE_BYTES;
@@ -51,7 +51,7 @@ pub fn memory_text<F: Findings>(
         let passed = LINE_BYTES * line;
         let start = address.wrapping_add(passed);
         let bytes = LINE_BYTES.min(count - passed);
-        push_memory_line(&mut text, findings, point, start, bytes)?;
+        push_memory_line(&mut text, findings, moment, start, bytes)?;
     }
     Ok(text)
 }
@@ -60,16 +60,16 @@ pub fn memory_text<F: Findings>(
 fn push_memory_line<F: Findings>(
     text: &mut Text,
     findings: &F,
-    point: u32,
+    moment: u32,
     address: u32,
     count: u32,
 ) -> Result<(), OutOfMemory>
-    requires { point ≤ length (F.shown findings.now).rows }
-    ensures { OnOk result (text.new ≡ text.old ++ memory_line (F.shown findings.now) point address count) }
+    requires { moment < (F.shown findings.now).moments }
+    ensures { OnOk result (text.new ≡ text.old ++ memory_line (F.shown findings.now) moment address count) }
 {
     text.push_word(address)?;
     text.push(b":")?;
-    push_bytes(text, findings, point, address, count)?;
+    push_bytes(text, findings, moment, address, count)?;
     text.push(b"\n")?;
     Ok(())
 }
@@ -78,15 +78,15 @@ fn push_memory_line<F: Findings>(
 fn push_bytes<F: Findings>(
     text: &mut Text,
     findings: &F,
-    point: u32,
+    moment: u32,
     address: u32,
     count: u32,
 ) -> Result<(), OutOfMemory>
-    requires { point ≤ length (F.shown findings.now).rows }
-    ensures { OnOk result (text.new ≡ text.old ++ flat_map (λ i. byte_piece (F.shown findings.now) point (wrapped (address + i))) (range_with_len 0 count)) }
+    requires { moment < (F.shown findings.now).moments }
+    ensures { OnOk result (text.new ≡ text.old ++ flat_map (λ i. byte_piece (F.shown findings.now) moment (wrapped (address + i))) (range_with_len 0 count)) }
 {
     for i in 0..count {
-        let byte = findings.byte(point, address.wrapping_add(i));
+        let byte = findings.byte(moment, address.wrapping_add(i));
         push_byte_piece(text, byte)?;
     }
     Ok(())
@@ -101,18 +101,18 @@ fn push_byte_piece(text: &mut Text, byte: Option<u8>) -> Result<(), OutOfMemory>
     Ok(())
 }
 
-/// The lines of so many steps from one on, as far as the path has them.
-pub fn step_texts<F: Findings>(
+/// The lines of so many steps from one on, as far as a thread has them.
+pub fn step_texts(
     alloc: Global,
-    findings: &F,
+    rows: &[StepRow],
     first: u32,
     count: u32,
 ) -> Result<Text, OutOfMemory>
-    requires first { first ≤ length (F.shown findings.now).rows }
+    requires few { length rows.now ≤ 65536 }
+    requires first { first ≤ length rows.now }
     requires count { count ≤ 256 }
-    ensures { IfOk result (λ text. text ≡ step_lines (F.shown findings.now) first count) }
+    ensures { IfOk result (λ text. text ≡ step_lines rows.now first count) }
 {
-    let rows = findings.rows();
     let mut text = Text::new(alloc);
     for step in first..first + count {
         push_existing_step(alloc, &mut text, step, rows)?;
@@ -120,7 +120,7 @@ pub fn step_texts<F: Findings>(
     Ok(text)
 }
 
-/// The line of a step, where the path has it.
+/// The line of a step, where the thread has it.
 fn push_existing_step(
     alloc: Global,
     text: &mut Text,

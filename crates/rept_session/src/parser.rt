@@ -1,7 +1,7 @@
 //! Reading a line as a command.
 
-ghost use Rattle.std.specs.Prelude.{◌≡◌, IfOk, MatchResult, None, Some};
-ghost use Rattle.rept_session.specs.Commands.{IsWithin, alone, command_of, begins_with_digit, command_of_verb, double_command, goto_command, single_command, why_command};
+ghost use Rattle.std.specs.Prelude.{◌≡◌, ℕ, IfOk, MatchResult, None, Some};
+ghost use Rattle.rept_session.specs.Commands.{IsWithin, alone, command_of, begins_with_digit, command_of_verb, double_command, goto_command, single_command, thread_command, why_command};
 ghost use Rattle.rept_number.specs.Numbers.{number_of_word};
 ghost use Rattle.rept_session.specs.Registers.{register_of};
 ghost use Rattle.rept_session.specs.Words.{words_in};
@@ -21,18 +21,19 @@ const MOST_BYTES: usize = 256;
 /// The most bytes or steps that one command tells.
 const MOST_TOLD: u32 = 256;
 
-/// The command that a line is, over a path whose last point is `last`, or the first check that fails. It takes no memory.
+/// The command that a line is, over a thread whose last point is `last` in a run of so many threads, or the first check that fails.
+/// It takes no memory.
 ///
 /// A line's words are parted by spaces and tabs. A line without words is `Nothing`.
-pub fn parse(line: &[u8], last: u32) -> Result<Command, BadCommand>
-    ensures value { result ≡ command_of last line.now }
-    ensures within { IfOk result (IsWithin last) }
+pub fn parse(line: &[u8], last: u32, threads: u32) -> Result<Command, BadCommand>
+    ensures value { result ≡ command_of last threads line.now }
+    ensures within { IfOk result (IsWithin last threads) }
 {
-    read_line(line, last)
+    read_line(line, last, threads)
 }
 
-fn read_line(line: &[u8], last: u32) -> Result<Command, BadCommand>
-    ensures { result ≡ command_of last line.now }
+fn read_line(line: &[u8], last: u32, threads: u32) -> Result<Command, BadCommand>
+    ensures { result ≡ command_of last threads line.now }
 {
     if line.len() > MOST_BYTES {
         return Err(BadCommand::LongLine);
@@ -41,18 +42,18 @@ fn read_line(line: &[u8], last: u32) -> Result<Command, BadCommand>
         return Ok(Command::Nothing);
     };
     match verb_named(word) {
-        Some(found) => read_words(last, found, rest),
+        Some(found) => read_words(last, threads, found, rest),
         None => Err(BadCommand::Unknown),
     }
 }
 
 /// The command of a first word with the words that come after it.
-fn read_words(last: u32, found: Verb, rest: &[u8]) -> Result<Command, BadCommand>
-    ensures { result ≡ command_of_verb last found (words_in rest.now) }
+fn read_words(last: u32, threads: u32, found: Verb, rest: &[u8]) -> Result<Command, BadCommand>
+    ensures { result ≡ command_of_verb last threads found (words_in rest.now) }
 {
     match found {
         Verb::Lone(command) => read_lone(command, rest),
-        Verb::One(single) => read_one(last, single, rest),
+        Verb::One(single) => read_one(last, threads, single, rest),
         Verb::Two(double) => read_two(last, double, rest),
     }
 }
@@ -67,8 +68,8 @@ fn read_lone(command: Command, rest: &[u8]) -> Result<Command, BadCommand>
     }
 }
 
-fn read_one(last: u32, single: Single, rest: &[u8]) -> Result<Command, BadCommand>
-    ensures { result ≡ command_of_verb last (One single) (words_in rest.now) }
+fn read_one(last: u32, threads: u32, single: Single, rest: &[u8]) -> Result<Command, BadCommand>
+    ensures { result ≡ command_of_verb last threads (One single) (words_in rest.now) }
 {
     let Some((word, more)) = first_word(rest) else {
         return Err(BadCommand::Words(0));
@@ -76,11 +77,11 @@ fn read_one(last: u32, single: Single, rest: &[u8]) -> Result<Command, BadComman
     if first_word(more).is_some() {
         return Err(BadCommand::Words(count_words(rest)));
     }
-    read_single(last, single, word)
+    read_single(last, threads, single, word)
 }
 
 fn read_two(last: u32, double: Double, rest: &[u8]) -> Result<Command, BadCommand>
-    ensures { result ≡ command_of_verb last (Two double) (words_in rest.now) }
+    ensures { (threads : ℕ) → result ≡ command_of_verb last threads (Two double) (words_in rest.now) }
 {
     let Some((word, more)) = first_word(rest) else {
         return Err(BadCommand::Words(0));
@@ -95,13 +96,14 @@ fn read_two(last: u32, double: Double, rest: &[u8]) -> Result<Command, BadComman
 }
 
 /// A command of one word.
-fn read_single(last: u32, single: Single, word: &[u8]) -> Result<Command, BadCommand>
-    ensures { result ≡ single_command last single word.now }
+fn read_single(last: u32, threads: u32, single: Single, word: &[u8]) -> Result<Command, BadCommand>
+    ensures { result ≡ single_command last threads single word.now }
 {
     match single {
         Single::Back => Ok(Command::Back(read_number(word)?)),
         Single::Fwd => Ok(Command::Fwd(read_number(word)?)),
         Single::Goto => read_goto(last, word),
+        Single::Thread => read_thread(threads, word),
         Single::Reg => Ok(Command::Reg(read_register(word)?)),
         Single::Range => Ok(Command::Range(read_register(word)?)),
         Single::Writer => Ok(Command::Writer(read_number(word)?)),
@@ -117,6 +119,16 @@ fn read_goto(last: u32, word: &[u8]) -> Result<Command, BadCommand>
         return Err(BadCommand::Limit);
     }
     Ok(Command::Goto(point))
+}
+
+fn read_thread(threads: u32, word: &[u8]) -> Result<Command, BadCommand>
+    ensures { result ≡ thread_command threads (number_of_word word.now) }
+{
+    let thread = read_number(word)?;
+    if thread >= threads {
+        return Err(BadCommand::Limit);
+    }
+    Ok(Command::Thread(thread))
 }
 
 /// A word that names a register is one; any other is a number where it begins with a digit.

@@ -3,9 +3,11 @@
 ghost use Rattle.std.specs.Prelude.{◌≡◌, ◌++◌, OnOk, Some, codes};
 ghost use Rattle.std.specs.Fmt.{decimal};
 ghost use Rattle.rept_isa.specs.Texts.{register_text};
-ghost use Rattle.rept_session.specs.Texts.{byte_text, cell_text, looked_line, note_text, premise_line, range_text, step_line, value_line, value_text, writer_text};
+ghost use Rattle.rept_session.specs.Texts.{byte_text, cell_text, looked_line, note_text, of_thread, place_of, place_text, premise_line, range_text, step_line, step_text, value_line, value_text, writer_text};
 ghost use Rattle.rept_word.specs.Hex.{hex_byte, hex_word};
 
+use crate::findings::Findings;
+use crate::place::{Place, ThreadPlace};
 use rept_isa::{Reg, Shown, StepRow};
 use rept_partial::{Partial, Range};
 use rept_reason::{Cell, Fact, Looked};
@@ -91,13 +93,43 @@ pub fn push_known_byte(text: &mut Text, byte: Option<u8>) -> Result<(), OutOfMem
     }
 }
 
+/// The thread, in a run of several.
+fn push_thread<F: Findings>(text: &mut Text, findings: &F, thread: u32) -> Result<(), OutOfMemory>
+    ensures { OnOk result (text.new ≡ text.old ++ of_thread (F.shown findings.now) thread) }
+{
+    if findings.threads() > 1 {
+        push_numbered(text, b" of ", thread)
+    } else {
+        Ok(())
+    }
+}
+
+/// Words, a step, and its thread in a run of several.
+fn push_step_of<F: Findings>(
+    text: &mut Text,
+    findings: &F,
+    words: &[u8],
+    step: u32,
+) -> Result<(), OutOfMemory>
+    ensures { OnOk result (text.new ≡ text.old ++ (words.now ++ step_text (F.shown findings.now) ((F.shown findings.now).point step))) }
+{
+    let at = findings.point(step);
+    push_numbered(text, words, at.point)?;
+    push_thread(text, findings, at.thread)?;
+    Ok(())
+}
+
 /// Which step wrote a byte.
-pub fn push_writer(text: &mut Text, writer: Writer) -> Result<(), OutOfMemory>
-    ensures { OnOk result (text.new ≡ text.old ++ writer_text writer) }
+pub fn push_writer<F: Findings>(
+    text: &mut Text,
+    findings: &F,
+    writer: Writer,
+) -> Result<(), OutOfMemory>
+    ensures { OnOk result (text.new ≡ text.old ++ writer_text (F.shown findings.now) writer) }
 {
     match writer {
-        Writer::Writes(step) => push_numbered(text, b"writes ", step),
-        Writer::MayWrite(step) => push_numbered(text, b"may write ", step),
+        Writer::Writes(step) => push_step_of(text, findings, b"writes ", step),
+        Writer::MayWrite(step) => push_step_of(text, findings, b"may write ", step),
         Writer::Several => text.push(b"several"),
         Writer::None => text.push(b"none"),
     }
@@ -127,14 +159,48 @@ pub fn push_step(
 }
 
 /// The line of a fact that a rule rests on.
-pub fn push_premise(text: &mut Text, fact: &Fact) -> Result<(), OutOfMemory>
-    ensures { OnOk result (text.new ≡ text.old ++ premise_line fact.now) }
+pub fn push_premise<F: Findings>(
+    text: &mut Text,
+    findings: &F,
+    fact: &Fact,
+) -> Result<(), OutOfMemory>
+    ensures { OnOk result (text.new ≡ text.old ++ premise_line (F.shown findings.now) fact.now) }
 {
-    push_numbered(text, b"  point ", fact.point)?;
+    let at = place_of(findings, fact.cell, fact.point);
+    text.push(b"  point ")?;
+    push_place(text, at.place)?;
     text.push(b" ")?;
     push_cell(text, fact.cell, fact.value)?;
+    push_thread(text, findings, at.thread)?;
     text.push(b"\n")?;
     Ok(())
+}
+
+/// The thread and place at which a cell has a value, by the number of a point or moment.
+fn place_of<F: Findings>(findings: &F, cell: Cell, number: u32) -> ThreadPlace
+    ensures { result ≡ place_of (F.shown findings.now) cell number }
+{
+    match cell {
+        Cell::Register(_) => {
+            let at = findings.point(number);
+            ThreadPlace {
+                thread: at.thread,
+                place: Place::Point(at.point),
+            }
+        }
+        Cell::Byte(_) => findings.place(number),
+    }
+}
+
+/// A place.
+pub fn push_place(text: &mut Text, place: Place) -> Result<(), OutOfMemory>
+    ensures { OnOk result (text.new ≡ text.old ++ place_text place) }
+{
+    match place {
+        Place::Point(point) => text.push_decimal(point),
+        Place::After(step) => push_numbered(text, b"after-", step),
+        Place::End => text.push(b"end"),
+    }
 }
 
 fn push_cell(text: &mut Text, cell: Cell, value: u32) -> Result<(), OutOfMemory>
@@ -167,12 +233,18 @@ fn push_stored(text: &mut Text, address: u32, byte: u8) -> Result<(), OutOfMemor
 }
 
 /// The line of a range that a rule looked at.
-pub fn push_looked(text: &mut Text, looked: &Looked) -> Result<(), OutOfMemory>
-    ensures { OnOk result (text.new ≡ text.old ++ looked_line looked.now) }
+pub fn push_looked<F: Findings>(
+    text: &mut Text,
+    findings: &F,
+    looked: &Looked,
+) -> Result<(), OutOfMemory>
+    ensures { OnOk result (text.new ≡ text.old ++ looked_line (F.shown findings.now) looked.now) }
 {
-    push_numbered(text, b"  range ", looked.point)?;
+    let at = findings.point(looked.point);
+    push_numbered(text, b"  range ", at.point)?;
     text.push(b" ")?;
     push_range(text, looked.reg, looked.range)?;
+    push_thread(text, findings, at.thread)?;
     text.push(b"\n")?;
     Ok(())
 }

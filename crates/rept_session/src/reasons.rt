@@ -1,9 +1,9 @@
 //! Answers that tell why something is known.
 
-ghost use Rattle.std.specs.Prelude.{◌≡◌, ◌≢◌, ℕ, ◌≤◌, ◌++◌, length, IfOk, OnOk, Some};
+ghost use Rattle.std.specs.Prelude.{◌≡◌, ◌≢◌, ℕ, ◌<◌, ◌++◌, IfOk, OnOk, Some};
 ghost use Rattle.std.specs.List.{flat_map};
 ghost use Rattle.rept_reason.specs.declared.fact.Cell.TheVariants.{Byte, Register};
-ghost use Rattle.rept_session.specs.Shown.{SameReasons, explained, known_value, told};
+ghost use Rattle.rept_session.specs.Shown.{SameReasons, explained, known_value, places_of, told};
 ghost use Rattle.rept_session.specs.Texts.{IsExplained, IsRegisterExplained, looked_line, premise_line, reason_lines};
 
 use crate::findings::Findings;
@@ -20,7 +20,7 @@ pub fn why_register<F: Findings>(
     point: u32,
     register: Reg,
 ) -> Result<Text, OutOfMemory>
-    requires { point ≤ length (F.shown findings.old).rows }
+    requires { point < (F.shown findings.old).points }
     ensures text { (skipped : ℕ) → IfOk result (IsRegisterExplained (told (F.shown findings.old) skipped (F.reasons findings.old)) point register) }
     ensures same { F.shown findings.new ≡ F.shown findings.old }
     ensures same_reasons { SameReasons (F.reasons findings.old) (F.reasons findings.new) }
@@ -38,7 +38,7 @@ fn why_value<F: Findings>(
     point: u32,
     register: Reg,
 ) -> Result<Text, OutOfMemory>
-    requires point { point ≤ length (F.shown findings.old).rows }
+    requires point { point < (F.shown findings.old).points }
     requires named { register ≢ 0 }
     ensures text { (skipped : ℕ) → IfOk result (IsExplained (told (F.shown findings.old) skipped (F.reasons findings.old)) point (Register register) ((F.shown findings.old).register point register)) }
     ensures same { F.shown findings.new ≡ F.shown findings.old }
@@ -50,23 +50,23 @@ fn why_value<F: Findings>(
     }
 }
 
-/// Why the byte at an address is known at a point.
+/// Why the byte at an address is known at a moment.
 pub fn why_byte<F: Findings>(
     alloc: Global,
     findings: &mut F,
-    point: u32,
+    moment: u32,
     address: u32,
 ) -> Result<Text, OutOfMemory>
-    requires { point ≤ length (F.shown findings.old).rows }
-    ensures text { (skipped : ℕ) → IfOk result (IsExplained (told (F.shown findings.old) skipped (F.reasons findings.old)) point (Byte address) ((F.shown findings.old).byte point address)) }
+    requires { moment < (F.shown findings.old).moments }
+    ensures text { (skipped : ℕ) → IfOk result (IsExplained (told (F.shown findings.old) skipped (F.reasons findings.old)) moment (Byte address) ((F.shown findings.old).byte moment address)) }
     ensures same { F.shown findings.new ≡ F.shown findings.old }
     ensures same_reasons { SameReasons (F.reasons findings.old) (F.reasons findings.new) }
 {
-    match findings.byte(point, address) {
+    match findings.byte(moment, address) {
         Some(value) => explain(
             alloc,
             findings,
-            point,
+            moment,
             Cell::Byte(address),
             u32::from(value),
         ),
@@ -83,53 +83,69 @@ fn whole_text(alloc: Global, words: &[u8]) -> Result<Text, OutOfMemory>
     Ok(text)
 }
 
-/// A reason of a known fact.
+/// A reason of a known fact, at the point or moment of a number.
 fn explain<F: Findings>(
     alloc: Global,
     findings: &mut F,
-    point: u32,
+    number: u32,
     cell: Cell,
     value: u32,
 ) -> Result<Text, OutOfMemory>
-    requires point { point ≤ length (F.shown findings.old).rows }
+    requires place { number < places_of (F.shown findings.old) cell }
     requires named { cell ≢ Register 0 }
-    requires known { known_value (F.shown findings.old) point cell ≡ Some value }
-    ensures text { (skipped : ℕ) → IfOk result (IsExplained (told (F.shown findings.old) skipped (F.reasons findings.old)) point cell (Some value)) }
+    requires known { known_value (F.shown findings.old) number cell ≡ Some value }
+    ensures text { (skipped : ℕ) → IfOk result (IsExplained (told (F.shown findings.old) skipped (F.reasons findings.old)) number cell (Some value)) }
     ensures same { F.shown findings.new ≡ F.shown findings.old }
     ensures same_reasons { SameReasons (F.reasons findings.old) (F.reasons findings.new) }
 {
-    let fact = Fact { point, cell, value };
+    let fact = Fact {
+        point: number,
+        cell,
+        value,
+    };
     match findings.why(alloc, fact)? {
-        Some(reason) => reason_text(alloc, &reason),
+        Some(reason) => reason_text(alloc, findings, &reason),
         None => unreachable!(),
     }
 }
 
-fn reason_text(alloc: Global, reason: &Reason) -> Result<Text, OutOfMemory>
-    ensures { IfOk result (λ text. text ≡ reason_lines (explained reason.now)) }
+fn reason_text<F: Findings>(
+    alloc: Global,
+    findings: &F,
+    reason: &Reason,
+) -> Result<Text, OutOfMemory>
+    ensures { IfOk result (λ text. text ≡ reason_lines (F.shown findings.now) (explained reason.now)) }
 {
     let mut text = Text::new(alloc);
     push_numbered(&mut text, b"rule ", u32::from(reason.rule))?;
     text.push(b"\n")?;
-    push_premises(&mut text, reason.premises.as_slice())?;
-    push_ranges(&mut text, reason.ranges.as_slice())?;
+    push_premises(&mut text, findings, reason.premises.as_slice())?;
+    push_ranges(&mut text, findings, reason.ranges.as_slice())?;
     Ok(text)
 }
 
-fn push_premises(text: &mut Text, premises: &[Fact]) -> Result<(), OutOfMemory>
-    ensures { OnOk result (text.new ≡ text.old ++ flat_map premise_line premises.now) }
+fn push_premises<F: Findings>(
+    text: &mut Text,
+    findings: &F,
+    premises: &[Fact],
+) -> Result<(), OutOfMemory>
+    ensures { OnOk result (text.new ≡ text.old ++ flat_map (premise_line (F.shown findings.now)) premises.now) }
 {
     for premise in premises {
-        push_premise(text, premise)?;
+        push_premise(text, findings, premise)?;
     }
     Ok(())
 }
 
-fn push_ranges(text: &mut Text, ranges: &[Looked]) -> Result<(), OutOfMemory>
-    ensures { OnOk result (text.new ≡ text.old ++ flat_map looked_line ranges.now) }
+fn push_ranges<F: Findings>(
+    text: &mut Text,
+    findings: &F,
+    ranges: &[Looked],
+) -> Result<(), OutOfMemory>
+    ensures { OnOk result (text.new ≡ text.old ++ flat_map (looked_line (F.shown findings.now)) ranges.now) }
 {
     for looked in ranges {
-        push_looked(text, looked)?;
+        push_looked(text, findings, looked)?;
     }
     Ok(())
 }

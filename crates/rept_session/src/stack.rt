@@ -1,13 +1,15 @@
 //! The calls that a thread is in.
 
-ghost use Rattle.std.specs.Prelude.{◌≡◌, ◌≤◌, ◌++◌, ◌∷◌, codes, length, map, reverse, slice_get, IfOk, OnOk};
-ghost use Rattle.std.specs.Option.{option_map};
+ghost use Rattle.std.specs.Prelude.{◌≡◌, ◌++◌, ◌∷◌, codes, map, reverse, slice_get, take, IfOk, OnOk};
+ghost use Rattle.std.specs.Option.{option_and_then, option_map, option_to_list};
 ghost use Rattle.rept_elf.specs.Symbols.{symbol_of};
 ghost use Rattle.rept_isa.specs.Texts.{hex_text};
-ghost use Rattle.rept_session.specs.Texts.{frame_line, function_text, stack_lines, visible};
+ghost use Rattle.rept_session.specs.Shown.{IsAt};
+ghost use Rattle.rept_session.specs.Texts.{function_text, place_line, stack_lines, visible};
 
 use crate::findings::{Findings, address_at};
 use crate::pieces::push_numbered;
+use crate::place::ThreadPoint;
 use rept_elf::Symbol;
 use rept_stack::{Frame, frames_of};
 use rept_word::{OutOfMemory, Text};
@@ -16,20 +18,38 @@ use std::alloc::Global;
 /// The most lines that are told.
 const MOST_LINES: u32 = 256;
 
-/// The lines of the address at a point and of the calls that the thread is in there, the last one first.
-pub fn stack_text<F: Findings>(alloc: Global, findings: &F, point: u32) -> Result<Text, OutOfMemory>
-    requires { point ≤ length (F.shown findings.now).rows }
-    ensures { IfOk result (λ text. text ≡ stack_lines (F.shown findings.now) point) }
+/// The lines of the address at a point of a thread and of the calls that the thread is in there, the last one first.
+pub fn stack_text<F: Findings>(
+    alloc: Global,
+    findings: &F,
+    at: ThreadPoint,
+) -> Result<Text, OutOfMemory>
+    requires { IsAt (F.shown findings.now) at }
+    ensures { IfOk result (λ text. text ≡ stack_lines (F.shown findings.now) at) }
 {
-    let pc = address_at(findings, point);
-    let rows = &findings.rows()[..point as usize];
+    let pc = address_at(findings, at);
+    let rows = &findings.rows(at.thread)[..at.point as usize];
     let frames = frames_of(alloc, rows)?;
+    let places = places_of(alloc, frames.as_slice(), pc)?;
+    let functions = findings.symbols(alloc, places.as_slice())?;
     let mut text = Text::new(alloc);
     for k in 0..MOST_LINES {
-        let address = place_of(frames.as_slice(), pc, k as usize);
-        push_frame(alloc, &mut text, findings, k, address)?;
+        let place = place_at(places.as_slice(), k as usize);
+        let function = function_at(functions.as_slice(), k as usize);
+        push_place(alloc, &mut text, k, place, function)?;
     }
     Ok(text)
+}
+
+/// The addresses of the first places of the stack, as many as are told.
+fn places_of(alloc: Global, frames: &[Frame], pc: u32) -> Result<Vec<u32>, OutOfMemory>
+    ensures { IfOk result (λ places. places.items ≡ take 256 (pc ∷ reverse (map (λ f. f.at) frames.now))) }
+{
+    let mut places = Vec::new(alloc);
+    for k in 0..MOST_LINES {
+        push_some(&mut places, place_of(frames, pc, k as usize))?;
+    }
+    Ok(places)
 }
 
 /// The address of a place of the stack, if it has so many.
@@ -45,23 +65,48 @@ fn place_of(frames: &[Frame], pc: u32, k: usize) -> Option<u32>
     Some(frames[frames.len() - k].at)
 }
 
+fn push_some(places: &mut Vec<u32>, place: Option<u32>) -> Result<(), OutOfMemory>
+    ensures { OnOk result (places.new.items ≡ places.old.items ++ option_to_list place) }
+{
+    if let Some(address) = place {
+        places.push(address)?;
+    }
+    Ok(())
+}
+
+fn place_at(places: &[u32], k: usize) -> Option<u32>
+    ensures { result ≡ slice_get places.now k }
+{
+    places.get(k).copied()
+}
+
+/// The function of a place, where it has one that is named.
+fn function_at<'a>(functions: &[Option<Symbol<'a>>], k: usize) -> Option<Symbol<'a>>
+    ensures { option_map symbol_of result ≡ option_and_then (λ function. function) (slice_get (map (option_map symbol_of) functions.now) k) }
+{
+    match functions.get(k) {
+        Some(function) => *function,
+        None => None,
+    }
+}
+
 /// The line of a place of the stack, where the stack has it.
-fn push_frame<F: Findings>(
+fn push_place(
     alloc: Global,
     text: &mut Text,
-    findings: &F,
     k: u32,
-    address: Option<u32>,
+    place: Option<u32>,
+    function: Option<Symbol<'_>>,
 ) -> Result<(), OutOfMemory>
-    ensures { OnOk result (text.new ≡ text.old ++ frame_line (F.shown findings.now) k address) }
+    ensures { OnOk result (text.new ≡ text.old ++ place_line k place (option_map symbol_of function.entry)) }
 {
-    let Some(address) = address else {
+    let Some(address) = place else {
         return Ok(());
     };
     push_numbered(text, b"#", k)?;
     text.push(b" ")?;
     text.push_word(address)?;
-    push_function(alloc, text, address, findings.symbol(address))?;
+    push_function(alloc, text, address, function)?;
     text.push(b"\n")?;
     Ok(())
 }

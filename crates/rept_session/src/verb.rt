@@ -22,6 +22,7 @@ pub enum Single {
     Back,
     Fwd,
     Goto,
+    Thread,
     Reg,
     Range,
     Writer,
@@ -78,6 +79,8 @@ fn single_verb(word: &[u8]) -> Option<Single>
         Some(Single::Fwd)
     } else if word == b"goto".as_slice() {
         Some(Single::Goto)
+    } else if word == b"thread".as_slice() {
+        Some(Single::Thread)
     } else if word == b"reg".as_slice() {
         Some(Single::Reg)
     } else if word == b"range".as_slice() {

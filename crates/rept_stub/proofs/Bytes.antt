@@ -45,3 +45,8 @@ module _ (digits items : List ℕ) (i : ℕ) (more : i + 1 < length digits) (so_
 -- one digit is left
 pub odd_ends : (digits items : List ℕ) (i : ℕ) → length digits ≤ i + 1 → i < length digits → decoded digits ≡ option_map (λ rest. items ++ rest) (decoded (drop i digits)) → decoded digits ≡ None
 odd_ends digits items i h k e = e ∙ ap (λ w. option_map (λ rest. items ++ rest) (decoded w)) (drop-cons digits i 0 k ∙ ap (λ w. get_or digits i 0 ∷ w) (drop_of_length-le digits {i = suc i} (omega arith)))
+
+-- three texts after another one
+pub framed : (old name value last one two three : List ℕ) → one ≡ old ++ name → two ≡ one ++ value → three ≡ two ++ last → three ≡ old ++ (name ++ value ++ last)
+framed old name value last one two three e f g =
+    g ∙ ap (λ t. t ++ last) (f ∙ ap (λ t. t ++ value) e ∙ append_assoc old name value) ∙ append_assoc old (name ++ value) last

@@ -1,3 +1,4 @@
 pub mod Bytes
 pub mod Listed
 pub mod Ranges
+pub mod Stands

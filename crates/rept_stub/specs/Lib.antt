@@ -5,3 +5,5 @@ pub mod Monitoring
 pub mod Replies
 pub mod Signals
 pub mod Spots
+pub mod Standing
+pub mod Threads

@@ -1,13 +1,14 @@
 -- Lines of a debugger's user that are no lines of a session. This project's own.
-use Rattle.std.specs.Prelude.{ℕ, zero, suc, List, [], ◌∷◌, ◌++◌, drop, Bool, nat_eq, Option, None, Some, codes, if◌then◌else◌}
+use Rattle.std.specs.Prelude.{ℕ, zero, suc, List, [], ◌∷◌, ◌++◌, drop, Bool, ◌==◌, nat_eq, Option, None, Some, codes, if◌then◌else◌}
 use Rattle.std.specs.Fmt.{decimal}
 use Rattle.std.specs.List.{flat_map, starts_with}
 use Rattle.std.specs.Str.{bytes_eq}
 use Rattle.rept_number.specs.Numbers.{number_of_word}
 use Rattle.rept_report.specs.declared.writer.Writer.{Writer}
 use Rattle.rept_session.specs.Shown.{Shown}
-use Rattle.rept_session.specs.Texts.{writer_line}
-use Rattle.rept_stub.specs.Halts.{row_before}
+use Rattle.rept_session.specs.Texts.{at, writer_line}
+use Rattle.rept_session.specs.declared.place.ThreadPoint.{ThreadPoint}
+use Rattle.rept_stub.specs.Halts.{before, named_row, writer_at}
 use Rattle.rept_stub.specs.declared.monitoring.Asked.{Asked}
 use Rattle.rept_stub.specs.declared.monitoring.Asked.TheVariants as asked
 
@@ -33,17 +34,29 @@ signal_text signal = codes "signal " ++ decimal signal ++ 10 ∷ []
 unfoldable pub help_text : List ℕ
 help_text = codes "where | reg R | regs | range R | mem ADDRESS COUNT | writer ADDRESS | writers ADDRESS | why R | why ADDRESS | list STEP COUNT | summary | signal" ++ 10 ∷ []
 
+-- the point before a row, where that is the thread's own and before this point
+abbrev pub own_before : ThreadPoint → ThreadPoint → Option ℕ
+own_before c row = if row.thread == c.thread then before c.point row.point else None
+
+abbrev pub row_of : Shown → ThreadPoint → Option ℕ → Option ℕ
+row_of s c None = None
+row_of s c (Some row) = own_before c (s.point row)
+
+-- the row that the report names of a byte at a point of a thread, where it is the thread's own
+abbrev pub row_before : Shown → ThreadPoint → ℕ → Option ℕ
+row_before s c address = row_of s c (named_row (writer_at s c address))
+
 -- what a report names, and, where that is a row, what comes before it
 abbrev pub listed : Writer → Option ℕ → (ℕ → List Writer) → List Writer
 listed named None before = named ∷ []
 listed named (Some row) before = named ∷ before row
 
 -- The rows that write a byte before a point, or may, from the newest one on: what the report names at the point, then what it names at the point
--- before that row, and so on, up to where it names no row, so many at most.
-abbrev pub writers_from : Shown → ℕ → ℕ → ℕ → List Writer
-writers_from s address zero point = []
-writers_from s address (suc most) point = listed (s.writer point address) (row_before s point address) (writers_from s address most)
+-- before that row, and so on, up to where it names no row of this thread, so many at most.
+abbrev pub writers_from : Shown → ℕ → ℕ → ThreadPoint → List Writer
+writers_from s address zero c = []
+writers_from s address (suc most) c = listed (writer_at s c address) (row_before s c address) (λ row. writers_from s address most (at c.thread row))
 
 -- a line of each, as a session tells it; 256 at most
-abbrev pub writers_text : Shown → ℕ → ℕ → List ℕ
-writers_text s point address = flat_map writer_line (writers_from s address 256 point)
+abbrev pub writers_text : Shown → ThreadPoint → ℕ → List ℕ
+writers_text s c address = flat_map (writer_line s) (writers_from s address 256 c)

@@ -3,7 +3,8 @@ use Rattle.std.specs.Prelude.{ℕ, ◌+◌, ◌/◌, ◌%◌, ◌^◌, min, List
 use Rattle.std.specs.List.{flat_map, range_with_len}
 use Rattle.rept_word.specs.Hex.{hex_byte}
 use Rattle.rept_remote.specs.Escapes.{digits_value}
-use Rattle.rept_session.specs.Shown.{Shown}
+use Rattle.rept_session.specs.Shown.{Shown, moment_at, number}
+use Rattle.rept_session.specs.declared.place.ThreadPoint.{ThreadPoint}
 use Rattle.rept_session.specs.Texts.{pc_at, wrapped}
 use Rattle.rept_stub.specs.declared.halt.Stop.{Stop}
 use Rattle.rept_stub.specs.Signals.{debugger_signal}
@@ -25,17 +26,17 @@ abbrev pub value_digits : Option ℕ → List ℕ
 value_digits None = codes "xxxxxxxx"
 value_digits (Some value) = little_word value
 
--- x0 to x31 and the address at the point
-abbrev pub registers_reply : Shown → ℕ → List ℕ
-registers_reply s point = flat_map (λ r. value_digits (s.register point r)) (range_with_len 0 32) ++ little_word (pc_at s point)
+-- x0 to x31 and the address at a point of a thread
+abbrev pub registers_reply : Shown → ThreadPoint → List ℕ
+registers_reply s c = flat_map (λ r. value_digits (s.register (number s c) r)) (range_with_len 0 32) ++ little_word (pc_at s c)
 
 abbrev pub error : List ℕ
 error = codes "E01"
 
 -- one of them by its number
-abbrev pub register_reply : Shown → ℕ → ℕ → List ℕ
-register_reply s point number =
-    if nat_lt number 32 then value_digits (s.register point number) else if number == 32 then little_word (pc_at s point) else error
+abbrev pub register_reply : Shown → ThreadPoint → ℕ → List ℕ
+register_reply s c register =
+    if nat_lt register 32 then value_digits (s.register (number s c) register) else if register == 32 then little_word (pc_at s c) else error
 
 -- what stands before the first gap
 abbrev pub known_run : List (Option ℕ) → List ℕ
@@ -43,9 +44,13 @@ known_run [] = []
 known_run (None ∷ more) = []
 known_run (Some byte ∷ more) = byte ∷ known_run more
 
--- at most so many bytes from an address on, up to the first one that isn't known, and at most 2000
+-- at most so many bytes from an address on at a moment, up to the first one that isn't known, and at most 2000
 abbrev pub known_bytes : Shown → ℕ → ℕ → ℕ → List ℕ
-known_bytes s point address count = known_run (map (λ i. s.byte point (wrapped (address + i))) (range_with_len 0 (min count 2000)))
+known_bytes s moment address count = known_run (map (λ i. s.byte moment (wrapped (address + i))) (range_with_len 0 (min count 2000)))
+
+-- those at a point of a thread
+abbrev pub bytes_at : Shown → ThreadPoint → ℕ → ℕ → List ℕ
+bytes_at s c address count = known_bytes s (moment_at s c) address count
 
 abbrev pub memory_digits : List ℕ → List ℕ
 memory_digits [] = error
@@ -55,16 +60,16 @@ abbrev pub memory_bytes : List ℕ → List ℕ
 memory_bytes [] = error
 memory_bytes bytes = codes "b" ++ bytes
 
--- why it stopped
-abbrev pub stop_reply : Stop → List ℕ
-stop_reply stop.Step = codes "T05"
-stop_reply (stop.Write address) = codes "T05watch:" ++ big_word address ++ codes ";"
-stop_reply stop.Begin = codes "T05replaylog:begin;"
-stop_reply stop.End = codes "T05replaylog:end;"
+-- why a thread stopped
+abbrev pub stop_part : Stop → List ℕ
+stop_part stop.Step = []
+stop_part (stop.Write address) = codes "watch:" ++ big_word address ++ codes ";"
+stop_part stop.Begin = codes "replaylog:begin;"
+stop_part stop.End = codes "replaylog:end;"
 
--- at the last point stands the signal that ended the process, by the debugger's number
-abbrev pub reason_reply : Shown → ℕ → ℕ → List ℕ
-reason_reply s signal point = if point == length s.rows then codes "T" ++ hex_byte (debugger_signal signal) else codes "T05"
+-- at its last point stands the signal that ended the process, by the debugger's number
+abbrev pub signal_reply : Shown → ℕ → ThreadPoint → List ℕ
+signal_reply s signal c = if c.point == length (s.rows c.thread) then codes "T" ++ hex_byte (debugger_signal signal) else codes "T05"
 
 -- a part of a text, and whether it is the last one; at most 4000 bytes
 abbrev pub part_reply : List ℕ → ℕ → ℕ → List ℕ

@@ -1,32 +1,58 @@
 //! The answer to a packet.
 
-ghost use Rattle.std.specs.Prelude.{◌≡◌, ◌≤◌, drop, length, None, Some, option_map, IfOk, OnOk, OnErr, IfSome, MatchBool};
-ghost use Rattle.rept_session.specs.Shown.{SameReasons, told};
-ghost use Rattle.rept_stub.specs.Answers.{IsAnswer, IsLineAnswered, IsMonitored, fixed_reply, halt_of, spots_after, stand_after, still_reply};
+ghost use Rattle.std.specs.Prelude.{◌≡◌, ◌≤◌, ◌<◌, [], drop, length, None, Some, option_map, IfOk, OnOk, OnErr, MatchBool};
+ghost use Rattle.rept_request.specs.Requests.{request_of};
+ghost use Rattle.rept_session.specs.Shown.{IsAt, SameReasons, told};
+ghost use Rattle.rept_stub.specs.Answers.{IsAnswer, IsChanged, IsLineAnswered, IsMonitored, IsStill, changed, fixed_reply, halt_by, move_reply, moved, selected_by, spots_after, stand_after, still_reply, threads_still};
 ghost use Rattle.rept_stub.specs.Monitoring.{asked_of};
-ghost use Rattle.rept_stub.specs.Replies.{decoded, known_bytes, memory_bytes, memory_digits};
+ghost use Rattle.rept_stub.specs.Replies.{bytes_at, decoded, memory_bytes, memory_digits};
+ghost use Rattle.rept_stub.specs.Standing.{AreCursors, IsStanding, cursor_of, here, named_thread, start_of};
 
+use crate::cursors::Cursors;
 use crate::description::description;
 use crate::halt::Halt;
 use crate::monitoring::{Asked, asked_of, help_text, signal_text, writers_text};
 use crate::moves::{continued, continued_back, stepped, stepped_back};
 use crate::pieces::{
-    decoded, known_bytes, memory_bytes, memory_digits, part, reason, register, registers,
-    stop_text, text_reply, whole,
+    decoded, known_bytes, memory_bytes, memory_digits, part, register, registers, text_reply, whole,
 };
 use crate::spots::Spots;
-use rept_request::{Request, parse};
-use rept_session::{Findings, answer_line};
+use crate::threads::{
+    about_text, named_thread, reason, stop_text, there_text, thread_text, threads_text,
+};
+use rept_request::{Request, ThreadName, Way, parse};
+use rept_session::findings::moment_of;
+use rept_session::{Findings, ThreadPoint, answer_line};
 use rept_word::{OutOfMemory, Text};
 use std::alloc::Global;
 
 /// Where a debugger stands.
 #[derive(Drop)]
 pub struct Stand {
-    /// the point
-    pub point: u32,
+    /// the cursors of the threads
+    pub cursors: Cursors,
+    /// the thread that is selected, of which is asked
+    pub thread: u32,
+    /// the one that is selected for moves, where that was selected apart
+    pub moving: Option<u32>,
     /// its breakpoints and watchpoints
     pub spots: Spots,
+}
+
+/// A debugger that begins: each thread's cursor is at its last point, thread 0 is selected, and there are no breakpoints. The only refusal is out of
+/// memory.
+pub fn start<F: Findings>(alloc: Global, findings: &F) -> Result<Stand, OutOfMemory>
+    ensures stand { IfOk result (λ stand. stand ≡ start_of (F.shown findings.now) (record { breaks = []; regions = [] })) }
+    ensures within { IfOk result (IsStanding (F.shown findings.now)) }
+{
+    let _threads = findings.threads();
+    let cursors = Cursors::new(alloc, findings)?;
+    Ok(Stand {
+        cursors,
+        thread: 0,
+        moving: None,
+        spots: Spots::new(alloc),
+    })
 }
 
 /// What is told besides what was found.
@@ -47,25 +73,151 @@ pub fn answer_packet<F: Findings>(
     stand: &mut Stand,
     packet: &[u8],
 ) -> Result<Text, OutOfMemory>
-    requires { stand.old.point ≤ length (F.shown findings.old).rows }
+    requires { IsStanding (F.shown findings.old) stand.old }
     ensures text { IfOk result (IsAnswer (told (F.shown findings.old) setting.skipped (F.reasons findings.old)) setting.signal stand.old packet.now) }
     ensures stand { OnOk result (stand.new ≡ stand_after (F.shown findings.old) stand.old packet.now) }
-    ensures within { stand.new.point ≤ length (F.shown findings.old).rows }
+    ensures within { IsStanding (F.shown findings.old) stand.new }
     ensures same { F.shown findings.new ≡ F.shown findings.old }
     ensures same_reasons { SameReasons (F.reasons findings.old) (F.reasons findings.new) }
 {
     let request = parse(packet);
-    if let Some(halt) = halt_of(alloc, findings, stand, request)? {
-        let text = stop_text(alloc, halt.stop)?;
-        stand.point = halt.point;
-        return Ok(text);
+    match request {
+        Request::Move(way, name) => answer_move(alloc, findings, stand, way, name),
+        _ => answer_other(alloc, findings, setting, stand, packet),
     }
-    if change(&mut stand.spots, request)? {
+}
+
+/// The answer to a packet that asks for no move.
+fn answer_other<F: Findings>(
+    alloc: Global,
+    findings: &mut F,
+    setting: Setting,
+    stand: &mut Stand,
+    packet: &[u8],
+) -> Result<Text, OutOfMemory>
+    requires { IsStanding (F.shown findings.old) stand.old }
+    ensures text { IfOk result (IsChanged (told (F.shown findings.old) setting.skipped (F.reasons findings.old)) (record { signal = setting.signal; stand = stand.old; packet = packet.now }) (request_of packet.now) (spots_after stand.old.spots (request_of packet.now))) }
+    ensures stand { OnOk result (stand.new ≡ changed (F.shown findings.old) stand.old (request_of packet.now) (spots_after stand.old.spots (request_of packet.now))) }
+    ensures within { IsStanding (F.shown findings.old) stand.new }
+    ensures same { F.shown findings.new ≡ F.shown findings.old }
+    ensures same_reasons { SameReasons (F.reasons findings.old) (F.reasons findings.new) }
+{
+    let request = parse(packet);
+    let is_changed = change(&mut stand.spots, request)?;
+    if is_changed {
         return whole(alloc, b"OK");
     }
+    let text = unchanged(alloc, findings, setting, stand, packet)?;
+    select(findings, stand, request);
+    Ok(text)
+}
+
+/// The answer to a packet that moves nothing and changes no spots.
+fn unchanged<F: Findings>(
+    alloc: Global,
+    findings: &mut F,
+    setting: Setting,
+    stand: &Stand,
+    packet: &[u8],
+) -> Result<Text, OutOfMemory>
+    requires { IsStanding (F.shown findings.old) stand.now }
+    ensures text { IfOk result (IsStill (told (F.shown findings.old) setting.skipped (F.reasons findings.old)) (record { signal = setting.signal; stand = stand.now; packet = packet.now }) (request_of packet.now)) }
+    ensures same { F.shown findings.new ≡ F.shown findings.old }
+    ensures same_reasons { SameReasons (F.reasons findings.old) (F.reasons findings.new) }
+{
+    let request = parse(packet);
     match request {
-        Request::Monitor => monitor(alloc, findings, setting, stand.point, packet),
-        _ => still(alloc, findings, setting.signal, stand.point, request),
+        Request::Monitor => {
+            let at = here(findings, stand);
+            monitor(alloc, findings, setting, at, packet)
+        }
+        _ => still(alloc, findings, setting.signal, stand, request),
+    }
+}
+
+/// The cursor of a thread.
+fn cursor_of<F: Findings>(findings: &F, stand: &Stand, thread: u32) -> ThreadPoint
+    requires cursors { AreCursors (F.shown findings.now) stand.now.cursors }
+    requires thread { thread < (F.shown findings.now).threads }
+    ensures value { result ≡ cursor_of stand.now thread }
+    ensures within { IsAt (F.shown findings.now) result }
+{
+    let _threads = findings.threads();
+    ThreadPoint {
+        thread,
+        point: stand.cursors.point_of(thread),
+    }
+}
+
+/// That of the selected thread.
+fn here<F: Findings>(findings: &F, stand: &Stand) -> ThreadPoint
+    requires { IsStanding (F.shown findings.now) stand.now }
+    ensures value { result ≡ here stand.now }
+    ensures within { IsAt (F.shown findings.now) result }
+{
+    cursor_of(findings, stand, stand.thread)
+}
+
+/// The answer to a move of a thread that is named.
+fn answer_move<F: Findings>(
+    alloc: Global,
+    findings: &F,
+    stand: &mut Stand,
+    way: Way,
+    name: ThreadName,
+) -> Result<Text, OutOfMemory>
+    requires { IsStanding (F.shown findings.now) stand.old }
+    ensures text { IfOk result (λ text. text ≡ move_reply (F.shown findings.now) stand.old way (named_thread (F.shown findings.now) stand.old name)) }
+    ensures stand { OnOk result (stand.new ≡ moved (F.shown findings.now) stand.old way (named_thread (F.shown findings.now) stand.old name)) }
+    ensures within { IsStanding (F.shown findings.now) stand.new }
+{
+    match named_thread(findings, stand, name) {
+        Some(thread) => move_thread(alloc, findings, stand, way, thread),
+        None => whole(alloc, b"E01"),
+    }
+}
+
+/// The answer to a move of a thread.
+fn move_thread<F: Findings>(
+    alloc: Global,
+    findings: &F,
+    stand: &mut Stand,
+    way: Way,
+    thread: u32,
+) -> Result<Text, OutOfMemory>
+    requires standing { IsStanding (F.shown findings.now) stand.old }
+    requires thread { thread < (F.shown findings.now).threads }
+    ensures text { IfOk result (λ text. text ≡ move_reply (F.shown findings.now) stand.old way (Some thread)) }
+    ensures stand { OnOk result (stand.new ≡ moved (F.shown findings.now) stand.old way (Some thread)) }
+    ensures within { IsStanding (F.shown findings.now) stand.new }
+{
+    let at = cursor_of(findings, stand, thread);
+    let halt = halt_by(alloc, findings, &stand.spots, way, at)?;
+    let text = stop_text(alloc, findings, thread, halt.stop)?;
+    stand.cursors.put(thread, halt.point);
+    stand.thread = thread;
+    Ok(text)
+}
+
+/// Selects the thread that a packet names.
+fn select<F: Findings>(findings: &F, stand: &mut Stand, request: Request)
+    requires { IsStanding (F.shown findings.now) stand.old }
+    ensures stand { stand.new ≡ selected_by (F.shown findings.now) stand.old request }
+    ensures within { IsStanding (F.shown findings.now) stand.new }
+{
+    match request {
+        Request::SelectThread(name) => {
+            if let Some(thread) = named_thread(findings, stand, name) {
+                stand.thread = thread;
+            }
+        }
+        Request::SelectMoving(ThreadName::Any) => stand.moving = None,
+        Request::SelectMoving(name) => {
+            if let Some(thread) = named_thread(findings, stand, name) {
+                stand.moving = Some(thread);
+            }
+        }
+        _ => {}
     }
 }
 
@@ -74,18 +226,18 @@ fn monitor<F: Findings>(
     alloc: Global,
     findings: &mut F,
     setting: Setting,
-    point: u32,
+    at: ThreadPoint,
     packet: &[u8],
 ) -> Result<Text, OutOfMemory>
-    requires { point ≤ length (F.shown findings.old).rows }
-    ensures text { IfOk result (IsMonitored (told (F.shown findings.old) setting.skipped (F.reasons findings.old)) setting.signal point (decoded (drop 6 packet.now))) }
+    requires { IsAt (F.shown findings.old) at }
+    ensures text { IfOk result (IsMonitored (told (F.shown findings.old) setting.skipped (F.reasons findings.old)) setting.signal at (decoded (drop 6 packet.now))) }
     ensures same { F.shown findings.new ≡ F.shown findings.old }
     ensures same_reasons { SameReasons (F.reasons findings.old) (F.reasons findings.new) }
 {
     let Some(line) = line_in(alloc, packet)? else {
         return whole(alloc, b"E01");
     };
-    let said = line_answer(alloc, findings, setting, point, line.as_slice())?;
+    let said = line_answer(alloc, findings, setting, at, line.as_slice())?;
     text_reply(alloc, said.bytes())
 }
 
@@ -102,51 +254,45 @@ fn line_answer<F: Findings>(
     alloc: Global,
     findings: &mut F,
     setting: Setting,
-    point: u32,
+    at: ThreadPoint,
     line: &[u8],
 ) -> Result<Text, OutOfMemory>
-    requires { point ≤ length (F.shown findings.old).rows }
-    ensures text { IfOk result (IsLineAnswered (told (F.shown findings.old) setting.skipped (F.reasons findings.old)) setting.signal point line.now (asked_of line.now)) }
+    requires { IsAt (F.shown findings.old) at }
+    ensures text { IfOk result (IsLineAnswered (told (F.shown findings.old) setting.skipped (F.reasons findings.old)) setting.signal at line.now (asked_of line.now)) }
     ensures same { F.shown findings.new ≡ F.shown findings.old }
     ensures same_reasons { SameReasons (F.reasons findings.old) (F.reasons findings.new) }
 {
     match asked_of(line) {
         Asked::Signal => signal_text(alloc, setting.signal),
         Asked::Help => whole(alloc, help_text()),
-        Asked::Writers(address) => writers_text(alloc, findings, point, address),
+        Asked::Writers(address) => writers_text(alloc, findings, at, address),
         Asked::Session => {
-            let answer = answer_line(alloc, findings, setting.skipped, point, line)?;
+            let answer = answer_line(alloc, findings, setting.skipped, at, line)?;
             Ok(answer.text)
         }
     }
 }
 
-/// Where a move leads to. None for a request that moves nothing.
-fn halt_of<F: Findings>(
+/// Where a way leads to from a point of a thread.
+fn halt_by<F: Findings>(
     alloc: Global,
     findings: &F,
-    stand: &Stand,
-    request: Request,
-) -> Result<Option<Halt>, OutOfMemory>
-    requires { stand.now.point ≤ length (F.shown findings.now).rows }
-    ensures value { IfOk result (λ halt. halt ≡ halt_of (F.shown findings.now) stand.now request) }
-    ensures within { IfOk result (λ halt. IfSome halt (λ h. h.point ≤ length (F.shown findings.now).rows)) }
+    spots: &Spots,
+    way: Way,
+    at: ThreadPoint,
+) -> Result<Halt, OutOfMemory>
+    requires { IsAt (F.shown findings.now) at }
+    ensures value { IfOk result (λ halt. halt ≡ halt_by (F.shown findings.now) spots.now way at) }
+    ensures within { IfOk result (λ halt. halt.point ≤ length ((F.shown findings.now).rows at.thread)) }
 {
-    let point = stand.point;
-    let watched = stand.spots.watched(alloc)?;
+    let watched = spots.watched(alloc)?;
     let addresses = watched.as_slice();
-    match request {
-        Request::Step => Ok(Some(stepped(findings, addresses, point))),
-        Request::StepBack => Ok(Some(stepped_back(findings, addresses, point))),
-        Request::Continue => Ok(Some(continued(findings, stand.spots.breaks(), addresses, point))),
-        Request::ContinueBack => Ok(Some(continued_back(
-            findings,
-            stand.spots.breaks(),
-            addresses,
-            point,
-        ))),
-        _ => Ok(None),
-    }
+    Ok(match way {
+        Way::Step => stepped(findings, addresses, at),
+        Way::StepBack => stepped_back(findings, addresses, at),
+        Way::Continue => continued(findings, spots.breaks(), addresses, at),
+        Way::ContinueBack => continued_back(findings, spots.breaks(), addresses, at),
+    })
 }
 
 /// Sets or takes away a breakpoint or a watchpoint, and answers whether it did.
@@ -183,16 +329,35 @@ fn fixed(request: Request) -> &'static [u8]
     match request {
         Request::Features =>
             b"PacketSize=1000;ReverseStep+;ReverseContinue+;qXfer:features:read+;QStartNoAckMode+;vContSupported+",
-        Request::NoAcknowledgments | Request::SelectThread | Request::IsAlive | Request::Detach =>
-            b"OK",
+        Request::NoAcknowledgments | Request::Detach => b"OK",
         Request::Moves => b"vCont;c;C;s;S;r",
-        Request::Thread => b"QC1",
-        Request::Threads => b"m1",
         Request::MoreThreads => b"l",
-        Request::ThreadText => b"63726173686564",
         Request::Attached => b"1",
         Request::Change | Request::Watch(..) => b"E01",
         _ => b"",
+    }
+}
+
+/// The answer about threads, where nothing moves or changes.
+fn threads_still<F: Findings>(
+    alloc: Global,
+    findings: &F,
+    stand: &Stand,
+    request: Request,
+) -> Result<Text, OutOfMemory>
+    requires { IsStanding (F.shown findings.now) stand.now }
+    ensures { IfOk result (λ text. text ≡ threads_still (F.shown findings.now) stand.now request) }
+{
+    match request {
+        Request::SelectThread(name) | Request::SelectMoving(name) | Request::IsAlive(name) => {
+            there_text(alloc, named_thread(findings, stand, name))
+        }
+        Request::ThreadText(name) => {
+            about_text(alloc, findings, named_thread(findings, stand, name))
+        }
+        Request::Thread => thread_text(alloc, findings, stand.thread),
+        Request::Threads => threads_text(alloc, findings),
+        _ => whole(alloc, fixed(request)),
     }
 }
 
@@ -201,47 +366,59 @@ fn still<F: Findings>(
     alloc: Global,
     findings: &F,
     signal: u16,
-    point: u32,
+    stand: &Stand,
     request: Request,
 ) -> Result<Text, OutOfMemory>
-    requires { point ≤ length (F.shown findings.now).rows }
-    ensures { IfOk result (λ text. text ≡ still_reply (F.shown findings.now) signal point request) }
+    requires { IsStanding (F.shown findings.now) stand.now }
+    ensures { IfOk result (λ text. text ≡ still_reply (F.shown findings.now) signal stand.now request) }
 {
     match request {
-        Request::Reason => reason(alloc, findings, signal, point),
-        Request::Registers => registers(alloc, findings, point),
-        Request::Register(number) => register(alloc, findings, point, number),
-        Request::Memory(address, count) => memory(alloc, findings, point, address, count),
-        Request::Bytes(address, count) => bytes(alloc, findings, point, address, count),
+        Request::Reason => reason(alloc, findings, signal, here(findings, stand)),
+        Request::Registers => registers(alloc, findings, here(findings, stand)),
+        Request::Register(number) => register(alloc, findings, here(findings, stand), number),
+        Request::Memory(address, count) => memory(
+            alloc,
+            findings,
+            here(findings, stand),
+            address,
+            count,
+        ),
+        Request::Bytes(address, count) => bytes(
+            alloc,
+            findings,
+            here(findings, stand),
+            address,
+            count,
+        ),
         Request::Description(offset, count) => part(alloc, description(), offset, count),
-        _ => whole(alloc, fixed(request)),
+        _ => threads_still(alloc, findings, stand, request),
     }
 }
 
 fn memory<F: Findings>(
     alloc: Global,
     findings: &F,
-    point: u32,
+    at: ThreadPoint,
     address: u32,
     count: u32,
 ) -> Result<Text, OutOfMemory>
-    requires { point ≤ length (F.shown findings.now).rows }
-    ensures { IfOk result (λ text. text ≡ memory_digits (known_bytes (F.shown findings.now) point address count)) }
+    requires { IsAt (F.shown findings.now) at }
+    ensures { IfOk result (λ text. text ≡ memory_digits (bytes_at (F.shown findings.now) at address count)) }
 {
-    let known = known_bytes(alloc, findings, point, address, count)?;
+    let known = known_bytes(alloc, findings, moment_of(findings, at), address, count)?;
     memory_digits(alloc, known.bytes())
 }
 
 fn bytes<F: Findings>(
     alloc: Global,
     findings: &F,
-    point: u32,
+    at: ThreadPoint,
     address: u32,
     count: u32,
 ) -> Result<Text, OutOfMemory>
-    requires { point ≤ length (F.shown findings.now).rows }
-    ensures { IfOk result (λ text. text ≡ memory_bytes (known_bytes (F.shown findings.now) point address count)) }
+    requires { IsAt (F.shown findings.now) at }
+    ensures { IfOk result (λ text. text ≡ memory_bytes (bytes_at (F.shown findings.now) at address count)) }
 {
-    let known = known_bytes(alloc, findings, point, address, count)?;
+    let known = known_bytes(alloc, findings, moment_of(findings, at), address, count)?;
     memory_bytes(alloc, known.bytes())
 }

@@ -3,9 +3,9 @@
 /// Why a move stops.
 #[derive(Clone, Copy, Debug, PartialEq, Eq)]
 pub enum Stop {
-    /// After the step, or at a breakpoint.
+    /// After the step, or at a breakpoint, or where rows of several threads may have written a watched byte and none is named.
     Step,
-    /// At a row that writes the byte at this address, or may.
+    /// At a row that writes the byte at this address, or may, or where such a row of another thread came.
     Write(u32),
     /// Nothing is known of what came before.
     Begin,
@@ -13,7 +13,7 @@ pub enum Stop {
     End,
 }
 
-/// The point at which a move stops, and why.
+/// The point of its thread at which a move stops, and why.
 #[derive(Clone, Copy, Debug, PartialEq, Eq)]
 pub struct Halt {
     /// the point, 0 to n
@@ -22,11 +22,11 @@ pub struct Halt {
     pub stop: Stop,
 }
 
-/// A row that writes a byte, or may.
+/// A write of a byte, or one that may be.
 #[derive(Clone, Copy, Debug, PartialEq, Eq)]
 pub struct Written {
-    /// the row
-    pub row: u32,
+    /// the last point of a thread before it
+    pub point: u32,
     /// the address of the byte
     pub address: u32,
 }

@@ -2,6 +2,7 @@
 #![tactic(auto)]
 
 pub mod answers;
+mod cursors;
 mod description;
 pub mod halt;
 mod monitoring;
@@ -9,8 +10,10 @@ mod moves;
 mod pieces;
 mod signal;
 mod spots;
+mod threads;
 
-pub use answers::{Setting, Stand, answer_packet};
+pub use answers::{Setting, Stand, answer_packet, start};
+pub use cursors::Cursors;
 pub use halt::{Halt, Stop, Written};
 pub use moves::{continued, continued_back, stepped, stepped_back};
 pub use signal::debugger_signal;

@@ -1,15 +1,15 @@
 //! Lines of a debugger's user that are no lines of a session.
 
-ghost use Rattle.std.specs.Prelude.{◌≡◌, ◌≤◌, ◌++◌, ◌∷◌, [], length, true, IfOk, OnOk};
-ghost use Rattle.rept_stub.specs.Monitoring.{asked_of, help_text, is_writers, signal_text, writers_asked, writers_text};
-ghost use Rattle.std.specs.Fmt.{decimal};
+ghost use Rattle.std.specs.Prelude.{◌≡◌, ◌≤◌, ◌<◌, ◌++◌, ◌∷◌, [], length, true, IfOk, IfSome, OnOk};
+ghost use Rattle.rept_stub.specs.Monitoring.{asked_of, help_text, is_writers, own_before, row_before, signal_text, writers_asked, writers_text};
 ghost use Rattle.rept_number.specs.Numbers.{number_of_word};
-ghost use Rattle.rept_session.specs.Texts.{writer_line};
+ghost use Rattle.rept_session.specs.Shown.{IsAt};
+ghost use Rattle.rept_session.specs.Texts.{of_thread, step_text, writer_line};
 
-use crate::moves::row_before;
+use crate::moves::{before, named_row, point_at, writer_at};
 use rept_number::number_in;
 use rept_report::Writer;
-use rept_session::Findings;
+use rept_session::{Findings, ThreadPoint};
 use rept_word::{OutOfMemory, Text};
 use std::alloc::Global;
 
@@ -81,42 +81,88 @@ pub fn help_text() -> &'static [u8]
     b"where | reg R | regs | range R | mem ADDRESS COUNT | writer ADDRESS | writers ADDRESS | why R | why ADDRESS | list STEP COUNT | summary | signal\n"
 }
 
-fn push_writer(text: &mut Text, writer: Writer) -> Result<(), OutOfMemory>
-    ensures { OnOk result (text.new ≡ text.old ++ writer_line writer) }
+/// The line of a writer, as a session tells it.
+fn push_line<F: Findings>(text: &mut Text, findings: &F, writer: Writer) -> Result<(), OutOfMemory>
+    ensures { OnOk result (text.new ≡ text.old ++ writer_line (F.shown findings.now) writer) }
 {
     match writer {
-        Writer::Writes(row) => push_row(text, b"writes ", row),
-        Writer::MayWrite(row) => push_row(text, b"may write ", row),
+        Writer::Writes(row) => push_row(text, findings, b"writes ", row),
+        Writer::MayWrite(row) => push_row(text, findings, b"may write ", row),
         Writer::Several => text.push(b"several\n"),
         Writer::None => text.push(b"none\n"),
     }
 }
 
-fn push_row(text: &mut Text, words: &[u8], row: u32) -> Result<(), OutOfMemory>
-    ensures { OnOk result (text.new ≡ text.old ++ (words.now ++ decimal row ++ 10 ∷ [])) }
+/// Words, and a row with its thread.
+fn push_row<F: Findings>(
+    text: &mut Text,
+    findings: &F,
+    words: &[u8],
+    row: u32,
+) -> Result<(), OutOfMemory>
+    ensures { OnOk result (text.new ≡ text.old ++ ((words.now ++ step_text (F.shown findings.now) ((F.shown findings.now).point row)) ++ 10 ∷ [])) }
 {
+    let step = findings.point(row);
     text.push(words)?;
-    text.push_decimal(row)?;
+    text.push_decimal(step.point)?;
+    push_thread(text, findings, step.thread)?;
     text.push(b"\n")?;
     Ok(())
 }
 
-/// The rows that write a byte before a point, or may, from the newest one on, 256 at most: a line of each, as a session tells it, and one where no
-/// row is named.
+/// The thread of a row, in a run of several.
+fn push_thread<F: Findings>(text: &mut Text, findings: &F, thread: u32) -> Result<(), OutOfMemory>
+    ensures { OnOk result (text.new ≡ text.old ++ of_thread (F.shown findings.now) thread) }
+{
+    if findings.threads() <= 1 {
+        return Ok(());
+    }
+    text.push(b" of ")?;
+    text.push_decimal(thread)?;
+    Ok(())
+}
+
+/// The point before a row, where that is the thread's own and before this point.
+fn own_before(at: ThreadPoint, row: ThreadPoint) -> Option<u32>
+    ensures value { result ≡ own_before at row }
+    ensures within { IfSome result (λ point. point < at.point) }
+{
+    if row.thread == at.thread {
+        before(at.point, row.point)
+    } else {
+        None
+    }
+}
+
+/// The row that the report names of a byte at a point of a thread, where it is the thread's own.
+fn row_before<F: Findings>(findings: &F, at: ThreadPoint, address: u32) -> Option<u32>
+    requires { IsAt (F.shown findings.now) at }
+    ensures value { result ≡ row_before (F.shown findings.now) at address }
+    ensures within { IfSome result (λ row. row < at.point) }
+{
+    match named_row(writer_at(findings, at, address)) {
+        Some(row) => own_before(at, findings.point(row)),
+        None => None,
+    }
+}
+
+/// The rows that write a byte before a point of a thread, or may, from the newest one on, 256 at most: a line of each, as a session tells it, and one
+/// where no row of this thread is named.
 pub fn writers_text<F: Findings>(
     alloc: Global,
     findings: &F,
-    point: u32,
+    at: ThreadPoint,
     address: u32,
 ) -> Result<Text, OutOfMemory>
-    requires { point ≤ length (F.shown findings.now).rows }
-    ensures { IfOk result (λ text. text ≡ writers_text (F.shown findings.now) point address) }
+    requires { IsAt (F.shown findings.now) at }
+    ensures { IfOk result (λ text. text ≡ writers_text (F.shown findings.now) at address) }
 {
     let mut text = Text::new(alloc);
-    let mut below = point;
+    let mut below = at.point;
     for _ in 0..MOST_ROWS {
-        push_writer(&mut text, findings.writer(below, address))?;
-        match row_before(findings, below, address) {
+        let here = point_at(at, below);
+        push_line(&mut text, findings, writer_at(findings, here, address))?;
+        match row_before(findings, here, address) {
             Some(row) => below = row,
             None => return Ok(text),
         }

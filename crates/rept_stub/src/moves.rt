@@ -1,33 +1,45 @@
-//! Moves along the path.
+//! Moves along the rows of a thread.
 
-ghost use Rattle.std.specs.Prelude.{◌≡◌, ◌≤◌, ◌<◌, ◌==◌, ℕ, length, IfSome, Some};
-ghost use Rattle.rept_session.specs.Texts.{pc_at};
+ghost use Rattle.std.specs.Prelude.{◌≡◌, ◌≤◌, ◌<◌, ◌==◌, ℕ, length, not, IfSome, Some};
 ghost use Rattle.std.specs.List.{list_any};
-ghost use Rattle.rept_stub.specs.Halts.{break_before, continued, continued_back, halt, has_open, is_break, is_open, is_stop, is_written, last_write, later, latest, named_row, row_before, stepped, stepped_back, stop_by, wanted, written};
+ghost use Rattle.rept_session.specs.Shown.{IsAt};
+ghost use Rattle.rept_session.specs.Texts.{at};
+ghost use Rattle.rept_stub.specs.Halts.{before, break_before, came, continued, continued_back, halt, has_open, is_break, is_open, is_stop, is_written, last_below, last_write, later, latest, named_row, names, point_before, stepped, stepped_back, stop_by, wanted, write_before, writer_at, written};
 
 use crate::halt::{Halt, Stop, Written};
 use rept_report::Writer;
-use rept_session::Findings;
+use rept_session::findings::{address_at, moment_of};
+use rept_session::{Findings, ThreadPoint};
 
-/// The address at a point.
-pub fn address_at<F: Findings>(findings: &F, point: u32) -> u32
-    ensures { result ≡ pc_at (F.shown findings.now) point }
+/// The last point of a thread.
+pub fn last_point<F: Findings>(findings: &F, thread: u32) -> u32
+    requires { thread < (F.shown findings.now).threads }
+    ensures value { result ≡ length ((F.shown findings.now).rows thread) }
+    ensures few { result ≤ 65536 }
 {
-    match findings.rows().get(point as usize) {
-        Some(row) => row.at,
-        None => findings.end_pc(),
+    findings.rows(thread).len() as u32
+}
+
+/// A point of the same thread.
+pub fn point_at(here: ThreadPoint, point: u32) -> ThreadPoint
+    ensures { result ≡ at here.thread point }
+{
+    ThreadPoint {
+        thread: here.thread,
+        point,
     }
 }
 
-/// The last point.
-pub fn last_point<F: Findings>(findings: &F) -> u32
-    ensures value { result ≡ length (F.shown findings.now).rows }
-    ensures few { result ≤ 65536 }
+/// What a report tells, at a point of a thread, of the last writer of a byte.
+pub fn writer_at<F: Findings>(findings: &F, at: ThreadPoint, address: u32) -> Writer
+    requires { IsAt (F.shown findings.now) at }
+    ensures { result ≡ writer_at (F.shown findings.now) at address }
 {
-    findings.rows().len() as u32
+    findings.writer(moment_of(findings, at), address)
 }
 
-fn named_row(writer: Writer) -> Option<u32>
+/// The row that it names.
+pub fn named_row(writer: Writer) -> Option<u32>
     ensures { result ≡ named_row writer }
 {
     match writer {
@@ -36,26 +48,51 @@ fn named_row(writer: Writer) -> Option<u32>
     }
 }
 
-/// Whether the row before a point writes a byte, or may.
-fn is_written<F: Findings>(findings: &F, point: u32, address: u32) -> bool
-    requires some { 0 < point }
-    requires point { point ≤ length (F.shown findings.now).rows }
-    ensures { result ≡ is_written (F.shown findings.now) point address }
+/// Whether it names this row.
+fn names<F: Findings>(findings: &F, at: ThreadPoint, address: u32, row: u32) -> bool
+    requires { IsAt (F.shown findings.now) at }
+    ensures { result ≡ names (F.shown findings.now) at address row }
 {
-    match named_row(findings.writer(point, address)) {
-        Some(row) => row == point - 1,
+    match named_row(writer_at(findings, at, address)) {
+        Some(named) => named == row,
         None => false,
     }
 }
 
-/// The first of the bytes that the row before a point writes, or may.
-fn written<F: Findings>(findings: &F, point: u32, addresses: &[u32]) -> Option<u32>
-    requires some { 0 < point }
-    requires point { point ≤ length (F.shown findings.now).rows }
-    ensures { result ≡ written (F.shown findings.now) point addresses.now }
+/// Whether the row that is named at a point came since the point before it.
+fn came<F: Findings>(findings: &F, at: ThreadPoint, address: u32, row: u32) -> bool
+    requires some { 0 < at.point }
+    requires at { IsAt (F.shown findings.now) at }
+    ensures { result ≡ came (F.shown findings.now) at address (Some row) }
+{
+    let step = findings.point(row);
+    if step.thread == at.thread {
+        step.point == at.point - 1
+    } else {
+        !names(findings, point_at(at, at.point - 1), address, row)
+    }
+}
+
+/// Whether a byte was written since the point before, or may have been.
+fn is_written<F: Findings>(findings: &F, at: ThreadPoint, address: u32) -> bool
+    requires some { 0 < at.point }
+    requires at { IsAt (F.shown findings.now) at }
+    ensures { result ≡ is_written (F.shown findings.now) at address }
+{
+    match named_row(writer_at(findings, at, address)) {
+        Some(row) => came(findings, at, address, row),
+        None => false,
+    }
+}
+
+/// The first of the bytes of which that is so.
+fn written<F: Findings>(findings: &F, at: ThreadPoint, addresses: &[u32]) -> Option<u32>
+    requires some { 0 < at.point }
+    requires at { IsAt (F.shown findings.now) at }
+    ensures { result ≡ written (F.shown findings.now) at addresses.now }
 {
     for address in addresses {
-        if is_written(findings, point, *address) {
+        if is_written(findings, at, *address) {
             return Some(*address);
         }
     }
@@ -72,12 +109,13 @@ fn stop_by(address: Option<u32>) -> Stop
 }
 
 /// One step forward. `addresses` are those of the bytes that are watched.
-pub fn stepped<F: Findings>(findings: &F, addresses: &[u32], point: u32) -> Halt
-    requires { point ≤ length (F.shown findings.now).rows }
-    ensures value { result ≡ stepped (F.shown findings.now) addresses.now point }
-    ensures within { result.point ≤ length (F.shown findings.now).rows }
+pub fn stepped<F: Findings>(findings: &F, addresses: &[u32], at: ThreadPoint) -> Halt
+    requires { IsAt (F.shown findings.now) at }
+    ensures value { result ≡ stepped (F.shown findings.now) addresses.now at }
+    ensures within { result.point ≤ length ((F.shown findings.now).rows at.thread) }
 {
-    if point >= last_point(findings) {
+    let point = at.point;
+    if point >= last_point(findings, at.thread) {
         return Halt {
             point,
             stop: Stop::End,
@@ -85,16 +123,17 @@ pub fn stepped<F: Findings>(findings: &F, addresses: &[u32], point: u32) -> Halt
     }
     Halt {
         point: point + 1,
-        stop: stop_by(written(findings, point + 1, addresses)),
+        stop: stop_by(written(findings, point_at(at, point + 1), addresses)),
     }
 }
 
 /// One step back.
-pub fn stepped_back<F: Findings>(findings: &F, addresses: &[u32], point: u32) -> Halt
-    requires { point ≤ length (F.shown findings.now).rows }
-    ensures value { result ≡ stepped_back (F.shown findings.now) addresses.now point }
-    ensures within { result.point ≤ length (F.shown findings.now).rows }
+pub fn stepped_back<F: Findings>(findings: &F, addresses: &[u32], at: ThreadPoint) -> Halt
+    requires { IsAt (F.shown findings.now) at }
+    ensures value { result ≡ stepped_back (F.shown findings.now) addresses.now at }
+    ensures within { result.point ≤ at.point }
 {
+    let point = at.point;
     if point == 0 {
         return Halt {
             point,
@@ -103,15 +142,16 @@ pub fn stepped_back<F: Findings>(findings: &F, addresses: &[u32], point: u32) ->
     }
     Halt {
         point: point - 1,
-        stop: stop_by(written(findings, point, addresses)),
+        stop: stop_by(written(findings, at, addresses)),
     }
 }
 
 /// Whether a breakpoint stands at a point.
-fn is_break<F: Findings>(findings: &F, breaks: &[u32], point: u32) -> bool
-    ensures { result ≡ is_break (F.shown findings.now) breaks.now point }
+fn is_break<F: Findings>(findings: &F, breaks: &[u32], at: ThreadPoint) -> bool
+    requires { IsAt (F.shown findings.now) at }
+    ensures { result ≡ is_break (F.shown findings.now) breaks.now at }
 {
-    let here = address_at(findings, point);
+    let here = address_at(findings, at);
     has_address(breaks, here)
 }
 
@@ -121,30 +161,58 @@ fn has_address(addresses: &[u32], wanted: u32) -> bool
     addresses.iter().any(|address| *address == wanted)
 }
 
-/// Whether a move forward stops at a point.
-fn is_stop<F: Findings>(findings: &F, breaks: &[u32], addresses: &[u32], point: u32) -> bool
-    requires some { 0 < point }
-    requires point { point ≤ length (F.shown findings.now).rows }
-    ensures { result ≡ is_stop (F.shown findings.now) (wanted breaks.now addresses.now) point }
+/// Whether rows may write a byte, and none is named as the last one.
+fn is_open<F: Findings>(findings: &F, at: ThreadPoint, address: u32) -> bool
+    requires { IsAt (F.shown findings.now) at }
+    ensures { result ≡ is_open (writer_at (F.shown findings.now) at address) }
 {
-    if is_break(findings, breaks, point) {
+    matches!(writer_at(findings, at, address), Writer::Several)
+}
+
+fn has_open<F: Findings>(findings: &F, at: ThreadPoint, addresses: &[u32]) -> bool
+    requires { IsAt (F.shown findings.now) at }
+    ensures { result ≡ has_open (F.shown findings.now) at addresses.now }
+{
+    for address in addresses {
+        if is_open(findings, at, *address) {
+            return true;
+        }
+    }
+    false
+}
+
+/// Whether a move forward stops at a point.
+fn is_stop<F: Findings>(findings: &F, breaks: &[u32], addresses: &[u32], at: ThreadPoint) -> bool
+    requires some { 0 < at.point }
+    requires at { IsAt (F.shown findings.now) at }
+    ensures { result ≡ is_stop (F.shown findings.now) (wanted breaks.now addresses.now) at }
+{
+    if is_break(findings, breaks, at) {
         return true;
     }
-    written(findings, point, addresses).is_some()
+    if written(findings, at, addresses).is_some() {
+        return true;
+    }
+    has_open(findings, at, addresses)
 }
 
 /// Forward to the first stop, or to the last point.
-pub fn continued<F: Findings>(findings: &F, breaks: &[u32], addresses: &[u32], point: u32) -> Halt
-    requires { point ≤ length (F.shown findings.now).rows }
-    ensures value { result ≡ continued (F.shown findings.now) (wanted breaks.now addresses.now) point }
-    ensures within { result.point ≤ length (F.shown findings.now).rows }
+pub fn continued<F: Findings>(
+    findings: &F,
+    breaks: &[u32],
+    addresses: &[u32],
+    at: ThreadPoint,
+) -> Halt
+    requires { IsAt (F.shown findings.now) at }
+    ensures value { result ≡ continued (F.shown findings.now) (wanted breaks.now addresses.now) at }
+    ensures within { result.point ≤ length ((F.shown findings.now).rows at.thread) }
 {
-    let last = last_point(findings);
-    for next in point + 1..last + 1 {
-        if is_stop(findings, breaks, addresses, next) {
+    let last = last_point(findings, at.thread);
+    for next in at.point + 1..last + 1 {
+        if is_stop(findings, breaks, addresses, point_at(at, next)) {
             return Halt {
                 point: next,
-                stop: stop_by(written(findings, next, addresses)),
+                stop: stop_by(written(findings, point_at(at, next), addresses)),
             };
         }
     }
@@ -155,79 +223,102 @@ pub fn continued<F: Findings>(findings: &F, breaks: &[u32], addresses: &[u32], p
 }
 
 /// The last point before this one at which a breakpoint stands.
-fn break_before<F: Findings>(findings: &F, breaks: &[u32], point: u32) -> Option<u32>
-    ensures value { result ≡ break_before (F.shown findings.now) breaks.now point }
-    ensures within { IfSome result (λ found. found < point) }
+fn break_before<F: Findings>(findings: &F, breaks: &[u32], at: ThreadPoint) -> Option<u32>
+    requires { IsAt (F.shown findings.now) at }
+    ensures value { result ≡ break_before (F.shown findings.now) breaks.now at }
+    ensures within { IfSome result (λ found. found < at.point) }
 {
-    let mut left = point;
+    let mut left = at.point;
     while left > 0 {
         left -= 1;
-        if is_break(findings, breaks, left) {
+        if is_break(findings, breaks, point_at(at, left)) {
             return Some(left);
         }
     }
     None
 }
 
-/// The later of two rows.
-fn later(best: Option<Written>, row: Option<u32>, address: u32) -> Option<Written>
-    ensures value { result ≡ later best row address }
-    ensures within { (n : ℕ) → IfSome best (λ found. found.row < n) → IfSome row (λ r. r < n) → IfSome result (λ found. found.row < n) }
+/// The last point before this one at which a row isn't named yet.
+fn unnamed_before<F: Findings>(
+    findings: &F,
+    here: ThreadPoint,
+    address: u32,
+    row: u32,
+) -> Option<u32>
+    requires { IsAt (F.shown findings.now) here }
+    ensures value { result ≡ last_below (λ point. not (names (F.shown findings.now) (at here.thread point) address row)) here.point }
+    ensures within { IfSome result (λ found. found < here.point) }
 {
-    match (best, row) {
+    let mut left = here.point;
+    while left > 0 {
+        left -= 1;
+        if !names(findings, point_at(here, left), address, row) {
+            return Some(left);
+        }
+    }
+    None
+}
+
+/// The last point before which a row came that is named.
+fn point_before<F: Findings>(findings: &F, at: ThreadPoint, address: u32, row: u32) -> Option<u32>
+    requires { IsAt (F.shown findings.now) at }
+    ensures value { result ≡ point_before (F.shown findings.now) at address (Some row) }
+    ensures within { IfSome result (λ found. found < at.point) }
+{
+    let step = findings.point(row);
+    if step.thread == at.thread {
+        return before(at.point, step.point);
+    }
+    unnamed_before(findings, at, address, row)
+}
+
+/// A row of the thread, where it is before a point.
+pub fn before(point: u32, row: u32) -> Option<u32>
+    ensures value { result ≡ before point row }
+    ensures within { IfSome result (λ found. found < point) }
+{
+    if row < point { Some(row) } else { None }
+}
+
+/// The last point before the last write of a byte that the report names.
+fn write_before<F: Findings>(findings: &F, at: ThreadPoint, address: u32) -> Option<u32>
+    requires { IsAt (F.shown findings.now) at }
+    ensures value { result ≡ write_before (F.shown findings.now) at address }
+    ensures within { IfSome result (λ found. found < at.point) }
+{
+    match named_row(writer_at(findings, at, address)) {
+        Some(row) => point_before(findings, at, address, row),
+        None => None,
+    }
+}
+
+/// The later of two points.
+fn later(best: Option<Written>, found: Option<u32>, address: u32) -> Option<Written>
+    ensures value { result ≡ later best found address }
+    ensures within { (n : ℕ) → IfSome best (λ write. write.point < n) → IfSome found (λ point. point < n) → IfSome result (λ write. write.point < n) }
+{
+    match (best, found) {
         (_, None) => best,
-        (None, Some(row)) => Some(Written { row, address }),
-        (Some(found), Some(row)) if found.row < row => Some(Written { row, address }),
+        (None, Some(point)) => Some(Written { point, address }),
+        (Some(write), Some(point)) if write.point < point => Some(Written { point, address }),
         (Some(_), Some(_)) => best,
     }
 }
 
-/// The row of a byte's writer, where it is before the point.
-pub fn row_before<F: Findings>(findings: &F, point: u32, address: u32) -> Option<u32>
-    requires { point ≤ length (F.shown findings.now).rows }
-    ensures value { result ≡ row_before (F.shown findings.now) point address }
-    ensures within { IfSome result (λ row. row < point) }
-{
-    match named_row(findings.writer(point, address)) {
-        Some(row) if row < point => Some(row),
-        _ => None,
-    }
-}
-
-/// The last of the rows that the report names of these bytes before a point.
-fn last_write<F: Findings>(findings: &F, point: u32, addresses: &[u32]) -> Option<Written>
-    requires { point ≤ length (F.shown findings.now).rows }
-    ensures value { result ≡ last_write (F.shown findings.now) point addresses.now }
-    ensures within { IfSome result (λ found. found.row < point) }
+/// The last of the writes of these bytes that the report names before a point.
+fn last_write<F: Findings>(findings: &F, at: ThreadPoint, addresses: &[u32]) -> Option<Written>
+    requires { IsAt (F.shown findings.now) at }
+    ensures value { result ≡ last_write (F.shown findings.now) at addresses.now }
+    ensures within { IfSome result (λ write. write.point < at.point) }
 {
     let mut best = None;
     for address in addresses {
-        best = later(best, row_before(findings, point, *address), *address);
+        best = later(best, write_before(findings, at, *address), *address);
     }
     best
 }
 
-/// Whether no row is named of a byte though some may write it.
-fn is_open<F: Findings>(findings: &F, point: u32, address: u32) -> bool
-    requires { point ≤ length (F.shown findings.now).rows }
-    ensures { result ≡ is_open ((F.shown findings.now).writer point address) }
-{
-    matches!(findings.writer(point, address), Writer::Several)
-}
-
-fn has_open<F: Findings>(findings: &F, point: u32, addresses: &[u32]) -> bool
-    requires { point ≤ length (F.shown findings.now).rows }
-    ensures { result ≡ has_open (F.shown findings.now) point addresses.now }
-{
-    for address in addresses {
-        if is_open(findings, point, *address) {
-            return true;
-        }
-    }
-    false
-}
-
-/// The later of a breakpoint and a row that writes.
+/// The later of a breakpoint and a write.
 fn latest(found: Option<u32>, write: Option<Written>) -> Halt
     ensures { result ≡ latest found write }
 {
@@ -243,13 +334,13 @@ fn latest(found: Option<u32>, write: Option<Written>) -> Halt
     }
 }
 
-/// The later of a breakpoint at a point and a row that writes.
+/// The later of a breakpoint at a point and a write.
 fn later_halt(point: u32, write: Option<Written>) -> Halt
     ensures { result ≡ latest (Some point) write }
 {
     match write {
         Some(write) => {
-            if write.row < point {
+            if write.point < point {
                 return at_break(point);
             }
             at_write(write)
@@ -259,10 +350,10 @@ fn later_halt(point: u32, write: Option<Written>) -> Halt
 }
 
 fn at_write(write: Written) -> Halt
-    ensures { result ≡ halt write.row (Stop.Write write.address) }
+    ensures { result ≡ halt write.point (Stop.Write write.address) }
 {
     Halt {
-        point: write.row,
+        point: write.point,
         stop: Stop::Write(write.address),
     }
 }
@@ -276,21 +367,22 @@ fn at_break(point: u32) -> Halt
     }
 }
 
-/// Back to the last row that the report names of a watched byte, or to the last breakpoint.
+/// Back to before the last write that the report names of a watched byte, or to the last breakpoint; one step back where it names none of a byte that rows
+/// may have written.
 pub fn continued_back<F: Findings>(
     findings: &F,
     breaks: &[u32],
     addresses: &[u32],
-    point: u32,
+    at: ThreadPoint,
 ) -> Halt
-    requires { point ≤ length (F.shown findings.now).rows }
-    ensures value { result ≡ continued_back (F.shown findings.now) (wanted breaks.now addresses.now) point }
-    ensures within { result.point ≤ point }
+    requires { IsAt (F.shown findings.now) at }
+    ensures value { result ≡ continued_back (F.shown findings.now) (wanted breaks.now addresses.now) at }
+    ensures within { result.point ≤ at.point }
 {
-    if has_open(findings, point, addresses) {
-        return at_break(point);
+    if has_open(findings, at, addresses) {
+        return stepped_back(findings, addresses, at);
     }
-    let found = break_before(findings, breaks, point);
-    let write = last_write(findings, point, addresses);
+    let found = break_before(findings, breaks, at);
+    let write = last_write(findings, at, addresses);
     latest(found, write)
 }

@@ -1,16 +1,18 @@
 //! Pieces of replies.
 
-ghost use Rattle.std.specs.Prelude.{◌≡◌, ◌++◌, ◌≤◌, ◌+◌, min, map, length, codes, IfOk, OnOk, option_map};
+ghost use Rattle.std.specs.Prelude.{◌≡◌, ◌++◌, ◌<◌, ◌+◌, min, map, codes, IfOk, OnOk, option_map};
 ghost use Rattle.std.specs.List.{flat_map, range_with_len};
+ghost use Rattle.rept_session.specs.Shown.{IsAt};
 ghost use Rattle.rept_session.specs.Texts.{wrapped};
-ghost use Rattle.rept_stub.specs.Replies.{big_word, decoded, digits_of, known_bytes, known_run, little_word, memory_bytes, memory_digits, part_reply, reason_reply, register_reply, registers_reply, stop_reply, text_reply, value_digits};
+ghost use Rattle.rept_stub.specs.Replies.{big_word, decoded, digits_of, known_bytes, known_run, little_word, memory_bytes, memory_digits, part_reply, register_reply, registers_reply, signal_reply, stop_part, text_reply, value_digits};
 
 use crate::halt::Stop;
-use crate::moves::{address_at, last_point};
+use crate::moves::last_point;
 use crate::signal::debugger_signal;
 use rept_isa::Reg;
 use rept_remote::digits_value;
-use rept_session::Findings;
+use rept_session::findings::{address_at, number_of};
+use rept_session::{Findings, ThreadPoint};
 use rept_word::{OutOfMemory, Text};
 use std::alloc::Global;
 
@@ -41,7 +43,7 @@ fn push_little(text: &mut Text, value: u32) -> Result<(), OutOfMemory>
 }
 
 /// The bytes of a word, from the highest one on.
-fn push_big(text: &mut Text, value: u32) -> Result<(), OutOfMemory>
+pub fn push_big(text: &mut Text, value: u32) -> Result<(), OutOfMemory>
     ensures { OnOk result (text.new ≡ text.old ++ big_word value) }
 {
     text.push_byte((value / 16_777_216 % 256) as u8)?;
@@ -60,19 +62,24 @@ fn push_value(text: &mut Text, value: Option<u32>) -> Result<(), OutOfMemory>
     }
 }
 
-/// All registers and the address at a point.
-pub fn registers<F: Findings>(alloc: Global, findings: &F, point: u32) -> Result<Text, OutOfMemory>
-    requires { point ≤ length (F.shown findings.now).rows }
-    ensures { IfOk result (λ text. text ≡ registers_reply (F.shown findings.now) point) }
+/// All registers and the address at a point of a thread.
+pub fn registers<F: Findings>(
+    alloc: Global,
+    findings: &F,
+    at: ThreadPoint,
+) -> Result<Text, OutOfMemory>
+    requires { IsAt (F.shown findings.now) at }
+    ensures { IfOk result (λ text. text ≡ registers_reply (F.shown findings.now) at) }
 {
     let mut text = Text::new(alloc);
+    let point = number_of(findings, at);
     for number in 0..32 {
         let Some(register) = Reg::new(number) else {
             unreachable!();
         };
         push_value(&mut text, findings.reg(point, register))?;
     }
-    push_little(&mut text, address_at(findings, point))?;
+    push_little(&mut text, address_at(findings, at))?;
     Ok(text)
 }
 
@@ -80,41 +87,41 @@ pub fn registers<F: Findings>(alloc: Global, findings: &F, point: u32) -> Result
 pub fn register<F: Findings>(
     alloc: Global,
     findings: &F,
-    point: u32,
+    at: ThreadPoint,
     number: u32,
 ) -> Result<Text, OutOfMemory>
-    requires { point ≤ length (F.shown findings.now).rows }
-    ensures { IfOk result (λ text. text ≡ register_reply (F.shown findings.now) point number) }
+    requires { IsAt (F.shown findings.now) at }
+    ensures { IfOk result (λ text. text ≡ register_reply (F.shown findings.now) at number) }
 {
     let mut text = Text::new(alloc);
     if number < 32 {
         let Some(register) = Reg::new(number as u8) else {
             unreachable!();
         };
-        push_value(&mut text, findings.reg(point, register))?;
+        push_value(&mut text, findings.reg(number_of(findings, at), register))?;
     } else if number == 32 {
-        push_little(&mut text, address_at(findings, point))?;
+        push_little(&mut text, address_at(findings, at))?;
     } else {
         text.push(b"E01")?;
     }
     Ok(text)
 }
 
-/// The known bytes from an address on, up to the first one that isn't known.
+/// The known bytes from an address on at a moment, up to the first one that isn't known.
 pub fn known_bytes<F: Findings>(
     alloc: Global,
     findings: &F,
-    point: u32,
+    moment: u32,
     address: u32,
     count: u32,
 ) -> Result<Text, OutOfMemory>
-    requires { point ≤ length (F.shown findings.now).rows }
-    ensures { IfOk result (λ text. text ≡ known_bytes (F.shown findings.now) point address count) }
+    requires { moment < (F.shown findings.now).moments }
+    ensures { IfOk result (λ text. text ≡ known_bytes (F.shown findings.now) moment address count) }
 {
     let mut text = Text::new(alloc);
     let most = count.min(MOST_BYTES);
     for i in 0..most {
-        match findings.byte(point, address.wrapping_add(i)) {
+        match findings.byte(moment, address.wrapping_add(i)) {
             Some(byte) => text.push(&[byte])?,
             None => return Ok(text),
         }
@@ -158,43 +165,43 @@ pub fn memory_bytes(alloc: Global, bytes: &[u8]) -> Result<Text, OutOfMemory>
 }
 
 /// Why a move stopped.
-pub fn stop_text(alloc: Global, stop: Stop) -> Result<Text, OutOfMemory>
-    ensures { IfOk result (λ text. text ≡ stop_reply stop) }
+pub fn push_stop(text: &mut Text, stop: Stop) -> Result<(), OutOfMemory>
+    ensures { OnOk result (text.new ≡ text.old ++ stop_part stop) }
 {
     match stop {
-        Stop::Step => whole(alloc, b"T05"),
-        Stop::Write(address) => write_text(alloc, address),
-        Stop::Begin => whole(alloc, b"T05replaylog:begin;"),
-        Stop::End => whole(alloc, b"T05replaylog:end;"),
+        Stop::Step => Ok(()),
+        Stop::Write(address) => push_named(text, b"watch:", address),
+        Stop::Begin => text.push(b"replaylog:begin;"),
+        Stop::End => text.push(b"replaylog:end;"),
     }
 }
 
-fn write_text(alloc: Global, address: u32) -> Result<Text, OutOfMemory>
-    ensures { IfOk result (λ text. text ≡ codes "T05watch:" ++ big_word address ++ codes ";") }
+/// A part of a stop: its name, a word from its highest byte on, and a semicolon.
+pub fn push_named(text: &mut Text, name: &[u8], value: u32) -> Result<(), OutOfMemory>
+    ensures { OnOk result (text.new ≡ text.old ++ (name.now ++ big_word value ++ codes ";")) }
 {
-    let mut text = Text::new(alloc);
-    text.push(b"T05watch:")?;
-    push_big(&mut text, address)?;
+    text.push(name)?;
+    push_big(text, value)?;
     text.push(b";")?;
-    Ok(text)
+    Ok(())
 }
 
-/// Why it stands at a point.
-pub fn reason<F: Findings>(
-    alloc: Global,
+/// The signal that ended the process at the last point of a thread, and at others that of a stop.
+pub fn push_signal<F: Findings>(
+    text: &mut Text,
     findings: &F,
     signal: u16,
-    point: u32,
-) -> Result<Text, OutOfMemory>
-    ensures { IfOk result (λ text. text ≡ reason_reply (F.shown findings.now) signal point) }
+    at: ThreadPoint,
+) -> Result<(), OutOfMemory>
+    requires { IsAt (F.shown findings.now) at }
+    ensures { OnOk result (text.new ≡ text.old ++ signal_reply (F.shown findings.now) signal at) }
 {
-    if point != last_point(findings) {
-        return whole(alloc, b"T05");
+    if at.point != last_point(findings, at.thread) {
+        return text.push(b"T05");
     }
-    let mut text = Text::new(alloc);
     text.push(b"T")?;
     text.push_byte(debugger_signal(signal))?;
-    Ok(text)
+    Ok(())
 }
 
 /// A part of a text, and whether it is the last one.

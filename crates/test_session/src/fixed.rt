@@ -1,13 +1,15 @@
 //! Findings of a path of two steps that are what they are made of.
 
-ghost use Rattle.std.specs.Prelude.{◌≡◌, ◌<◌, length};
+ghost use Rattle.std.specs.Prelude.{◌≡◌, ◌<◌, ◌==◌, ◌∷◌, [], IfOk, None, Some, length, map, if◌then◌else◌};
+ghost use Rattle.std.specs.Option.{option_map};
+ghost use Rattle.rept_elf.specs.Symbols.{symbol_of};
 
 use rept_elf::Symbol;
 use rept_isa::{ImmOp, Instr, Reg, StepRow};
 use rept_partial::Range;
 use rept_reason::{Fact, Looked, Reason};
 use rept_report::{Counts, Writer};
-use rept_session::Findings;
+use rept_session::{Findings, Place, ThreadPlace, ThreadPoint};
 use rept_word::OutOfMemory;
 use std::alloc::{AllocError, Global};
 
@@ -23,17 +25,53 @@ pub struct Fixed {
 impl Findings for Fixed {
     ghost use Rattle.std.specs.Prelude.{None, Some, [], ◌∷◌, nat_lt, ◌==◌, if◌then◌else◌};
     ghost use Rattle.rept_report.specs.declared.writer.Writer.TheVariants.{MayWrite};
+    ghost use Rattle.rept_session.specs.declared.place.Place.TheVariants as places;
 
-    ghost shown = { λ f. record { rows = f.rows; end_pc = 65544; register = λ point r. if point == 0 then None else Some 43981; range = λ point r. f.range; note = λ point r. f.note; byte = λ point a. if nat_lt a 16 then Some a else None; writer = λ point a. MayWrite 1; counts = f.counts; symbol = λ a. if a == 65540 then Some (record { name = 102 ∷ 7 ∷ []; value = 65536 }) else None } };
+    ghost shown = { λ f. record { threads = 1; process = λ t. 1; rows = λ t. f.rows; end_pc = λ t. 65544; first = λ t. 0; points = 3; point = λ p. record { thread = 0; point = p }; moments = 3; moment = λ p. p; place = λ m. record { thread = 0; place = places.Point m }; register = λ point r. if point == 0 then None else Some 43981; range = λ point r. f.range; note = λ point r. f.note; byte = λ point a. if nat_lt a 16 then Some a else None; writer = λ point a. MayWrite 1; counts = f.counts; symbol = λ a. if a == 65540 then Some (record { name = 102 ∷ 7 ∷ []; value = 65536 }) else None } };
 
     ghost reasons = { λ f fact why. Unit {0} };
 
-    fn rows(&self) -> &[StepRow] {
+    fn threads(&self) -> u32 {
+        1
+    }
+
+    fn process(&self, _thread: u32) -> u32 {
+        1
+    }
+
+    fn rows(&self, _thread: u32) -> &[StepRow] {
         &self.rows
     }
 
-    fn end_pc(&self) -> u32 {
+    fn end_pc(&self, _thread: u32) -> u32 {
         0x10008
+    }
+
+    fn first(&self, _thread: u32) -> u32 {
+        let _two: &[StepRow] = &self.rows;
+        0
+    }
+
+    fn points(&self) -> u32 {
+        3
+    }
+
+    fn point(&self, number: u32) -> ThreadPoint {
+        ThreadPoint {
+            thread: 0,
+            point: number,
+        }
+    }
+
+    fn moment(&self, point: u32) -> u32 {
+        point
+    }
+
+    fn place(&self, moment: u32) -> ThreadPlace {
+        ThreadPlace {
+            thread: 0,
+            place: Place::Point(moment),
+        }
     }
 
     fn reg(&self, point: u32, _register: Reg) -> Option<u32> {
@@ -48,7 +86,7 @@ impl Findings for Fixed {
         self.note
     }
 
-    fn byte(&self, _point: u32, address: u32) -> Option<u8> {
+    fn byte(&self, _moment: u32, address: u32) -> Option<u8> {
         if address < 16 {
             Some(address as u8)
         } else {
@@ -56,7 +94,7 @@ impl Findings for Fixed {
         }
     }
 
-    fn writer(&self, _point: u32, _address: u32) -> Writer {
+    fn writer(&self, _moment: u32, _address: u32) -> Writer {
         Writer::MayWrite(1)
     }
 
@@ -64,15 +102,16 @@ impl Findings for Fixed {
         self.counts
     }
 
-    fn symbol(&self, address: u32) -> Option<Symbol<'_>> {
-        if address == 0x10004 {
-            Some(Symbol {
-                name: b"f\x07",
-                value: 0x10000,
-            })
-        } else {
-            None
+    fn symbols(
+        &self,
+        alloc: Global,
+        addresses: &[u32],
+    ) -> Result<Vec<Option<Symbol<'_>>>, OutOfMemory> {
+        let mut found = Vec::new(alloc);
+        for address in addresses {
+            found.push(function_at(*address))?;
         }
+        Ok(found)
     }
 
     fn why(&mut self, alloc: Global, fact: Fact) -> Result<Option<Reason>, OutOfMemory> {
@@ -90,6 +129,31 @@ impl Findings for Fixed {
         }
         Ok(Some(reason))
     }
+}
+
+/// The function `f` and a byte that is no visible character, which begins at 0x10000 and has the address 0x10004 alone.
+fn function_at<'a>(address: u32) -> Option<Symbol<'a>>
+    ensures { option_map symbol_of result ≡ (if address == 65540 then Some (record { name = 102 ∷ 7 ∷ []; value = 65536 }) else None) }
+{
+    if address == 0x10004 {
+        Some(Symbol {
+            name: b"f\x07",
+            value: 0x10000,
+        })
+    } else {
+        None
+    }
+}
+
+/// The functions of addresses of which none has one.
+pub fn unnamed<'a>(alloc: Global, addresses: &[u32]) -> Result<Vec<Option<Symbol<'a>>>, OutOfMemory>
+    ensures { IfOk result (λ found. map (option_map symbol_of) found.items ≡ map (λ address. None) addresses.now) }
+{
+    let mut found = Vec::new(alloc);
+    for _ in addresses {
+        found.push(None)?;
+    }
+    Ok(found)
 }
 
 /// A register by its number.

@@ -15,3 +15,5 @@ mod session;
 mod stack;
 #[cfg(test)]
 mod stub;
+#[cfg(test)]
+mod threads;

@@ -1,5 +1,6 @@
 //! Sessions over a path without steps.
 
+use crate::fixed::unnamed;
 use rept_elf::Symbol;
 use rept_isa::{Reg, StepRow};
 use rept_partial::Range;
@@ -7,7 +8,7 @@ use rept_ports::{MemSink, MemSource};
 use rept_reason::{Fact, Reason};
 use rept_report::{Counts, Writer};
 use rept_serve::{Served, serve};
-use rept_session::Findings;
+use rept_session::{Findings, Place, ThreadPlace, ThreadPoint};
 use rept_word::OutOfMemory;
 use std::alloc::Global;
 use std::test::Fail;
@@ -21,17 +22,52 @@ struct Unknown {
 impl Findings for Unknown {
     ghost use Rattle.std.specs.Prelude.{None, []};
     ghost use Rattle.rept_report.specs.declared.writer.Writer.TheVariants as writers;
+    ghost use Rattle.rept_session.specs.declared.place.Place.TheVariants as places;
 
-    ghost shown = { λ u. record { rows = []; end_pc = 16; register = λ point r. None; range = λ point r. u.range; note = λ point r. None; byte = λ point a. None; writer = λ point a. writers.None; counts = record { steps = 0; calls = 0; registers = 0; exact = 0; inexact = 0 }; symbol = λ a. None } };
+    ghost shown = { λ u. record { threads = 1; process = λ t. 7; rows = λ t. []; end_pc = λ t. 16; first = λ t. 0; points = 1; point = λ p. record { thread = 0; point = p }; moments = 1; moment = λ p. p; place = λ m. record { thread = 0; place = places.Point m }; register = λ point r. None; range = λ point r. u.range; note = λ point r. None; byte = λ point a. None; writer = λ point a. writers.None; counts = record { steps = 0; calls = 0; registers = 0; exact = 0; inexact = 0 }; symbol = λ a. None } };
 
     ghost reasons = { λ u fact why. ⊥ };
 
-    fn rows(&self) -> &[StepRow] {
+    fn threads(&self) -> u32 {
+        1
+    }
+
+    fn process(&self, _thread: u32) -> u32 {
+        7
+    }
+
+    fn rows(&self, _thread: u32) -> &[StepRow] {
         &[]
     }
 
-    fn end_pc(&self) -> u32 {
+    fn end_pc(&self, _thread: u32) -> u32 {
         16
+    }
+
+    fn first(&self, _thread: u32) -> u32 {
+        0
+    }
+
+    fn points(&self) -> u32 {
+        1
+    }
+
+    fn point(&self, number: u32) -> ThreadPoint {
+        ThreadPoint {
+            thread: 0,
+            point: number,
+        }
+    }
+
+    fn moment(&self, point: u32) -> u32 {
+        point
+    }
+
+    fn place(&self, moment: u32) -> ThreadPlace {
+        ThreadPlace {
+            thread: 0,
+            place: Place::Point(moment),
+        }
     }
 
     fn reg(&self, _point: u32, _register: Reg) -> Option<u32> {
@@ -46,11 +82,11 @@ impl Findings for Unknown {
         None
     }
 
-    fn byte(&self, _point: u32, _address: u32) -> Option<u8> {
+    fn byte(&self, _moment: u32, _address: u32) -> Option<u8> {
         None
     }
 
-    fn writer(&self, _point: u32, _address: u32) -> Writer {
+    fn writer(&self, _moment: u32, _address: u32) -> Writer {
         Writer::None
     }
 
@@ -64,8 +100,12 @@ impl Findings for Unknown {
         }
     }
 
-    fn symbol(&self, _address: u32) -> Option<Symbol<'_>> {
-        None
+    fn symbols(
+        &self,
+        alloc: Global,
+        addresses: &[u32],
+    ) -> Result<Vec<Option<Symbol<'_>>>, OutOfMemory> {
+        unnamed(alloc, addresses)
     }
 
     fn why(&mut self, _alloc: Global, _fact: Fact) -> Result<Option<Reason>, OutOfMemory> {
@@ -73,11 +113,12 @@ impl Findings for Unknown {
     }
 }
 
-const LINES: &[u8] = b"where\n\nfoo\nmem 1 1\nquit\nwhere\n";
+const LINES: &[u8] = b"where\n\nfoo\nmem 1 1\nthread 1\nthread 0\nquit\nwhere\n";
 
 const WHERE: &str = "point 0 of 0 pc 0x00000010\n";
 
-const ALL: &str = "point 0 of 0 pc 0x00000010\n? 1\n0x00000001: ??\n";
+const ALL: &str =
+    "point 0 of 0 pc 0x00000010\n? 1\n0x00000001: ??\n? 5\nthread 0 pid 7\npoint 0 of 0 pc 0x00000010\n";
 
 // A session up to `quit`, one whose input fails, and one whose output does.
 #[test]

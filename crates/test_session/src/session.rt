@@ -1,7 +1,7 @@
 //! Lines and what they are, and the answers over a small path whose findings are fixed.
 
 use crate::fixed::{two_steps, x};
-use rept_session::{Answer, BadCommand, Command, answer_line, parse};
+use rept_session::{Answer, BadCommand, Command, ThreadPoint, answer_line, parse};
 use rept_word::OutOfMemory;
 use std::alloc::Global;
 use std::process::Abort;
@@ -57,20 +57,27 @@ fn lines_are_commands(rt: HostRuntime) -> Result<(), Fail> {
         ("list 9 1", Ok(Command::List { first: 9, count: 1 })),
         ("list 10 1", Err(BadCommand::Limit)),
         ("list 0 0", Err(BadCommand::Limit)),
+        ("thread 2", Ok(Command::Thread(2))),
+        ("thread 3", Err(BadCommand::Limit)),
+        ("thread 4294967296", Err(BadCommand::Number)),
     ];
     for (line, expected) in table {
-        assert_eq!(rt; parse(line.as_bytes(), 9), expected, "{line}");
+        assert_eq!(rt; parse(line.as_bytes(), 9, 3), expected, "{line}");
     }
-    assert_eq!(rt; parse(&[b' '; 256], 0), Ok(Command::Nothing));
-    assert_eq!(rt; parse(&[b' '; 257], 0), Err(BadCommand::LongLine));
-    assert_eq!(rt; parse(&[255, 0], 0), Err(BadCommand::Unknown));
+    assert_eq!(rt; parse(&[b' '; 256], 0, 1), Ok(Command::Nothing));
+    assert_eq!(rt; parse(&[b' '; 257], 0, 1), Err(BadCommand::LongLine));
+    assert_eq!(rt; parse(&[255, 0], 0, 1), Err(BadCommand::Unknown));
     Ok(())
 }
 
 /// The answer over two steps, at point 0, 1 or 2.
 fn ask(alloc: Global, cursor: u32, line: &str) -> Result<Answer, OutOfMemory> {
     let mut findings = two_steps();
-    answer_line(alloc, &mut findings, 7, cursor.min(2), line.as_bytes())
+    let cursor = ThreadPoint {
+        thread: 0,
+        point: cursor.min(2),
+    };
+    answer_line(alloc, &mut findings, 7, cursor, line.as_bytes())
 }
 
 #[test]
@@ -122,6 +129,14 @@ fn commands_are_answered(rt: HostRuntime) -> Result<(), Fail> {
         (1, "quit", 1, ""),
         (1, "", 1, ""),
         (1, "goto 3", 1, "? 5\n"),
+        (
+            1,
+            "thread 0",
+            2,
+            "thread 0 pid 1\npoint 2 of 2 pc 0x00010008\n",
+        ),
+        (1, "thread 1", 1, "? 5\n"),
+        (1, "thread x", 1, "? 2\n"),
     ];
     compare(&rt, rt.alloc(), &table)
 }
@@ -130,7 +145,11 @@ fn commands_are_answered(rt: HostRuntime) -> Result<(), Fail> {
 fn known_bits_are_told(rt: HostRuntime) -> Result<(), Fail> {
     let mut findings = two_steps();
     findings.note = Some((15, 9));
-    let answer = answer_line(rt.alloc(), &mut findings, 7, 0, b"range a0")?;
+    let start = ThreadPoint {
+        thread: 0,
+        point: 0,
+    };
+    let answer = answer_line(rt.alloc(), &mut findings, 7, start, b"range a0")?;
     let line = "x10 0x00000010..0xffffffff known 0x0000000f value 0x00000009\n";
     assert_eq!(rt; answer.text.bytes(), line.as_bytes());
     Ok(())
@@ -140,7 +159,7 @@ fn compare(rt: &impl Abort, alloc: Global, rows: &[(u32, &str, u32, &str)]) -> R
     for (cursor, line, moved, text) in rows {
         let answer = ask(alloc, *cursor, line)?;
         assert_eq!(rt; answer.text.bytes(), text.as_bytes(), "{line}");
-        assert_eq!(rt; answer.cursor, *moved, "{line}");
+        assert_eq!(rt; answer.cursor.point, *moved, "{line}");
         assert_eq!(rt; answer.quit, *line == "quit", "{line}");
     }
     Ok(())

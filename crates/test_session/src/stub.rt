@@ -1,11 +1,13 @@
 //! Packets and the answers to them, one after the other.
 
 use crate::fixed::two_steps;
+use crate::threads::two_threads;
 use rept_dialog::{Conversed, converse};
 use rept_ports::{MemSink, MemSource};
-use rept_remote::Ending;
-use rept_stub::{Setting, Spots, Stand, answer_packet};
-use rept_word::{OutOfMemory, Text};
+use rept_remote::{Ending, push_packet};
+use rept_session::Findings;
+use rept_stub::{Setting, answer_packet, start};
+use rept_word::Text;
 use std::alloc::Global;
 use std::process::Abort;
 use std::test::Fail;
@@ -50,41 +52,103 @@ const ANSWERS: [(&str, &str); 36] = [
     ("D", "OK"),
 ];
 
+// The threads of `threads`: the cursor of each is its own, and the selected one alone moves.
+const OF_THREADS: [(&str, &str); 47] = [
+    ("?", "T0bthread:00000001;"),
+    ("qC", "QC00000001"),
+    ("qfThreadInfo", "m00000001,00000002"),
+    ("qsThreadInfo", "l"),
+    ("qThreadExtraInfo,2", "74687265616420312c2032207374657073"),
+    ("T2", "OK"),
+    ("T3", "E01"),
+    ("Hgx", "E01"),
+    ("p6", "09000000"),
+    ("m20000,1", "09"),
+    ("Hg2", "OK"),
+    ("p6", "08000000"),
+    ("p20", "08000100"),
+    ("bs", "T05thread:00000002;"),
+    ("?", "T05thread:00000002;"),
+    ("p20", "04000100"),
+    ("m20000,1", "E01"),
+    (
+        "qRcmd,777269746572732030783230303030",
+        "6d61792077726974652031206f6620300a",
+    ),
+    (
+        "qRcmd,7468726561642030",
+        "74687265616420302070696420310a706f696e742034206f66203420706320307830303031303031300a",
+    ),
+    ("Hg1", "OK"),
+    ("p20", "10000100"),
+    ("Hc2", "OK"),
+    ("bs", "T05thread:00000002;"),
+    ("bs", "T05thread:00000002;replaylog:begin;"),
+    ("p20", "00000100"),
+    ("Hc-1", "OK"),
+    ("Hg1", "OK"),
+    ("Z2,20000,1", "OK"),
+    ("bc", "T05thread:00000001;"),
+    ("m20000,1", "09"),
+    ("bc", "T05thread:00000001;"),
+    ("bc", "T05thread:00000001;"),
+    ("p20", "04000100"),
+    ("bc", "T05thread:00000001;watch:00020000;"),
+    ("p20", "00000100"),
+    ("c", "T05thread:00000001;watch:00020000;"),
+    ("c", "T05thread:00000001;"),
+    ("p20", "08000100"),
+    ("vCont;c:2;c", "T05thread:00000002;"),
+    ("p20", "08000100"),
+    ("vCont;c", "T05thread:00000002;replaylog:end;"),
+    ("vCont;s:3", "E01"),
+    ("z2,20000,1", "OK"),
+    ("Z0,10004,4", "OK"),
+    ("bc", "T05thread:00000002;"),
+    ("p20", "04000100"),
+    ("D", "OK"),
+];
+
 #[test]
 fn packets_are_answered(rt: HostRuntime) -> Result<(), Fail> {
-    compare(&rt, rt.alloc(), &ANSWERS)
+    compare(&rt, rt.alloc(), &mut two_steps(), &ANSWERS)
 }
 
-/// The answer over two steps, at point 0, 1 or 2.
-fn ask(alloc: Global, stand: &mut Stand, packet: &str) -> Result<Text, OutOfMemory> {
-    let mut findings = two_steps();
+#[test]
+fn packets_to_threads_are_answered(rt: HostRuntime) -> Result<(), Fail> {
+    compare(&rt, rt.alloc(), &mut two_threads(), &OF_THREADS)
+}
+
+/// A dialog of these packets, of which the last one ends it, and whether their replies are these.
+fn compare<F: Findings>(
+    rt: &impl Abort,
+    alloc: Global,
+    findings: &mut F,
+    rows: &[(&str, &str)],
+) -> Result<(), Fail> {
     let setting = Setting {
         skipped: 0,
         signal: 11,
     };
-    stand.point = stand.point.min(2);
-    answer_packet(alloc, &mut findings, setting, stand, packet.as_bytes())
-}
-
-fn compare(rt: &impl Abort, alloc: Global, rows: &[(&str, &str)]) -> Result<(), Fail> {
-    let mut stand = Stand {
-        point: 2,
-        spots: Spots::new(alloc),
-    };
+    let mut packets = Text::new(alloc);
+    let mut replies = Text::new(alloc);
     for (packet, reply) in rows {
-        let text = ask(alloc, &mut stand, packet)?;
-        assert_eq!(rt; text.bytes(), reply.as_bytes(), "{packet}");
+        push_packet(alloc, &mut packets, packet.as_bytes())?;
+        replies.push(b"+")?;
+        push_packet(alloc, &mut replies, reply.as_bytes())?;
     }
+    let mut source = MemSource::new(alloc, packets.bytes(), &[])?;
+    let mut sink = MemSink::new(alloc, 4000, &[])?;
+    let ended = converse(alloc, findings, setting, &mut source, &mut sink);
+    assert_eq!(rt; sink.bytes(), replies.bytes());
+    assert_eq!(rt; ended, Conversed::Left);
     Ok(())
 }
 
 #[test]
 fn all_registers(rt: HostRuntime) -> Result<(), Fail> {
     let mut findings = two_steps();
-    let mut stand = Stand {
-        point: 0,
-        spots: Spots::new(rt.alloc()),
-    };
+    let mut stand = start(rt.alloc(), &findings)?;
     let setting = Setting {
         skipped: 0,
         signal: 11,
@@ -92,9 +156,9 @@ fn all_registers(rt: HostRuntime) -> Result<(), Fail> {
     let text = answer_packet(rt.alloc(), &mut findings, setting, &mut stand, b"g")?;
     let mut wanted = Text::new(rt.alloc());
     for _ in 0..32 {
-        wanted.push(b"xxxxxxxx")?;
+        wanted.push(b"cdab0000")?;
     }
-    wanted.push(b"00000100")?;
+    wanted.push(b"08000100")?;
     assert_eq!(rt; text.bytes(), wanted.bytes());
     Ok(())
 }

@@ -23,10 +23,10 @@ session-init g c = record {
   none = c.new-lines.ensures.no_fault;
   shown_stays = refl;
   reasons_stay = no_other (g.F.Findings.reasons c.args.findings.now);
-  within = omega (arith, ap length c.rows.ensures.list);
+  within = c.last_of-cursor.ensures.within;
   read_calm = refl;
   write_calm = refl;
-  so_far = starts (told (g.F.Findings.shown c.args.findings.now) c.args.skipped (g.F.Findings.reasons c.args.findings.now)) (g.S.Source.port c.new-lines.result.source.now).bytes c.new-lines.result.intake (length c.rows.result.now) (g.K.Sink.port c.args.out.now).bytes c.new-lines.ensures.none (ap length c.rows.ensures.list);
+  so_far = starts (told (g.F.Findings.shown c.args.findings.now) c.args.skipped (g.F.Findings.reasons c.args.findings.now)) (g.S.Source.port c.new-lines.result.source.now).bytes c.new-lines.result.intake c.last_of-cursor.result (g.K.Sink.port c.args.out.now).bytes c.new-lines.ensures.none c.last_of-cursor.ensures.value;
 }
 
 pub session-preserved : goal.session-preserved

@@ -7,4 +7,4 @@ use Rattle.rept_session.proofs.parser.parse.Goals as goal
 
 pub returns-clause-within : goal.returns-clause-within
 returns-clause-within c =
-    subst (λ (r : Result Command BadCommand). IfOk r (IsWithin c.args.last)) (sym c.read_line.ensures) (command_within c.args.last c.args.line.now)
+    subst (λ (r : Result Command BadCommand). IfOk r (IsWithin c.args.last c.args.threads)) (sym c.read_line.ensures) (command_within c.args.last c.args.threads c.args.line.now)

@@ -4,4 +4,4 @@ use Rattle.rept_session.specs.Texts.{looked_line}
 use Rattle.rept_session.proofs.reasons.push_ranges.Given as goal
 
 abbrev pub invariant-loop-looked : goal.invariant-loop-looked
-invariant-loop-looked l = l.text ≡ l.fn.text ++ flat_map looked_line (take l.looked-index l.ranges)
+invariant-loop-looked g l = l.text ≡ l.fn.text ++ flat_map (looked_line (g.F.Findings.shown l.findings)) (take l.looked-index l.ranges)

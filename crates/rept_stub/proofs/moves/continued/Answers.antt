@@ -1,4 +1,6 @@
-use Rattle.std.proofs.Common.{◌+◌, length, arith, sym, ◌∙◌}
+use Rattle.std.proofs.Common.{◌+◌, length, arith, ap, sym, ◌∙◌}
+use Rattle.rept_session.specs.Texts.{at}
+use Rattle.rept_session.specs.declared.place.ThreadPoint.{ThreadPoint}
 use Rattle.rept_stub.specs.Halts.{is_stop, wanted}
 use Rattle.rept_stub.proofs.Ranges.{find_on}
 use Rattle.rept_stub.proofs.moves.continued.Goals as goal
@@ -6,4 +8,8 @@ use Rattle.rept_stub.proofs.moves.continued.Goals as goal
 pub loop-next-preserved : goal.loop-next-preserved
 loop-next-preserved g c =
     let s = g.F.Findings.shown c.args.findings.now in
-    c.loop-next.invariant ∙ find_on (is_stop s (wanted c.args.breaks.now c.args.addresses.now)) c.loop-next.next (length s.rows + 1) (omega (arith, c.last_point-last.ensures.value)) (sym c.is_stop.ensures ∙ c.if-is_stop.false)
+    let t = c.args.at.thread in
+    let w = wanted c.args.breaks.now c.args.addresses.now in
+    c.loop-next.invariant
+    ∙ find_on (λ p. is_stop s w (at t p)) c.loop-next.next (length (s.rows t) + 1) (omega (arith, c.loop-next-test.true, c.last_point-last.ensures.value))
+    (ap (λ (p : ThreadPoint). is_stop s w p) (sym c.point_at.ensures) ∙ sym c.is_stop.ensures ∙ c.if-is_stop.false)

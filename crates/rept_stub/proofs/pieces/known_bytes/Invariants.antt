@@ -7,4 +7,4 @@ use Rattle.rept_stub.proofs.pieces.known_bytes.Given as goal
 abbrev pub invariant-loop-i : goal.invariant-loop-i
 invariant-loop-i g l =
     let s = g.F.Findings.shown l.findings in
-    known_bytes s l.point l.address l.count ≡ l.text ++ known_run (map (λ k. s.byte l.point (wrapped (l.address + k))) (range_with_len l.i (l.most - l.i)))
+    known_bytes s l.moment l.address l.count ≡ l.text ++ known_run (map (λ k. s.byte l.moment (wrapped (l.address + k))) (range_with_len l.i (l.most - l.i)))

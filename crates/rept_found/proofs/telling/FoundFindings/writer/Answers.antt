@@ -10,5 +10,5 @@ use Rattle.rept_found.proofs.telling.FoundFindings.writer.Goals as goal
 
 pub returns : goal.returns
 returns g c =
-    writer_is (state_in (means g.W.Partial.sets g.W.Transfer.moves g.R.RowRules.rules) c.args.self.now).path (answers (state_in (means g.W.Partial.sets g.W.Transfer.moves g.R.RowRules.rules) c.args.self.now)) c.args.point c.args.address c.writer.result
-    (subst (λ (v : View g.row.W.Denot g.row.R.Denot). IsWriter (along (state_in (means g.W.Partial.sets g.W.Transfer.moves g.R.RowRules.rules) v).path) (answers (state_in (means g.W.Partial.sets g.W.Transfer.moves g.R.RowRules.rules) v)) (spot c.args.point c.args.address) c.writer.result) c.self.view_is (c.writer.ensures.ended c.self.invariant.0))
+    writer_is (state_in (means g.W.Partial.sets g.W.Transfer.moves g.R.RowRules.rules) c.args.self.now).path (answers (state_in (means g.W.Partial.sets g.W.Transfer.moves g.R.RowRules.rules) c.args.self.now)) c.args.moment c.args.address c.writer.result
+    (subst (λ (v : View g.row.W.Denot g.row.R.Denot). IsWriter (along (state_in (means g.W.Partial.sets g.W.Transfer.moves g.R.RowRules.rules) v).path) (answers (state_in (means g.W.Partial.sets g.W.Transfer.moves g.R.RowRules.rules) v)) (spot c.args.moment c.args.address) c.writer.result) c.self.view_is (c.writer.ensures.ended c.self.invariant.0))

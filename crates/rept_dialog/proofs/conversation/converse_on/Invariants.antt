@@ -2,9 +2,9 @@ use Rattle.std.proofs.Common.{◌≡◌, ◌≤◌, ◌-◌, ℕ, List, length, 
 use Rattle.rept_ports.specs.Port.{move}
 use Rattle.rept_remote.specs.Reading.{most_input}
 use Rattle.rept_session.specs.Shown.{SameReasons, told}
-use Rattle.rept_dialog.specs.Converse.{Progress}
-use Rattle.rept_dialog.specs.Dialog.{start_at}
-use Rattle.rept_dialog.proofs.conversation.converse.Given as goal
+use Rattle.rept_stub.specs.Standing.{IsStanding}
+use Rattle.rept_dialog.specs.Converse.{Progress, scene_over}
+use Rattle.rept_dialog.proofs.conversation.converse_on.Given as goal
 
 abbrev pub invariant-dialog : goal.invariant-dialog
 invariant-dialog g l =
@@ -15,12 +15,12 @@ invariant-dialog g l =
     record {
       shown_stays : shown l.findings ≡ shown l.fn.findings;
       reasons_stay : SameReasons (reasons l.fn.findings) (reasons l.findings);
-      within : l.dialog.stand.point ≤ length (shown l.fn.findings).rows;
+      within : IsStanding (shown l.fn.findings) l.dialog.stand;
       going : l.packets.over ≡ None;
       read : List ℕ;
       counted : l.packets.count ≡ length read;
       few : l.packets.count ≤ most_input;
-      progress : Progress (record { told = told (shown l.fn.findings) l.setting.skipped (reasons l.fn.findings); signal = l.setting.signal; start = start_at (length (shown l.fn.findings).rows) }) (move (source l.fn.input) (source l.input)) (move (sink l.fn.out) (sink l.out)) read l.dialog;
+      progress : Progress (scene_over (told (shown l.fn.findings) l.setting.skipped (reasons l.fn.findings)) l.setting.signal) (move (source l.fn.input) (source l.input)) (move (sink l.fn.out) (sink l.out)) read l.dialog;
     }
 
 abbrev pub decreases-dialog : goal.decreases-dialog
