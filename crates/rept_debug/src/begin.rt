@@ -6,7 +6,7 @@ ghost use Rattle.rept_steps.specs.Linked.{EndBefore};
 ghost use Rattle.rept_path.specs.declared.fault.PathFault.TheVariants as fault;
 ghost use Rattle.rept_found.specs.Crash.{crash_of, end_pc};
 ghost use Rattle.rept_app.specs.Path.{HasNoPath, IsTracePath};
-ghost use Rattle.rept_debug.specs.Begin.{BeginsAt, NeverBegins};
+ghost use Rattle.rept_debug.specs.Begin.{BeginsAt, IsKind, NeverBegins};
 
 use rept_app::trace_path;
 use rept_dump::Dump;
@@ -23,8 +23,9 @@ pub struct Begun {
 }
 
 /// The path of a trace from the packet of this number on. From packet 0 on, where that path has more than 65,536 steps, the path from a
-/// later packet that has not, while the path from the packet before that one has: nobody should find it by trial. The refusals are those of
-/// the paths.
+/// later packet that has not, while the path from the packet before that one has: nobody should find it by trial. It is refused where the path
+/// from a packet has more steps and from the next one on there is no start (`NoStart`), and where one of the paths that are tried between two
+/// such packets has another fault.
 pub fn begin_path(
     alloc: Global,
     trace: &[u8],
@@ -38,20 +39,45 @@ pub fn begin_path(
     ensures ends { IfOk result (λ begun. EndBefore begun.path.steps (end_pc (registers_of dump.now))) }
     ensures refused { IfErr result (λ e. (e ≡ fault.OutOfMemory) ⊎ NeverBegins (crash_of dump.now) trace.now from e) }
 {
-    match trace_path(alloc, trace, dump, from) {
-        Ok(path) => Ok(Begun { from, path }),
-        Err(PathFault::TooLong(packet)) => {
+    let fault = match trace_path(alloc, trace, dump, from) {
+        Ok(path) => return Ok(Begun { from, path }),
+        Err(fault) => fault,
+    };
+    match kind_of(fault) {
+        Kind::TooLong(packet) => {
             if from > 0 {
-                return Err(PathFault::TooLong(packet));
+                return Err(fault);
             }
             later_path(alloc, trace, dump, packet)
         }
-        Err(fault) => Err(fault),
+        Kind::NoStart => Err(fault),
+        Kind::Other => Err(fault),
     }
 }
 
-/// The path from a later packet than the first one, from which it is too long, sought by halves. `packet` is the one at which that path passes
-/// the limit.
+/// What the search for a later packet tells apart in a refusal.
+enum Kind {
+    /// too many steps, at this packet
+    TooLong(u32),
+    /// no start
+    NoStart,
+    /// every other one
+    Other,
+}
+
+/// The kind of a refusal.
+fn kind_of(fault: PathFault) -> Kind
+    ensures { IsKind fault result }
+{
+    match fault {
+        PathFault::TooLong(packet) => Kind::TooLong(packet),
+        PathFault::NoStart(_) => Kind::NoStart,
+        _ => Kind::Other,
+    }
+}
+
+/// The path from a later packet than the first one, from which it is too long, sought by halves: from `low` on it is too long, and from `high` on
+/// there is a path or no start. `packet` is the one at which the path from the first one passes the limit.
 fn later_path(alloc: Global, trace: &[u8], dump: &Dump<'_>, packet: u32) -> Result<Begun, PathFault>
     requires small { length trace.now < 2 ^ 32 }
     requires long { HasNoPath (crash_of dump.now) trace.now 0 (fault.TooLong packet) }
@@ -62,7 +88,7 @@ fn later_path(alloc: Global, trace: &[u8], dump: &Dump<'_>, packet: u32) -> Resu
     ensures refused { IfErr result (λ e. (e ≡ fault.OutOfMemory) ⊎ NeverBegins (crash_of dump.now) trace.now 0 e) }
 {
     let mut low = 0;
-    let mut high = trace.len() as u32;
+    let mut high = (trace.len() as u32).max(1);
     let mut too_long = packet;
     let mut found = None;
     while high - low > 1 {
@@ -72,15 +98,17 @@ fn later_path(alloc: Global, trace: &[u8], dump: &Dump<'_>, packet: u32) -> Resu
                 high = middle;
                 found = Some(path);
             }
-            Err(PathFault::TooLong(packet)) => {
-                low = middle;
-                too_long = packet;
-            }
-            Err(PathFault::NoStart(_)) => {
-                high = middle;
-                found = None;
-            }
-            Err(fault) => return Err(fault),
+            Err(fault) => match kind_of(fault) {
+                Kind::TooLong(packet) => {
+                    low = middle;
+                    too_long = packet;
+                }
+                Kind::NoStart => {
+                    high = middle;
+                    found = None;
+                }
+                Kind::Other => return Err(fault),
+            },
         }
     }
     match found {

@@ -1,18 +1,18 @@
-use Rattle.std.proofs.Common.{◌<◌, ◌≤◌, ◌-◌, ◌^◌, IfSome}
-use Rattle.rept_dump.specs.Dump.{registers_of}
-use Rattle.rept_steps.specs.Linked.{EndBefore}
+use Rattle.std.proofs.Common.{◌<◌, ◌≤◌, ◌-◌, ◌^◌}
+use Rattle.std.specs.Prelude.{MatchOption}
 use Rattle.rept_path.specs.declared.fault.PathFault.TheVariants as fault
-use Rattle.rept_found.specs.Crash.{crash_of, end_pc}
-use Rattle.rept_app.specs.Path.{HasNoPath, IsTracePath}
+use Rattle.rept_found.specs.Crash.{crash_of}
+use Rattle.rept_app.specs.Path.{HasNoPath}
+use Rattle.rept_debug.specs.Begin.{HasNoStart}
 use Rattle.rept_debug.proofs.Sought.{IsSought}
 use Rattle.rept_debug.proofs.begin.later_path.Given as goal
 
 abbrev pub invariant-loop-high : goal.invariant-loop-high
 invariant-loop-high l = record {
-  order : l.low ≤ l.high;
+  order : l.low < l.high;
   high : l.high < 2 ^ 32;
   long : HasNoPath (crash_of l.dump) l.trace l.low (fault.TooLong l.too_long);
-  sought : IfSome l.found (IsSought (crash_of l.dump) l.trace l.low l.high);
+  sought : MatchOption l.found (HasNoStart (crash_of l.dump) l.trace l.high) (IsSought (crash_of l.dump) l.trace l.low l.high);
 }
 
 abbrev pub decreases-loop-high : goal.decreases-loop-high
