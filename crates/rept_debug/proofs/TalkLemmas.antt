@@ -14,7 +14,7 @@ use Rattle.rept_found.specs.Crash.{Crash, Means, crash_of, route, scene_of}
 use Rattle.rept_found.specs.Telling.{told_of}
 use Rattle.rept_found.specs.Truth.{HasNoExecution}
 use Rattle.rept_found.specs.View.{View, IsFoundIn, state_in}
-use Rattle.rept_dialog.specs.Converse.{Scene, Converses, scene_over}
+use Rattle.rept_dialog.specs.Converse.{Parties, Converses, parties_over}
 use Rattle.rept_dialog.specs.declared.conversation.Conversed.{Conversed}
 use Rattle.rept_app.proofs.StudyLemmas.{account_of}
 use Rattle.rept_app.specs.Loading.{crash_bytes}
@@ -26,14 +26,14 @@ use Rattle.rept_debug.specs.Debugged.{IsHeld, IsHeldTrace, IsRefusedCrash, IsRef
 use Rattle.rept_debug.specs.declared.debugging.Talk.{Talk}
 
 module _ {W R : Type 0} (m : Means W) (v : View W R) (crash : Crash) (path : Path) (found : IsFoundIn m (route m crash path.steps) (scene_of crash) v) where
-  abbrev scene_on : AnalysedPath W → ℕ → Scene
-  scene_on P signal = scene_over (told_of P (account_of m v crash path found)) signal
+  abbrev parties_on : AnalysedPath W → ℕ → Parties
+  parties_on P signal = parties_over (told_of P (account_of m v crash path found)) signal
 
-  pub talks_over : (signal : ℕ) (source sink : Move Port) (end : Conversed) → signal ≡ half_at crash.note 12 → Converses (scene_on (state_in m v).path signal) source sink end → TalksOver (crash_path m crash path) source sink end
+  pub talks_over : (signal : ℕ) (source sink : Move Port) (end : Conversed) → signal ≡ half_at crash.note 12 → Converses (parties_on (state_in m v).path signal) source sink end → TalksOver (crash_path m crash path) source sink end
   talks_over signal source sink end is h = record {
     account = account_of m v crash path found;
     report = record { report = found.report; log = found.log; scene = found.same_scene; skipped = refl };
-    talks = subst (λ (s : ℕ). Converses (scene_on (route m crash path.steps) s) source sink end) is (subst (λ (P : AnalysedPath W). Converses (scene_on P signal) source sink end) found.path h);
+    talks = subst (λ (s : ℕ). Converses (parties_on (route m crash path.steps) s) source sink end) is (subst (λ (P : AnalysedPath W). Converses (parties_on P signal) source sink end) found.path h);
   }
 
 -- the refusal of an analysis of a path that stopped

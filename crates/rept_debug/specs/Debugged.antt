@@ -14,7 +14,7 @@ use Rattle.rept_analysis.specs.declared.stop.Stop.{Stop}
 use Rattle.rept_analysis.specs.declared.stop.Stop.TheVariants as stop
 use Rattle.rept_found.specs.Telling.{Account, told_of}
 use Rattle.rept_found.specs.Truth.{HasNoExecution, IsTrueReport}
-use Rattle.rept_dialog.specs.Converse.{Scene, Converses, scene_over}
+use Rattle.rept_dialog.specs.Converse.{Parties, Converses, parties_over}
 use Rattle.rept_dialog.specs.declared.conversation.Conversed.{Conversed}
 use Rattle.rept_app.specs.Lines.{status_of}
 use Rattle.rept_app.specs.Loading.{CrashBytes, ComesTo, MatchLoading, loading, loads_to}
@@ -58,8 +58,8 @@ Notices errors = (errors.after ≡ errors.before) ⊎ ((from : ℕ) × IsWritten
 
 -- who talks: what a session tells of an account of the path; the signal of the register note (`pr_cursig` of `struct elf_prstatus`, at 12); and
 -- a debugger that stands at the end
-abbrev pub dialog_over : {W : Type 0} → CrashPath W → Account → Scene
-dialog_over p a = scene_over (told_of (route_of p) a) (half_at p.crash.note 12)
+abbrev pub dialog_over : {W : Type 0} → CrashPath W → Account → Parties
+dialog_over p a = parties_over (told_of (route_of p) a) (half_at p.crash.note 12)
 
 -- what arrived was answered over an account of the path
 pub record TalksOver {W : Type 0} (p : CrashPath W) (source sink : Move Port) (end : Conversed) : Type 0 where

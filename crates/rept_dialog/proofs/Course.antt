@@ -10,15 +10,15 @@ use Rattle.rept_remote.specs.Frames.{Arrived, Arrives, IsPart, arrived}
 use Rattle.rept_remote.specs.Reading.{Comes, Passed, Reader, Reads, most_input, taking}
 use Rattle.rept_remote.specs.declared.arrival.Arrival.{Arrival}
 use Rattle.rept_remote.specs.declared.arrival.Ending.{Ending}
-use Rattle.rept_dialog.specs.Converse.{Progress, Scene, Ended, Broke}
-use Rattle.rept_dialog.specs.Converse as scenes
+use Rattle.rept_dialog.specs.Converse.{Progress, Parties, Ended, Broke}
+use Rattle.rept_dialog.specs.Converse as dialogs
 use Rattle.rept_dialog.specs.Dialog.{IsTurn}
 use Rattle.rept_dialog.specs.Dialog.Talks.{begun, turn}
 use Rattle.rept_dialog.specs.declared.turn.Dialog.{Dialog}
 
-pub starts : (scene : Scene) (d : Dialog) (source sink : Port) → d ≡ scene.start → Progress scene (move source source) (move sink sink) [] d
-starts scene d source sink e =
-    subst (Progress scene (move source source) (move sink sink) []) (sym e) (record { written = []; talks = begun; consumed = Consumes-nothing source.bytes; wrote = Appends-nothing sink.bytes; read_calm = refl; write_calm = refl })
+pub starts : (parties : Parties) (d : Dialog) (source sink : Port) → d ≡ parties.start → Progress parties (move source source) (move sink sink) [] d
+starts parties d source sink e =
+    subst (Progress parties (move source source) (move sink sink) []) (sym e) (record { written = []; talks = begun; consumed = Consumes-nothing source.bytes; wrote = Appends-nothing sink.bytes; read_calm = refl; write_calm = refl })
 
 -- what the reader did, where it has not ended
 pub opened : (old new : Reader) (s t : Port) (r : Result Arrival Ending) → old.over ≡ None → Reads old new (move s t) r → Comes old new (move s t) r
@@ -33,8 +33,8 @@ by_part part what (inr (inr h)) = omega (arith, ap length h.0)
 pub some_bytes : (got : List ℕ) (what : Arrived) → Arrives got what → 0 < length got
 some_bytes got what h = omega (arith, ap length h.parts, length-append h.noise h.part, by_part h.part what h.arrives)
 
-module _ (scene : Scene) (s0 s1 s2 k0 k1 : Port) (read : List ℕ) (d : Dialog) (so_far : Progress scene (move s0 s1) (move k0 k1) read d) (a b : ℕ) (got : List ℕ) (what : Arrived) (passed : Passed (taking (move a b) (move s1 s2) got)) (arrives : Arrives got what) where
-  pub on_turn : (k2 : Port) (text : List ℕ) (next : Dialog) → IsTurn scene.told scene.signal d what text next → Appends k1.bytes k2.bytes text → k2.faults ≡ k1.faults → Progress scene (move s0 s2) (move k0 k2) (read ++ got) next
+module _ (parties : Parties) (s0 s1 s2 k0 k1 : Port) (read : List ℕ) (d : Dialog) (so_far : Progress parties (move s0 s1) (move k0 k1) read d) (a b : ℕ) (got : List ℕ) (what : Arrived) (passed : Passed (taking (move a b) (move s1 s2) got)) (arrives : Arrives got what) where
+  pub on_turn : (k2 : Port) (text : List ℕ) (next : Dialog) → IsTurn parties.told parties.signal d what text next → Appends k1.bytes k2.bytes text → k2.faults ≡ k1.faults → Progress parties (move s0 s2) (move k0 k2) (read ++ got) next
   on_turn k2 text next h wrote calm = record {
     written = so_far.written ++ text;
     talks = turn read so_far.written d got text what next so_far.talks arrives h;
@@ -44,8 +44,8 @@ module _ (scene : Scene) (s0 s1 s2 k0 k1 : Port) (read : List ℕ) (d : Dialog) 
     write_calm = calm ∙ so_far.write_calm;
   }
 
-  abbrev pub came : scenes.Arrival scene (move s0 s2) (move k0 k1)
+  abbrev pub came : dialogs.Arrival parties (move s0 s2) (move k0 k1)
   came = record { read = read; now = d; got = got; what = what; middle = s1; progress = so_far; consumed = passed.took.consumed; arrives = arrives; calm = passed.calm }
 
-  pub broke : (k2 : Port) (text : List ℕ) (next : Dialog) → IsTurn scene.told scene.signal d what text next → AppendsPrefix k1.bytes k2.bytes text → OneFault k1.faults k2.faults → Broke scene (move s0 s2) (move k0 k2)
+  pub broke : (k2 : Port) (text : List ℕ) (next : Dialog) → IsTurn parties.told parties.signal d what text next → AppendsPrefix k1.bytes k2.bytes text → OneFault k1.faults k2.faults → Broke parties (move s0 s2) (move k0 k2)
   broke k2 text next h wrote fault = record { before = k1; arrival = came; text = text; next = next; turn = h; wrote = wrote; fault = fault }

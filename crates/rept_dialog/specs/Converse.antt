@@ -13,71 +13,71 @@ use Rattle.rept_dialog.specs.declared.conversation.Conversed.{Conversed}
 use Rattle.rept_dialog.specs.declared.conversation.Conversed.TheVariants as conversed
 
 -- who talks: what is told, the signal that ended the process, and the dialog as it began
-pub record Scene : Type 1 where
+pub record Parties : Type 1 where
   pub told : Told
   pub signal : ℕ
   pub start : Dialog
 
 -- a dialog that begins over what is told
-abbrev pub scene_over : Told → ℕ → Scene
-scene_over t signal = record { told = t; signal = signal; start = start_at t.shown }
+abbrev pub parties_over : Told → ℕ → Parties
+parties_over t signal = record { told = t; signal = signal; start = start_at t.shown }
 
 -- the bytes that were taken of an input and those that were written to an output, neither of which failed, are those of the arrivals so far and of
 -- what was written at each
-pub record Progress (scene : Scene) (source sink : Move Port) (read : List ℕ) (now : Dialog) : Type 0 where
+pub record Progress (parties : Parties) (source sink : Move Port) (read : List ℕ) (now : Dialog) : Type 0 where
   pub written : List ℕ
-  pub talks : Talks scene.told scene.signal scene.start read written now
+  pub talks : Talks parties.told parties.signal parties.start read written now
   pub consumed : Consumes source.before.bytes source.after.bytes read
   pub wrote : Appends sink.before.bytes sink.after.bytes written
   pub read_calm : source.after.faults ≡ source.before.faults
   pub write_calm : sink.after.faults ≡ sink.before.faults
 
 -- one arrival more came after that
-pub record Arrival (scene : Scene) (source sink : Move Port) : Type 0 where
+pub record Arrival (parties : Parties) (source sink : Move Port) : Type 0 where
   pub read : List ℕ
   pub now : Dialog
   pub got : List ℕ
   pub what : Arrived
   pub middle : Port
-  pub progress : Progress scene (move source.before middle) sink read now
+  pub progress : Progress parties (move source.before middle) sink read now
   pub consumed : Consumes middle.bytes source.after.bytes got
   pub arrives : Arrives got what
   pub calm : source.after.faults ≡ middle.faults
 
 -- the input ended or failed, or too much of it came, between arrivals or within one
-pub record Ended (scene : Scene) (source sink : Move Port) (why : Ending) : Type 0 where
+pub record Ended (parties : Parties) (source sink : Move Port) (why : Ending) : Type 0 where
   pub read : List ℕ
   pub now : Dialog
   pub got : List ℕ
   pub middle : Port
   pub count : Move ℕ
-  pub progress : Progress scene (move source.before middle) sink read now
+  pub progress : Progress parties (move source.before middle) sink read now
   pub counted : count.before ≡ length read
   pub stops : Stops (taking count (move middle source.after) got) why
 
 -- the debugger left
-pub record Left (scene : Scene) (source sink : Move Port) : Type 0 where
+pub record Left (parties : Parties) (source sink : Move Port) : Type 0 where
   pub read : List ℕ
   pub now : Dialog
-  pub progress : Progress scene source sink read now
+  pub progress : Progress parties source sink read now
   pub left : now.is_over ≡ true
 
 -- the output failed in what is written at an arrival
-pub record Broke (scene : Scene) (source sink : Move Port) : Type 0 where
+pub record Broke (parties : Parties) (source sink : Move Port) : Type 0 where
   pub before : Port
-  pub arrival : Arrival scene source (move sink.before before)
+  pub arrival : Arrival parties source (move sink.before before)
   pub text : List ℕ
   pub next : Dialog
-  pub turn : IsTurn scene.told scene.signal arrival.now arrival.what text next
+  pub turn : IsTurn parties.told parties.signal arrival.now arrival.what text next
   pub wrote : AppendsPrefix before.bytes sink.after.bytes text
   pub fault : OneFault before.faults sink.after.faults
 
 -- Memory ran out for the answer to an arrival; or for the cursors, before the first one.
-abbrev pub Stopped : Scene → Move Port → Move Port → Type 0
-Stopped scene source sink = Arrival scene source sink ⊎ ((source.after ≡ source.before) × (sink.after ≡ sink.before))
+abbrev pub Stopped : Parties → Move Port → Move Port → Type 0
+Stopped parties source sink = Arrival parties source sink ⊎ ((source.after ≡ source.before) × (sink.after ≡ sink.before))
 
-abbrev pub Converses : Scene → Move Port → Move Port → Conversed → Type 0
-Converses scene source sink conversed.Left = Left scene source sink
-Converses scene source sink (conversed.Ended why) = Ended scene source sink why
-Converses scene source sink conversed.OutputFault = Broke scene source sink
-Converses scene source sink conversed.OutOfMemory = Stopped scene source sink
+abbrev pub Converses : Parties → Move Port → Move Port → Conversed → Type 0
+Converses parties source sink conversed.Left = Left parties source sink
+Converses parties source sink (conversed.Ended why) = Ended parties source sink why
+Converses parties source sink conversed.OutputFault = Broke parties source sink
+Converses parties source sink conversed.OutOfMemory = Stopped parties source sink
