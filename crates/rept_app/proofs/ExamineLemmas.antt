@@ -14,10 +14,10 @@ use Rattle.rept_serve.specs.Serving.{Reading}
 use Rattle.rept_app.specs.Delivered.{Says, Tells}
 use Rattle.rept_app.specs.Ends.{Stopped, Yields, PortsEnd}
 use Rattle.rept_app.specs.Examine.{Walks, Examines, PathYields, WalkYields, NoteYields, FilesEnd, FilesHold, IsPathStatus, IsWalkStatus, IsWalked, IsExamined, PathExcludes, FilesExclude, WalkHolds}
-use Rattle.rept_app.specs.Forms.{executable_fault, core_image_fault, crash_in}
+use Rattle.rept_app.specs.Forms.{executable_fault, program_fault, core_image_fault, crash_in}
 use Rattle.rept_app.specs.Lines.{status_of}
 use Rattle.rept_app.specs.Path.{IsTracePath, HasNoPath}
-use Rattle.rept_app.specs.Reading.{HasNoDump, NotesRefuse}
+use Rattle.rept_app.specs.Reading.{HasNoCrash, HasNoDump, NotesRefuse}
 use Rattle.rept_app.specs.Study.{Studies, IsStudied, StudyHolds}
 use Rattle.rept_app.specs.Loading.{CrashBytes}
 use Rattle.rept_app.specs.Told.{CrashTrace, trace_in, path_in, route_of, Examined, NotesTold, Reads}
@@ -30,10 +30,10 @@ use Rattle.rept_app.specs.declared.status.Status.TheVariants as ends
 abbrev pub WalkTold : Status → Type 0
 WalkTold status = (status ≡ ends.Trace) ⊎ Stopped status
 
-stopped_path : (status : Status) → Stopped status → IsPathStatus status
+pub stopped_path : (status : Status) → Stopped status → IsPathStatus status
 stopped_path status h = inr (inr (inr (inr h)))
 
-all_walks : (status : Status) → WalkTold status → IsWalkStatus status
+pub all_walks : (status : Status) → WalkTold status → IsWalkStatus status
 all_walks status (inl h) = inl h
 all_walks status (inr h) = inr (stopped_path status h)
 
@@ -194,8 +194,8 @@ study_holds t path status is (inl p) = inl p
 study_holds t path status is (inr (consistent, so)) = inr ((path, is, consistent), so)
 
 -- the files are accepted, and this is what the note holds
-pub reads_here : (bytes : CrashBytes) (note : List ℕ) → None ≡ executable_fault bytes.exe → None ≡ core_image_fault bytes.core → NotesSay (length bytes.core) (segments bytes.core) (Ok note) → Reads bytes note
-reads_here bytes note e k says = record { exe_accepted = sym e; core_accepted = sym k; noted = says }
+pub reads_here : (bytes : CrashBytes) (note : List ℕ) → None ≡ program_fault bytes.program → None ≡ core_image_fault bytes.core → NotesSay (length bytes.core) (segments bytes.core) (Ok note) → Reads bytes note
+reads_here bytes note e k says = record { program_accepted = sym e; core_accepted = sym k; noted = says }
 
 pub walk_holds : {P : Type 0} (bytes : CrashBytes) (note : List ℕ) (status : Status) → Reads bytes note → P ⊎ WalkHolds (trace_in bytes note) status → P ⊎ FilesHold bytes status
 walk_holds bytes note status read (inl p) = inl p
@@ -210,8 +210,8 @@ module _ (bytes : CrashBytes) (status : Status) where
   AfterCore o = MatchOption o ((said : Result (List ℕ) CoreFault) → NotesSay (length bytes.core) (segments bytes.core) said → NoteYields bytes said status) (λ _. Yields ends.Core status)
 
   -- a refusal of the files ends the call with its status
-  pub refused_ends : (r : Refusal) → HasNoDump bytes.exe bytes.core r → Yields (status_of r) status → FilesEnd bytes status
-  refused_ends r why so = at (executable_fault bytes.exe) (core_image_fault bytes.core) why
+  pub refused_ends : (r : Refusal) → HasNoCrash bytes r → Yields (status_of r) status → FilesEnd bytes status
+  refused_ends r why so = at (program_fault bytes.program) (core_image_fault bytes.core) why
     where
       named : (s : Refusal) → r ≡ s → Yields (status_of s) status
       named s e = subst (λ (x : Refusal). Yields (status_of x) status) e so
@@ -222,13 +222,13 @@ module _ (bytes : CrashBytes) (status : Status) where
       at None (Some f) e = named (refusal.CoreImage f) e
       at None None (f, says, only, e) = λ said says'. subst (λ (x : Result (List ℕ) CoreFault). NoteYields bytes x status) (sym (only said says')) (named (refusal.Core f) e)
 
-  module _ (e : None ≡ executable_fault bytes.exe) (k : None ≡ core_image_fault bytes.core) (here : Result (List ℕ) CoreFault) (only : (said : Result (List ℕ) CoreFault) → NotesSay (length bytes.core) (segments bytes.core) said → said ≡ here) where
+  module _ (e : None ≡ program_fault bytes.program) (k : None ≡ core_image_fault bytes.core) (here : Result (List ℕ) CoreFault) (only : (said : Result (List ℕ) CoreFault) → NotesSay (length bytes.core) (segments bytes.core) said → said ≡ here) where
     pub notes_end : NoteYields bytes here status → FilesEnd bytes status
     notes_end yields = subst AfterExe e (subst AfterCore k (λ said says. subst (λ s. NoteYields bytes s status) (sym (only said says)) yields))
 
   -- a call that stopped ends so whatever the files are
   pub stopped_end : Stopped status → FilesEnd bytes status
-  stopped_end s = at (executable_fault bytes.exe) (core_image_fault bytes.core)
+  stopped_end s = at (program_fault bytes.program) (core_image_fault bytes.core)
     where
       note : (said : Result (List ℕ) CoreFault) → NoteYields bytes said status
       note (Err fault) = inr s
@@ -259,9 +259,9 @@ module _ (bytes : CrashBytes) (reading : Reading) (text : List ℕ) (status : St
   TextCore o = MatchOption o (NotesTold bytes reading.input text status) (λ fault. Says (refusal.CoreImage fault) text status)
 
   -- what is told of a refusal of the files
-  pub refused_examines : (r : Refusal) → HasNoDump bytes.exe bytes.core r → Tells r text status → Examines bytes reading text status
+  pub refused_examines : (r : Refusal) → HasNoCrash bytes r → Tells r text status → Examines bytes reading text status
   refused_examines r why (inr h) = inr (inl h)
-  refused_examines r why (inl h) = inl (at (executable_fault bytes.exe) (core_image_fault bytes.core) why)
+  refused_examines r why (inl h) = inl (at (program_fault bytes.program) (core_image_fault bytes.core) why)
     where
       named : (s : Refusal) → r ≡ s → Says s text status
       named s e = subst (λ (x : Refusal). Says x text status) e h
@@ -272,7 +272,7 @@ module _ (bytes : CrashBytes) (reading : Reading) (text : List ℕ) (status : St
       at None (Some f) e = named (refusal.CoreImage f) e
       at None None (f, says, only, e) = (Err f, says, named (refusal.Core f) e)
 
-  module _ (e : None ≡ executable_fault bytes.exe) (k : None ≡ core_image_fault bytes.core) where
+  module _ (e : None ≡ program_fault bytes.program) (k : None ≡ core_image_fault bytes.core) where
     notes_examine : NotesTold bytes reading.input text status → Examined bytes reading.input text status
     notes_examine h = subst TextExe e (subst TextCore k h)
 

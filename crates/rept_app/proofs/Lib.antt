@@ -10,3 +10,8 @@ pub mod MadeLemmas
 pub mod WordsLemmas
 pub mod PromiseLemmas
 pub mod ReadingLemmas
+pub mod Counted
+pub mod Failing
+pub mod MappedLemmas
+pub mod MappedTop
+pub mod MappedExits

@@ -3,8 +3,8 @@ use Rattle.std.proofs.Common.{◌≡◌, ℕ, ◌≤◌, List, length, Option, N
 use Rattle.rept_ports.specs.Causes.{Rose, next_count}
 use Rattle.rept_ports.specs.Port.{move}
 use Rattle.rept_ports.specs.Shelves.{Files, Shelved, IsOver}
-use Rattle.rept_app.specs.Loading.{Fits, LoadRefuses, StopsAt, limit_of}
-use Rattle.rept_words.specs.Words.{Names}
+use Rattle.rept_app.specs.Loading.{BothLoaded, CoreStopsAt, Fits, LoadRefuses, StopsAt, limit_of}
+use Rattle.rept_words.specs.Words.{CoreNames, Names}
 use Rattle.rept_app.specs.declared.refusal.FileKind.{FileKind}
 use Rattle.rept_app.specs.declared.refusal.FileKind.TheVariants as file
 use Rattle.rept_app.specs.declared.refusal.Refusal.{Refusal}
@@ -30,6 +30,7 @@ module _ (old mid new : Shelved) (name : List ℕ) (kind : FileKind) (files : mi
   refuses_before (refusal.Executable f) h = absurd h
   refuses_before (refusal.CoreImage f) h = absurd h
   refuses_before (refusal.Core f) h = absurd h
+  refuses_before (refusal.Maps f) h = absurd h
   refuses_before (refusal.Path f) h = absurd h
   refuses_before (refusal.Inconsistent k) h = absurd h
   refuses_before refusal.InputFault h = absurd h
@@ -43,6 +44,10 @@ two : (o : Option Files) (P Q : Files → Type 0) → IfSome o P → IfSome o Q 
 two None P Q h k = tt
 two (Some fs) P Q h k = (h, k)
 
+three : (o : Option Files) (P Q R : Files → Type 0) → IfSome o P → IfSome o Q → IfSome o R → IfSome o (λ fs. P fs × Q fs × R fs)
+three None P Q R h k l = tt
+three (Some fs) P Q R h k l = (h, k, l)
+
 -- the trace isn't loaded
 pub trace_stops : (a b c d : Shelved) (names : Names) (exe core : List ℕ) (r : Refusal) → b.files ≡ a.files → c.files ≡ b.files → b.faults ≡ a.faults → c.faults ≡ b.faults
     → b.loads ≡ next_count a.loads → c.loads ≡ next_count b.loads → d.loads ≡ next_count c.loads
@@ -53,4 +58,23 @@ trace_stops a b c d names exe core r e f calm calmer one two_ three short here s
       (fits a.files file.Core names.core core shorter (let P : Option Files → Type 0 = λ o. IfSome o (λ fs. fs names.core ≡ Some core) in subst P e there));
   loads = three ∙ ap next_count (two_ ∙ ap next_count one);
   why = refuses_before a c d names.trace file.Trace (f ∙ e) (calmer ∙ calm) r h;
+}
+
+-- the trace of a core file isn't loaded
+pub core_trace_stops : (a b c : Shelved) (names : CoreNames) (core : List ℕ) (r : Refusal) → b.files ≡ a.files → b.faults ≡ a.faults → b.loads ≡ next_count a.loads → c.loads ≡ next_count b.loads
+    → length core ≤ limit_of file.Core → IfSome a.files (λ fs. fs names.core ≡ Some core) → LoadRefuses (move b c) names.trace file.Trace r → CoreStopsAt (move a c) names file.Trace r
+core_trace_stops a b c names core r e calm one two_ short here h = record {
+  one = tt;
+  before = fits a.files file.Core names.core core short here;
+  loads = two_ ∙ ap next_count one;
+  why = refuses_before a b c names.trace file.Trace e calm r h;
+}
+
+-- both are loaded
+pub both_loaded : (a b c : Shelved) (names : CoreNames) (core trace : List ℕ) → b.files ≡ a.files → b.loads ≡ next_count a.loads → c.loads ≡ next_count b.loads
+    → length core ≤ limit_of file.Core → IfSome a.files (λ fs. fs names.core ≡ Some core) → length trace ≤ limit_of file.Trace → IfSome b.files (λ fs. fs names.trace ≡ Some trace) → BothLoaded names core (move a c)
+both_loaded a b c names core trace e one two_ short here shorter there = record {
+  found = three a.files (λ fs. fs names.core ≡ Some core) (λ fs. Fits fs file.Core names.core) (λ fs. Fits fs file.Trace names.trace) here (fits a.files file.Core names.core core short here)
+      (fits a.files file.Trace names.trace trace shorter (let P : Option Files → Type 0 = λ o. IfSome o (λ fs. fs names.trace ≡ Some trace) in subst P e there));
+  loads = two_ ∙ ap next_count one;
 }

@@ -7,6 +7,7 @@ use Rattle.rept_elf.specs.Header.{word_at}
 use Rattle.rept_elf.specs.Segments.{segments}
 use Rattle.rept_elf.specs.declared.fault.ElfFault.{ElfFault}
 use Rattle.rept_dump.specs.Memory.{of_executable}
+use Rattle.rept_dump.specs.Program.Program.{OneFile}
 use Rattle.rept_dump.specs.Registers.{Says as NotesSay}
 use Rattle.rept_dump.specs.declared.fault.CoreFault.{CoreFault}
 use Rattle.rept_isa.specs.declared.row.StepRow.{StepRow}
@@ -33,7 +34,7 @@ use Rattle.rept_app.specs.Delivered.{Delivers, Says, Tells}
 use Rattle.rept_app.specs.Domains.{means_of}
 use Rattle.rept_app.specs.Ends.{Yields, EndsSession, PortsEnd}
 use Rattle.rept_app.specs.Examine.{Examines, WalkYields, NoteYields, FilesEnd}
-use Rattle.rept_app.specs.Forms.{executable_fault, core_image_fault, crash_in}
+use Rattle.rept_app.specs.Forms.{program_fault, core_image_fault, crash_in}
 use Rattle.rept_app.specs.Lines.{status_of}
 use Rattle.rept_app.specs.MadeRun.{Sums}
 use Rattle.rept_app.specs.Path.{IsTracePath}
@@ -74,10 +75,10 @@ path_of rows = record { steps = rows; skipped = 0 }
 -- the files of a made crash are read, and an execution of the path ends in the dump
 module _ (seed steps : ℕ) (made : Made) (m : IsMade seed steps made) where
   abbrev pub crash_made : Crash
-  crash_made = crash_in made.exe made.core m.status
+  crash_made = crash_in (OneFile made.exe) made.core m.status
 
   reads_made : Reads (made_bytes made) m.status
-  reads_made = record { exe_accepted = m.exe_read; core_accepted = m.core_read; noted = m.notes }
+  reads_made = record { program_accepted = m.exe_read; core_accepted = m.core_read; noted = m.notes }
 
   path_made : IsTracePath crash_made made.trace 0 (path_of m.rows)
   path_made = (record { halves = false; bytes = m.rest }, m.layout, subst (λ (p : ℕ). IsTraced (record { code = words (of_executable made.exe); stream = plain false m.rest; from = 0; pc = p }) 0 m.rows) (sym m.last_pc) m.path)
@@ -158,7 +159,7 @@ module _ (bytes : CrashBytes) (text : List ℕ) where
   examined_short None None h = notes_short h
 
   pub never_long : (left : Option (List ℕ)) → Examines bytes (record { input = summary_line; left = left }) text ends.TooMuchInput → ⊥
-  never_long left (inl h) = examined_short (executable_fault bytes.exe) (core_image_fault bytes.core) h
+  never_long left (inl h) = examined_short (program_fault bytes.program) (core_image_fault bytes.core) h
   never_long left (inr (inl says)) = let bad : ends.TooMuchInput ≡ ends.OutOfMemory = says.ending in cc
   never_long left (inr (inr (note, read, (path, a, is, account, cut)))) = absurd cut
 

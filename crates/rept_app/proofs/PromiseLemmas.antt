@@ -1,22 +1,23 @@
 -- The promise of the whole program, from what is written, what the files say, and what is true of every report.
-use Rattle.std.proofs.Common.{◌≡◌, ◌⊎◌, ℕ, List, length, Bool, true, false, Option, None, Some, MatchOption, Ok, Err, inl, inr, refl, sym, ap, subst, ◌∙◌, cond, nat_lt}
+use Rattle.std.proofs.Common.{◌≡◌, ◌⊎◌, ℕ, List, [], length, Bool, true, false, Option, None, Some, MatchOption, Result, Ok, Err, MatchResult, inl, inr, refl, sym, ap, subst, ◌∙◌, cond, nat_lt}
 use Rattle.std.specs.Io.KnownBytes.{Appends}
 use Rattle.rept_ports.specs.Port.{Port, Move}
 use Rattle.rept_ports.specs.Shelves.{Files}
 use Rattle.rept_elf.specs.declared.fault.ElfFault.{ElfFault}
+use Rattle.rept_maps.specs.declared.fault.MapFault.{MapFault}
 use Rattle.rept_path.specs.declared.fault.PathFault.{PathFault}
 use Rattle.rept_path.specs.declared.fault.PathFault.TheVariants as fault
 use Rattle.rept_app.specs.Delivered.{Delivers, Says}
 use Rattle.rept_app.specs.Ends.{Yields}
-use Rattle.rept_app.specs.Forms.{executable_fault, core_image_fault}
+use Rattle.rept_app.specs.Forms.{program_fault, core_image_fault}
 use Rattle.rept_app.specs.Lines.{status_of, status_of_path}
-use Rattle.rept_app.specs.Loading.{CrashBytes, crash_bytes, Loading, loading, loading_by, fetched, fetched_all, manner_of, limit_of, MatchLoading}
-use Rattle.rept_app.specs.Loading.Loading.{Refused, Loaded, MadeRun}
+use Rattle.rept_app.specs.Loading.{CrashBytes, crash_bytes, CoreBytes, core_bytes, Loading, loading, loading_by, fetched, fetched_all, fetched_core, manner_of, limit_of}
+use Rattle.rept_app.specs.Loading.Loading.{Refused, Loaded, LoadedCore, MadeRun}
+use Rattle.rept_app.specs.Mapped.{mapped_crash, mapped_bytes, ListSays}
 use Rattle.rept_app.specs.Promise.{IsOpened, IsAnswered, IsImpossible, Promise}
-use Rattle.rept_app.specs.Told.{Given, Opening, Reads, Analysed, Walked, NotesTold, Examined, Summed, Told, Writes, NoExecution, crash_at, domain_at, path_at, trace_in, made_bytes, summary_line}
+use Rattle.rept_app.specs.Told.{Given, Opening, Reads, Analysed, Walked, NotesTold, Examined, Summed, Told, ToldOf, IsCrashOf, Writes, NoExecution, crash_at, domain_at, path_at, trace_in, made_bytes, summary_line}
 use Rattle.rept_app.specs.Path.{IsTracePath}
-use Rattle.rept_app.specs.Examine.{FilesEnd}
-use Rattle.rept_app.specs.Top.{EndsBy, EndsByFiles}
+use Rattle.rept_app.specs.Top.{EndsAt, EndsByFiles}
 use Rattle.rept_app.specs.declared.refusal.FileKind.{FileKind}
 use Rattle.rept_app.specs.declared.refusal.FileKind.TheVariants as file
 use Rattle.rept_app.specs.declared.refusal.Refusal.{Refusal}
@@ -24,9 +25,11 @@ use Rattle.rept_app.specs.declared.refusal.Refusal.TheVariants as refusal
 use Rattle.rept_app.specs.declared.status.Status.{Status}
 use Rattle.rept_app.specs.declared.status.Status.TheVariants as ends
 use Rattle.rept_app.specs.declared.load.Manner.{Manner}
+use Rattle.rept_app.proofs.Failing.{load_ending}
 use Rattle.rept_app.proofs.TopLemmas.{ReportsAreTrue}
-use Rattle.rept_words.specs.Words.{Names, Meaning, meaning_of}
-use Rattle.rept_words.specs.Words.Meaning.{Open, Made as MadeWords}
+use Rattle.rept_words.specs.Words.{CoreNames, Names, Meaning, meaning_of}
+use Rattle.rept_words.specs.Words.Meaning.{Open, Maps, Made as MadeWords}
+use Rattle.rept_words.specs.declared.request.Domain.TheVariants as domain
 
 -- a trace that is refused, or no memory
 path_status : (f : PathFault) → (status_of_path f ≡ ends.Trace) ⊎ (status_of_path f ≡ ends.OutOfMemory)
@@ -57,6 +60,7 @@ refused_badly (refusal.TooLarge k) e = cc
 refused_badly (refusal.Executable f) e = cc
 refused_badly (refusal.CoreImage f) e = cc
 refused_badly (refusal.Core f) e = cc
+refused_badly (refusal.Maps f) e = cc
 refused_badly (refusal.Path f) e = by_path (path_status f)
   where
     by_path : (status_of_path f ≡ ends.Trace) ⊎ (status_of_path f ≡ ends.OutOfMemory) → ⊥
@@ -69,7 +73,10 @@ refused_badly refusal.TooMuchInput e = cc
 
 -- words and files are refused by no conflict
 abbrev pub IsNoConflict : Loading → Type 0
-IsNoConflict l = MatchLoading l (λ r. status_of r ≡ ends.Inconsistent → ⊥) (λ bytes. Unit {0}) (λ seed steps. Unit {0})
+IsNoConflict (Refused r) = status_of r ≡ ends.Inconsistent → ⊥
+IsNoConflict (Loaded bytes) = Unit {0}
+IsNoConflict (LoadedCore bytes) = Unit {0}
+IsNoConflict (MadeRun seed steps) = Unit {0}
 
 either : (b : Bool) (x y : Loading) → IsNoConflict x → IsNoConflict y → IsNoConflict (cond b x y)
 either true x y hx hy = hx
@@ -85,9 +92,15 @@ all_files files names manner =
     (λ exe. one_file file.Core (files names.core) (λ core. fetched file.Trace (files names.trace) (λ trace. Loaded (crash_bytes exe core trace manner)))
     (λ core. one_file file.Trace (files names.trace) (λ trace. Loaded (crash_bytes exe core trace manner)) (λ trace. tt)))
 
+two_files : (files : Files) (names : CoreNames) (manner : Manner) → IsNoConflict (fetched_core files names manner)
+two_files files names manner =
+    one_file file.Core (files names.core) (λ core. fetched file.Trace (files names.trace) (λ trace. LoadedCore (core_bytes core trace manner)))
+    (λ core. one_file file.Trace (files names.trace) (λ trace. LoadedCore (core_bytes core trace manner)) (λ trace. tt))
+
 no_conflict : (files : Files) (m : Option Meaning) → IsNoConflict (loading_by files m)
 no_conflict files None = λ (e : ends.Usage ≡ ends.Inconsistent). cc
 no_conflict files (Some (MadeWords seed steps)) = tt
+no_conflict files (Some (Maps names from)) = two_files files names (manner_of domain.Ranges from)
 no_conflict files (Some (Open d names from)) = all_files files names (manner_of d from)
 
 -- the trace of these files has a path, and it is analysed
@@ -121,22 +134,22 @@ module _ (lines text : List ℕ) (status : Status) (promised : (status ≡ ends.
     walked note read (inl (f, has, says)) = no_path f says.ending
     walked note read (inr (path, is, analysed)) = record { opening = record { bytes = bytes; note = note; path = path }; same = refl; read = read; path = is; analysed = analysed }
 
-    noted : executable_fault bytes.exe ≡ None → core_image_fault bytes.core ≡ None → NotesTold bytes lines text status → Analyses bytes lines text status
-    noted exe core (Ok note, said, h) = walked note (record { exe_accepted = exe; core_accepted = core; noted = said }) h
+    noted : program_fault bytes.program ≡ None → core_image_fault bytes.core ≡ None → NotesTold bytes lines text status → Analyses bytes lines text status
+    noted exe core (Ok note, said, h) = walked note (record { program_accepted = exe; core_accepted = core; noted = said }) h
     noted exe core (Err f, said, says) = no_core says.ending
 
-    core_read : (o : Option ElfFault) → core_image_fault bytes.core ≡ o → executable_fault bytes.exe ≡ None → MatchOption o (NotesTold bytes lines text status) (λ f. Says (refusal.CoreImage f) text status) → Analyses bytes lines text status
+    core_read : (o : Option ElfFault) → core_image_fault bytes.core ≡ o → program_fault bytes.program ≡ None → MatchOption o (NotesTold bytes lines text status) (λ f. Says (refusal.CoreImage f) text status) → Analyses bytes lines text status
     core_read None core exe h = noted exe core h
     core_read (Some f) core exe says = no_core says.ending
 
-    exe_read : (o : Option ElfFault) → executable_fault bytes.exe ≡ o
+    exe_read : (o : Option ElfFault) → program_fault bytes.program ≡ o
         → MatchOption o (MatchOption (core_image_fault bytes.core) (NotesTold bytes lines text status) (λ f. Says (refusal.CoreImage f) text status)) (λ f. Says (refusal.Executable f) text status)
         → Analyses bytes lines text status
     exe_read None exe h = core_read (core_image_fault bytes.core) refl exe h
     exe_read (Some f) exe says = never ends.Executable (λ (k : ends.Executable ≡ ends.Ok). cc) (λ (k : ends.Executable ≡ ends.Inconsistent). cc) says.ending
 
     pub examined : Examined bytes lines text status → Analyses bytes lines text status
-    examined h = exe_read (executable_fault bytes.exe) refl h
+    examined h = exe_read (program_fault bytes.program) refl h
 
 -- What was written is that of a path which is analysed: that of the files of the words, or of a made crash.
 abbrev pub IsOf : Given → List ℕ → Status → Type 0
@@ -153,11 +166,34 @@ module _ (g : Given) (text : List ℕ) (status : Status) (promised : (status ≡
       by_status (inl h) = absurd (refused_badly r (sym ending ∙ h))
       by_status (inr h) = absurd (consistent (sym ending ∙ h))
 
-  by_loading : (l : Loading) → loading g.words g.files ≡ l → MatchLoading l (λ r. Says r text status) (λ bytes. Examined bytes g.reading.input text status) (λ seed steps. Summed seed steps text status) → IsOf g text status
-  by_loading (Refused r) e says = refused r e says.ending
-  by_loading (Loaded bytes) e h =
+  -- what was loaded is that of a crash
+  opens_by : (l : Loading) (bytes : CrashBytes) → loading g.words g.files ≡ l → IsCrashOf g.files l bytes → IsCrashOf g.files (loading g.words g.files) bytes
+  opens_by l bytes e h = subst (λ (x : Loading). IsCrashOf g.files x bytes) (sym e) h
+
+  examined_of : (l : Loading) (bytes : CrashBytes) → loading g.words g.files ≡ l → IsCrashOf g.files l bytes → Examined bytes g.reading.input text status → IsOf g text status
+  examined_of l bytes e is h =
       let a = examined g.reading.input text status promised bytes h in
-      (a.opening, g.reading.input, inl (record { loaded = e ∙ ap Loaded (sym a.same); read = a.read; path = a.path }, refl), a.analysed)
+      (a.opening, g.reading.input, inl (record { loaded = subst (λ (b : CrashBytes). IsCrashOf g.files (loading g.words g.files) b) (sym a.same) (opens_by l bytes e is); read = a.read; path = a.path }, refl), a.analysed)
+
+  never_core : {P : Type 0} → status ≡ ends.Core → P
+  never_core e = no_core [] text status promised e
+
+  listed : (bytes : CoreBytes) → loading g.words g.files ≡ LoadedCore bytes → core_image_fault bytes.core ≡ None → (said : Result (List ℕ) MapFault) → ListSays bytes.core said
+      → MatchResult said (λ desc. Examined (mapped_bytes (mapped_crash g.files bytes) desc) g.reading.input text status) (λ fault. Says (refusal.Maps fault) text status) → IsOf g text status
+  listed bytes e ok (Ok desc) says h =
+      examined_of (LoadedCore bytes) (mapped_bytes (mapped_crash g.files bytes) desc) e (record { accepted = ok; desc = desc; listed = says; same = refl }) h
+  listed bytes e ok (Err fault) says h = never_core h.ending
+
+  mapped : (bytes : CoreBytes) → loading g.words g.files ≡ LoadedCore bytes → (o : Option ElfFault) → core_image_fault bytes.core ≡ o
+      → MatchOption o ((said : Result (List ℕ) MapFault) × ListSays bytes.core said × MatchResult said (λ desc. Examined (mapped_bytes (mapped_crash g.files bytes) desc) g.reading.input text status) (λ fault. Says (refusal.Maps fault) text status)) (λ fault. Says (refusal.CoreImage fault) text status)
+      → IsOf g text status
+  mapped bytes e None ok (said, says, h) = listed bytes e ok said says h
+  mapped bytes e (Some fault) ok h = never_core h.ending
+
+  by_loading : (l : Loading) → loading g.words g.files ≡ l → ToldOf g l text status → IsOf g text status
+  by_loading (Refused r) e says = refused r e says.ending
+  by_loading (Loaded bytes) e h = examined_of (Loaded bytes) bytes e refl h
+  by_loading (LoadedCore bytes) e h = mapped bytes e (core_image_fault bytes.core) refl h
   by_loading (MadeRun seed steps) e (made, is, h) =
       let a = examined summary_line text status promised (made_bytes made) h in
       (a.opening, summary_line, inr (seed, steps, made, e, is, record { bytes = a.same; read = a.read; path = a.path }, refl), a.analysed)
@@ -174,14 +210,14 @@ no_memory_conflict text says = let bad : ends.Inconsistent ≡ ends.OutOfMemory 
 
 whole_ok : (g : Given) (text : List ℕ) → Writes g text ends.Ok → IsOf g text ends.Ok
 whole_ok g text (inl told) = told_of_path g text ends.Ok (inl refl) told
-whole_ok g text (inr (inl (kind, comes, loads, says))) = let bad : ends.Ok ≡ ends.LoadFault = says.ending in let no : ⊥ = cc in absurd no
+whole_ok g text (inr (inl failed)) = let bad : ends.Ok ≡ ends.LoadFault = load_ending g text ends.Ok failed in let no : ⊥ = cc in absurd no
 whole_ok g text (inr (inr (inl says))) = no_memory_ok text says
 whole_ok g text (inr (inr (inr (inl (o, a, opens, is, cut))))) = absurd cut
 whole_ok g text (inr (inr (inr (inr (seed, steps, asked, (made, m, o, opens, a, is, left, cut)))))) = absurd cut
 
 whole_conflict : (g : Given) (text : List ℕ) → Writes g text ends.Inconsistent → IsOf g text ends.Inconsistent
 whole_conflict g text (inl told) = told_of_path g text ends.Inconsistent (inr refl) told
-whole_conflict g text (inr (inl (kind, comes, loads, says))) = let bad : ends.Inconsistent ≡ ends.LoadFault = says.ending in let no : ⊥ = cc in absurd no
+whole_conflict g text (inr (inl failed)) = let bad : ends.Inconsistent ≡ ends.LoadFault = load_ending g text ends.Inconsistent failed in let no : ⊥ = cc in absurd no
 whole_conflict g text (inr (inr (inl says))) = no_memory_conflict text says
 whole_conflict g text (inr (inr (inr (inl (o, a, opens, is, cut))))) = absurd cut
 whole_conflict g text (inr (inr (inr (inr (seed, steps, asked, (made, m, o, opens, a, is, left, cut)))))) = absurd cut
@@ -193,8 +229,8 @@ module _ (true_of : ReportsAreTrue) (g : Given) (out : Move Port) where
       record { opening = o; lines = lines; opened = opened; account = a; report = is; text = text; answers = answers; written = written; holds = true_of (domain_at o) (crash_at o) o.path.steps a.known is.report }
 
   -- a made run isn't inconsistent
-  made_ends_well : (l : Loading) (seed steps : ℕ) → l ≡ MadeRun seed steps → (P : Refusal → Type 0) (Q : CrashBytes → Type 0) → MatchLoading l P Q (λ seed steps. Yields ends.Ok ends.Inconsistent) → ⊥
-  made_ends_well l seed steps e P Q h = bad (subst (λ (x : Loading). MatchLoading x P Q (λ seed steps. Yields ends.Ok ends.Inconsistent)) e h)
+  made_ends_well : (l : Loading) (seed steps : ℕ) → l ≡ MadeRun seed steps → EndsAt g.files l ends.Inconsistent → ⊥
+  made_ends_well l seed steps e h = bad (subst (λ (x : Loading). EndsAt g.files x ends.Inconsistent) e h)
     where
       bad : Yields ends.Ok ends.Inconsistent → ⊥
       bad (inl k) = cc
@@ -203,7 +239,7 @@ module _ (true_of : ReportsAreTrue) (g : Given) (out : Move Port) where
 
   impossible_by : EndsByFiles g.words g.files ends.Inconsistent → NoExecution g.words g.files → (text : List ℕ) → IsOf g text ends.Inconsistent → IsImpossible g
   impossible_by files none text (o, lines, inl (opens, same), analysed) = record { opening = o; opened = opens; none = none o opens }
-  impossible_by files none text (o, lines, inr (seed, steps, made, asked, is, opens, same), analysed) = absurd (made_ends_well (loading g.words g.files) seed steps asked (λ r. EndsBy (status_of r) ends.Inconsistent) (λ bytes. FilesEnd bytes ends.Inconsistent ⊎ (ends.Inconsistent ≡ ends.LoadFault)) files)
+  impossible_by files none text (o, lines, inr (seed, steps, made, asked, is, opens, same), analysed) = absurd (made_ends_well (loading g.words g.files) seed steps asked files)
 
   ok_delivered : Delivers (Writes g) out ends.Ok → IsAnswered g out
   ok_delivered (inl (text, goes, written, calm)) = answered_by text written (whole_ok g text goes)

@@ -37,6 +37,6 @@ pub only_at : (bytes core : List ℕ) (here : Result (List ℕ) CoreFault) → b
 only_at bytes core here e only said h = only said (subst (λ b. NotesSay (length b) (segments b) said) (sym e) h)
 
 -- the crash of a dump is that of the bytes that its images borrow
-pub crash_is : (crash : Crash) (exe_bytes exe core_bytes core : List ℕ) → crash.exe ≡ OneFile exe_bytes → exe_bytes ≡ exe → crash.core ≡ segments core_bytes → core_bytes ≡ core → crash ≡ crash_in exe core crash.note
+pub crash_is : (crash : Crash) (exe_bytes exe core_bytes core : List ℕ) → crash.exe ≡ OneFile exe_bytes → exe_bytes ≡ exe → crash.core ≡ segments core_bytes → core_bytes ≡ core → crash ≡ crash_in (OneFile exe) core crash.note
 crash_is crash exe_bytes exe core_bytes core e b k d =
     ap (λ x. record { exe = x; core = crash.core; note = crash.note }) (e ∙ ap OneFile b) ∙ ap (λ x. record { exe = OneFile exe; core = x; note = crash.note }) (k ∙ ap segments d)

@@ -22,7 +22,7 @@ use Rattle.rept_known.specs.declared.both.Both.{Both}
 use Rattle.rept_known.proofs.BothFiner.{both_finer}
 use Rattle.rept_amo.specs.Atomic.{atomic_rules}
 use Rattle.rept_found.proofs.Truths.{uses_here}
-use Rattle.rept_session.specs.Shown.{Told as ToldOf}
+use Rattle.rept_session.specs.Shown.{Told as SessionTold}
 use Rattle.rept_found.specs.Crash.{Crash, Means, setting, route}
 use Rattle.rept_found.specs.Telling.{told_of}
 use Rattle.rept_found.specs.Truth.{IsTrueReport}
@@ -32,13 +32,14 @@ use Rattle.rept_app.specs.Ends.{Stopped, Yields, EndsSession, FaultEnds, PortsEn
 use Rattle.rept_app.specs.Held.{CutOff}
 use Rattle.rept_app.specs.Examine.{Examines, FilesEnd, IsExamined, IsWalkStatus, FilesExclude, FilesHold}
 use Rattle.rept_app.specs.Lines.{status_of}
-use Rattle.rept_app.specs.Loading.{CrashBytes, crash_bytes, Loading, loading, loading_by, fetched, fetched_all, limit_of, MatchLoading, Fits, FitBefore, name_of, loads_to, ComesTo, LoadRefuses, MeaningStops, LoadingStops, LoadsAll, NamesNone, IsAsked, manner_of}
-use Rattle.rept_app.specs.Loading.Loading.{Refused, Loaded, MadeRun}
+use Rattle.rept_app.specs.Loading.{CrashBytes, crash_bytes, CoreBytes, core_bytes, Loading, loading, loading_by, fetched, fetched_all, fetched_core, limit_of, Fits, FitBefore, CoreFitBefore, name_of, core_name_of, loads_to, core_loads_to, ComesTo, ComesToCore, LoadRefuses, MeaningStops, LoadingStops, LoadsAll, LoadsBoth, NamesNone, IsAsked, manner_of}
+use Rattle.rept_app.specs.Loading.Loading.{Refused, Loaded, LoadedCore, MadeRun}
+use Rattle.rept_app.specs.Mapped.{mapped_crash}
 use Rattle.rept_app.specs.MadeRun.{Sums}
-use Rattle.rept_app.specs.Told.{Given, given, Examined, Summed, summary_line, Opening, Writes, Holds, ReportHolds, BitsKnowMore, MadeHolds, AskedHolds, NoExecution, crash_at, domain_at, route_at}
-use Rattle.rept_app.specs.Top.{TopCauses, LacksFile, LoadEnds, LoadsOf, EndsBy, EndsByFiles, AskedEnds, NoneFails, Completes}
-use Rattle.rept_words.specs.Words.{Names, Meaning, meaning_of}
-use Rattle.rept_words.specs.Words.Meaning.{Open, Made}
+use Rattle.rept_app.specs.Told.{Given, given, ToldOf, IsCrashOf, summary_line, Opening, Writes, Holds, ReportHolds, BitsKnowMore, MadeHolds, AskedHolds, NoExecution, crash_at, domain_at, route_at}
+use Rattle.rept_app.specs.Top.{TopCauses, ShelfCauses, LacksFile, LoadEnds, LoadsOf, EndsAt, EndsByFiles, AskedEnds, NoneFails, Completes}
+use Rattle.rept_words.specs.Words.{CoreNames, Names, Meaning, meaning_of}
+use Rattle.rept_words.specs.Words.Meaning.{Open, Maps, Made}
 use Rattle.rept_words.specs.declared.request.Domain.{Domain}
 use Rattle.rept_words.specs.declared.request.Domain.TheVariants as domain
 use Rattle.rept_app.specs.Domains.{means_of}
@@ -53,6 +54,9 @@ use Rattle.rept_app.specs.declared.refusal.Refusal.TheVariants as refusal
 use Rattle.rept_app.specs.declared.status.Status.{Status}
 use Rattle.rept_app.specs.declared.status.Status.TheVariants as ends
 use Rattle.rept_app.proofs.ExamineLemmas.{stopped_end}
+use Rattle.rept_app.proofs.Counted.{counted}
+use Rattle.rept_app.proofs.Failing.{load_ending}
+use Rattle.rept_app.proofs.MappedLemmas.{mapped_stopped}
 
 -- why one file isn't loaded, one case after the other
 abbrev pub Why : Shelved → Shelved → List ℕ → FileKind → Refusal → Type 0
@@ -72,6 +76,7 @@ why old new name kind refusal.TooMuchInput h = absurd h
 why old new name kind (refusal.Executable f) h = absurd h
 why old new name kind (refusal.CoreImage f) h = absurd h
 why old new name kind (refusal.Core f) h = absurd h
+why old new name kind (refusal.Maps f) h = absurd h
 why old new name kind (refusal.Path f) h = absurd h
 why old new name kind (refusal.Inconsistent k) h = absurd h
 why old new name kind refusal.InputFault h = absurd h
@@ -114,6 +119,28 @@ module _ (files : Files) (names : Names) (manner : Manner) where
   over kind before large = comes_to kind (refusal.TooLarge kind) before
       (λ next. ap (λ (o : Option (List ℕ)). fetched kind o next) large.1 ∙ ap (λ (b : Bool). cond b (Refused (refusal.TooLarge kind)) (next large.0)) (is_over (limit_of kind) (length large.0) large.2))
 
+-- a core file and a trace come to the first one that is refused
+module _ (files : Files) (names : CoreNames) (manner : Manner) where
+  core_passes : (fits : Fits files file.Core names.core) (next : List ℕ → Loading) → fetched file.Core (files names.core) next ≡ next fits.0
+  core_passes fits next =
+      ap (λ (o : Option (List ℕ)). fetched file.Core o next) fits.1 ∙ ap (λ (b : Bool). cond b (Refused (refusal.TooLarge file.Core)) (next fits.0)) (not_over (limit_of file.Core) (length fits.0) fits.2)
+
+  trace_of : List ℕ → Loading
+  trace_of core = fetched file.Trace (files names.trace) (λ trace. LoadedCore (core_bytes core trace manner))
+
+  core_comes_to : (kind : FileKind) (r : Refusal) → CoreFitBefore files names kind → ((next : List ℕ → Loading) → fetched kind (files (core_name_of names kind)) next ≡ Refused r) → fetched_core files names manner ≡ Refused r
+  unfolding trace_of
+  core_comes_to file.Exe r before h = absurd before
+  core_comes_to file.Core r before h = h trace_of
+  core_comes_to file.Trace r before h = core_passes before trace_of ∙ h (λ trace. LoadedCore (core_bytes before.0 trace manner))
+
+  core_lacks : (kind : FileKind) → CoreFitBefore files names kind → files (core_name_of names kind) ≡ None → fetched_core files names manner ≡ Refused (refusal.NoFile kind)
+  core_lacks kind before none = core_comes_to kind (refusal.NoFile kind) before (λ next. ap (λ (o : Option (List ℕ)). fetched kind o next) none)
+
+  core_over : (kind : FileKind) → CoreFitBefore files names kind → IsOver files (core_name_of names kind) (limit_of kind) → fetched_core files names manner ≡ Refused (refusal.TooLarge kind)
+  core_over kind before large = core_comes_to kind (refusal.TooLarge kind) before
+      (λ next. ap (λ (o : Option (List ℕ)). fetched kind o next) large.1 ∙ ap (λ (b : Bool). cond b (Refused (refusal.TooLarge kind)) (next large.0)) (is_over (limit_of kind) (length large.0) large.2))
+
 -- files are to be loaded
 abbrev pub LoadsFiles : Loading → Type 0
 LoadsFiles (MadeRun seed steps) = ⊥
@@ -133,29 +160,49 @@ all_fetched files names manner =
     (λ exe. one_fetched file.Core (files names.core) (λ core. fetched file.Trace (files names.trace) (λ trace. Loaded (crash_bytes exe core trace manner)))
     (λ core. one_fetched file.Trace (files names.trace) (λ trace. Loaded (crash_bytes exe core trace manner)) (λ trace. tt)))
 
+core_fetched : (files : Files) (names : CoreNames) (manner : Manner) → LoadsFiles (fetched_core files names manner)
+core_fetched files names manner =
+    one_fetched file.Core (files names.core) (λ core. fetched file.Trace (files names.trace) (λ trace. LoadedCore (core_bytes core trace manner)))
+    (λ core. one_fetched file.Trace (files names.trace) (λ trace. LoadedCore (core_bytes core trace manner)) (λ trace. tt))
+
 abbrev pub opening : CrashBytes → List ℕ → Path → Opening
 opening bytes note path = record { bytes = bytes; note = note; path = path }
 
 module _ (words : List (List ℕ)) (files : Files) where
+  -- which load was the last
+  abbrev pub Came : Shelved → Shelved → FileKind → Type 0
+  Came old new kind = (ComesTo words files kind × (new.loads ≡ loads_to kind old.loads)) ⊎ (ComesToCore words files kind × (new.loads ≡ core_loads_to kind old.loads))
+
   -- why no files are loaded: a load failed, memory ran out, or the files say so
   abbrev pub Stops : Shelved → Shelved → Refusal → Type 0
   Stops old new r =
-      ((kind : FileKind) × (r ≡ refusal.LoadFault kind) × ComesTo words files kind × (new.loads ≡ loads_to kind old.loads))
+      ((kind : FileKind) × (r ≡ refusal.LoadFault kind) × Came old new kind)
       ⊎ (r ≡ refusal.OutOfMemory)
       ⊎ (loading words files ≡ Refused r)
 
   names_stop : (old new : Shelved) (d : Domain) (names : Names) (from : Option ℕ) (kind : FileKind) (r : Refusal) → old.files ≡ Some files → meaning_of words ≡ Some (Open d names from) → FitBefore files names kind → new.loads ≡ loads_to kind old.loads
       → Why old new (name_of names kind) kind r → Stops old new r
-  names_stop old new d names from kind r told named before loads (inl h) = inl (kind, h.0, (d, names, from, named, before), loads)
+  names_stop old new d names from kind r told named before loads (inl h) = inl (kind, h.0, inl ((d, names, from, named, before), loads))
   names_stop old new d names from kind r told named before loads (inr (inl h)) =
       inr (inr (ap (loading_by files) named ∙ lacks files names (manner_of d from) kind before (at_told old.files _ (λ fs. (fs (name_of names kind) ≡ None) × (new.faults ≡ old.faults)) files told h.1).0 ∙ ap Refused (sym h.0)))
   names_stop old new d names from kind r told named before loads (inr (inr (inl h))) =
       inr (inr (ap (loading_by files) named ∙ over files names (manner_of d from) kind before (at_told old.files _ (λ fs. IsOver fs (name_of names kind) (limit_of kind) × (new.faults ≡ old.faults)) files told h.1).0 ∙ ap Refused (sym h.0)))
   names_stop old new d names from kind r told named before loads (inr (inr (inr h))) = inr (inl h)
 
+  core_stop : (old new : Shelved) (names : CoreNames) (from : Option ℕ) (kind : FileKind) (r : Refusal) → old.files ≡ Some files → meaning_of words ≡ Some (Maps names from) → CoreFitBefore files names kind → new.loads ≡ core_loads_to kind old.loads
+      → Why old new (core_name_of names kind) kind r → Stops old new r
+  core_stop old new names from kind r told named before loads (inl h) = inl (kind, h.0, inr ((names, from, named, before), loads))
+  core_stop old new names from kind r told named before loads (inr (inl h)) =
+      inr (inr (ap (loading_by files) named ∙ core_lacks files names (manner_of domain.Ranges from) kind before (at_told old.files _ (λ fs. (fs (core_name_of names kind) ≡ None) × (new.faults ≡ old.faults)) files told h.1).0 ∙ ap Refused (sym h.0)))
+  core_stop old new names from kind r told named before loads (inr (inr (inl h))) =
+      inr (inr (ap (loading_by files) named ∙ core_over files names (manner_of domain.Ranges from) kind before (at_told old.files _ (λ fs. IsOver fs (core_name_of names kind) (limit_of kind) × (new.faults ≡ old.faults)) files told h.1).0 ∙ ap Refused (sym h.0)))
+  core_stop old new names from kind r told named before loads (inr (inr (inr h))) = inr (inl h)
+
   words_stop : (old new : Shelved) (r : Refusal) → old.files ≡ Some files → (m : Option Meaning) → meaning_of words ≡ m → MeaningStops m (move old new) r → Stops old new r
   words_stop old new r told None e h = inr (inr (ap (loading_by files) e ∙ ap Refused (sym h.0)))
   words_stop old new r told (Some (Made seed steps)) e h = absurd h
+  words_stop old new r told (Some (Maps names from)) e (kind, s) =
+      core_stop old new names from kind r told e (at_files old.files (λ fs. CoreFitBefore fs names kind) files told s.before) s.loads (why old new (core_name_of names kind) kind r s.why)
   words_stop old new r told (Some (Open d names from)) e (kind, s) =
       names_stop old new d names from kind r told e (at_files old.files (λ fs. FitBefore fs names kind) files told s.before) s.loads (why old new (name_of names kind) kind r s.why)
 
@@ -164,25 +211,28 @@ module _ (words : List (List ℕ)) (files : Files) where
   stops old new r told (inr h) = words_stop old new r told (meaning_of words) refl h
 
   abbrev Ends : Status → Loading → Type 0
-  Ends status l = MatchLoading l (λ r. EndsBy (status_of r) status) (λ bytes. FilesEnd bytes status ⊎ (status ≡ ends.LoadFault)) (λ seed steps. Yields ends.Ok status)
+  Ends status l = EndsAt files l status
 
   -- a call that stopped, or that couldn't load a file
   stopped_at : (status : Status) → Stopped status → (l : Loading) → Ends status l
   stopped_at status h (Refused r) = inr (inr h)
   stopped_at status h (Loaded bytes) = inl (stopped_end bytes status h)
+  stopped_at status h (LoadedCore bytes) = inl (mapped_stopped (mapped_crash files bytes) status h)
   stopped_at status h (MadeRun seed steps) = inr h
 
   unloaded_at : (status : Status) → status ≡ ends.LoadFault → (l : Loading) → LoadsFiles l → Ends status l
   unloaded_at status h (Refused r) some = inr (inl h)
   unloaded_at status h (Loaded bytes) some = inr h
+  unloaded_at status h (LoadedCore bytes) some = inr h
   unloaded_at status h (MadeRun seed steps) some = absurd some
 
   interrupted : (status : Status) → Yields ends.LoadFault status → (l : Loading) → LoadsFiles l → Ends status l
   interrupted status (inl h) l some = unloaded_at status h l some
   interrupted status (inr h) l some = stopped_at status h l
 
-  named_loads : (kind : FileKind) → ComesTo words files kind → LoadsFiles (loading words files)
-  named_loads kind (d, names, from, named, before) = subst LoadsFiles (sym (ap (loading_by files) named)) (all_fetched files names (manner_of d from))
+  named_loads : (old new : Shelved) (kind : FileKind) → Came old new kind → LoadsFiles (loading words files)
+  named_loads old new kind (inl ((d, names, from, named, before), loads)) = subst LoadsFiles (sym (ap (loading_by files) named)) (all_fetched files names (manner_of d from))
+  named_loads old new kind (inr ((names, from, named, before), loads)) = subst LoadsFiles (sym (ap (loading_by files) named)) (core_fetched files names (manner_of domain.Ranges from))
 
   by_refusal : (r s : Refusal) (status : Status) → r ≡ s → Yields (status_of r) status → Yields (status_of s) status
   by_refusal r s status e h = subst (λ (x : Refusal). Yields (status_of x) status) e h
@@ -193,7 +243,7 @@ module _ (words : List (List ℕ)) (files : Files) where
 
   -- where no files were loaded
   pub refused_ends : (old new : Shelved) (r : Refusal) (status : Status) → Stops old new r → Yields (status_of r) status → EndsByFiles words files status
-  refused_ends old new r status (inl (kind, e, comes, loads)) so = interrupted status (by_refusal r (refusal.LoadFault kind) status e so) (loading words files) (named_loads kind comes)
+  refused_ends old new r status (inl (kind, e, came)) so = interrupted status (by_refusal r (refusal.LoadFault kind) status e so) (loading words files) (named_loads old new kind came)
   refused_ends old new r status (inr (inl e)) so = stopped_at status (memory_stops status (by_refusal r refusal.OutOfMemory status e so)) (loading words files)
   refused_ends old new r status (inr (inr h)) (inl e) = subst (Ends status) (sym h) (inl e)
   refused_ends old new r status (inr (inr h)) (inr s) = stopped_at status s (loading words files)
@@ -207,14 +257,15 @@ module _ (words : List (List ℕ)) (files : Files) where
     Here = given words files shelf (record { input = input; left = source.after.bytes })
 
     abbrev Whole : Loading → Type 0
-    Whole l = MatchLoading l (λ r. Says r text status) (λ bytes. Examined bytes input text status) (λ seed steps. Summed seed steps text status)
+    Whole l = ToldOf Here l text status
 
     says_so : (r s : Refusal) → r ≡ s → Says r text status → Says s text status
     says_so r s e h = subst (λ (x : Refusal). Says x text status) e h
 
     pub refused_writes : (r : Refusal) → Stops shelf.before shelf.after r → Tells r text status → Writes Here text status
     refused_writes r h (inr s) = inr (inr (inl s))
-    refused_writes r (inl (kind, e, comes, loads)) (inl s) = inr (inl (kind, comes, loads, says_so r (refusal.LoadFault kind) e s))
+    refused_writes r (inl (kind, e, inl (comes, loads))) (inl s) = inr (inl (inl (kind, comes, loads, says_so r (refusal.LoadFault kind) e s)))
+    refused_writes r (inl (kind, e, inr (comes, loads))) (inl s) = inr (inl (inr (inl (kind, comes, loads, says_so r (refusal.LoadFault kind) e s))))
     refused_writes r (inr (inl e)) (inl s) = inr (inr (inl (says_so r refusal.OutOfMemory e s)))
     refused_writes r (inr (inr h)) (inl s) = inl (subst Whole (sym h) s)
 
@@ -222,7 +273,7 @@ module _ (words : List (List ℕ)) (files : Files) where
     examined_writes bytes at (inl h) = inl (subst Whole (sym at) h)
     examined_writes bytes at (inr (inl h)) = inr (inr (inl h))
     examined_writes bytes at (inr (inr (note, read, (path, a, is, account, cut)))) =
-        inr (inr (inr (inl (opening bytes note path, a, record { loaded = at; read = read; path = is }, account, cut))))
+        inr (inr (inr (inl (opening bytes note path, a, record { loaded = subst (λ (l : Loading). IsCrashOf files l bytes) (sym at) refl; read = read; path = is }, account, cut))))
 
     pub made_writes : (seed steps : ℕ) → loading words files ≡ MadeRun seed steps → meaning_of words ≡ Some (Made seed steps) → Sums seed steps text status → Writes Here text status
     made_writes seed steps at named (inl h) = inl (subst Whole (sym at) h)
@@ -231,16 +282,13 @@ module _ (words : List (List ℕ)) (files : Files) where
 
   module _ (bytes : CrashBytes) (at : loading words files ≡ Loaded bytes) where
     pub files_hold : (status : Status) → FilesHold bytes status → Holds words files
-    files_hold status ((note, path, read, is, consistent), so) = (opening bytes note path, record { loaded = at; read = read; path = is }, consistent)
+    files_hold status ((note, path, read, is, consistent), so) = (opening bytes note path, record { loaded = subst (λ (l : Loading). IsCrashOf files l bytes) (sym at) refl; read = read; path = is }, consistent)
 
     pub examined_ends : (source sink : Move Port) (status : Status) → IsExamined bytes source sink status → EndsByFiles words files status
     examined_ends source sink status c = subst (Ends status) (sym at) (inl c.yields)
 
-    same_files : (other : CrashBytes) → loading words files ≡ Loaded other → bytes ≡ other
-    same_files other h = by_loaded (sym at ∙ h)
-      where
-        by_loaded : Loaded bytes ≡ Loaded other → bytes ≡ other
-        by_loaded same = cc
+    same_files : (other : CrashBytes) → IsCrashOf files (loading words files) other → bytes ≡ other
+    same_files other h = let same : other ≡ bytes = subst (λ (l : Loading). IsCrashOf files l other) at h in sym same
 
     pub examined_excludes : FilesExclude bytes → NoExecution words files
     examined_excludes none o opens = subst (λ (b : CrashBytes). FilesExclude b) (same_files o.bytes opens.loaded) none o.note opens.read o.path opens.path
@@ -261,7 +309,7 @@ pub reports_hold : (words : List (List ℕ)) (files : Files) → ReportsAreTrue 
 reports_hold words files true_of o known opens report = true_of (domain_at o) (crash_at o) o.path.steps known report
 
 -- a session that was cut short ends with one of two statuses
-cut_ends : (t : ToldOf) (reading : Reading) (text : List ℕ) (status : Status) → CutOff t reading text status → (status ≡ ends.InputFault) ⊎ (status ≡ ends.OutOfMemory)
+cut_ends : (t : SessionTold) (reading : Reading) (text : List ℕ) (status : Status) → CutOff t reading text status → (status ≡ ends.InputFault) ⊎ (status ≡ ends.OutOfMemory)
 cut_ends t reading text ends.InputFault h = inl refl
 cut_ends t reading text ends.OutOfMemory h = inr refl
 cut_ends t reading text ends.Ok h = absurd h
@@ -280,26 +328,36 @@ cut_ends t reading text ends.TooMuchInput h = absurd h
 pub completed : (g : Given) (shelf : Move Shelved) (source sink : Move Port) (status : Status) → TopCauses shelf source sink status → Delivers (Writes g) sink status → NoneFails shelf source sink → Completes g sink status
 completed g shelf source sink status c (inr h) calm_ports = absurd (calm_ports.written h.1.rose)
 completed g shelf source sink status c (inl (text, inl h, appended, calm)) calm_ports = inr (text, h, appended)
-completed g shelf source sink status c (inl (text, inr (inl (kind, comes, loads, says)), appended, calm)) calm_ports = absurd (calm_ports.loaded (c.load says.ending).rose)
+completed g shelf source sink status c (inl (text, inr (inl failed), appended, calm)) calm_ports = absurd (calm_ports.loaded (c.load (load_ending g text status failed)))
 completed g shelf source sink status c (inl (text, inr (inr (inl says)), appended, calm)) calm_ports = inl says.ending
 completed g shelf source sink status c (inl (text, inr (inr (inr (inl (o, a, opens, account, cut)))), appended, calm)) calm_ports =
     elim (cut_ends (told_of (route_at o) a) g.reading text status cut) [ inl e ↦ absurd (calm_ports.read (c.ports.input e).rose) | inr e ↦ inl e ]
 completed g shelf source sink status c (inl (text, inr (inr (inr (inr (seed, steps, named, (made, is, o, opens, a, account, left, cut))))), appended, calm)) calm_ports =
     elim (cut_ends (told_of (route_at o) a) (record { input = summary_line; left = left }) text status cut) [ inl e ↦ absurd (calm_ports.read (c.ports.input e).rose) | inr e ↦ inl e ]
 
--- a count that rose by at most one stands as it was, or one fault was counted
-counted : (before now : ℕ) → before ≤ now → now ≤ before + 1 → (now ≡ before) ⊎ OneFault before now
-counted before now later once = by_test (nat_eq now before) refl
-  where
-    same : nat_eq now before ≡ true → now ≡ before
-    same e = grind (arith, nat_tests)
+-- what is said of a call of which one fault of the shelf at most was counted
+pub record AllCauses (shelf : Move Shelved) (source sink : Move Port) (status : Status) : Type 0 where
+  pub ports : PortsEnd source sink status
+  pub load : status ≡ ends.LoadFault → OneFault shelf.before.faults shelf.after.faults
+  pub untold : MatchOption shelf.before.files (LacksFile status → OneFault shelf.before.faults shelf.after.faults) (λ _. Unit {0})
+  pub load_ends : FaultEnds shelf.before.faults shelf.after.faults (LoadEnds shelf.before.files status)
+  pub files : shelf.after.files ≡ shelf.before.files
 
-    risen : nat_eq now before ≡ false → Rose before now
-    risen e = grind (arith, nat_tests)
+not_less : {P : Type 0} (before now : ℕ) → FaultEnds before now P → before ≤ now
+not_less before now (inl same) = omega (arith, same)
+not_less before now (inr (fault, so)) = fault.later
 
-    by_test : (b : Bool) → nat_eq now before ≡ b → (now ≡ before) ⊎ OneFault before now
-    by_test true e = inl (same e)
-    by_test false e = inr (record { rose = risen e; later = later; once = once })
+pub causes_of : (shelf : Move Shelved) (source sink : Move Port) (status : Status) → AllCauses shelf source sink status → TopCauses shelf source sink status
+causes_of shelf source sink status c = record {
+  ports = c.ports;
+  load = λ e. (c.load e).rose;
+  untold = c.untold;
+  later = not_less shelf.before.faults shelf.after.faults c.load_ends;
+  files = c.files;
+}
+
+pub once_of : (shelf : Move Shelved) (source sink : Move Port) (status : Status) → AllCauses shelf source sink status → ShelfCauses shelf status
+once_of shelf source sink status c = record { load = c.load; load_ends = c.load_ends }
 
 -- how a call ends whose files aren't loaded
 module _ (old new : Shelved) (source : Port) (sink : Move Port) (status : Status) (files : new.files ≡ old.files) (later : old.faults ≤ new.faults) (once : new.faults ≤ old.faults + 1) (ports : PortsEnd (move source source) sink status) where
@@ -324,14 +382,14 @@ module _ (old new : Shelved) (source : Port) (sink : Move Port) (status : Status
   untold_by None h = h
   untold_by (Some fs) h = tt
 
-  stopped_causes : Stopped status → FaultEnds old.faults new.faults (LoadEnds old.files status) → TopCauses (move old new) (move source source) sink status
+  stopped_causes : Stopped status → FaultEnds old.faults new.faults (LoadEnds old.files status) → AllCauses (move old new) (move source source) sink status
   stopped_causes s count = record { ports = ports; load = λ e. absurd (no_load_fault s e); untold = untold_by old.files (λ l. absurd (no_lack s l)); load_ends = count; files = files }
 
   either_way : LoadEnds old.files status → FaultEnds old.faults new.faults (LoadEnds old.files status)
   either_way so = elim (counted old.faults new.faults later once) [ inl h ↦ inl h | inr h ↦ inr (h, so) ]
 
   -- words that name no files
-  pub idle_causes : (expected : Status) → (expected ≡ ends.LoadFault → ⊥) → (expected ≡ ends.NoFile → ⊥) → (expected ≡ ends.TooLarge → ⊥) → new.faults ≡ old.faults → Yields expected status → TopCauses (move old new) (move source source) sink status
+  pub idle_causes : (expected : Status) → (expected ≡ ends.LoadFault → ⊥) → (expected ≡ ends.NoFile → ⊥) → (expected ≡ ends.TooLarge → ⊥) → new.faults ≡ old.faults → Yields expected status → AllCauses (move old new) (move source source) sink status
   idle_causes expected a b c calm (inr s) = stopped_causes s (inl calm)
   idle_causes expected a b c calm (inl e) = record {
     ports = ports;
@@ -345,7 +403,7 @@ module _ (old new : Shelved) (source : Port) (sink : Move Port) (status : Status
       lack (inl k) = absurd (b (sym e ∙ k))
       lack (inr k) = absurd (c (sym e ∙ k))
 
-  failed_causes : Rose old.faults new.faults → Yields ends.LoadFault status → TopCauses (move old new) (move source source) sink status
+  failed_causes : Rose old.faults new.faults → Yields ends.LoadFault status → AllCauses (move old new) (move source source) sink status
   failed_causes rose (inr s) = stopped_causes s (inr (one rose, inr (inr s)))
   failed_causes rose (inl e) = record { ports = ports; load = λ _. one rose; untold = untold_by old.files (λ _. one rose); load_ends = inr (one rose, inl e); files = files }
 
@@ -354,7 +412,7 @@ module _ (old new : Shelved) (source : Port) (sink : Move Port) (status : Status
   lacking None P so rose = (λ _. one rose, inr (one rose, inr (inl so)))
   lacking (Some fs) P so h = (tt, inl h.1)
 
-  lacks_causes : (P : Files → Type 0) → (LacksFile status ⊎ Stopped status) → MatchOption old.files (Rose old.faults new.faults) (λ fs. P fs × (new.faults ≡ old.faults)) → TopCauses (move old new) (move source source) sink status
+  lacks_causes : (P : Files → Type 0) → (LacksFile status ⊎ Stopped status) → MatchOption old.files (Rose old.faults new.faults) (λ fs. P fs × (new.faults ≡ old.faults)) → AllCauses (move old new) (move source source) sink status
   lacks_causes P (inr s) h = stopped_causes s (either_way (inr (inr s)))
   lacks_causes P (inl so) h =
       let both = lacking old.files P so h in
@@ -379,23 +437,24 @@ module _ (old new : Shelved) (source : Port) (sink : Move Port) (status : Status
   by : (r s : Refusal) → r ≡ s → Yields (status_of r) status → Yields (status_of s) status
   by r s e h = subst (λ (x : Refusal). Yields (status_of x) status) e h
 
-  file_causes : (name : List ℕ) (kind : FileKind) (r : Refusal) → Why old new name kind r → Yields (status_of r) status → TopCauses (move old new) (move source source) sink status
+  file_causes : (name : List ℕ) (kind : FileKind) (r : Refusal) → Why old new name kind r → Yields (status_of r) status → AllCauses (move old new) (move source source) sink status
   file_causes name kind r (inl h) so = failed_causes h.1 (by r (refusal.LoadFault kind) h.0 so)
   file_causes name kind r (inr (inl h)) so = lacks_causes (λ fs. fs name ≡ None) (as_missing (by r (refusal.NoFile kind) h.0 so)) h.1
   file_causes name kind r (inr (inr (inl h))) so = lacks_causes (λ fs. IsOver fs name (limit_of kind)) (as_large (by r (refusal.TooLarge kind) h.0 so)) h.1
   file_causes name kind r (inr (inr (inr h))) so = let s = memory (by r refusal.OutOfMemory h so) in stopped_causes s (either_way (inr (inr s)))
 
-  meaning_causes : (m : Option Meaning) (r : Refusal) → MeaningStops m (move old new) r → Yields (status_of r) status → TopCauses (move old new) (move source source) sink status
+  meaning_causes : (m : Option Meaning) (r : Refusal) → MeaningStops m (move old new) r → Yields (status_of r) status → AllCauses (move old new) (move source source) sink status
   meaning_causes None r h so =
       idle_causes ends.Usage (λ (e : ends.Usage ≡ ends.LoadFault). cc) (λ (e : ends.Usage ≡ ends.NoFile). cc) (λ (e : ends.Usage ≡ ends.TooLarge). cc) (ap (λ (s : Shelved). s.faults) h.1) (by r refusal.Usage h.0 so)
   meaning_causes (Some (Made seed steps)) r h so = absurd h
+  meaning_causes (Some (Maps names from)) r (kind, s) so = file_causes (core_name_of names kind) kind r (why old new (core_name_of names kind) kind r s.why) so
   meaning_causes (Some (Open d names from)) r (kind, s) so = file_causes (name_of names kind) kind r (why old new (name_of names kind) kind r s.why) so
 
   -- a made run
-  pub made_causes : new.faults ≡ old.faults → Yields ends.Ok status → TopCauses (move old new) (move source source) sink status
+  pub made_causes : new.faults ≡ old.faults → Yields ends.Ok status → AllCauses (move old new) (move source source) sink status
   made_causes calm so = idle_causes ends.Ok (λ (e : ends.Ok ≡ ends.LoadFault). cc) (λ (e : ends.Ok ≡ ends.NoFile). cc) (λ (e : ends.Ok ≡ ends.TooLarge). cc) calm so
 
-  pub refused_causes : (m : Option Meaning) (r : Refusal) → LoadingStops m (move old new) r → Yields (status_of r) status → TopCauses (move old new) (move source source) sink status
+  pub refused_causes : (m : Option Meaning) (r : Refusal) → LoadingStops m (move old new) r → Yields (status_of r) status → AllCauses (move old new) (move source source) sink status
   refused_causes m r (inl h) so = stopped_causes (memory (by r refusal.OutOfMemory h.0 so)) (inl (ap (λ (s : Shelved). s.faults) h.1))
   refused_causes m r (inr h) so = meaning_causes m r h so
 
@@ -409,6 +468,13 @@ module _ (old new : Shelved) (source : Port) (sink : Move Port) (status : Status
   meaning_loads : (m : Option Meaning) (r : Refusal) → MeaningStops m (move old new) r → Yields (status_of r) status → LoadsOf m (move old new) status
   meaning_loads None r h so = tt
   meaning_loads (Some (Made seed steps)) r h so = absurd h
+  meaning_loads (Some (Maps names from)) r (kind, s) so = inl (record {
+    last = kind;
+    one = s.one;
+    before = s.before;
+    loads = s.loads;
+    ended = ends_loading (core_name_of names kind) kind r (why old new (core_name_of names kind) kind r s.why) so;
+  })
   meaning_loads (Some (Open d names from)) r (kind, s) so = inl (record {
     last = kind;
     before = s.before;
@@ -419,6 +485,7 @@ module _ (old new : Shelved) (source : Port) (sink : Move Port) (status : Status
   none_loads : (m : Option Meaning) → new ≡ old → Stopped status → LoadsOf m (move old new) status
   none_loads None same stopped = tt
   none_loads (Some (Made seed steps)) same stopped = tt
+  none_loads (Some (Maps names from)) same stopped = inr (inr (same, stopped))
   none_loads (Some (Open d names from)) same stopped = inr (same, stopped)
 
   pub refused_loads : (m : Option Meaning) (r : Refusal) → LoadingStops m (move old new) r → Yields (status_of r) status → LoadsOf m (move old new) status
@@ -451,6 +518,7 @@ file_status old new name kind r other is (inr (inr (inr h))) e = is.memory (ap s
 meaning_status : (old new : Shelved) (m : Option Meaning) (r : Refusal) (other : Status) → IsOther other → MeaningStops m (move old new) r → status_of r ≡ other → ⊥
 meaning_status old new None r other is h e = is.usage (ap status_of (sym h.0) ∙ e)
 meaning_status old new (Some (Made seed steps)) r other is h e = absurd h
+meaning_status old new (Some (Maps names from)) r other is (kind, s) e = file_status old new (core_name_of names kind) kind r other is (why old new (core_name_of names kind) kind r s.why) e
 meaning_status old new (Some (Open d names from)) r other is (kind, s) e = file_status old new (name_of names kind) kind r other is (why old new (name_of names kind) kind r s.why) e
 
 pub no_status : (old new : Shelved) (m : Option Meaning) (r : Refusal) (other : Status) → IsOther other → LoadingStops m (move old new) r → status_of r ≡ other → ⊥
@@ -461,10 +529,11 @@ no_status old new m r other is (inr h) e = meaning_status old new m r other is h
 pub all_loads : (old new : Shelved) (m : Option Meaning) (status : Status) → LoadsAll m (move old new) → LoadsOf m (move old new) status
 all_loads old new None status h = absurd h
 all_loads old new (Some (Made seed steps)) status h = absurd h
+all_loads old new (Some (Maps names from)) status h = absurd h
 all_loads old new (Some (Open d names from)) status h = inl (record { last = file.Trace; before = h.before; loads = h.loads; all = inl refl })
 
 -- the causes of a call whose files were loaded
-pub examined_causes : (old new : Shelved) (bytes : CrashBytes) (source sink : Move Port) (status : Status) → new.files ≡ old.files → new.faults ≡ old.faults → IsExamined bytes source sink status → TopCauses (move old new) source sink status
+pub examined_causes : (old new : Shelved) (bytes : CrashBytes) (source sink : Move Port) (status : Status) → new.files ≡ old.files → new.faults ≡ old.faults → IsExamined bytes source sink status → AllCauses (move old new) source sink status
 examined_causes old new bytes source sink status files calm c = record {
   ports = c.ports;
   load = λ e. absurd (not_loading (inl e) c.ends_so);
@@ -536,16 +605,19 @@ holds_where o H bytes status h (inr f) = inr (f.1, where_some o H (λ files at. 
 -- what is said of words that ask for a made run, and isn't of others
 pub asked_holds : (m : Option Meaning) → ((seed steps : ℕ) → MadeHolds seed steps) → AskedHolds m
 asked_holds None h = tt
+asked_holds (Some (Maps names from)) h = tt
 asked_holds (Some (Open d names from)) h = tt
 asked_holds (Some (Made seed steps)) h = h seed steps
 
 pub loaded_asks : (m : Option Meaning) (old new : Shelved) (status : Status) → LoadsAll m (move old new) → AskedEnds m status
 loaded_asks None old new status h = tt
+loaded_asks (Some (Maps names from)) old new status h = tt
 loaded_asks (Some (Open d names from)) old new status h = tt
 loaded_asks (Some (Made seed steps)) old new status h = absurd h
 
 pub loads_named : {P : Type 0} (m : Option Meaning) (old new : Shelved) → LoadsAll m (move old new) → NamesNone m → P
 loads_named None old new h none = absurd h
+loads_named (Some (Maps names from)) old new h none = absurd none
 loads_named (Some (Open d names from)) old new h none = absurd none
 loads_named (Some (Made seed steps)) old new h none = absurd h
 
@@ -558,6 +630,7 @@ memory_ends r status e so = stop (subst (λ (x : Refusal). Yields (status_of x) 
 
 pub refused_asks : (m : Option Meaning) (old new : Shelved) (r : Refusal) (status : Status) → LoadingStops m (move old new) r → Yields (status_of r) status → AskedEnds m status
 refused_asks None old new r status h so = tt
+refused_asks (Some (Maps names from)) old new r status h so = tt
 refused_asks (Some (Open d names from)) old new r status h so = tt
 refused_asks (Some (Made seed steps)) old new r status (inl h) so = memory_ends r status h.0 so
 refused_asks (Some (Made seed steps)) old new r status (inr h) so = absurd h

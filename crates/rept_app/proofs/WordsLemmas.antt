@@ -5,13 +5,14 @@ use Rattle.std.specs.List.{list_all}
 use Rattle.std.specs.Option.{option_and_then}
 use Rattle.std.specs.Str.{bytes_eq}
 use Rattle.rept_number.specs.Numbers.{decimal_of}
-use Rattle.rept_words.specs.Words.{Names, Meaning, is_plain, steps_of, made_of, domain_of, plain_meaning, meaning_of}
-use Rattle.rept_words.specs.Words.Meaning.{Open, Made}
+use Rattle.rept_words.specs.Words.{CoreNames, Names, Meaning, maps_from, is_plain, steps_of, made_of, domain_of, plain_meaning, meaning_of}
+use Rattle.rept_words.specs.Words.Meaning.{Open, Maps, Made}
 use Rattle.rept_words.specs.declared.request.Domain.{Domain}
 
 -- it is one of 1 to 20000
 abbrev pub AsksFew : Option Meaning → Type 0
 AsksFew None = Unit {0}
+AsksFew (Some (Maps names from)) = Unit {0}
 AsksFew (Some (Open d names from)) = Unit {0}
 AsksFew (Some (Made seed steps)) = (1 ≤ steps) × (steps ≤ 20000)
 
@@ -42,6 +43,10 @@ seeded_few (Some s) steps h = made_few s steps h
 made_of_few : (seed steps : List ℕ) → AsksFew (made_of seed steps)
 made_of_few seed steps = seeded_few (decimal_of seed) (steps_of steps) (few_of (decimal_of steps))
 
+maps_few : (names : CoreNames) (o : Option ℕ) → AsksFew (option_and_then (λ k. Some (Maps names (Some k))) o)
+maps_few names None = tt
+maps_few names (Some k) = tt
+
 from_few : (d : Domain) (names : Names) (o : Option ℕ) → AsksFew (option_and_then (λ k. Some (Open d names (Some k))) o)
 from_few d names None = tt
 from_few d names (Some k) = tt
@@ -54,8 +59,15 @@ plain_few : (words : List (List ℕ)) → AsksFew (plain_meaning words)
 plain_few [] = tt
 plain_few (a ∷ []) = tt
 plain_few (a ∷ b ∷ []) = tt
-plain_few (first ∷ seed ∷ steps ∷ []) = either (bytes_eq first (codes "self")) (made_of seed steps) None (made_of_few seed steps) tt
-plain_few (first ∷ exe ∷ core ∷ trace ∷ []) = domain_few (λ d. Some (Open d (record { exe = exe; core = core; trace = trace }) None)) (domain_of first) (λ d. tt)
+plain_few (first ∷ seed ∷ steps ∷ []) =
+    let names : CoreNames = record { core = seed; trace = steps } in
+    either (bytes_eq first (codes "self")) (made_of seed steps) (cond (bytes_eq first (codes "maps")) (Some (Maps names None)) None) (made_of_few seed steps)
+    (either (bytes_eq first (codes "maps")) (Some (Maps names None)) None tt tt)
+plain_few (first ∷ exe ∷ core ∷ trace ∷ []) =
+    let names : CoreNames = record { core = exe; trace = core } in
+    let opened : Option Meaning = option_and_then (λ d. Some (Open d (record { exe = exe; core = core; trace = trace }) None)) (domain_of first) in
+    either (bytes_eq first (codes "maps")) (maps_from names trace) opened (maps_few names (decimal_of trace))
+    (domain_few (λ d. Some (Open d (record { exe = exe; core = core; trace = trace }) None)) (domain_of first) (λ d. tt))
 plain_few (first ∷ exe ∷ core ∷ trace ∷ from ∷ []) =
     domain_few (λ d. option_and_then (λ k. Some (Open d (record { exe = exe; core = core; trace = trace }) (Some k))) (decimal_of from)) (domain_of first) (λ d. from_few d (record { exe = exe; core = core; trace = trace }) (decimal_of from))
 plain_few (a ∷ b ∷ c ∷ d ∷ e ∷ f ∷ more) = tt

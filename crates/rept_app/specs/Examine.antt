@@ -1,4 +1,4 @@
--- What is written of the bytes of three files.
+-- What is written of the bytes of a crash.
 use Rattle.std.specs.Prelude.{◌≡◌, ◌⊎◌, ℕ, List, length, Result, MatchOption, MatchResult}
 use Rattle.rept_elf.specs.Segments.{segments}
 use Rattle.rept_dump.specs.Registers.{Says as NotesSay}
@@ -13,7 +13,7 @@ use Rattle.rept_found.specs.Telling.{Account, told_of}
 use Rattle.rept_serve.specs.Serving.{Reading}
 use Rattle.rept_app.specs.Delivered.{Says}
 use Rattle.rept_app.specs.Ends.{Yields, EndsSession, PortsEnd}
-use Rattle.rept_app.specs.Forms.{executable_fault, core_image_fault, crash_in}
+use Rattle.rept_app.specs.Forms.{program_fault, core_image_fault, crash_in}
 use Rattle.rept_app.specs.Held.{CutOff}
 use Rattle.rept_app.specs.Path.{IsTracePath, HasNoPath}
 use Rattle.rept_app.specs.Loading.{CrashBytes}
@@ -54,7 +54,7 @@ NoteYields bytes said status = MatchResult said (λ note. WalkYields (trace_in b
 -- how the files end the call
 abbrev pub FilesEnd : CrashBytes → Status → Type 0
 FilesEnd bytes status =
-    MatchOption (executable_fault bytes.exe)
+    MatchOption (program_fault bytes.program)
     (MatchOption (core_image_fault bytes.core) ((said : Result (List ℕ) CoreFault) → NotesSay (length bytes.core) (segments bytes.core) said → NoteYields bytes said status) (λ _. Yields ends.Core status))
     (λ _. Yields ends.Executable status)
 
@@ -85,7 +85,7 @@ WalkHolds t status = ((path : Path) × IsTracePath t.crash t.trace t.manner.from
 -- the same of the files
 abbrev pub FilesHold : CrashBytes → Status → Type 0
 FilesHold bytes status =
-    ((note : List ℕ) × (path : Path) × Reads bytes note × IsTracePath (crash_in bytes.exe bytes.core note) bytes.trace bytes.manner.from path × IsConsistent (setting_of (path_in (trace_in bytes note) path)))
+    ((note : List ℕ) × (path : Path) × Reads bytes note × IsTracePath (crash_in bytes.program bytes.core note) bytes.trace bytes.manner.from path × IsConsistent (setting_of (path_in (trace_in bytes note) path)))
     × EndsSession status
 
 -- no execution of the path ends in the crash

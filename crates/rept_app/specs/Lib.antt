@@ -7,6 +7,8 @@ pub mod Held
 pub mod Lines
 pub mod Loading
 pub mod MadeRun
+pub mod Mapped
+pub mod MappedEnds
 pub mod Path
 pub mod Promise
 pub mod Status

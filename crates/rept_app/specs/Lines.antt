@@ -6,6 +6,8 @@ use Rattle.rept_elf.specs.declared.fault.ElfFault.{ElfFault}
 use Rattle.rept_elf.specs.declared.fault.ElfFault.TheVariants as elf
 use Rattle.rept_dump.specs.declared.fault.CoreFault.{CoreFault}
 use Rattle.rept_dump.specs.declared.fault.CoreFault.TheVariants as notes
+use Rattle.rept_maps.specs.declared.fault.MapFault.{MapFault}
+use Rattle.rept_maps.specs.declared.fault.MapFault.TheVariants as maps
 use Rattle.rept_trace.specs.declared.fault.TraceFault.{TraceFault}
 use Rattle.rept_trace.specs.declared.fault.TraceFault.TheVariants as packets
 use Rattle.rept_path.specs.declared.fault.PathFault.{PathFault}
@@ -34,6 +36,7 @@ status_of (refusal.TooLarge f) = ends.TooLarge
 status_of (refusal.Executable f) = ends.Executable
 status_of (refusal.CoreImage f) = ends.Core
 status_of (refusal.Core f) = ends.Core
+status_of (refusal.Maps f) = ends.Core
 status_of (refusal.Path f) = status_of_path f
 status_of (refusal.Inconsistent kind) = ends.Inconsistent
 status_of refusal.InputFault = ends.InputFault
@@ -67,6 +70,13 @@ core_fault_text (notes.NotePastEnd offset) = codes "core 3 " ++ decimal offset
 core_fault_text (notes.SeveralThreads count) = codes "core 4 " ++ decimal count
 core_fault_text (notes.SameThread pid) = codes "core 5 " ++ decimal pid
 core_fault_text (notes.TooManyThreads count) = codes "core 6 " ++ decimal count
+
+-- the same of its list of mapped files
+abbrev pub map_fault_text : MapFault → List ℕ
+map_fault_text (maps.NotePastEnd offset) = codes "core 3 " ++ decimal offset
+map_fault_text maps.NoMap = codes "core 7"
+map_fault_text (maps.BadMap offset) = codes "core 8 " ++ decimal offset
+map_fault_text (maps.TooManyMaps count) = codes "core 9 " ++ decimal count
 
 -- The number of a fault of the trace's bytes, and what it holds: the number of the byte of the header, of the packet or of the stream, or an
 -- offset. The packets are those of Efficient Trace for RISC-V 2.0.
@@ -122,13 +132,14 @@ conflict_text (EmptyRange point reg) = codes "inconsistent empty-range " ++ deci
 conflict_text (WrongTurn step) = codes "inconsistent wrong-turn " ++ decimal step
 
 abbrev pub words_of : Refusal → List ℕ
-words_of refusal.Usage = codes "usage: rept open|bits EXE CORE TRACE [FROM] | rept self SEED STEPS"
+words_of refusal.Usage = codes "usage: rept open|bits EXE CORE TRACE [FROM] | rept self SEED STEPS | rept maps CORE TRACE [FROM]"
 words_of (refusal.LoadFault f) = codes "load-fault " ++ file_word f
 words_of (refusal.NoFile f) = codes "no-file " ++ file_word f
 words_of (refusal.TooLarge f) = codes "too-large " ++ file_word f
 words_of (refusal.Executable f) = codes "executable " ++ elf_fault_text f
 words_of (refusal.CoreImage f) = codes "core-image " ++ elf_fault_text f
 words_of (refusal.Core f) = core_fault_text f
+words_of (refusal.Maps f) = map_fault_text f
 words_of (refusal.Path f) = path_fault_text f
 words_of (refusal.Inconsistent kind) = conflict_text kind
 words_of refusal.InputFault = codes "input-fault"

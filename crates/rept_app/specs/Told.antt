@@ -3,6 +3,7 @@ use Rattle.std.specs.Prelude.{◌≡◌, ◌⊎◌, ℕ, List, [], ◌∷◌, �
 use Rattle.rept_elf.specs.Segments.{segments}
 use Rattle.rept_dump.specs.Registers.{Says as NotesSay}
 use Rattle.rept_dump.specs.declared.fault.CoreFault.{CoreFault}
+use Rattle.rept_maps.specs.declared.fault.MapFault.{MapFault}
 use Rattle.rept_path.specs.declared.fault.PathFault.{PathFault}
 use Rattle.rept_path.specs.declared.rebuilding.Path.{Path}
 use Rattle.rept_ports.specs.Port.{Move, move}
@@ -22,18 +23,20 @@ use Rattle.rept_serve.specs.Serving.{Reading}
 use Rattle.rept_make.specs.Made.{IsMade}
 use Rattle.rept_make.specs.declared.made.Made.{Made}
 use Rattle.rept_words.specs.Words.{Meaning, meaning_of}
-use Rattle.rept_words.specs.Words.Meaning.{Open, Made as MadeWords}
+use Rattle.rept_words.specs.Words.Meaning.{Open, Maps, Made as MadeWords}
 use Rattle.rept_words.specs.declared.request.Domain.{Domain}
 use Rattle.rept_words.specs.declared.request.Domain.TheVariants as domain
 use Rattle.rept_app.specs.Delivered.{Says}
 use Rattle.rept_app.specs.Domains.{SetsOf, means_of}
-use Rattle.rept_app.specs.Forms.{executable_fault, core_image_fault, crash_in}
+use Rattle.rept_app.specs.Forms.{program_fault, core_image_fault, crash_in}
 use Rattle.rept_app.specs.Held.{Replies, CutOff}
-use Rattle.rept_app.specs.Loading.{CrashBytes, crash_bytes, loading, MatchLoading, ComesTo, loads_to}
-use Rattle.rept_app.specs.Loading.Loading.{Loaded}
+use Rattle.rept_app.specs.Loading.{CrashBytes, crash_bytes, CoreBytes, Loading, loading, ComesTo, ComesToCore, loads_to, core_loads_to}
+use Rattle.rept_app.specs.Loading.Loading.{Refused, Loaded, LoadedCore, MadeRun}
+use Rattle.rept_app.specs.Mapped.{MappedCrash, mapped_crash, mapped_bytes, IsMappedAs, ListSays, NameFails}
 use Rattle.rept_app.specs.Path.{IsTracePath, HasNoPath}
 use Rattle.rept_app.specs.declared.load.Manner.{Manner}
 use Rattle.rept_app.specs.declared.refusal.FileKind.{FileKind}
+use Rattle.rept_app.specs.declared.refusal.FileKind.TheVariants as file
 use Rattle.rept_app.specs.declared.refusal.Refusal.TheVariants as refusal
 use Rattle.rept_app.specs.declared.status.Status.{Status}
 
@@ -81,9 +84,9 @@ crash_trace crash trace manner = record { crash = crash; trace = trace; manner =
 abbrev pub path_in : (t : CrashTrace) → Path → CrashPath (SetsOf t.manner.domain)
 path_in t path = crash_path (means_of t.manner.domain) t.crash path
 
--- the trace of three files, of which the register note has this descriptor
+-- the trace of a crash, of which the register note has this descriptor
 abbrev pub trace_in : CrashBytes → List ℕ → CrashTrace
-trace_in bytes note = crash_trace (crash_in bytes.exe bytes.core note) bytes.trace bytes.manner
+trace_in bytes note = crash_trace (crash_in bytes.program bytes.core note) bytes.trace bytes.manner
 
 -- The trace has no path, for a reason that the line tells; or the one that it has is analysed.
 abbrev pub Walked : CrashTrace → List ℕ → List ℕ → Status → Type 0
@@ -97,11 +100,18 @@ NotesTold bytes input text status =
     (said : Result (List ℕ) CoreFault) × NotesSay (length bytes.core) (segments bytes.core) said
     × MatchResult said (λ note. Walked (trace_in bytes note) input text status) (λ fault. Says (refusal.Core fault) text status)
 
--- The executable is refused; or the core file is refused as an image; or its notes are read.
+-- The program's executable is refused; or the core file is refused as an image; or its notes are read.
 abbrev pub Examined : CrashBytes → List ℕ → List ℕ → Status → Type 0
 Examined bytes input text status =
-    MatchOption (executable_fault bytes.exe) (MatchOption (core_image_fault bytes.core) (NotesTold bytes input text status) (λ fault. Says (refusal.CoreImage fault) text status))
+    MatchOption (program_fault bytes.program) (MatchOption (core_image_fault bytes.core) (NotesTold bytes input text status) (λ fault. Says (refusal.CoreImage fault) text status))
     (λ fault. Says (refusal.Executable fault) text status)
+
+-- The core file is refused as an image; or its list of mapped files is; or the crash with the files of that list is examined.
+abbrev pub MappedTold : MappedCrash → List ℕ → List ℕ → Status → Type 0
+MappedTold m input text status =
+    MatchOption (core_image_fault m.bytes.core)
+    ((said : Result (List ℕ) MapFault) × ListSays m.bytes.core said × MatchResult said (λ desc. Examined (mapped_bytes m desc) input text status) (λ fault. Says (refusal.Maps fault) text status))
+    (λ fault. Says (refusal.CoreImage fault) text status)
 
 -- the input that is answered of a made run: the command `summary`
 abbrev pub summary_line : List ℕ
@@ -115,13 +125,13 @@ made_bytes made = crash_bytes made.exe made.core made.trace (record { from = 0; 
 abbrev pub Summed : ℕ → ℕ → List ℕ → Status → Type 0
 Summed seed steps text status = (made : Made) × IsMade seed steps made × Examined (made_bytes made) summary_line text status
 
--- the executable and the core file are accepted, and this is the descriptor of the register note
+-- the program's files and the core file are accepted, and this is the descriptor of the register note
 pub record Reads (bytes : CrashBytes) (note : List ℕ) : Type 0 where
-  pub exe_accepted : executable_fault bytes.exe ≡ None
+  pub program_accepted : program_fault bytes.program ≡ None
   pub core_accepted : core_image_fault bytes.core ≡ None
   pub noted : NotesSay (length bytes.core) (segments bytes.core) (Ok note)
 
--- the bytes of three files, the descriptor of the register note, and a path
+-- the bytes of a crash, the descriptor of the register note, and a path
 pub record Opening : Type 0 where
   pub bytes : CrashBytes
   pub note : List ℕ
@@ -129,7 +139,7 @@ pub record Opening : Type 0 where
 
 -- the crash that they tell, the path that ends in it, and its analysis in the domain that is asked for
 abbrev pub crash_at : Opening → Crash
-crash_at o = crash_in o.bytes.exe o.bytes.core o.note
+crash_at o = crash_in o.bytes.program o.bytes.core o.note
 
 abbrev pub domain_at : Opening → Domain
 domain_at o = o.bytes.manner.domain
@@ -143,9 +153,16 @@ route_at o = route_of (path_at o)
 abbrev pub setting_at : (o : Opening) → Setting (SetsOf (domain_at o))
 setting_at o = setting_of (path_at o)
 
+-- what was loaded comes to the bytes of this crash: these were loaded, or the core file that was lists its other files
+abbrev pub IsCrashOf : Files → Loading → CrashBytes → Type 0
+IsCrashOf files (Refused r) bytes = ⊥
+IsCrashOf files (Loaded loaded) bytes = bytes ≡ loaded
+IsCrashOf files (LoadedCore core) bytes = IsMappedAs (mapped_crash files core) bytes
+IsCrashOf files (MadeRun seed steps) bytes = ⊥
+
 -- the words and the files come to it: the files are accepted, this is what the note holds, and the trace has this path
 pub record Opens (words : List (List ℕ)) (files : Files) (o : Opening) : Type 0 where
-  pub loaded : loading words files ≡ Loaded o.bytes
+  pub loaded : IsCrashOf files (loading words files) o.bytes
   pub read : Reads o.bytes o.note
   pub path : IsTracePath (crash_at o) o.bytes.trace o.bytes.manner.from o.path
 
@@ -177,17 +194,30 @@ given words files shelf reading = record {
   reading = reading;
 }
 
--- Words, files and input that are all there: the text that is written, and the status. The cases stand in the order in which
--- they are looked at: the words, the files, the executable, the core file, the trace and its path, the analysis, the input.
-abbrev pub Told : Given → List ℕ → Status → Type 0
-Told g text status =
-    MatchLoading (loading g.words g.files) (λ r. Says r text status) (λ bytes. Examined bytes g.reading.input text status) (λ seed steps. Summed seed steps text status)
+-- what is written of what was loaded
+abbrev pub ToldOf : Given → Loading → List ℕ → Status → Type 0
+ToldOf g (Refused r) text status = Says r text status
+ToldOf g (Loaded bytes) text status = Examined bytes g.reading.input text status
+ToldOf g (LoadedCore bytes) text status = MappedTold (mapped_crash g.files bytes) g.reading.input text status
+ToldOf g (MadeRun seed steps) text status = Summed seed steps text status
 
--- A call that was cut short: a load failed, which is that of the file that the line names, and those before it are there and within
--- their limits; memory ran out; or, where all came to a report, the session was cut short; or that over a made run was.
+-- Words, files and input that are all there: the text that is written, and the status. The cases stand in the order in which
+-- they are looked at: the words, the files, the executable, the core file, its list of mapped files where the words ask for it, the trace and its path, the analysis, the input.
+abbrev pub Told : Given → List ℕ → Status → Type 0
+Told g text status = ToldOf g (loading g.words g.files) text status
+
+-- A load failed, which is that of the file that the line names: one of three, one of two, or one of those that the core file lists. Those of the command line that come before it
+-- are there and within their limits.
+abbrev pub LoadFailed : Given → List ℕ → Status → Type 0
+LoadFailed g text status =
+    ((kind : FileKind) × ComesTo g.words g.files kind × (g.loads.after ≡ loads_to kind g.loads.before) × Says (refusal.LoadFault kind) text status)
+    ⊎ ((kind : FileKind) × ComesToCore g.words g.files kind × (g.loads.after ≡ core_loads_to kind g.loads.before) × Says (refusal.LoadFault kind) text status)
+    ⊎ ((core : CoreBytes) × (loading g.words g.files ≡ LoadedCore core) × NameFails (mapped_crash g.files core) (move (core_loads_to file.Trace g.loads.before) g.loads.after) text status)
+
+-- A call that was cut short: a load failed; memory ran out; or, where all came to a report, the session was cut short; or that over a made run was.
 abbrev pub Interrupted : Given → List ℕ → Status → Type 0
 Interrupted g text status =
-    ((kind : FileKind) × ComesTo g.words g.files kind × (g.loads.after ≡ loads_to kind g.loads.before) × Says (refusal.LoadFault kind) text status)
+    LoadFailed g text status
     ⊎ Says refusal.OutOfMemory text status
     ⊎ ((o : Opening) × (a : Account) × Opens g.words g.files o × IsAccountOf (path_at o) a × CutOff (told_of (route_at o) a) g.reading text status)
     ⊎ ((seed : ℕ) × (steps : ℕ) × (meaning_of g.words ≡ Some (MadeWords seed steps)) × SumCut seed steps text status)
@@ -219,6 +249,7 @@ MadeHolds seed steps =
 -- the same of words that ask for a made run
 abbrev pub AskedHolds : Option Meaning → Type 0
 AskedHolds None = Unit {0}
+AskedHolds (Some (Maps names from)) = Unit {0}
 AskedHolds (Some (Open d names from)) = Unit {0}
 AskedHolds (Some (MadeWords seed steps)) = MadeHolds seed steps
 

@@ -1,16 +1,19 @@
 -- The causes of each status, and what a call leaves of its ports.
-use Rattle.std.specs.Prelude.{◌≡◌, ◌⊎◌, ℕ, List, Option, Some, None, IfSome, MatchOption}
+use Rattle.std.specs.Prelude.{◌≡◌, ◌⊎◌, ℕ, ◌≤◌, List, Option, Some, None, IfSome, MatchOption}
 use Rattle.std.specs.Io.KnownBytes.{Appends}
 use Rattle.rept_ports.specs.Causes.{Rose, OneFault}
-use Rattle.rept_ports.specs.Port.{Port, Move}
+use Rattle.rept_ports.specs.Port.{Port, Move, move}
 use Rattle.rept_ports.specs.Shelves.{Files, Shelved}
 use Rattle.rept_app.specs.Ends.{Stopped, Yields, FaultEnds, PortsEnd}
 use Rattle.rept_app.specs.Examine.{FilesEnd}
 use Rattle.rept_app.specs.Lines.{status_of}
-use Rattle.rept_app.specs.Loading.{loading, MatchLoading, FitBefore, loads_to}
+use Rattle.rept_app.specs.Loading.{Loading, loading, Fits, FitBefore, CoreFitBefore, IsOfCore, loads_to, core_loads_to}
+use Rattle.rept_app.specs.Loading.Loading.{Refused, Loaded, LoadedCore, MadeRun}
+use Rattle.rept_app.specs.Mapped.{mapped_crash, NamesLoaded}
+use Rattle.rept_app.specs.MappedEnds.{MappedEnd}
 use Rattle.rept_app.specs.Told.{Given, Told}
-use Rattle.rept_words.specs.Words.{Names, Meaning}
-use Rattle.rept_words.specs.Words.Meaning.{Open, Made}
+use Rattle.rept_words.specs.Words.{CoreNames, Names, Meaning}
+use Rattle.rept_words.specs.Words.Meaning.{Open, Maps, Made}
 use Rattle.rept_app.specs.declared.refusal.FileKind.{FileKind}
 use Rattle.rept_app.specs.declared.refusal.FileKind.TheVariants as file
 use Rattle.rept_app.specs.declared.status.Status.{Status}
@@ -25,14 +28,27 @@ abbrev pub LoadEnds : Option Files → Status → Type 0
 LoadEnds files status = (status ≡ ends.LoadFault) ⊎ MatchOption files (LacksFile status) (λ _. ⊥) ⊎ Stopped status
 
 -- A status that tells a fault of a port comes only where that port counted one; where the files aren't told, so do those of a
--- file that is missing or too large. A fault of a port ends the call: no other is counted, and the status tells it, unless its
+-- file that is missing or too large. A fault of the input or the output ends the call: no other is counted, and the status tells it, unless its
 -- line can't be written. The files stay as they are.
 pub record TopCauses (shelf : Move Shelved) (source sink : Move Port) (status : Status) : Type 0 where
   pub ports : PortsEnd source sink status
-  pub load : status ≡ ends.LoadFault → OneFault shelf.before.faults shelf.after.faults
+  pub load : status ≡ ends.LoadFault → Rose shelf.before.faults shelf.after.faults
   pub untold : MatchOption shelf.before.files (LacksFile status → OneFault shelf.before.faults shelf.after.faults) (λ _. Unit {0})
-  pub load_ends : FaultEnds shelf.before.faults shelf.after.faults (LoadEnds shelf.before.files status)
+  pub later : shelf.before.faults ≤ shelf.after.faults
   pub files : shelf.after.files ≡ shelf.before.files
+
+-- Each load that counts a fault ends the call: so it is of all words but those that ask for mapped files, and of these too where the shelf tells its files. Else each mapped
+-- file that is passed over may count one.
+abbrev pub FaultsEnd : Option Meaning → Option Files → Type 0
+FaultsEnd None files = Unit {0}
+FaultsEnd (Some (Made seed steps)) files = Unit {0}
+FaultsEnd (Some (Maps names from)) files = MatchOption files ⊥ (λ _. Unit {0})
+FaultsEnd (Some (Open d names from)) files = Unit {0}
+
+-- A fault of the shelf ends the call: no other is counted, and the status tells it, unless its line can't be written.
+pub record ShelfCauses (shelf : Move Shelved) (status : Status) : Type 0 where
+  pub load : status ≡ ends.LoadFault → OneFault shelf.before.faults shelf.after.faults
+  pub load_ends : FaultEnds shelf.before.faults shelf.after.faults (LoadEnds shelf.before.files status)
 
 -- Which load of the three was the last: the files before it are there and within their limits. It is that of the trace, unless
 -- the call ends with a load.
@@ -42,20 +58,41 @@ pub record LastLoad (names : Names) (shelf : Move Shelved) (status : Status) : T
   pub loads : shelf.after.loads ≡ loads_to last shelf.before.loads
   pub all : (last ≡ file.Trace) ⊎ (status ≡ ends.LoadFault) ⊎ LacksFile status ⊎ Stopped status
 
+-- The load of the core file or that of the trace was the last, and ended the call: the core file is there and within its limit, where it was loaded before.
+pub record LastCoreLoad (names : CoreNames) (shelf : Move Shelved) (status : Status) : Type 0 where
+  pub last : FileKind
+  pub one : IsOfCore last
+  pub before : IfSome shelf.before.files (λ files. CoreFitBefore files names last)
+  pub loads : shelf.after.loads ≡ core_loads_to last shelf.before.loads
+  pub ended : (status ≡ ends.LoadFault) ⊎ LacksFile status ⊎ Stopped status
+
+-- Both were loaded, and then those files that the core file lists.
+pub record MappedLoads (names : CoreNames) (shelf : Move Shelved) (status : Status) : Type 0 where
+  pub core : List ℕ
+  pub found : IfSome shelf.before.files (λ files. (files names.core ≡ Some core) × Fits files file.Core names.core × Fits files file.Trace names.trace)
+  pub named : NamesLoaded core (move (core_loads_to file.Trace shelf.before.loads) shelf.after.loads) status
+
 -- The loads of words that name files; there are none where memory ran out before.
 abbrev pub LoadsOf : Option Meaning → Move Shelved → Status → Type 0
 LoadsOf None shelf status = Unit {0}
 LoadsOf (Some (Made seed steps)) shelf status = Unit {0}
+LoadsOf (Some (Maps names from)) shelf status = LastCoreLoad names shelf status ⊎ MappedLoads names shelf status ⊎ ((shelf.after ≡ shelf.before) × Stopped status)
 LoadsOf (Some (Open d names from)) shelf status = LastLoad names shelf status ⊎ ((shelf.after ≡ shelf.before) × Stopped status)
 
 -- a call that ends so, unless a file can't be loaded, the output fails, or memory runs out
 abbrev pub EndsBy : Status → Status → Type 0
 EndsBy expected status = (status ≡ expected) ⊎ (status ≡ ends.LoadFault) ⊎ Stopped status
 
--- Each status comes where the words and the files say so: a refusal has its status; files that are there end the call by what they
--- hold; a made run ends it well.
+-- How what was loaded ends the call: a refusal has its status; files that are there end it by what they hold; a made run ends it well.
+abbrev pub EndsAt : Files → Loading → Status → Type 0
+EndsAt files (Refused r) status = EndsBy (status_of r) status
+EndsAt files (Loaded bytes) status = FilesEnd bytes status ⊎ (status ≡ ends.LoadFault)
+EndsAt files (LoadedCore bytes) status = MappedEnd (mapped_crash files bytes) status ⊎ (status ≡ ends.LoadFault)
+EndsAt files (MadeRun seed steps) status = Yields ends.Ok status
+
+-- each status comes where the words and the files say so
 abbrev pub EndsByFiles : List (List ℕ) → Files → Status → Type 0
-EndsByFiles words files status = MatchLoading (loading words files) (λ r. EndsBy (status_of r) status) (λ bytes. FilesEnd bytes status ⊎ (status ≡ ends.LoadFault)) (λ seed steps. Yields ends.Ok status)
+EndsByFiles words files status = EndsAt files (loading words files) status
 
 -- no port counted a fault
 pub record NoneFails (shelf : Move Shelved) (source sink : Move Port) : Type 0 where
@@ -70,5 +107,6 @@ Completes g sink status = (status ≡ ends.OutOfMemory) ⊎ ((text : List ℕ) �
 -- how words that ask for a made run end the call: well, whatever the ports are, unless the output fails or memory runs out
 abbrev pub AskedEnds : Option Meaning → Status → Type 0
 AskedEnds None status = Unit {0}
+AskedEnds (Some (Maps names from)) status = Unit {0}
 AskedEnds (Some (Open d names from)) status = Unit {0}
 AskedEnds (Some (Made seed steps)) status = Yields ends.Ok status

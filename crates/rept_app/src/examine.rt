@@ -42,7 +42,7 @@ pub fn examine<S: Source, K: Sink>(
 }
 
 /// Rebuilds the path and studies it.
-fn walk<S: Source, K: Sink>(
+pub fn walk<S: Source, K: Sink>(
     alloc: Global,
     dump: &Dump<'_>,
     trace: &[u8],

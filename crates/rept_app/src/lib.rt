@@ -6,6 +6,7 @@ mod examine;
 mod hold;
 mod load;
 mod made_run;
+mod mapped;
 mod path;
 mod path_line;
 mod refusal;
@@ -16,7 +17,7 @@ mod texts;
 mod top;
 
 pub use dumping::read_dump;
-pub use load::{Asked, CrashFiles, Manner, load_files};
+pub use load::{Asked, CoreFiles, CrashFiles, Manner, load_files};
 pub use path::trace_path;
 pub use refusal::{FileKind, Refusal};
 pub use status::Status;

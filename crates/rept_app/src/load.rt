@@ -4,14 +4,14 @@ ghost use Rattle.std.specs.Prelude.{◌≡◌, ◌⊎◌, ◌≤◌, map, length
 ghost use Rattle.rept_ports.specs.Port.{move};
 ghost use Rattle.rept_ports.specs.Shelves.{Loads};
 ghost use Rattle.rept_words.specs.Words.{meaning_of};
-ghost use Rattle.rept_words.specs.Asked.{named_by};
+ghost use Rattle.rept_words.specs.Asked.{core_named_by, named_by};
 ghost use Rattle.rept_app.specs.declared.refusal.FileKind.{FileKind};
-ghost use Rattle.rept_app.specs.Loading.{crash_bytes, limit_of, fetched_all, first_packet, loading, loads_to, asked_for, FitBefore, IsAsked, LoadRefuses, LoadingStops, NamesNone, ShelfMoves, StopsAt};
-ghost use Rattle.rept_app.specs.Loading.Loading.{Loaded};
+ghost use Rattle.rept_app.specs.Loading.{core_bytes, crash_bytes, limit_of, fetched_all, fetched_core, first_packet, loading, loads_to, asked_for, BothLoaded, CoreStopsAt, FitBefore, IsAsked, LoadRefuses, LoadingStops, NamesNone, ShelfMoves, StopsAt};
+ghost use Rattle.rept_app.specs.Loading.Loading.{Loaded, LoadedCore};
 
 use crate::refusal::{FileKind, Refusal};
 use rept_ports::{LoadFault, Shelf};
-use rept_words::{Domain, FileNames, Request, meaning};
+use rept_words::{CoreNames, Domain, FileNames, Request, meaning};
 use std::alloc::Global;
 
 /// How the files of a crash are studied: the number of the packet from which the path is rebuilt, and the domain in which values are
@@ -31,10 +31,19 @@ pub struct CrashFiles {
     pub manner: Manner,
 }
 
+/// The bytes of the core file and the trace of a crash whose core file lists the files of the program, and how they are studied.
+#[derive(Drop)]
+pub struct CoreFiles {
+    pub core: Vec<u8>,
+    pub trace: Vec<u8>,
+    pub manner: Manner,
+}
+
 /// What the words ask for: the files of a crash, which are loaded, or a made run.
 #[derive(Drop)]
 pub enum Asked {
     Files(CrashFiles),
+    Maps(CoreFiles),
     Made { seed: u32, steps: u32 },
 }
 
@@ -113,6 +122,33 @@ fn load_names<H: Shelf>(
     }
 }
 
+/// Loads the core file and the trace, in this order.
+fn load_core_names<H: Shelf>(
+    alloc: Global,
+    shelf: &mut H,
+    names: CoreNames<'_>,
+    manner: Manner,
+) -> Result<CoreFiles, Refusal>
+    ensures loaded { IfOk result (λ l. IfSome (H.port shelf.old).files (λ files. fetched_core files (core_named_by names.entry) manner ≡ LoadedCore (core_bytes l.core.items l.trace.items l.manner))) }
+    ensures within { IfOk result (λ l. length l.trace.items ≤ limit_of FileKind.Trace) }
+    ensures both { IfOk result (λ l. BothLoaded (core_named_by names.entry) l.core.items (move (H.port shelf.old) (H.port shelf.new))) }
+    ensures faults { ShelfMoves (move (H.port shelf.old) (H.port shelf.new)) result }
+    ensures refused { IfErr result (λ r. (kind : FileKind) × CoreStopsAt (move (H.port shelf.old) (H.port shelf.new)) (core_named_by names.entry) kind r) }
+{
+    let core = match load_file(alloc, shelf, names.core, FileKind::Core) {
+        Ok(core) => core,
+        Err(refusal) => return Err(refusal),
+    };
+    match load_file(alloc, shelf, names.trace, FileKind::Trace) {
+        Ok(trace) => Ok(CoreFiles {
+            core,
+            trace,
+            manner,
+        }),
+        Err(refusal) => Err(refusal),
+    }
+}
+
 /// Loads the files that the words name, if they ask for files.
 pub fn load_files<H: Shelf>(
     alloc: Global,
@@ -144,6 +180,16 @@ pub fn load_files<H: Shelf>(
             };
             match load_names(alloc, shelf, names, manner) {
                 Ok(files) => Ok(Asked::Files(files)),
+                Err(refusal) => Err(refusal),
+            }
+        }
+        Ok(Some(Request::Maps { names, from })) => {
+            let manner = Manner {
+                from: first_packet_of(from),
+                domain: Domain::Ranges,
+            };
+            match load_core_names(alloc, shelf, names, manner) {
+                Ok(files) => Ok(Asked::Maps(files)),
                 Err(refusal) => Err(refusal),
             }
         }

@@ -2,7 +2,7 @@
 
 ghost use Rattle.std.specs.Prelude.{◌≡◌, ◌++◌, IfOk, OnOk, codes};
 ghost use Rattle.std.specs.Fmt.{decimal};
-ghost use Rattle.rept_app.specs.Lines.{line_of, status_of, status_of_path, file_word, elf_fault_text, core_fault_text, conflict_text, two_values_text, cell_text, value_text_in};
+ghost use Rattle.rept_app.specs.Lines.{line_of, status_of, status_of_path, file_word, elf_fault_text, core_fault_text, map_fault_text, conflict_text, two_values_text, cell_text, value_text_in};
 
 use crate::path_line::push_path_fault;
 use crate::status::Status;
@@ -10,6 +10,7 @@ use crate::texts::push_numbered;
 use rept_dump::CoreFault;
 use rept_elf::ElfFault;
 use rept_isa::Reg;
+use rept_maps::MapFault;
 use rept_path::PathFault;
 use rept_reason::Cell;
 use rept_report::ConflictKind;
@@ -37,6 +38,8 @@ pub enum Refusal {
     CoreImage(ElfFault),
     /// The core file's notes don't give the registers of one thread.
     Core(CoreFault),
+    /// The core file's list of mapped files is refused.
+    Maps(MapFault),
     /// The trace is refused, or has no path.
     Path(PathFault),
     Inconsistent(ConflictKind),
@@ -56,7 +59,7 @@ impl Refusal {
             Refusal::NoFile(_) => Status::NoFile,
             Refusal::TooLarge(_) => Status::TooLarge,
             Refusal::Executable(_) => Status::Executable,
-            Refusal::CoreImage(_) | Refusal::Core(_) => Status::Core,
+            Refusal::CoreImage(_) | Refusal::Core(_) | Refusal::Maps(_) => Status::Core,
             Refusal::Path(fault) => path_status(fault),
             Refusal::Inconsistent(_) => Status::Inconsistent,
             Refusal::InputFault => Status::InputFault,
@@ -72,7 +75,9 @@ impl Refusal {
         let mut text = Text::new(alloc);
         match self {
             Refusal::Usage => {
-                text.push(b"usage: rept open|bits EXE CORE TRACE [FROM] | rept self SEED STEPS")?
+                text.push(
+                    b"usage: rept open|bits EXE CORE TRACE [FROM] | rept self SEED STEPS | rept maps CORE TRACE [FROM]",
+                )?
             }
             Refusal::LoadFault(file) => push_file(&mut text, b"load-fault ", *file)?,
             Refusal::NoFile(file) => push_file(&mut text, b"no-file ", *file)?,
@@ -80,6 +85,7 @@ impl Refusal {
             Refusal::Executable(fault) => push_elf_fault(&mut text, b"executable ", fault)?,
             Refusal::CoreImage(fault) => push_elf_fault(&mut text, b"core-image ", fault)?,
             Refusal::Core(fault) => push_core_fault(&mut text, fault)?,
+            Refusal::Maps(fault) => push_map_fault(&mut text, fault)?,
             Refusal::Path(fault) => push_path_fault(&mut text, fault)?,
             Refusal::Inconsistent(kind) => push_conflict(&mut text, kind)?,
             Refusal::InputFault => text.push(b"input-fault")?,
@@ -144,6 +150,18 @@ fn push_core_fault(text: &mut Text, fault: &CoreFault) -> Result<(), OutOfMemory
         CoreFault::SeveralThreads(count) => push_numbered(text, b"core 4 ", *count),
         CoreFault::SameThread(pid) => push_numbered(text, b"core 5 ", u64::from(*pid)),
         CoreFault::TooManyThreads(count) => push_numbered(text, b"core 6 ", *count),
+    }
+}
+
+/// `core`, and the number of a fault of the list of mapped files with its argument.
+fn push_map_fault(text: &mut Text, fault: &MapFault) -> Result<(), OutOfMemory>
+    ensures { OnOk result (text.new ≡ text.old ++ map_fault_text fault.now) }
+{
+    match fault {
+        MapFault::NotePastEnd(offset) => push_numbered(text, b"core 3 ", *offset),
+        MapFault::NoMap => text.push(b"core 7"),
+        MapFault::BadMap(offset) => push_numbered(text, b"core 8 ", *offset),
+        MapFault::TooManyMaps(count) => push_numbered(text, b"core 9 ", u64::from(*count)),
     }
 }
 

@@ -7,12 +7,13 @@ ghost use Rattle.rept_app.specs.Ends.{EndsSession};
 ghost use Rattle.rept_app.specs.Loading.{NamesNone};
 ghost use Rattle.rept_app.specs.Promise.{Promise};
 ghost use Rattle.rept_app.specs.Told.{AskedHolds, BitsKnowMore, Writes, Holds, ReportHolds, NoExecution, given};
-ghost use Rattle.rept_app.specs.Top.{AskedEnds, TopCauses, LoadsOf, EndsByFiles, NoneFails, Completes};
+ghost use Rattle.rept_app.specs.Top.{AskedEnds, FaultsEnd, ShelfCauses, TopCauses, LoadsOf, EndsByFiles, NoneFails, Completes};
 ghost use Rattle.rept_words.specs.Words.{meaning_of};
 
 use crate::examine::examine;
 use crate::load::{Asked, load_files};
 use crate::made_run::tell_made_run;
+use crate::mapped::examine_mapped;
 use crate::status::Status;
 use crate::telling::tell;
 use rept_amo::Atomic;
@@ -30,6 +31,9 @@ use std::alloc::Global;
 /// inferred from what the core file has of them, with values followed as ranges by `open`, and as ranges with known bits by `bits`; and each command is answered on the output. Where the files contradict each other,
 /// or something is refused, one line is written before the status.
 ///
+/// Or they are `maps CORE TRACE`: the files of the program are those that the core file lists as mapped, which are loaded by their names. The first 64 that differ are, one after the
+/// other; one that is missing, too large or no image is passed over.
+///
 /// Or they are `self SEED STEPS`: the three files of a made crash take the place of files, and the command `summary` that of the input.
 pub fn rept<H: Shelf, S: Source, K: Sink>(
     alloc: Global,
@@ -43,8 +47,11 @@ pub fn rept<H: Shelf, S: Source, K: Sink>(
     ensures promise { IfSome (H.port shelf.old).files (λ files. IfSome (S.port input.old).bytes (λ left.
         Promise (given (map string_bytes words.now) files (move (H.port shelf.old) (H.port shelf.new)) (record { input = left; left = (S.port input.new).bytes })) (move (K.port out.old) (K.port out.new)) result)) }
 
-    // Each fault has its cause and ends the call, for ports that tell their bytes and for ports that don't. The files stay.
+    // Each fault has its cause, for ports that tell their bytes and for ports that don't, and one of the input or the output ends the call. The files stay.
     ensures causes { TopCauses (move (H.port shelf.old) (H.port shelf.new)) (move (S.port input.old) (S.port input.new)) (move (K.port out.old) (K.port out.new)) result }
+
+    // A fault of the shelf ends the call too, unless it is that of a mapped file that is passed over.
+    ensures once { FaultsEnd (meaning_of (map string_bytes words.now)) (H.port shelf.old).files → ShelfCauses (move (H.port shelf.old) (H.port shelf.new)) result }
 
     // The words alone decide on the usage line.
     ensures usage { result ≡ Status.Usage → meaning_of (map string_bytes words.now) ≡ None }
@@ -92,6 +99,7 @@ pub fn rept<H: Shelf, S: Source, K: Sink>(
             let trace = files.trace.as_slice();
             examine(alloc, exe, core, trace, files.manner, input, out)
         }
+        Ok(Asked::Maps(files)) => examine_mapped(alloc, shelf, &files, input, out),
         Ok(Asked::Made { seed, steps }) => tell_made_run(alloc, seed, steps, out),
         Err(refusal) => tell(alloc, out, &refusal),
     }

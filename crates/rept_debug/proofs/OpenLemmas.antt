@@ -5,13 +5,13 @@ use Rattle.rept_ports.specs.Shelves.{Files, Shelved}
 use Rattle.rept_ports.specs.declared.arguments.Unreadable.{Unreadable}
 use Rattle.rept_app.proofs.TopLemmas.{ReportsAreTrue, Stops}
 use Rattle.rept_app.specs.Lines.{status_of}
-use Rattle.rept_app.specs.Loading.{CrashBytes, Loading, MatchLoading, crash_bytes, loading}
+use Rattle.rept_app.specs.Loading.{CrashBytes, Loading, crash_bytes, loading}
 use Rattle.rept_app.specs.Loading.Loading.{Loaded}
 use Rattle.rept_app.specs.Told.{crash_at, trace_in}
 use Rattle.rept_app.specs.declared.load.Manner.{Manner}
 use Rattle.rept_app.specs.declared.refusal.Refusal.{Refusal}
 use Rattle.rept_app.specs.declared.refusal.Refusal.TheVariants as refusal
-use Rattle.rept_debug.specs.Debugged.{IsDebugged, IsHeld, IsRefused, IsRefusedCrash, Notices, Streams, streams}
+use Rattle.rept_debug.specs.Debugged.{IsDebugged, IsHeld, IsRefused, IsRefusedLoading, Notices, Streams, streams}
 use Rattle.rept_debug.specs.Process.{IsUntouched, Opens, OpensAs, Process, RefusesAs, session_words}
 use Rattle.rept_debug.specs.declared.debugging.Talk.{Talk}
 
@@ -34,7 +34,7 @@ pub refused_words : (words : List (List ℕ)) (files : Files) (old new : Shelved
 refused_words words files old new r (inl h) = inr (inl h)
 refused_words words files old new r (inr (inl e)) = inr (inr (ap status_of e))
 refused_words words files old new r (inr (inr e)) =
-    inl (subst (λ (l : Loading). MatchLoading l (λ named. r ≡ named) (λ bytes. IsRefusedCrash bytes r) (λ seed steps. r ≡ refusal.Usage)) (sym e) refl)
+    inl (subst (λ (l : Loading). IsRefusedLoading l r) (sym e) refl)
 
 -- the process opens what its words name
 pub opened : (p : Process) (words ws : List (List ℕ)) (r : Result Talk Refusal) → p.words ≡ Ok words → ws ≡ session_words words

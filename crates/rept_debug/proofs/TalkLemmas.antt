@@ -45,10 +45,10 @@ stopped p stop.OutOfMemory has none = inr refl
 pub held_at : (exe core trace : List ℕ) (manner : Manner) (dump : Dump) → IsDumpOf exe core dump → (io : Streams) (talk : Talk) → IsHeldTrace (crash_trace (crash_of dump) trace manner) io talk → IsHeld (crash_bytes exe core trace manner) io talk
 held_at exe core trace manner dump is io talk h = record {
   note = registers_of dump;
-  read = record { exe_accepted = is.exe_accepted; core_accepted = is.core_accepted; noted = is.noted };
+  read = record { program_accepted = is.exe_accepted; core_accepted = is.core_accepted; noted = is.noted };
   held = subst (λ (s : Crash). IsHeldTrace (crash_trace s trace manner) io talk) is.crash h;
 }
 
 pub refused_at : (exe core trace : List ℕ) (manner : Manner) (dump : Dump) → IsDumpOf exe core dump → (r : Refusal) → IsRefusedTrace (crash_trace (crash_of dump) trace manner) r → IsRefusedCrash (crash_bytes exe core trace manner) r
 refused_at exe core trace manner dump is r h =
-    inr (registers_of dump, record { exe_accepted = is.exe_accepted; core_accepted = is.core_accepted; noted = is.noted }, subst (λ (s : Crash). IsRefusedTrace (crash_trace s trace manner) r) is.crash h)
+    inr (registers_of dump, record { program_accepted = is.exe_accepted; core_accepted = is.core_accepted; noted = is.noted }, subst (λ (s : Crash). IsRefusedTrace (crash_trace s trace manner) r) is.crash h)

@@ -17,10 +17,10 @@ use Rattle.rept_found.specs.Truth.{HasNoExecution, IsTrueReport}
 use Rattle.rept_dialog.specs.Converse.{Parties, Converses, parties_over}
 use Rattle.rept_dialog.specs.declared.conversation.Conversed.{Conversed}
 use Rattle.rept_app.specs.Lines.{status_of}
-use Rattle.rept_app.specs.Loading.{CrashBytes, ComesTo, MatchLoading, loading, loads_to}
-use Rattle.rept_app.specs.Loading.Loading.{Loaded}
+use Rattle.rept_app.specs.Loading.{CrashBytes, ComesTo, ComesToCore, Loading, core_loads_to, loading, loads_to}
+use Rattle.rept_app.specs.Loading.Loading.{Loaded, LoadedCore, MadeRun, Refused}
 use Rattle.rept_app.specs.Path.{IsTracePath}
-use Rattle.rept_app.specs.Reading.{HasNoDump}
+use Rattle.rept_app.specs.Reading.{HasNoCrash}
 use Rattle.rept_app.specs.Told.{CrashPath, CrashTrace, IsAccountOf, Reads, path_in, route_of, setting_of, trace_in}
 use Rattle.rept_app.specs.declared.refusal.FileKind.{FileKind}
 use Rattle.rept_app.specs.declared.refusal.Refusal.{Refusal}
@@ -101,7 +101,7 @@ pub record IsHeld (bytes : CrashBytes) (io : Streams) (talk : Talk) : Type 0 whe
 
 -- the files are refused; or their trace is
 abbrev pub IsRefusedCrash : CrashBytes → Refusal → Type 0
-IsRefusedCrash bytes r = HasNoDump bytes.exe bytes.core r ⊎ ((note : List ℕ) × Reads bytes note × IsRefusedTrace (trace_in bytes note) r)
+IsRefusedCrash bytes r = HasNoCrash bytes r ⊎ ((note : List ℕ) × Reads bytes note × IsRefusedTrace (trace_in bytes note) r)
 
 -- the words and the files come to a crash; what arrived was answered over its report; and all that the report tells holds in every execution of
 -- the path that ends in the crash
@@ -111,10 +111,17 @@ pub record IsDebugged (words : List (List ℕ)) (files : Files) (io : Streams) (
   pub held : IsHeld bytes io talk
   pub holds : IsTrueReport (route_of (path_in (trace_in bytes held.note) held.held.path)) held.held.over.account.known
 
--- Why nothing is answered: the words have no meaning, or ask for a made run; a file is missing or too large; the crash is refused; a load failed,
+-- why nothing is answered of what was loaded: it is refused; or the words ask for mapped files or a made run
+abbrev pub IsRefusedLoading : Loading → Refusal → Type 0
+IsRefusedLoading (Refused named) r = r ≡ named
+IsRefusedLoading (Loaded bytes) r = IsRefusedCrash bytes r
+IsRefusedLoading (LoadedCore bytes) r = r ≡ refusal.Usage
+IsRefusedLoading (MadeRun seed steps) r = r ≡ refusal.Usage
+
+-- Why nothing is answered: the words have no meaning, or ask for mapped files or a made run; a file is missing or too large; the crash is refused; a load failed,
 -- after those before it; or memory ran out.
 abbrev pub IsRefused : List (List ℕ) → Files → Move Shelved → Refusal → Type 0
 IsRefused words files shelf r =
-    MatchLoading (loading words files) (λ named. r ≡ named) (λ bytes. IsRefusedCrash bytes r) (λ seed steps. r ≡ refusal.Usage)
-    ⊎ ((kind : FileKind) × (r ≡ refusal.LoadFault kind) × ComesTo words files kind × (shelf.after.loads ≡ loads_to kind shelf.before.loads))
+    IsRefusedLoading (loading words files) r
+    ⊎ ((kind : FileKind) × (r ≡ refusal.LoadFault kind) × ((ComesTo words files kind × (shelf.after.loads ≡ loads_to kind shelf.before.loads)) ⊎ (ComesToCore words files kind × (shelf.after.loads ≡ core_loads_to kind shelf.before.loads))))
     ⊎ (status_of r ≡ ends.OutOfMemory)

@@ -38,7 +38,7 @@ pub struct Talk {
 
 /// Opens the crash that the words name, as a session does, and answers a debugger over its report: `open EXE CORE TRACE` (or `bits`) and maybe the
 /// number of a packet. From the first packet, where that path has too many steps, it begins from a later one. The refusals are those of a session,
-/// in its order, and words that ask for a made run are refused as usage. At a refusal nothing was read or written.
+/// in its order, and words that ask for mapped files or a made run are refused as usage. At a refusal nothing was read or written.
 pub fn debug<H: Shelf, S: Source, K: Sink, E: Sink>(
     alloc: Global,
     words: &[String],
@@ -62,6 +62,7 @@ pub fn debug<H: Shelf, S: Source, K: Sink, E: Sink>(
     reports_are_true::<Both, Atomic>();
     match load_files(alloc, words, shelf) {
         Ok(Asked::Files(files)) => debug_files(alloc, &files, input, out, errors),
+        Ok(Asked::Maps(_)) => Err(Refusal::Usage),
         Ok(Asked::Made { .. }) => Err(Refusal::Usage),
         Err(refusal) => Err(refusal),
     }

@@ -8,7 +8,7 @@ use Rattle.rept_words.specs.Words.{meaning_of}
 use Rattle.rept_app.specs.Delivered.{Delivers, Says}
 use Rattle.rept_app.specs.Promise.{Promise}
 use Rattle.rept_app.specs.Told.{Given, Writes, given}
-use Rattle.rept_app.specs.Top.{TopCauses, EndsByFiles}
+use Rattle.rept_app.specs.Top.{FaultsEnd, ShelfCauses, TopCauses, EndsByFiles}
 use Rattle.rept_app.specs.declared.refusal.Refusal.TheVariants as refusal
 use Rattle.rept_app.specs.declared.status.Status.{Status}
 use Rattle.rept_app.specs.declared.status.Status.TheVariants as ends
@@ -42,6 +42,7 @@ given_to p files input = given (words_read p.words) files p.shelf (record { inpu
 pub record Answers (p : Process) (status : Status) : Type 0 where
   pub promise : AreRead p.words → IfSome p.shelf.before.files (λ files. IfSome p.input.before.bytes (λ input. Promise (given_to p files input) p.output status))
   pub causes : TopCauses p.shelf p.input p.output status
+  pub once : FaultsEnd (meaning_of (words_read p.words)) p.shelf.before.files → ShelfCauses p.shelf status
   pub usage : status ≡ ends.Usage → meaning_of (words_read p.words) ≡ None
   pub files : AreRead p.words → IfSome p.shelf.before.files (λ files. EndsByFiles (words_read p.words) files status)
   pub text : AreRead p.words → IfSome p.shelf.before.files (λ files. IfSome p.input.before.bytes (λ input. Delivers (Writes (given_to p files input)) p.output status))

@@ -204,28 +204,92 @@ makes (w ∷ x ∷ y ∷ z ∷ v ∷ []) (more (plain p) (more (plain q) (more (
     refused (codes "self" ∷ w ∷ x ∷ y ∷ z ∷ v ∷ []) (over_five _ _ _ _ _ _ _ _ _ _ p q r s t) refl
 makes (w ∷ x ∷ y ∷ z ∷ v ∷ u ∷ ws) a h = absurd (omega arith)
 
+-- after `maps`
+maps_none : has_fault (fault_of rept_app (codes "maps" ∷ [])) ≡ true
+unfolding clap_on_literals
+maps_none = refl
+
+maps_one : (e0 : ℕ) (e : List ℕ) → nat_eq e0 45 ≡ false → has_fault (fault_of rept_app (codes "maps" ∷ (e0 ∷ e) ∷ [])) ≡ true
+unfolding clap_on_literals
+maps_one e0 e he = rw (he, he) refl
+
+maps_two : (e0 c0 : ℕ) (e c : List ℕ) → nat_eq e0 45 ≡ false → nat_eq c0 45 ≡ false → fault_of rept_app (codes "maps" ∷ (e0 ∷ e) ∷ (c0 ∷ c) ∷ []) ≡ []
+unfolding clap_on_literals
+maps_two e0 c0 e c he hc = rw (he, he) (rw (hc, hc) refl)
+
+maps_three : (e0 c0 t0 : ℕ) (e c t : List ℕ) → nat_eq e0 45 ≡ false → nat_eq c0 45 ≡ false → nat_eq t0 45 ≡ false → fault_of rept_app (codes "maps" ∷ (e0 ∷ e) ∷ (c0 ∷ c) ∷ (t0 ∷ t) ∷ []) ≡ []
+unfolding clap_on_literals
+maps_three e0 c0 t0 e c t he hc ht = rw (he, he) (rw (hc, hc) (rw (ht, ht) refl))
+
+maps_four : (e0 c0 t0 f0 : ℕ) (e c t f : List ℕ) → nat_eq e0 45 ≡ false → nat_eq c0 45 ≡ false → nat_eq t0 45 ≡ false → nat_eq f0 45 ≡ false
+    → has_fault (fault_of rept_app (codes "maps" ∷ (e0 ∷ e) ∷ (c0 ∷ c) ∷ (t0 ∷ t) ∷ (f0 ∷ f) ∷ [])) ≡ true
+unfolding clap_on_literals
+maps_four e0 c0 t0 f0 e c t f he hc ht hf = rw (he, he) (rw (hc, hc) (rw (ht, ht) (rw (hf, hf) refl)))
+
+maps_five : (e0 c0 t0 f0 g0 : ℕ) (e c t f g : List ℕ) → nat_eq e0 45 ≡ false → nat_eq c0 45 ≡ false → nat_eq t0 45 ≡ false → nat_eq f0 45 ≡ false → nat_eq g0 45 ≡ false
+    → has_fault (fault_of rept_app (codes "maps" ∷ (e0 ∷ e) ∷ (c0 ∷ c) ∷ (t0 ∷ t) ∷ (f0 ∷ f) ∷ (g0 ∷ g) ∷ [])) ≡ true
+unfolding clap_on_literals
+maps_five e0 c0 t0 f0 g0 e c t f g he hc ht hf hg = rw (he, he) (rw (hc, hc) (rw (ht, ht) (rw (hf, hf) refl)))
+
+abbrev core_rows : Text → Text → List Row
+core_rows c t = row (needed (codes "core")) c ∷ row (needed (codes "trace")) t ∷ []
+
+core_rows_of_two : (e0 c0 : ℕ) (e c : List ℕ) → nat_eq e0 45 ≡ false → nat_eq c0 45 ≡ false
+    → subcommand_of rept_app (codes "maps" ∷ (e0 ∷ e) ∷ (c0 ∷ c) ∷ []) ≡ Some (codes "maps", core_rows (e0 ∷ e) (c0 ∷ c))
+unfolding clap_on_literals
+core_rows_of_two e0 c0 e c he hc = rw (he, he) (rw (hc, hc) refl)
+
+core_rows_of_three : (e0 c0 t0 : ℕ) (e c t : List ℕ) → nat_eq e0 45 ≡ false → nat_eq c0 45 ≡ false → nat_eq t0 45 ≡ false
+    → subcommand_of rept_app (codes "maps" ∷ (e0 ∷ e) ∷ (c0 ∷ c) ∷ (t0 ∷ t) ∷ []) ≡ Some (codes "maps", core_rows (e0 ∷ e) (c0 ∷ c) ++ row (other (codes "from")) (t0 ∷ t) ∷ [])
+unfolding clap_on_literals
+core_rows_of_three e0 c0 t0 e c t he hc ht = rw (he, he) (rw (hc, hc) (rw (ht, ht) refl))
+
+found_core : (c t : Text) → found_meaning (Some (codes "maps", core_rows c t)) ≡ plain_meaning (codes "maps" ∷ c ∷ t ∷ [])
+found_core c t = refl
+
+found_core_from : (c t f : Text) → found_meaning (Some (codes "maps", core_rows c t ++ row (other (codes "from")) f ∷ [])) ≡ plain_meaning (codes "maps" ∷ c ∷ t ∷ f ∷ [])
+found_core_from c t f = refl
+
+maps : (ws : List Text) → AllPlain ws → length ws ≤ 5 → Outcome (codes "maps" ∷ ws)
+maps [] none h = refused (codes "maps" ∷ []) maps_none refl
+maps (w ∷ []) (more (plain p) none) h = refused (codes "maps" ∷ w ∷ []) (maps_one _ _ p) refl
+maps (w ∷ x ∷ []) (more (plain p) (more (plain q) none)) h =
+    taken (codes "maps" ∷ w ∷ x ∷ []) (maps_two _ _ _ _ p q) (ap found_meaning (core_rows_of_two _ _ _ _ p q) ∙ found_core w x)
+maps (w ∷ x ∷ y ∷ []) (more (plain p) (more (plain q) (more (plain r) none))) h =
+    taken (codes "maps" ∷ w ∷ x ∷ y ∷ []) (maps_three _ _ _ _ _ _ p q r) (ap found_meaning (core_rows_of_three _ _ _ _ _ _ p q r) ∙ found_core_from w x y)
+maps (w ∷ x ∷ y ∷ z ∷ []) (more (plain p) (more (plain q) (more (plain r) (more (plain s) none)))) h =
+    refused (codes "maps" ∷ w ∷ x ∷ y ∷ z ∷ []) (maps_four _ _ _ _ _ _ _ _ p q r s) refl
+maps (w ∷ x ∷ y ∷ z ∷ v ∷ []) (more (plain p) (more (plain q) (more (plain r) (more (plain s) (more (plain t) none))))) h =
+    refused (codes "maps" ∷ w ∷ x ∷ y ∷ z ∷ v ∷ []) (maps_five _ _ _ _ _ _ _ _ _ _ p q r s t) refl
+maps (w ∷ x ∷ y ∷ z ∷ v ∷ u ∷ ws) a h = absurd (omega arith)
+
 -- the same, of words that are screened
 abbrev IsNamed : Text → Type 0
-IsNamed first = (bytes_eq first (codes "open") ≡ true) ⊎ (bytes_eq first (codes "bits") ≡ true) ⊎ (bytes_eq first (codes "self") ≡ true)
+IsNamed first = (bytes_eq first (codes "open") ≡ true) ⊎ (bytes_eq first (codes "bits") ≡ true) ⊎ (bytes_eq first (codes "maps") ≡ true) ⊎ (bytes_eq first (codes "self") ≡ true)
 
 abbrev named : Text → Bool
-named first = bytes_eq first (codes "open") || bytes_eq first (codes "bits") || bytes_eq first (codes "self")
+named first = bytes_eq first (codes "open") || bytes_eq first (codes "bits") || bytes_eq first (codes "maps") || bytes_eq first (codes "self")
 
 named_by : (first : Text) → named first ≡ true → IsNamed first
-named_by first h = by_last (one_true (bytes_eq first (codes "open") || bytes_eq first (codes "bits")) (bytes_eq first (codes "self")) h)
+named_by first h = by_last (one_true (bytes_eq first (codes "open") || bytes_eq first (codes "bits") || bytes_eq first (codes "maps")) (bytes_eq first (codes "self")) h)
   where
     by_two : (bytes_eq first (codes "open") ≡ true) ⊎ (bytes_eq first (codes "bits") ≡ true) → IsNamed first
     by_two (inl k) = inl k
     by_two (inr k) = inr (inl k)
 
-    by_last : ((bytes_eq first (codes "open") || bytes_eq first (codes "bits")) ≡ true) ⊎ (bytes_eq first (codes "self") ≡ true) → IsNamed first
-    by_last (inl k) = by_two (one_true (bytes_eq first (codes "open")) (bytes_eq first (codes "bits")) k)
-    by_last (inr k) = inr (inr k)
+    by_three : ((bytes_eq first (codes "open") || bytes_eq first (codes "bits")) ≡ true) ⊎ (bytes_eq first (codes "maps") ≡ true) → IsNamed first
+    by_three (inl k) = by_two (one_true (bytes_eq first (codes "open")) (bytes_eq first (codes "bits")) k)
+    by_three (inr k) = inr (inr (inl k))
+
+    by_last : ((bytes_eq first (codes "open") || bytes_eq first (codes "bits") || bytes_eq first (codes "maps")) ≡ true) ⊎ (bytes_eq first (codes "self") ≡ true) → IsNamed first
+    by_last (inl k) = by_three (one_true (bytes_eq first (codes "open") || bytes_eq first (codes "bits")) (bytes_eq first (codes "maps")) k)
+    by_last (inr k) = inr (inr (inr k))
 
 by_first : (first : Text) (ws : List Text) → IsNamed first → AllPlain ws → length ws ≤ 5 → Outcome (first ∷ ws)
 by_first first ws (inl h) bare few = let is : first ≡ codes "open" = search rules in subst (λ w. Outcome (w ∷ ws)) (sym is) (opens domain.Ranges ws bare few)
 by_first first ws (inr (inl h)) bare few = let is : first ≡ codes "bits" = search rules in subst (λ w. Outcome (w ∷ ws)) (sym is) (opens domain.KnownBits ws bare few)
-by_first first ws (inr (inr h)) bare few = let is : first ≡ codes "self" = search rules in subst (λ w. Outcome (w ∷ ws)) (sym is) (makes ws bare few)
+by_first first ws (inr (inr (inl h))) bare few = let is : first ≡ codes "maps" = search rules in subst (λ w. Outcome (w ∷ ws)) (sym is) (maps ws bare few)
+by_first first ws (inr (inr (inr h))) bare few = let is : first ≡ codes "self" = search rules in subst (λ w. Outcome (w ∷ ws)) (sym is) (makes ws bare few)
 
 pub screened : (words : List Text) → is_screened words ≡ true → Outcome words
 screened [] h = let bad : ⊥ = cc in absurd bad
@@ -240,7 +304,8 @@ plain_first (b ∷ bs) h = by (named_by (b ∷ bs) h)
     by : IsNamed (b ∷ bs) → is_plain (b ∷ bs) ≡ true
     by (inl h) = let is : b ∷ bs ≡ codes "open" = search rules in ap is_plain is
     by (inr (inl h)) = let is : b ∷ bs ≡ codes "bits" = search rules in ap is_plain is
-    by (inr (inr h)) = let is : b ∷ bs ≡ codes "self" = search rules in ap is_plain is
+    by (inr (inr (inl h))) = let is : b ∷ bs ≡ codes "maps" = search rules in ap is_plain is
+    by (inr (inr (inr h))) = let is : b ∷ bs ≡ codes "self" = search rules in ap is_plain is
 
 -- screened words are plain
 pub screened_meaning : (words : List Text) → is_screened words ≡ true → meaning_of words ≡ plain_meaning words
@@ -263,13 +328,13 @@ long_meaning first (w ∷ x ∷ y ∷ z ∷ v ∷ ws) h = refl
 no_domain : (first : Text) → bytes_eq first (codes "open") ≡ false → bytes_eq first (codes "bits") ≡ false → domain_of first ≡ None
 no_domain first ho hb = rw (ho, hb) refl
 
-other_meaning : (first : Text) (ws : List Text) → bytes_eq first (codes "open") ≡ false → bytes_eq first (codes "bits") ≡ false → bytes_eq first (codes "self") ≡ false → plain_meaning (first ∷ ws) ≡ None
-other_meaning first [] ho hb hs = refl
-other_meaning first (w ∷ []) ho hb hs = refl
-other_meaning first (w ∷ x ∷ []) ho hb hs = rw (hs) refl
-other_meaning first (w ∷ x ∷ y ∷ []) ho hb hs = ap (λ o. option_and_then (λ d. Some (Open d (record { exe = w; core = x; trace = y }) None)) o) (no_domain first ho hb)
-other_meaning first (w ∷ x ∷ y ∷ z ∷ []) ho hb hs = ap (λ o. option_and_then (λ d. option_and_then (λ k. Some (Open d (record { exe = w; core = x; trace = y }) (Some k))) (decimal_of z)) o) (no_domain first ho hb)
-other_meaning first (w ∷ x ∷ y ∷ z ∷ v ∷ ws) ho hb hs = refl
+other_meaning : (first : Text) (ws : List Text) → bytes_eq first (codes "open") ≡ false → bytes_eq first (codes "bits") ≡ false → bytes_eq first (codes "maps") ≡ false → bytes_eq first (codes "self") ≡ false → plain_meaning (first ∷ ws) ≡ None
+other_meaning first [] ho hb hm hs = refl
+other_meaning first (w ∷ []) ho hb hm hs = refl
+other_meaning first (w ∷ x ∷ []) ho hb hm hs = rw (hs, hm) refl
+other_meaning first (w ∷ x ∷ y ∷ []) ho hb hm hs = rw (hm) (ap (λ o. option_and_then (λ d. Some (Open d (record { exe = w; core = x; trace = y }) None)) o) (no_domain first ho hb))
+other_meaning first (w ∷ x ∷ y ∷ z ∷ []) ho hb hm hs = ap (λ o. option_and_then (λ d. option_and_then (λ k. Some (Open d (record { exe = w; core = x; trace = y }) (Some k))) (decimal_of z)) o) (no_domain first ho hb)
+other_meaning first (w ∷ x ∷ y ∷ z ∷ v ∷ ws) ho hb hm hs = refl
 
 unplain : (words : List Text) → list_all is_plain words ≡ false → meaning_of words ≡ None
 unplain words h = ap (λ q. cond q (plain_meaning words) None) h
@@ -283,17 +348,18 @@ meaningless words h = by (list_all is_plain words)
 
 pub unscreened : (words : List Text) → is_screened words ≡ false → meaning_of words ≡ None
 unscreened [] h = refl
-unscreened (first ∷ ws) h = by (bytes_eq first (codes "open")) (bytes_eq first (codes "bits")) (bytes_eq first (codes "self")) (nat_le (length ws) 5) (list_all is_plain ws) refl refl refl refl refl h
+unscreened (first ∷ ws) h = by (bytes_eq first (codes "open")) (bytes_eq first (codes "bits")) (bytes_eq first (codes "maps")) (bytes_eq first (codes "self")) (nat_le (length ws) 5) (list_all is_plain ws) refl refl refl refl refl refl h
   where
-    by : (o b s n p : Bool) → bytes_eq first (codes "open") ≡ o → bytes_eq first (codes "bits") ≡ b → bytes_eq first (codes "self") ≡ s → nat_le (length ws) 5 ≡ n → list_all is_plain ws ≡ p → ((o || b || s) && (n && p)) ≡ false
+    by : (o b m s n p : Bool) → bytes_eq first (codes "open") ≡ o → bytes_eq first (codes "bits") ≡ b → bytes_eq first (codes "maps") ≡ m → bytes_eq first (codes "self") ≡ s → nat_le (length ws) 5 ≡ n → list_all is_plain ws ≡ p → ((o || b || m || s) && (n && p)) ≡ false
         → meaning_of (first ∷ ws) ≡ None
-    by false false false n p ho hb hs hn hp h = meaningless (first ∷ ws) (other_meaning first ws ho hb hs)
-    by o b s false p ho hb hs hn hp h = meaningless (first ∷ ws) (long_meaning first ws hn)
-    by o b s n false ho hb hs hn hp h = unplain (first ∷ ws) (last (is_plain first))
+    by false false false false n p ho hb hm hs hn hp h = meaningless (first ∷ ws) (other_meaning first ws ho hb hm hs)
+    by o b m s false p ho hb hm hs hn hp h = meaningless (first ∷ ws) (long_meaning first ws hn)
+    by o b m s n false ho hb hm hs hn hp h = unplain (first ∷ ws) (last (is_plain first))
       where
         last : (q : Bool) → (q && list_all is_plain ws) ≡ false
         last true = hp
         last false = refl
-    by true b s true true ho hb hs hn hp h = let bad : ⊥ = cc in absurd bad
-    by false true s true true ho hb hs hn hp h = let bad : ⊥ = cc in absurd bad
-    by false false true true true ho hb hs hn hp h = let bad : ⊥ = cc in absurd bad
+    by true b m s true true ho hb hm hs hn hp h = let bad : ⊥ = cc in absurd bad
+    by false true m s true true ho hb hm hs hn hp h = let bad : ⊥ = cc in absurd bad
+    by false false true s true true ho hb hm hs hn hp h = let bad : ⊥ = cc in absurd bad
+    by false false false true true true ho hb hm hs hn hp h = let bad : ⊥ = cc in absurd bad

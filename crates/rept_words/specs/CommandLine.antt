@@ -1,4 +1,4 @@
--- The command line as a command of `clap`: three subcommands, whose words go by their places. This project's own.
+-- The command line as a command of `clap`: four subcommands, whose words go by their places. This project's own.
 use Rattle.std.specs.Prelude.{true, Some, codes}
 use Rattle.clap.specs.Words.{App, Rule, Text, new_app, new_rule, with_rule, with_subcommand}
 use Rattle.clap.specs.declared.builder.ArgAction.TheVariants.{Set}
@@ -18,6 +18,10 @@ plain_app name = record (new_app name) { top = record (new_app name).top { disab
 abbrev pub files_app : Text → App
 files_app name = with_rule (with_rule (with_rule (with_rule (plain_app name) (needed (codes "exe"))) (needed (codes "core"))) (needed (codes "trace"))) (other (codes "from"))
 
+-- one whose words are a core file and a trace, and maybe a packet's number
+abbrev pub maps_app : App
+maps_app = with_rule (with_rule (with_rule (plain_app (codes "maps")) (needed (codes "core"))) (needed (codes "trace"))) (other (codes "from"))
+
 abbrev pub self_app : App
 self_app = with_rule (with_rule (plain_app (codes "self")) (needed (codes "seed"))) (needed (codes "steps"))
 
@@ -25,5 +29,9 @@ self_app = with_rule (with_rule (plain_app (codes "self")) (needed (codes "seed"
 abbrev pub bare_app : App
 bare_app = record (new_app (codes "rept")) { top = record (new_app (codes "rept")).top { no_binary_name = true; disable_help_flag = true; disable_help_subcommand = true; subcommand_required = true } }
 
+-- with the two subcommands whose words are three files
+abbrev pub opening_app : App
+opening_app = with_subcommand (with_subcommand bare_app (files_app (codes "open")).top) (files_app (codes "bits")).top
+
 abbrev pub rept_app : App
-rept_app = with_subcommand (with_subcommand (with_subcommand bare_app (files_app (codes "open")).top) (files_app (codes "bits")).top) self_app.top
+rept_app = with_subcommand (with_subcommand opening_app maps_app.top) self_app.top

@@ -5,10 +5,10 @@ use Rattle.std.specs.Str.{bytes_eq}
 use Rattle.std.specs.Option.{option_and_then}
 use Rattle.clap.specs.Words.{Row, Text, first_of}
 use Rattle.rept_number.specs.Numbers.{decimal_of}
-use Rattle.rept_words.specs.Words.{Names, Meaning, is_plain, made_of}
+use Rattle.rept_words.specs.Words.{CoreNames, Names, Meaning, is_plain, made_of, maps_from}
 use Rattle.rept_words.specs.declared.request.Domain.{Domain}
 use Rattle.rept_words.specs.declared.request.Domain.TheVariants as domain
-use Rattle.rept_words.specs.Words.Meaning.{Open}
+use Rattle.rept_words.specs.Words.Meaning.{Maps, Open}
 
 -- the names of the files, where all three are found
 abbrev pub names_by : List Row → Option Names
@@ -24,15 +24,26 @@ open_with d names (Some from) = option_and_then (λ k. Some (Open d names (Some 
 abbrev pub open_by : Domain → List Row → Option Meaning
 open_by d rows = option_and_then (λ names. open_with d names (first_of (codes "from") rows)) (names_by rows)
 
+-- the names of a core file and of a trace, where both are found
+abbrev pub core_names_by : List Row → Option CoreNames
+core_names_by rows = option_and_then (λ core. option_and_then (λ trace. Some (record { core = core; trace = trace })) (first_of (codes "trace") rows)) (first_of (codes "core") rows)
+
+abbrev pub maps_with : CoreNames → Option Text → Option Meaning
+maps_with names None = Some (Maps names None)
+maps_with names (Some from) = maps_from names from
+
+abbrev pub maps_by : List Row → Option Meaning
+maps_by rows = option_and_then (λ names. maps_with names (first_of (codes "from") rows)) (core_names_by rows)
+
 abbrev pub made_by : List Row → Option Meaning
 made_by rows = option_and_then (λ seed. option_and_then (λ steps. made_of seed steps) (first_of (codes "steps") rows)) (first_of (codes "seed") rows)
 
 -- the meaning of the words that are found after a subcommand
 abbrev pub found_meaning : Option (Text × List Row) → Option Meaning
 found_meaning found =
-    option_and_then (λ p. if bytes_eq p.0 (codes "open") then open_by domain.Ranges p.1 else if bytes_eq p.0 (codes "bits") then open_by domain.KnownBits p.1 else made_by p.1) found
+    option_and_then (λ p. if bytes_eq p.0 (codes "open") then open_by domain.Ranges p.1 else if bytes_eq p.0 (codes "bits") then open_by domain.KnownBits p.1 else if bytes_eq p.0 (codes "maps") then maps_by p.1 else made_by p.1) found
 
--- plain words after `open`, `bits` or `self`, five of them at most
+-- plain words after `open`, `bits`, `maps` or `self`, five of them at most
 abbrev pub is_screened : List (List ℕ) → Bool
 is_screened [] = false
-is_screened (first ∷ words) = (bytes_eq first (codes "open") || bytes_eq first (codes "bits") || bytes_eq first (codes "self")) && (nat_le (length words) 5 && list_all is_plain words)
+is_screened (first ∷ words) = (bytes_eq first (codes "open") || bytes_eq first (codes "bits") || bytes_eq first (codes "maps") || bytes_eq first (codes "self")) && (nat_le (length words) 5 && list_all is_plain words)

@@ -13,9 +13,16 @@ pub record Names : Type 0 where
   pub core : List ℕ
   pub trace : List ℕ
 
--- `open` and `bits` name three files and may name the packet to begin from; `self` gives a seed and a count of steps
+-- the names of those of a crash whose core file lists the files of the program
+pub record CoreNames : Type 0 where
+  pub core : List ℕ
+  pub trace : List ℕ
+
+-- `open` and `bits` name three files and may name the packet to begin from; `maps` names two, and the same; `self` gives a seed and a count of
+-- steps
 pub data Meaning : Type 0 where
   Open : Domain → Names → Option ℕ → Meaning
+  Maps : CoreNames → Option ℕ → Meaning
   Made : ℕ → ℕ → Meaning
 
 -- not empty, and no leading hyphen
@@ -30,6 +37,10 @@ steps_of word = option_and_then (λ n. if nat_lt 0 n && nat_le n 20000 then Some
 abbrev pub made_of : List ℕ → List ℕ → Option Meaning
 made_of seed steps = option_and_then (λ s. option_and_then (λ n. Some (Made s n)) (steps_of steps)) (decimal_of seed)
 
+-- what `maps` asks for with these names and the word of a packet
+abbrev pub maps_from : CoreNames → List ℕ → Option Meaning
+maps_from names from = option_and_then (λ k. Some (Maps names (Some k))) (decimal_of from)
+
 -- the domain that a first word asks for
 abbrev pub domain_of : List ℕ → Option Domain
 domain_of first =
@@ -39,11 +50,15 @@ domain_of first =
 
 -- the meaning of plain words, by their count and the first of them
 abbrev pub plain_meaning : List (List ℕ) → Option Meaning
-plain_meaning (first ∷ exe ∷ core ∷ trace ∷ []) =
-    option_and_then (λ d. Some (Open d (record { exe = exe; core = core; trace = trace }) None)) (domain_of first)
+plain_meaning (first ∷ one ∷ two ∷ three ∷ []) =
+    if bytes_eq first (codes "maps") then maps_from (record { core = one; trace = two }) three
+    else option_and_then (λ d. Some (Open d (record { exe = one; core = two; trace = three }) None)) (domain_of first)
 plain_meaning (first ∷ exe ∷ core ∷ trace ∷ from ∷ []) =
     option_and_then (λ d. option_and_then (λ k. Some (Open d (record { exe = exe; core = core; trace = trace }) (Some k))) (decimal_of from)) (domain_of first)
-plain_meaning (first ∷ seed ∷ steps ∷ []) = if bytes_eq first (codes "self") then made_of seed steps else None
+plain_meaning (first ∷ one ∷ two ∷ []) =
+    if bytes_eq first (codes "self") then made_of one two
+    else if bytes_eq first (codes "maps") then Some (Maps (record { core = one; trace = two }) None)
+    else None
 plain_meaning words = None
 
 -- the meaning of all words, None where they have none

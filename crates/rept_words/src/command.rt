@@ -3,7 +3,7 @@
 ghost use Rattle.std.specs.Prelude.{◌≡◌, IfOk, false};
 ghost use Rattle.clap.specs.Words.{app_of, rule_of, with_rule};
 ghost use Rattle.clap.specs.declared.builder.command.Command.TheViews.{out-Command as fields_of};
-ghost use Rattle.rept_words.specs.CommandLine.{needed, other, plain_app, bare_app, files_app, self_app, rept_app};
+ghost use Rattle.rept_words.specs.CommandLine.{needed, other, plain_app, bare_app, files_app, maps_app, opening_app, self_app, rept_app};
 
 use clap::{Arg, ArgAction, Command};
 use rept_word::OutOfMemory;
@@ -55,6 +55,17 @@ fn files_command<'a>(alloc: Global, name: &'a str) -> Result<Command<'a>, OutOfM
     with_word(command, other_word(alloc, "from"))
 }
 
+/// The command `maps`, whose words are a core file and a trace, and maybe a packet's number.
+fn maps_command<'a>(alloc: Global) -> Result<Command<'a>, OutOfMemory>
+    ensures app { IfOk result (λ c. app_of c ≡ maps_app) }
+    ensures local { IfOk result (λ c. (fields_of c).has_globals ≡ false) }
+{
+    let command = plain_command(alloc, "maps");
+    let command = with_word(command, needed_word(alloc, "core"))?;
+    let command = with_word(command, needed_word(alloc, "trace"))?;
+    with_word(command, other_word(alloc, "from"))
+}
+
 fn self_command<'a>(alloc: Global) -> Result<Command<'a>, OutOfMemory>
     ensures app { IfOk result (λ c. app_of c ≡ self_app) }
     ensures local { IfOk result (λ c. (fields_of c).has_globals ≡ false) }
@@ -76,15 +87,21 @@ fn bare_command<'a>(alloc: Global) -> Command<'a>
         .subcommand_required(true)
 }
 
-/// The command `rept`, with the subcommands `open`, `bits` and `self`, whose words go by their places. It has no help of its own.
-pub fn rept_command<'a>(alloc: Global) -> Result<Command<'a>, OutOfMemory>
-    ensures { IfOk result (λ c. app_of c ≡ rept_app) }
+/// The program with the subcommands `open` and `bits`.
+fn opening_command<'a>(alloc: Global) -> Result<Command<'a>, OutOfMemory>
+    ensures { IfOk result (λ c. app_of c ≡ opening_app) }
 {
     let open = files_command(alloc, "open")?;
     let bits = files_command(alloc, "bits")?;
+    bare_command(alloc).subcommand(open)?.subcommand(bits)
+}
+
+/// The command `rept`, with the subcommands `open`, `bits`, `maps` and `self`, whose words go by their places. It has no help of its own.
+pub fn rept_command<'a>(alloc: Global) -> Result<Command<'a>, OutOfMemory>
+    ensures { IfOk result (λ c. app_of c ≡ rept_app) }
+{
+    let opening = opening_command(alloc)?;
+    let maps = maps_command(alloc)?;
     let made = self_command(alloc)?;
-    bare_command(alloc)
-        .subcommand(open)?
-        .subcommand(bits)?
-        .subcommand(made)
+    opening.subcommand(maps)?.subcommand(made)
 }

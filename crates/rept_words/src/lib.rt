@@ -6,4 +6,4 @@ pub mod reading;
 pub mod request;
 
 pub use reading::meaning;
-pub use request::{Domain, FileNames, Request};
+pub use request::{CoreNames, Domain, FileNames, Request};

@@ -4,12 +4,12 @@ ghost use Rattle.std.specs.Prelude.{◌≡◌, IfOk, map, string_bytes};
 ghost use Rattle.std.specs.Option.{option_map, option_and_then};
 ghost use Rattle.std.specs.List.{list_all};
 ghost use Rattle.clap.specs.Words.{subcommand_rows_of, rows_of, found_of, first_of};
-ghost use Rattle.rept_words.specs.Asked.{asked_by, named_by};
-ghost use Rattle.rept_words.specs.Found.{found_meaning, is_screened, made_by, names_by, open_by, open_with};
+ghost use Rattle.rept_words.specs.Asked.{asked_by, core_named_by, named_by};
+ghost use Rattle.rept_words.specs.Found.{core_names_by, found_meaning, is_screened, made_by, maps_by, maps_with, names_by, open_by, open_with};
 ghost use Rattle.rept_words.specs.Words.{is_plain, made_of, meaning_of, steps_of};
 
 use crate::command::rept_command;
-use crate::request::{Domain, FileNames, Request};
+use crate::request::{CoreNames, Domain, FileNames, Request};
 use clap::ArgMatches;
 use clap::error::ErrorKind;
 use rept_number::decimal;
@@ -42,7 +42,10 @@ fn is_screened(words: &[String]) -> bool
     match words {
         [] => false,
         [first, rest @ ..] => {
-            (first.as_str() == "open" || first.as_str() == "bits" || first.as_str() == "self")
+            (first.as_str() == "open"
+                || first.as_str() == "bits"
+                || first.as_str() == "maps"
+                || first.as_str() == "self")
                 && rest.len() <= 5
                 && are_plain(rest)
         }
@@ -81,6 +84,8 @@ fn asked<'a>(matches: &ArgMatches<'a>) -> Option<Request<'a>>
         opened(Domain::Ranges, found)
     } else if name == "bits" {
         opened(Domain::KnownBits, found)
+    } else if name == "maps" {
+        mapped(found)
     } else {
         made(found)
     }
@@ -135,6 +140,42 @@ fn names<'a>(found: &ArgMatches<'a>) -> Option<FileNames<'a>>
         return None;
     };
     Some(FileNames { exe, core, trace })
+}
+
+fn core_names<'a>(found: &ArgMatches<'a>) -> Option<CoreNames<'a>>
+    ensures { option_map core_named_by result ≡ core_names_by (rows_of (found_of found.now)) }
+{
+    let Some(core) = word_of(found, "core") else {
+        return None;
+    };
+    let Some(trace) = word_of(found, "trace") else {
+        return None;
+    };
+    Some(CoreNames { core, trace })
+}
+
+fn mapped<'a>(found: &ArgMatches<'a>) -> Option<Request<'a>>
+    ensures { option_map asked_by result ≡ maps_by (rows_of (found_of found.now)) }
+{
+    let Some(names) = core_names(found) else {
+        return None;
+    };
+    match word_of(found, "from") {
+        None => Some(Request::Maps { names, from: None }),
+        Some(word) => mapped_from(names, word),
+    }
+}
+
+fn mapped_from<'a>(names: CoreNames<'a>, word: &str) -> Option<Request<'a>>
+    ensures { option_map asked_by result ≡ maps_with (core_named_by names.entry) (Some word.now) }
+{
+    let Some(from) = decimal(word.as_bytes()) else {
+        return None;
+    };
+    Some(Request::Maps {
+        names,
+        from: Some(from),
+    })
 }
 
 fn made<'a>(found: &ArgMatches<'a>) -> Option<Request<'a>>

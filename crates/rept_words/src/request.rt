@@ -8,6 +8,13 @@ pub struct FileNames<'a> {
     pub trace: &'a str,
 }
 
+/// The names of the files of a crash whose core file lists the files of the program: core file and instruction trace.
+#[derive(Clone, Copy, Debug, PartialEq, Eq)]
+pub struct CoreNames<'a> {
+    pub core: &'a str,
+    pub trace: &'a str,
+}
+
 /// The abstract domain in which the values of registers are followed along the path.
 #[derive(Clone, Copy, Debug, PartialEq, Eq)]
 pub enum Domain {
@@ -24,6 +31,11 @@ pub enum Request<'a> {
     Open {
         domain: Domain,
         names: FileNames<'a>,
+        from: Option<u32>,
+    },
+    /// `maps CORE TRACE [FROM]`: the executable and shared objects are those that the core file lists.
+    Maps {
+        names: CoreNames<'a>,
         from: Option<u32>,
     },
     /// `self SEED STEPS`: a made run of 1 to 20000 steps.

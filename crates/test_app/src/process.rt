@@ -5,7 +5,8 @@ use rept_run::answer;
 use std::process::ExitCode;
 use std::test::Fail;
 
-const USAGE: &str = "usage: rept open|bits EXE CORE TRACE [FROM] | rept self SEED STEPS\n";
+const USAGE: &str =
+    "usage: rept open|bits EXE CORE TRACE [FROM] | rept self SEED STEPS | rept maps CORE TRACE [FROM]\n";
 
 // No words, words that aren't text, and no memory for them.
 #[test]

@@ -61,7 +61,8 @@ const CALL: &[u32] = &[0x008000ef, 0x00000093, 0x00000013, 0x00008067];
 const UNKNOWN_AT_0: &str =
     "point 0 of 3 pc 0x00010000\nx1 0x00000000\nx2 0x00000000\nx3 0x00000000\nx4 0x00000000\nx5 unknown\nx6 unknown\nx7 unknown\nx8 0x00000000\nx9 0x00000000\nx10 0x00000000\nx11 0x00000000\nx12 0x00000000\nx13 0x00000000\nx14 0x00000000\nx15 0x00000000\nx16 0x00000000\nx17 0x00000000\nx18 0x00000000\nx19 0x00000000\nx20 0x00000000\nx21 0x00000000\nx22 0x00000000\nx23 0x00000000\nx24 0x00000000\nx25 0x00000000\nx26 0x00000000\nx27 0x00000000\nx28 0x00000000\nx29 0x00000000\nx30 0x00000000\nx31 0x00000000\n";
 
-const USAGE: &str = "usage: rept open|bits EXE CORE TRACE [FROM] | rept self SEED STEPS\n";
+const USAGE: &str =
+    "usage: rept open|bits EXE CORE TRACE [FROM] | rept self SEED STEPS | rept maps CORE TRACE [FROM]\n";
 
 /// The worked crashes, and one case of each refusal.
 const CASES: &[Case] = &[

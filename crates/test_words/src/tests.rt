@@ -1,6 +1,6 @@
 //! Words of the command line, and what they ask for.
 
-use rept_words::{Domain, FileNames, Request, meaning};
+use rept_words::{CoreNames, Domain, FileNames, Request, meaning};
 use std::alloc::{AllocError, Global};
 use std::test::Fail;
 
@@ -26,6 +26,14 @@ fn open(domain: Domain, from: Option<u32>) -> Option<Request<'static>> {
     })
 }
 
+fn maps(from: Option<u32>) -> Option<Request<'static>> {
+    let names = CoreNames {
+        core: "c",
+        trace: "t",
+    };
+    Some(Request::Maps { names, from })
+}
+
 #[test]
 fn words_have_their_meaning(rt: HostRuntime) -> Result<(), Fail> {
     let alloc = rt.alloc();
@@ -49,6 +57,12 @@ fn words_have_their_meaning(rt: HostRuntime) -> Result<(), Fail> {
         ("open e -c t", None),
         ("open e  t", None),
         ("close e c t", None),
+        ("maps c t", maps(None)),
+        ("maps c t 7", maps(Some(7))),
+        ("maps c t 0x7", None),
+        ("maps c t 7 8", None),
+        ("maps c", None),
+        ("maps c -t", None),
         (
             "self 1 20000",
             Some(Request::Made {

@@ -16,6 +16,7 @@ returns g c =
       record {
         promise = ends.promise;
         causes = ends.causes;
+        once = ends.once;
         usage = ends.usage;
         files = ends.files;
         text = ends.text;

@@ -5,7 +5,7 @@ use Rattle.rept_ports.specs.declared.arguments.Unreadable.{Unreadable}
 use Rattle.rept_app.specs.Delivered.{Delivers}
 use Rattle.rept_app.specs.Promise.{Promise}
 use Rattle.rept_app.specs.Told.{Writes, given}
-use Rattle.rept_app.specs.Top.{EndsByFiles}
+use Rattle.rept_app.specs.Top.{EndsByFiles, FaultsEnd, ShelfCauses}
 use Rattle.rept_app.specs.declared.status.Status.TheVariants as ends
 use Rattle.rept_words.specs.Words.{meaning_of}
 use Rattle.rept_run.specs.Process.{words_read}
@@ -25,6 +25,12 @@ returns-in-Ok-clause-promise g c read =
     let sink = move (g.K.Sink.port c.args.out.now) (g.K.Sink.port c.rept.new.out) in
     on_words _ (map string_bytes c.in-Ok.words.items) (map string_bytes c.as_slice.result.now) (λ (ws : List (List ℕ)). IfSome shelf.before.files (λ files. IfSome source.before.bytes (λ left. Promise (given ws files shelf (record { input = left; left = source.after.bytes })) sink c.rept.result)))
     (ap (result_map_both (λ v. map string_bytes v.items) (λ e. e)) c.in-Ok.is) (ap (map string_bytes) c.as_slice.ensures.value) c.rept.ensures.promise
+
+pub returns-in-Ok-clause-once : goal.returns-in-Ok-clause-once
+returns-in-Ok-clause-once g c =
+    let shelf = move (g.H.Shelf.port c.args.shelf.now) (g.H.Shelf.port c.rept.new.shelf) in
+    on_words _ (map string_bytes c.in-Ok.words.items) (map string_bytes c.as_slice.result.now) (λ (ws : List (List ℕ)). FaultsEnd (meaning_of ws) shelf.before.files → ShelfCauses shelf c.rept.result)
+    (ap (result_map_both (λ v. map string_bytes v.items) (λ e. e)) c.in-Ok.is) (ap (map string_bytes) c.as_slice.ensures.value) c.rept.ensures.once
 
 pub returns-in-Ok-clause-usage : goal.returns-in-Ok-clause-usage
 returns-in-Ok-clause-usage g c =
@@ -52,6 +58,12 @@ returns-in-Err-NotText-clause-promise g c read =
     let sink = move (g.K.Sink.port c.args.out.now) (g.K.Sink.port c.rept-in-Err-NotText.new.out) in
     on_none _ _ (λ (ws : List (List ℕ)). IfSome shelf.before.files (λ files. IfSome source.before.bytes (λ left. Promise (given ws files shelf (record { input = left; left = source.after.bytes })) sink c.rept-in-Err-NotText.result)))
     (ap (result_map_both (λ v. map string_bytes v.items) (λ e. e)) c.in-Err-NotText.is) c.rept-in-Err-NotText.ensures.promise
+
+pub returns-in-Err-NotText-clause-once : goal.returns-in-Err-NotText-clause-once
+returns-in-Err-NotText-clause-once g c =
+    let shelf = move (g.H.Shelf.port c.args.shelf.now) (g.H.Shelf.port c.rept-in-Err-NotText.new.shelf) in
+    on_none _ _ (λ (ws : List (List ℕ)). FaultsEnd (meaning_of ws) shelf.before.files → ShelfCauses shelf c.rept-in-Err-NotText.result)
+    (ap (result_map_both (λ v. map string_bytes v.items) (λ e. e)) c.in-Err-NotText.is) c.rept-in-Err-NotText.ensures.once
 
 pub returns-in-Err-NotText-clause-usage : goal.returns-in-Err-NotText-clause-usage
 returns-in-Err-NotText-clause-usage g c =

@@ -1,14 +1,17 @@
-use Rattle.std.proofs.Common.{◌≡◌, map, string_bytes, IfSome}
+use Rattle.std.proofs.Common.{◌≡◌, ◌⊎◌, map, string_bytes, IfSome}
 use Rattle.rept_ports.specs.Port.{move}
 use Rattle.rept_app.specs.Delivered.{Delivers}
 use Rattle.rept_app.specs.Examine.{Examines}
 use Rattle.rept_app.specs.Lines.{status_of}
-use Rattle.rept_app.specs.Loading.{crash_bytes, loading, asked_for}
-use Rattle.rept_app.specs.Loading.Loading.{Loaded, MadeRun}
+use Rattle.rept_app.specs.Loading.{core_bytes, crash_bytes, loading, asked_for}
+use Rattle.rept_app.specs.Loading.Loading.{Loaded, LoadedCore, MadeRun}
+use Rattle.rept_app.specs.Mapped.{mapped_crash}
+use Rattle.rept_app.specs.MappedEnds.{ExaminesMapped, MappedEnd, MappedExcludes, MappedHolds, mapped_call}
 use Rattle.rept_app.specs.MadeRun.{Sums}
 use Rattle.rept_app.specs.declared.load.Asked.TheVariants as asked
 use Rattle.rept_app.proofs.MadeLemmas.{made_holds}
 use Rattle.rept_app.proofs.WordsLemmas.{asks_few}
+use Rattle.rept_app.proofs.MappedTop.{as_before, both_asks, both_at, both_loads, both_mean, both_named, mapped_causes, mapped_ends, mapped_excludes, mapped_holds, mapped_loads, mapped_once, mapped_stays, mapped_usage, mapped_writes}
 use Rattle.rept_app.specs.Told.{Writes, BitsKnowMore, Holds, ReportHolds, NoExecution, given}
 use Rattle.rept_app.specs.Top.{EndsByFiles}
 use Rattle.rept_words.specs.Words.{meaning_of}
@@ -16,12 +19,16 @@ use Rattle.rept_app.specs.declared.status.Status.TheVariants as ends
 use Rattle.rept_app.proofs.DeliveredLemmas.{delivers_as, ends_told, told_ports, not_yielded}
 use Rattle.rept_app.proofs.PromiseLemmas.{promised}
 use Rattle.rept_app.proofs.ToldLemmas.{where_told, at_some, reading_of}
-use Rattle.rept_app.proofs.TopLemmas.{both, of_both, loaded_at, stops, refused_ends, refused_writes, refused_causes, refused_loads, no_status, input_only, output_only, conflict_only, examined_writes, examined_ends, examined_causes, examined_excludes, true_in_both, bits_know, all_loads, files_hold, holds_where, reports_hold, completed, ok_at, done_at, all_at, made_at, asked_holds, loaded_asks, loads_named, refused_asks, made_asks, made_loads, made_means, made_causes, made_ends, made_writes, no_other}
+use Rattle.rept_app.proofs.TopLemmas.{both, of_both, loaded_at, stops, refused_ends, refused_writes, refused_causes, refused_loads, no_status, input_only, output_only, conflict_only, examined_writes, examined_ends, examined_causes, examined_excludes, true_in_both, bits_know, all_loads, files_hold, holds_where, reports_hold, completed, ok_at, done_at, all_at, made_at, asked_holds, loaded_asks, loads_named, refused_asks, made_asks, made_loads, made_means, made_causes, made_ends, made_writes, no_other, causes_of, once_of}
 use Rattle.rept_app.proofs.top.rept.Goals as goal
 
 pub returns-in-Ok-Files-clause-causes : goal.returns-in-Ok-Files-clause-causes
-returns-in-Ok-Files-clause-causes g c =
-    examined_causes (g.H.Shelf.port c.args.shelf.now) (g.H.Shelf.port c.load_files.new.shelf) _ _ _ c.examine.result c.load_files.ensures.faults.files (done_at c.load_files.result c.in-Ok-Files.field-0 c.in-Ok-Files.is c.load_files.ensures.faults.calm) c.examine.ensures.causes
+returns-in-Ok-Files-clause-causes g c = causes_of _ _ _ c.examine.result (
+    examined_causes (g.H.Shelf.port c.args.shelf.now) (g.H.Shelf.port c.load_files.new.shelf) _ _ _ c.examine.result c.load_files.ensures.faults.files (done_at c.load_files.result c.in-Ok-Files.field-0 c.in-Ok-Files.is c.load_files.ensures.faults.calm) c.examine.ensures.causes)
+
+pub returns-in-Ok-Files-clause-once : goal.returns-in-Ok-Files-clause-once
+returns-in-Ok-Files-clause-once g c each = once_of _ (move (g.S.Source.port c.args.input.now) (g.S.Source.port c.examine.new.input)) (move (g.K.Sink.port c.args.out.now) (g.K.Sink.port c.examine.new.out)) c.examine.result (
+    examined_causes (g.H.Shelf.port c.args.shelf.now) (g.H.Shelf.port c.load_files.new.shelf) _ _ _ c.examine.result c.load_files.ensures.faults.files (done_at c.load_files.result c.in-Ok-Files.field-0 c.in-Ok-Files.is c.load_files.ensures.faults.calm) c.examine.ensures.causes)
 
 pub returns-in-Ok-Files-clause-loads : goal.returns-in-Ok-Files-clause-loads
 returns-in-Ok-Files-clause-loads g c = all_loads (g.H.Shelf.port c.args.shelf.now) (g.H.Shelf.port c.load_files.new.shelf) (meaning_of (map string_bytes c.args.words.now)) c.examine.result (all_at c.load_files.result c.in-Ok-Files.field-0 c.in-Ok-Files.files (meaning_of (map string_bytes c.args.words.now)) (g.H.Shelf.port c.args.shelf.now) (g.H.Shelf.port c.load_files.new.shelf) c.in-Ok-Files.is c.in-Ok-Files.field-0-is c.load_files.ensures.asked)
@@ -90,9 +97,22 @@ returns-in-Err-clause-causes g c =
     let new = g.H.Shelf.port c.load_files.new.shelf in
     let m = meaning_of (map string_bytes c.args.words.now) in
     let source = g.S.Source.port c.args.input.now in
+    causes_of _ _ _ c.tell.result (
     refused_causes old new source _ c.tell.result f.files f.later f.once
     (told_ports c.in-Err.refusal source _ c.tell.result (no_status old new m c.in-Err.refusal ends.InputFault input_only c.in-Err.ensures.refused) (no_status old new m c.in-Err.refusal ends.OutputFault output_only c.in-Err.ensures.refused) c.tell.ensures)
-    m c.in-Err.refusal c.in-Err.ensures.refused (ends_told c.in-Err.refusal _ c.tell.result c.tell.ensures)
+    m c.in-Err.refusal c.in-Err.ensures.refused (ends_told c.in-Err.refusal _ c.tell.result c.tell.ensures))
+
+pub returns-in-Err-clause-once : goal.returns-in-Err-clause-once
+returns-in-Err-clause-once g c each =
+    let f = c.in-Err.ensures.faults in
+    let old = g.H.Shelf.port c.args.shelf.now in
+    let new = g.H.Shelf.port c.load_files.new.shelf in
+    let m = meaning_of (map string_bytes c.args.words.now) in
+    let source = g.S.Source.port c.args.input.now in
+    once_of _ (move source source) (move (g.K.Sink.port c.args.out.now) (g.K.Sink.port c.tell.new.out)) c.tell.result (
+    refused_causes old new source _ c.tell.result f.files f.later f.once
+    (told_ports c.in-Err.refusal source _ c.tell.result (no_status old new m c.in-Err.refusal ends.InputFault input_only c.in-Err.ensures.refused) (no_status old new m c.in-Err.refusal ends.OutputFault output_only c.in-Err.ensures.refused) c.tell.ensures)
+    m c.in-Err.refusal c.in-Err.ensures.refused (ends_told c.in-Err.refusal _ c.tell.result c.tell.ensures))
 
 pub returns-in-Err-clause-loads : goal.returns-in-Err-clause-loads
 returns-in-Err-clause-loads g c =
@@ -171,8 +191,16 @@ tell_made_run-requires-clause-few g c = (asks_few (map string_bytes c.args.words
 pub returns-in-Ok-Made-clause-causes : goal.returns-in-Ok-Made-clause-causes
 returns-in-Ok-Made-clause-causes g c =
     let f = c.load_files.ensures.faults in
+    causes_of _ _ _ c.tell_made_run.result (
     made_causes (g.H.Shelf.port c.args.shelf.now) (g.H.Shelf.port c.load_files.new.shelf) (g.S.Source.port c.args.input.now) _ c.tell_made_run.result f.files f.later f.once (c.tell_made_run.ensures.ports (g.S.Source.port c.args.input.now))
-    (done_at c.load_files.result c.in-Ok-Made.field-0 c.in-Ok-Made.is f.calm) c.tell_made_run.ensures.yields
+    (done_at c.load_files.result c.in-Ok-Made.field-0 c.in-Ok-Made.is f.calm) c.tell_made_run.ensures.yields)
+
+pub returns-in-Ok-Made-clause-once : goal.returns-in-Ok-Made-clause-once
+returns-in-Ok-Made-clause-once g c each =
+    let f = c.load_files.ensures.faults in
+    once_of _ (move (g.S.Source.port c.args.input.now) (g.S.Source.port c.args.input.now)) (move (g.K.Sink.port c.args.out.now) (g.K.Sink.port c.tell_made_run.new.out)) c.tell_made_run.result (
+    made_causes (g.H.Shelf.port c.args.shelf.now) (g.H.Shelf.port c.load_files.new.shelf) (g.S.Source.port c.args.input.now) _ c.tell_made_run.result f.files f.later f.once (c.tell_made_run.ensures.ports (g.S.Source.port c.args.input.now))
+    (done_at c.load_files.result c.in-Ok-Made.field-0 c.in-Ok-Made.is f.calm) c.tell_made_run.ensures.yields)
 
 pub returns-in-Ok-Made-clause-usage : goal.returns-in-Ok-Made-clause-usage
 returns-in-Ok-Made-clause-usage g c = λ e. no_other ends.Usage c.tell_made_run.result (λ (k : ends.Ok ≡ ends.Usage). cc) (λ (k : ends.OutputFault ≡ ends.Usage). cc) (λ (k : ends.OutOfMemory ≡ ends.Usage). cc) c.tell_made_run.ensures.yields e
@@ -269,3 +297,261 @@ returns-in-Ok-Made-clause-bits g c = where_told (g.H.Shelf.port c.args.shelf.now
 
 pub returns-in-Err-clause-bits : goal.returns-in-Err-clause-bits
 returns-in-Err-clause-bits g c = where_told (g.H.Shelf.port c.args.shelf.now).files (BitsKnowMore (map string_bytes c.args.words.now)) (λ files told. bits_know (map string_bytes c.args.words.now) files c.finer_sets_know_more.ensures)
+
+pub returns-in-Ok-Maps-clause-causes : goal.returns-in-Ok-Maps-clause-causes
+returns-in-Ok-Maps-clause-causes g c =
+    let words = map string_bytes c.args.words.now in
+    let old = g.H.Shelf.port c.args.shelf.now in
+    let mid = g.H.Shelf.port c.load_files.new.shelf in
+    let new = g.H.Shelf.port c.examine_mapped.new.shelf in
+    let source = move (g.S.Source.port c.args.input.now) (g.S.Source.port c.examine_mapped.new.input) in
+    let sink = move (g.K.Sink.port c.args.out.now) (g.K.Sink.port c.examine_mapped.new.out) in
+    let bytes = core_bytes c.in-Ok-Maps.files.core.items c.in-Ok-Maps.files.trace.items c.in-Ok-Maps.files.manner in
+    let f = c.load_files.ensures.faults in
+    let calm = done_at c.load_files.result c.in-Ok-Maps.field-0 c.in-Ok-Maps.is f.calm in
+    let loads = both_at c.load_files.result c.in-Ok-Maps.field-0 c.in-Ok-Maps.files (meaning_of words) old mid c.in-Ok-Maps.is c.in-Ok-Maps.field-0-is c.load_files.ensures.asked in
+    mapped_causes old mid new bytes source sink c.examine_mapped.result f.files calm c.examine_mapped.ensures.causes
+
+pub returns-in-Ok-Maps-clause-once : goal.returns-in-Ok-Maps-clause-once
+returns-in-Ok-Maps-clause-once g c each =
+    let words = map string_bytes c.args.words.now in
+    let old = g.H.Shelf.port c.args.shelf.now in
+    let mid = g.H.Shelf.port c.load_files.new.shelf in
+    let new = g.H.Shelf.port c.examine_mapped.new.shelf in
+    let source = move (g.S.Source.port c.args.input.now) (g.S.Source.port c.examine_mapped.new.input) in
+    let sink = move (g.K.Sink.port c.args.out.now) (g.K.Sink.port c.examine_mapped.new.out) in
+    let bytes = core_bytes c.in-Ok-Maps.files.core.items c.in-Ok-Maps.files.trace.items c.in-Ok-Maps.files.manner in
+    let f = c.load_files.ensures.faults in
+    let calm = done_at c.load_files.result c.in-Ok-Maps.field-0 c.in-Ok-Maps.is f.calm in
+    let loads = both_at c.load_files.result c.in-Ok-Maps.field-0 c.in-Ok-Maps.files (meaning_of words) old mid c.in-Ok-Maps.is c.in-Ok-Maps.field-0-is c.load_files.ensures.asked in
+    mapped_once old mid new bytes source sink c.examine_mapped.result f.files calm c.examine_mapped.ensures.causes (meaning_of words) loads each
+
+pub returns-in-Ok-Maps-clause-usage : goal.returns-in-Ok-Maps-clause-usage
+returns-in-Ok-Maps-clause-usage g c e =
+    let words = map string_bytes c.args.words.now in
+    let old = g.H.Shelf.port c.args.shelf.now in
+    let mid = g.H.Shelf.port c.load_files.new.shelf in
+    let new = g.H.Shelf.port c.examine_mapped.new.shelf in
+    let source = move (g.S.Source.port c.args.input.now) (g.S.Source.port c.examine_mapped.new.input) in
+    let sink = move (g.K.Sink.port c.args.out.now) (g.K.Sink.port c.examine_mapped.new.out) in
+    let bytes = core_bytes c.in-Ok-Maps.files.core.items c.in-Ok-Maps.files.trace.items c.in-Ok-Maps.files.manner in
+    let f = c.load_files.ensures.faults in
+    let calm = done_at c.load_files.result c.in-Ok-Maps.field-0 c.in-Ok-Maps.is f.calm in
+    let loads = both_at c.load_files.result c.in-Ok-Maps.field-0 c.in-Ok-Maps.files (meaning_of words) old mid c.in-Ok-Maps.is c.in-Ok-Maps.field-0-is c.load_files.ensures.asked in
+    mapped_usage old mid new bytes source sink c.examine_mapped.result f.files calm c.examine_mapped.ensures.causes e
+
+pub returns-in-Ok-Maps-clause-no_meaning : goal.returns-in-Ok-Maps-clause-no_meaning
+returns-in-Ok-Maps-clause-no_meaning g c none =
+    let words = map string_bytes c.args.words.now in
+    let old = g.H.Shelf.port c.args.shelf.now in
+    let mid = g.H.Shelf.port c.load_files.new.shelf in
+    let new = g.H.Shelf.port c.examine_mapped.new.shelf in
+    let source = move (g.S.Source.port c.args.input.now) (g.S.Source.port c.examine_mapped.new.input) in
+    let sink = move (g.K.Sink.port c.args.out.now) (g.K.Sink.port c.examine_mapped.new.out) in
+    let bytes = core_bytes c.in-Ok-Maps.files.core.items c.in-Ok-Maps.files.trace.items c.in-Ok-Maps.files.manner in
+    let f = c.load_files.ensures.faults in
+    let calm = done_at c.load_files.result c.in-Ok-Maps.field-0 c.in-Ok-Maps.is f.calm in
+    let loads = both_at c.load_files.result c.in-Ok-Maps.field-0 c.in-Ok-Maps.files (meaning_of words) old mid c.in-Ok-Maps.is c.in-Ok-Maps.field-0-is c.load_files.ensures.asked in
+    both_mean (meaning_of words) bytes.core old mid loads none
+
+pub returns-in-Ok-Maps-clause-idle : goal.returns-in-Ok-Maps-clause-idle
+returns-in-Ok-Maps-clause-idle g c none =
+    let words = map string_bytes c.args.words.now in
+    let old = g.H.Shelf.port c.args.shelf.now in
+    let mid = g.H.Shelf.port c.load_files.new.shelf in
+    let new = g.H.Shelf.port c.examine_mapped.new.shelf in
+    let source = move (g.S.Source.port c.args.input.now) (g.S.Source.port c.examine_mapped.new.input) in
+    let sink = move (g.K.Sink.port c.args.out.now) (g.K.Sink.port c.examine_mapped.new.out) in
+    let bytes = core_bytes c.in-Ok-Maps.files.core.items c.in-Ok-Maps.files.trace.items c.in-Ok-Maps.files.manner in
+    let f = c.load_files.ensures.faults in
+    let calm = done_at c.load_files.result c.in-Ok-Maps.field-0 c.in-Ok-Maps.is f.calm in
+    let loads = both_at c.load_files.result c.in-Ok-Maps.field-0 c.in-Ok-Maps.files (meaning_of words) old mid c.in-Ok-Maps.is c.in-Ok-Maps.field-0-is c.load_files.ensures.asked in
+    both_named (meaning_of words) bytes.core old mid loads none
+
+pub returns-in-Ok-Maps-clause-unread : goal.returns-in-Ok-Maps-clause-unread
+returns-in-Ok-Maps-clause-unread g c none =
+    let words = map string_bytes c.args.words.now in
+    let old = g.H.Shelf.port c.args.shelf.now in
+    let mid = g.H.Shelf.port c.load_files.new.shelf in
+    let new = g.H.Shelf.port c.examine_mapped.new.shelf in
+    let source = move (g.S.Source.port c.args.input.now) (g.S.Source.port c.examine_mapped.new.input) in
+    let sink = move (g.K.Sink.port c.args.out.now) (g.K.Sink.port c.examine_mapped.new.out) in
+    let bytes = core_bytes c.in-Ok-Maps.files.core.items c.in-Ok-Maps.files.trace.items c.in-Ok-Maps.files.manner in
+    let f = c.load_files.ensures.faults in
+    let calm = done_at c.load_files.result c.in-Ok-Maps.field-0 c.in-Ok-Maps.is f.calm in
+    let loads = both_at c.load_files.result c.in-Ok-Maps.field-0 c.in-Ok-Maps.files (meaning_of words) old mid c.in-Ok-Maps.is c.in-Ok-Maps.field-0-is c.load_files.ensures.asked in
+    both_named (meaning_of words) bytes.core old mid loads none
+
+pub returns-in-Ok-Maps-clause-made : goal.returns-in-Ok-Maps-clause-made
+returns-in-Ok-Maps-clause-made g c =
+    let words = map string_bytes c.args.words.now in
+    let old = g.H.Shelf.port c.args.shelf.now in
+    let mid = g.H.Shelf.port c.load_files.new.shelf in
+    let new = g.H.Shelf.port c.examine_mapped.new.shelf in
+    let source = move (g.S.Source.port c.args.input.now) (g.S.Source.port c.examine_mapped.new.input) in
+    let sink = move (g.K.Sink.port c.args.out.now) (g.K.Sink.port c.examine_mapped.new.out) in
+    let bytes = core_bytes c.in-Ok-Maps.files.core.items c.in-Ok-Maps.files.trace.items c.in-Ok-Maps.files.manner in
+    let f = c.load_files.ensures.faults in
+    let calm = done_at c.load_files.result c.in-Ok-Maps.field-0 c.in-Ok-Maps.is f.calm in
+    let loads = both_at c.load_files.result c.in-Ok-Maps.field-0 c.in-Ok-Maps.files (meaning_of words) old mid c.in-Ok-Maps.is c.in-Ok-Maps.field-0-is c.load_files.ensures.asked in
+    both_asks (meaning_of words) bytes.core old mid c.examine_mapped.result loads
+
+pub returns-in-Ok-Maps-clause-loads : goal.returns-in-Ok-Maps-clause-loads
+returns-in-Ok-Maps-clause-loads g c =
+    let words = map string_bytes c.args.words.now in
+    let old = g.H.Shelf.port c.args.shelf.now in
+    let mid = g.H.Shelf.port c.load_files.new.shelf in
+    let new = g.H.Shelf.port c.examine_mapped.new.shelf in
+    let source = move (g.S.Source.port c.args.input.now) (g.S.Source.port c.examine_mapped.new.input) in
+    let sink = move (g.K.Sink.port c.args.out.now) (g.K.Sink.port c.examine_mapped.new.out) in
+    let bytes = core_bytes c.in-Ok-Maps.files.core.items c.in-Ok-Maps.files.trace.items c.in-Ok-Maps.files.manner in
+    let f = c.load_files.ensures.faults in
+    let calm = done_at c.load_files.result c.in-Ok-Maps.field-0 c.in-Ok-Maps.is f.calm in
+    let loads = both_at c.load_files.result c.in-Ok-Maps.field-0 c.in-Ok-Maps.files (meaning_of words) old mid c.in-Ok-Maps.is c.in-Ok-Maps.field-0-is c.load_files.ensures.asked in
+    mapped_loads old mid new bytes source sink c.examine_mapped.result f.files calm c.examine_mapped.ensures.causes (meaning_of words) loads
+
+pub returns-in-Ok-Maps-clause-stays : goal.returns-in-Ok-Maps-clause-stays
+returns-in-Ok-Maps-clause-stays g c =
+    let words = map string_bytes c.args.words.now in
+    let old = g.H.Shelf.port c.args.shelf.now in
+    let mid = g.H.Shelf.port c.load_files.new.shelf in
+    let new = g.H.Shelf.port c.examine_mapped.new.shelf in
+    let source = move (g.S.Source.port c.args.input.now) (g.S.Source.port c.examine_mapped.new.input) in
+    let sink = move (g.K.Sink.port c.args.out.now) (g.K.Sink.port c.examine_mapped.new.out) in
+    let bytes = core_bytes c.in-Ok-Maps.files.core.items c.in-Ok-Maps.files.trace.items c.in-Ok-Maps.files.manner in
+    let f = c.load_files.ensures.faults in
+    let calm = done_at c.load_files.result c.in-Ok-Maps.field-0 c.in-Ok-Maps.is f.calm in
+    let loads = both_at c.load_files.result c.in-Ok-Maps.field-0 c.in-Ok-Maps.files (meaning_of words) old mid c.in-Ok-Maps.is c.in-Ok-Maps.field-0-is c.load_files.ensures.asked in
+    let at : IfSome old.files (λ fs. loading words fs ≡ LoadedCore bytes) = ok_at c.load_files.result c.in-Ok-Maps.field-0 (asked.Maps c.in-Ok-Maps.files) (λ a. IfSome old.files (λ fs. loading words fs ≡ asked_for a)) c.in-Ok-Maps.is c.in-Ok-Maps.field-0-is c.load_files.ensures.loaded in
+    mapped_stays old.files mid.files (Holds words) (λ files. MappedHolds (mapped_crash files bytes) c.examine_mapped.result) c.examine_mapped.result f.files
+    (λ files told h. mapped_holds words files bytes (at_some old.files files (λ fs. loading words fs ≡ LoadedCore bytes) told at) c.examine_mapped.result h) c.examine_mapped.ensures.stays
+
+pub returns-in-Ok-Maps-clause-files : goal.returns-in-Ok-Maps-clause-files
+returns-in-Ok-Maps-clause-files g c =
+    let words = map string_bytes c.args.words.now in
+    let old = g.H.Shelf.port c.args.shelf.now in
+    let mid = g.H.Shelf.port c.load_files.new.shelf in
+    let new = g.H.Shelf.port c.examine_mapped.new.shelf in
+    let source = move (g.S.Source.port c.args.input.now) (g.S.Source.port c.examine_mapped.new.input) in
+    let sink = move (g.K.Sink.port c.args.out.now) (g.K.Sink.port c.examine_mapped.new.out) in
+    let bytes = core_bytes c.in-Ok-Maps.files.core.items c.in-Ok-Maps.files.trace.items c.in-Ok-Maps.files.manner in
+    let f = c.load_files.ensures.faults in
+    let calm = done_at c.load_files.result c.in-Ok-Maps.field-0 c.in-Ok-Maps.is f.calm in
+    let loads = both_at c.load_files.result c.in-Ok-Maps.field-0 c.in-Ok-Maps.files (meaning_of words) old mid c.in-Ok-Maps.is c.in-Ok-Maps.field-0-is c.load_files.ensures.asked in
+    let at : IfSome old.files (λ fs. loading words fs ≡ LoadedCore bytes) = ok_at c.load_files.result c.in-Ok-Maps.field-0 (asked.Maps c.in-Ok-Maps.files) (λ a. IfSome old.files (λ fs. loading words fs ≡ asked_for a)) c.in-Ok-Maps.is c.in-Ok-Maps.field-0-is c.load_files.ensures.loaded in
+    where_told old.files (λ files. EndsByFiles words files c.examine_mapped.result) (λ files told.
+    mapped_ends words files bytes (at_some old.files files (λ fs. loading words fs ≡ LoadedCore bytes) told at) c.examine_mapped.result
+    (at_some old.files files (λ fs. MappedEnd (mapped_crash fs bytes) c.examine_mapped.result ⊎ (c.examine_mapped.result ≡ ends.LoadFault)) told
+    (as_before old.files mid.files (λ fs. MappedEnd (mapped_crash fs bytes) c.examine_mapped.result ⊎ (c.examine_mapped.result ≡ ends.LoadFault)) f.files c.examine_mapped.ensures.causes.yields)))
+
+pub returns-in-Ok-Maps-clause-impossible : goal.returns-in-Ok-Maps-clause-impossible
+returns-in-Ok-Maps-clause-impossible g c =
+    let words = map string_bytes c.args.words.now in
+    let old = g.H.Shelf.port c.args.shelf.now in
+    let mid = g.H.Shelf.port c.load_files.new.shelf in
+    let new = g.H.Shelf.port c.examine_mapped.new.shelf in
+    let source = move (g.S.Source.port c.args.input.now) (g.S.Source.port c.examine_mapped.new.input) in
+    let sink = move (g.K.Sink.port c.args.out.now) (g.K.Sink.port c.examine_mapped.new.out) in
+    let bytes = core_bytes c.in-Ok-Maps.files.core.items c.in-Ok-Maps.files.trace.items c.in-Ok-Maps.files.manner in
+    let f = c.load_files.ensures.faults in
+    let calm = done_at c.load_files.result c.in-Ok-Maps.field-0 c.in-Ok-Maps.is f.calm in
+    let loads = both_at c.load_files.result c.in-Ok-Maps.field-0 c.in-Ok-Maps.files (meaning_of words) old mid c.in-Ok-Maps.is c.in-Ok-Maps.field-0-is c.load_files.ensures.asked in
+    let at : IfSome old.files (λ fs. loading words fs ≡ LoadedCore bytes) = ok_at c.load_files.result c.in-Ok-Maps.field-0 (asked.Maps c.in-Ok-Maps.files) (λ a. IfSome old.files (λ fs. loading words fs ≡ asked_for a)) c.in-Ok-Maps.is c.in-Ok-Maps.field-0-is c.load_files.ensures.loaded in
+    where_told old.files (λ files. c.examine_mapped.result ≡ ends.Inconsistent → NoExecution words files) (λ files told e.
+    mapped_excludes words files bytes (at_some old.files files (λ fs. loading words fs ≡ LoadedCore bytes) told at)
+    (at_some old.files files (λ fs. MappedExcludes (mapped_crash fs bytes)) told (as_before old.files mid.files (λ fs. MappedExcludes (mapped_crash fs bytes)) f.files (c.examine_mapped.ensures.impossible e))))
+
+pub returns-in-Ok-Maps-clause-text : goal.returns-in-Ok-Maps-clause-text
+returns-in-Ok-Maps-clause-text g c =
+    let words = map string_bytes c.args.words.now in
+    let old = g.H.Shelf.port c.args.shelf.now in
+    let mid = g.H.Shelf.port c.load_files.new.shelf in
+    let new = g.H.Shelf.port c.examine_mapped.new.shelf in
+    let source = move (g.S.Source.port c.args.input.now) (g.S.Source.port c.examine_mapped.new.input) in
+    let sink = move (g.K.Sink.port c.args.out.now) (g.K.Sink.port c.examine_mapped.new.out) in
+    let bytes = core_bytes c.in-Ok-Maps.files.core.items c.in-Ok-Maps.files.trace.items c.in-Ok-Maps.files.manner in
+    let f = c.load_files.ensures.faults in
+    let calm = done_at c.load_files.result c.in-Ok-Maps.field-0 c.in-Ok-Maps.is f.calm in
+    let loads = both_at c.load_files.result c.in-Ok-Maps.field-0 c.in-Ok-Maps.files (meaning_of words) old mid c.in-Ok-Maps.is c.in-Ok-Maps.field-0-is c.load_files.ensures.asked in
+    let at : IfSome old.files (λ fs. loading words fs ≡ LoadedCore bytes) = ok_at c.load_files.result c.in-Ok-Maps.field-0 (asked.Maps c.in-Ok-Maps.files) (λ a. IfSome old.files (λ fs. loading words fs ≡ asked_for a)) c.in-Ok-Maps.is c.in-Ok-Maps.field-0-is c.load_files.ensures.loaded in
+    both old.files source.before.bytes _ (λ files told left told_left.
+    delivers_as (ExaminesMapped (mapped_call (mapped_crash files bytes) (move mid.loads new.loads) (reading_of left source.after.bytes))) (Writes (given words files (move old new) (reading_of left source.after.bytes))) sink c.examine_mapped.result
+    (λ text status. mapped_writes words files bytes (at_some old.files files (λ fs. loading words fs ≡ LoadedCore bytes) told at) (move old new) mid.loads (reading_of left source.after.bytes) text status (both_loads (meaning_of words) bytes.core old mid loads))
+    (of_both old.files source.before.bytes (λ fs input. Delivers (ExaminesMapped (mapped_call (mapped_crash fs bytes) (move mid.loads new.loads) (reading_of input source.after.bytes))) sink c.examine_mapped.result) files left told told_left
+    (as_before old.files mid.files (λ fs. IfSome source.before.bytes (λ input. Delivers (ExaminesMapped (mapped_call (mapped_crash fs bytes) (move mid.loads new.loads) (reading_of input source.after.bytes))) sink c.examine_mapped.result)) f.files c.examine_mapped.ensures.text)))
+
+pub returns-in-Ok-Maps-clause-complete : goal.returns-in-Ok-Maps-clause-complete
+returns-in-Ok-Maps-clause-complete g c =
+    let words = map string_bytes c.args.words.now in
+    let old = g.H.Shelf.port c.args.shelf.now in
+    let mid = g.H.Shelf.port c.load_files.new.shelf in
+    let new = g.H.Shelf.port c.examine_mapped.new.shelf in
+    let source = move (g.S.Source.port c.args.input.now) (g.S.Source.port c.examine_mapped.new.input) in
+    let sink = move (g.K.Sink.port c.args.out.now) (g.K.Sink.port c.examine_mapped.new.out) in
+    let bytes = core_bytes c.in-Ok-Maps.files.core.items c.in-Ok-Maps.files.trace.items c.in-Ok-Maps.files.manner in
+    let f = c.load_files.ensures.faults in
+    let calm = done_at c.load_files.result c.in-Ok-Maps.field-0 c.in-Ok-Maps.is f.calm in
+    let loads = both_at c.load_files.result c.in-Ok-Maps.field-0 c.in-Ok-Maps.files (meaning_of words) old mid c.in-Ok-Maps.is c.in-Ok-Maps.field-0-is c.load_files.ensures.asked in
+    both old.files source.before.bytes _ (λ files told left told_left.
+    completed (given words files (move old new) (reading_of left source.after.bytes)) (move old new) source sink c.examine_mapped.result (returns-in-Ok-Maps-clause-causes g c)
+    (of_both old.files source.before.bytes (λ fs input. Delivers (Writes (given words fs (move old new) (reading_of input source.after.bytes))) sink c.examine_mapped.result) files left told told_left (returns-in-Ok-Maps-clause-text g c)))
+
+pub returns-in-Ok-Maps-clause-sound : goal.returns-in-Ok-Maps-clause-sound
+returns-in-Ok-Maps-clause-sound g c =
+    let words = map string_bytes c.args.words.now in
+    let old = g.H.Shelf.port c.args.shelf.now in
+    let mid = g.H.Shelf.port c.load_files.new.shelf in
+    let new = g.H.Shelf.port c.examine_mapped.new.shelf in
+    let source = move (g.S.Source.port c.args.input.now) (g.S.Source.port c.examine_mapped.new.input) in
+    let sink = move (g.K.Sink.port c.args.out.now) (g.K.Sink.port c.examine_mapped.new.out) in
+    let bytes = core_bytes c.in-Ok-Maps.files.core.items c.in-Ok-Maps.files.trace.items c.in-Ok-Maps.files.manner in
+    let f = c.load_files.ensures.faults in
+    let calm = done_at c.load_files.result c.in-Ok-Maps.field-0 c.in-Ok-Maps.is f.calm in
+    let loads = both_at c.load_files.result c.in-Ok-Maps.field-0 c.in-Ok-Maps.files (meaning_of words) old mid c.in-Ok-Maps.is c.in-Ok-Maps.field-0-is c.load_files.ensures.asked in
+    where_told old.files (ReportHolds words) (λ files told. reports_hold words files (true_in_both c.reports_are_true.ensures c.reports_are_true-2.ensures))
+
+pub returns-in-Ok-Maps-clause-executed : goal.returns-in-Ok-Maps-clause-executed
+returns-in-Ok-Maps-clause-executed g c =
+    let words = map string_bytes c.args.words.now in
+    let old = g.H.Shelf.port c.args.shelf.now in
+    let mid = g.H.Shelf.port c.load_files.new.shelf in
+    let new = g.H.Shelf.port c.examine_mapped.new.shelf in
+    let source = move (g.S.Source.port c.args.input.now) (g.S.Source.port c.examine_mapped.new.input) in
+    let sink = move (g.K.Sink.port c.args.out.now) (g.K.Sink.port c.examine_mapped.new.out) in
+    let bytes = core_bytes c.in-Ok-Maps.files.core.items c.in-Ok-Maps.files.trace.items c.in-Ok-Maps.files.manner in
+    let f = c.load_files.ensures.faults in
+    let calm = done_at c.load_files.result c.in-Ok-Maps.field-0 c.in-Ok-Maps.is f.calm in
+    let loads = both_at c.load_files.result c.in-Ok-Maps.field-0 c.in-Ok-Maps.files (meaning_of words) old mid c.in-Ok-Maps.is c.in-Ok-Maps.field-0-is c.load_files.ensures.asked in
+    asked_holds (meaning_of words) (λ seed steps. made_holds seed steps c.reports_are_true.ensures)
+
+pub returns-in-Ok-Maps-clause-bits : goal.returns-in-Ok-Maps-clause-bits
+returns-in-Ok-Maps-clause-bits g c =
+    let words = map string_bytes c.args.words.now in
+    let old = g.H.Shelf.port c.args.shelf.now in
+    let mid = g.H.Shelf.port c.load_files.new.shelf in
+    let new = g.H.Shelf.port c.examine_mapped.new.shelf in
+    let source = move (g.S.Source.port c.args.input.now) (g.S.Source.port c.examine_mapped.new.input) in
+    let sink = move (g.K.Sink.port c.args.out.now) (g.K.Sink.port c.examine_mapped.new.out) in
+    let bytes = core_bytes c.in-Ok-Maps.files.core.items c.in-Ok-Maps.files.trace.items c.in-Ok-Maps.files.manner in
+    let f = c.load_files.ensures.faults in
+    let calm = done_at c.load_files.result c.in-Ok-Maps.field-0 c.in-Ok-Maps.is f.calm in
+    let loads = both_at c.load_files.result c.in-Ok-Maps.field-0 c.in-Ok-Maps.files (meaning_of words) old mid c.in-Ok-Maps.is c.in-Ok-Maps.field-0-is c.load_files.ensures.asked in
+    where_told old.files (BitsKnowMore words) (λ files told. bits_know words files c.finer_sets_know_more.ensures)
+
+pub returns-in-Ok-Maps-clause-promise : goal.returns-in-Ok-Maps-clause-promise
+returns-in-Ok-Maps-clause-promise g c =
+    let words = map string_bytes c.args.words.now in
+    let old = g.H.Shelf.port c.args.shelf.now in
+    let mid = g.H.Shelf.port c.load_files.new.shelf in
+    let new = g.H.Shelf.port c.examine_mapped.new.shelf in
+    let source = move (g.S.Source.port c.args.input.now) (g.S.Source.port c.examine_mapped.new.input) in
+    let sink = move (g.K.Sink.port c.args.out.now) (g.K.Sink.port c.examine_mapped.new.out) in
+    let bytes = core_bytes c.in-Ok-Maps.files.core.items c.in-Ok-Maps.files.trace.items c.in-Ok-Maps.files.manner in
+    let f = c.load_files.ensures.faults in
+    let calm = done_at c.load_files.result c.in-Ok-Maps.field-0 c.in-Ok-Maps.is f.calm in
+    let loads = both_at c.load_files.result c.in-Ok-Maps.field-0 c.in-Ok-Maps.files (meaning_of words) old mid c.in-Ok-Maps.is c.in-Ok-Maps.field-0-is c.load_files.ensures.asked in
+    both old.files source.before.bytes _ (λ files told left told_left.
+    promised (true_in_both c.reports_are_true.ensures c.reports_are_true-2.ensures) (given words files (move old new) (reading_of left source.after.bytes)) sink c.examine_mapped.result
+    (of_both old.files source.before.bytes (λ fs input. Delivers (Writes (given words fs (move old new) (reading_of input source.after.bytes))) sink c.examine_mapped.result) files left told told_left (returns-in-Ok-Maps-clause-text g c))
+    (at_some old.files files (λ fs. EndsByFiles words fs c.examine_mapped.result) told (returns-in-Ok-Maps-clause-files g c))
+    (at_some old.files files (λ fs. c.examine_mapped.result ≡ ends.Inconsistent → NoExecution words fs) told (returns-in-Ok-Maps-clause-impossible g c)))

@@ -24,8 +24,8 @@ returns-in-Ok-Files-clause-debugged g c =
     debugged words files (crash_bytes f.exe.items f.core.items f.trace.items f.manner) io talk (true_in_both c.reports_are_true.ensures c.reports_are_true-2.ensures) loaded held))
     c.debug_files.ensures.held
 
-pub returns-in-Err-clause-refused : goal.returns-in-Err-clause-refused
-returns-in-Err-clause-refused g c =
+pub returns-clause-refused : goal.returns-clause-refused
+returns-clause-refused g c =
     let words = map string_bytes c.args.words.now in
     let old = g.H.Shelf.port c.args.shelf.now in
     let new = g.H.Shelf.port c.load_files.new.shelf in

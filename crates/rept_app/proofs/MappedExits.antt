@@ -1,0 +1,126 @@
+-- The exits of the call that loads the files of a core file's list.
+use Rattle.std.proofs.Common.{◌≡◌, ◌⊎◌, ℕ, suc, ◌+◌, ◌<◌, ◌≤◌, List, length, Option, None, Some, IfSome, Result, Ok, inl, inr, refl, sym, ap, subst, ◌∙◌, arith}
+use Rattle.std.specs.Prelude.{slice_get}
+use Rattle.rept_maps.specs.declared.fault.MapFault.{MapFault}
+use Rattle.rept_mapped.specs.Mapped.{Mapping}
+use Rattle.rept_mapfiles.specs.Kept.{asked_names, loads_after}
+use Rattle.rept_ports.specs.Causes.{Rose}
+use Rattle.rept_ports.specs.Port.{Port, Move, move}
+use Rattle.rept_ports.specs.Shelves.{Files, Shelved}
+use Rattle.rept_serve.specs.Serving.{Reading}
+use Rattle.rept_app.specs.Delivered.{Delivers, Says}
+use Rattle.rept_app.specs.Ends.{EndsSession, Stopped}
+use Rattle.rept_app.specs.Examine.{Examines, FilesEnd, FilesExclude, FilesHold, IsExamined}
+use Rattle.rept_app.specs.Forms.{core_image_fault}
+use Rattle.rept_app.specs.Loading.{CoreBytes, parts_bytes}
+use Rattle.rept_app.specs.Mapped.{AreAsked, ListSays, NamesLoaded, mapped_bytes, mapped_crash, mapped_files}
+use Rattle.rept_app.specs.MappedEnds.{ExaminesMapped, IsExaminedMapped, MappedCall, MappedEnd, MappedExcludes, MappedHolds, TellsName, mapped_call, moves}
+use Rattle.rept_app.specs.declared.refusal.Refusal.TheVariants as refusal
+use Rattle.rept_app.specs.declared.status.Status.{Status}
+use Rattle.rept_app.specs.declared.status.Status.TheVariants as ends
+use Rattle.rept_app.proofs.DeliveredLemmas.{delivers_as}
+use Rattle.rept_app.proofs.MadeLemmas.{memory_ports}
+use Rattle.rept_app.proofs.MappedLemmas.{Ended, calm_move, ended_move, examined_so, files_excluded, files_held, files_written, list_ends, memory_stopped, name_ports, name_told, name_written, named_so, named_yields, never_loading, stopped_move, stopped_so, stopped_yields, where_both, where_files}
+
+-- so many loads of the names of a list
+pub are_asked : (core desc : List ℕ) (asked : Move ℕ) (status : Status) (count : ℕ) → ListSays core (Ok desc) → count ≤ length (asked_names desc) → asked.after ≡ loads_after count asked.before
+    → (count ≡ length (asked_names desc)) ⊎ (status ≡ ends.LoadFault) ⊎ Stopped status → NamesLoaded core asked status
+are_asked core desc asked status count listed within loads all = inr (desc, listed, record { count = count; within = within; loads = loads; all = all })
+
+-- there was no memory
+module _ (c : CoreBytes) (old new : Shelved) (source : Port) (out : Move Port) (status : Status) (d : Delivers (Says refusal.OutOfMemory) out status) where
+  pub memory_written : (left : Option (List ℕ)) → IfSome old.files (λ told. IfSome source.bytes (λ input. Delivers (ExaminesMapped (mapped_call (mapped_crash told c) (move old.loads new.loads) (record { input = input; left = left }))) out status))
+  memory_written left = where_both old.files source.bytes _ (λ told input.
+      delivers_as (Says refusal.OutOfMemory) (ExaminesMapped (mapped_call (mapped_crash told c) (move old.loads new.loads) (record { input = input; left = left }))) out status (λ text s says. inr (inl says)) d)
+
+  pub memory_causes : new.files ≡ old.files → old.faults ≤ new.faults → IfSome old.files (λ _. new.faults ≤ old.faults + 1) → (Stopped status → NamesLoaded c.core (move old.loads new.loads) status)
+      → IsExaminedMapped c (moves (move old new) (move source source) out) status
+  memory_causes files later once loads =
+      let s = memory_stopped out status d in
+      record {
+        ports = memory_ports out status d source;
+        shelf = stopped_move old new status files later once s;
+        loads = loads s;
+        ends_so = stopped_so status s;
+        yields = stopped_yields old.files c status s;
+      }
+
+  pub memory_impossible : {P : Type 0} → status ≡ ends.Inconsistent → P
+  memory_impossible {P} e = never (memory_stopped out status d)
+    where
+      never : Stopped status → P
+      never (inl h) = let bad : ends.OutputFault ≡ ends.Inconsistent = sym h ∙ e in let no : ⊥ = cc in absurd no
+      never (inr h) = let bad : ends.OutOfMemory ≡ ends.Inconsistent = sym h ∙ e in let no : ⊥ = cc in absurd no
+
+-- the load of a name failed
+module _ (c : CoreBytes) (old new : Shelved) (source : Port) (out : Move Port) (status : Status) (name : List ℕ) (d : Delivers (TellsName name) out status) where
+  pub name_impossible : {P : Type 0} → status ≡ ends.Inconsistent → P
+  name_impossible {P} e = never (name_told name out status d)
+    where
+      never : (status ≡ ends.LoadFault) ⊎ Stopped status → P
+      never (inl h) = let bad : ends.LoadFault ≡ ends.Inconsistent = sym h ∙ e in let no : ⊥ = cc in absurd no
+      never (inr (inl h)) = let bad : ends.OutputFault ≡ ends.Inconsistent = sym h ∙ e in let no : ⊥ = cc in absurd no
+      never (inr (inr h)) = let bad : ends.OutOfMemory ≡ ends.Inconsistent = sym h ∙ e in let no : ⊥ = cc in absurd no
+
+  module _ (desc : List ℕ) (listed : ListSays c.core (Ok desc)) (place : ℕ) (loads : new.loads ≡ loads_after (suc place) old.loads) where
+    pub name_lines : core_image_fault c.core ≡ None → slice_get (asked_names desc) place ≡ Some name → (left : Option (List ℕ))
+        → IfSome old.files (λ told. IfSome source.bytes (λ input. Delivers (ExaminesMapped (mapped_call (mapped_crash told c) (move old.loads new.loads) (record { input = input; left = left }))) out status))
+    name_lines accepted named left = where_both old.files source.bytes _ (λ told input.
+        let call : MappedCall = mapped_call (mapped_crash told c) (move old.loads new.loads) (record { input = input; left = left }) in
+        delivers_as (TellsName name) (ExaminesMapped call) out status (λ text s h. name_written call text s accepted desc listed place name named loads h) d)
+
+    pub name_causes : place < length (asked_names desc) → new.files ≡ old.files → old.faults ≤ new.faults → IfSome old.files (λ _. new.faults ≤ old.faults + 1) → Rose old.faults new.faults
+        → IsExaminedMapped c (moves (move old new) (move source source) out) status
+    name_causes within files later once rose =
+        let so = name_told name out status d in
+        record {
+          ports = name_ports name source out status d;
+          shelf = ended_move old new status files later once so (λ _. rose);
+          loads = are_asked c.core desc (move old.loads new.loads) status (suc place) listed within loads (inr so);
+          ends_so = named_so status so;
+          yields = named_yields old.files c status so;
+        }
+
+-- all that are there were loaded, and the files are examined
+module _ (c : CoreBytes) (old new : Shelved) (source out : Move Port) (status : Status) (desc : List ℕ) (ms : List Mapping) (program : IfSome old.files (λ files. ms ≡ mapped_files files desc)) (accepted : core_image_fault c.core ≡ None) (listed : ListSays c.core (Ok desc)) where
+  program_at : (files : Files) → old.files ≡ Some files → ms ≡ mapped_files files desc
+  program_at files told = let P : Option Files → Type 0 = λ o. IfSome o (λ fs. ms ≡ mapped_files fs desc) in subst P told program
+
+  pub files_lines : IfSome source.before.bytes (λ input. Delivers (Examines (parts_bytes ms c) (record { input = input; left = source.after.bytes })) out status)
+      → IfSome old.files (λ told. IfSome source.before.bytes (λ input. Delivers (ExaminesMapped (mapped_call (mapped_crash told c) (move old.loads new.loads) (record { input = input; left = source.after.bytes }))) out status))
+  files_lines h = where_files old.files _ (λ files told. lines files (program_at files told) source.before.bytes h)
+    where
+      lines : (files : Files) → ms ≡ mapped_files files desc → (p : Option (List ℕ)) → IfSome p (λ input. Delivers (Examines (parts_bytes ms c) (record { input = input; left = source.after.bytes })) out status)
+          → IfSome p (λ input. Delivers (ExaminesMapped (mapped_call (mapped_crash files c) (move old.loads new.loads) (record { input = input; left = source.after.bytes }))) out status)
+      lines files same None h = tt
+      lines files same (Some input) h =
+          let call : MappedCall = mapped_call (mapped_crash files c) (move old.loads new.loads) (record { input = input; left = source.after.bytes }) in
+          delivers_as (Examines (parts_bytes ms c) call.reading) (ExaminesMapped call) out status
+          (λ text s e. files_written call text s accepted desc listed (subst (λ (parts : List Mapping). Examines (parts_bytes parts c) call.reading text s) same e)) h
+
+  module _ (only : (said : Result (List ℕ) MapFault) → ListSays c.core said → said ≡ Ok desc) where
+    files_end : FilesEnd (parts_bytes ms c) status → Ended old.files c status
+    files_end h = where_files old.files (λ files. MappedEnd (mapped_crash files c) status ⊎ (status ≡ ends.LoadFault)) (λ files told.
+        inl (list_ends (mapped_crash files c) accepted (Ok desc) only status (subst (λ (parts : List Mapping). FilesEnd (parts_bytes parts c) status) (program_at files told) h)))
+
+    pub files_causes : (status ≡ ends.Executable → ⊥) → new.files ≡ old.files → old.faults ≤ new.faults → IfSome old.files (λ _. new.faults ≡ old.faults) → new.loads ≡ loads_after (length (asked_names desc)) old.loads
+        → IsExamined (parts_bytes ms c) source out status → IsExaminedMapped c (moves (move old new) source out) status
+    files_causes never files later calm loads is = record {
+      ports = is.ports;
+      shelf = calm_move old new status files later calm (never_loading status is.ends_so);
+      loads = are_asked c.core desc (move old.loads new.loads) status (length (asked_names desc)) listed (omega arith) loads (inl refl);
+      ends_so = examined_so status never is.ends_so;
+      yields = files_end is.yields;
+    }
+
+    pub files_impossible : FilesExclude (parts_bytes ms c) → IfSome old.files (λ told. MappedExcludes (mapped_crash told c))
+    files_impossible none = where_files old.files _ (λ files told.
+        files_excluded (mapped_crash files c) accepted desc only (subst (λ (parts : List Mapping). FilesExclude (parts_bytes parts c)) (program_at files told) none))
+
+  pub files_stay : {P : Type 0} → P ⊎ FilesHold (parts_bytes ms c) status → P ⊎ (EndsSession status × IfSome old.files (λ told. MappedHolds (mapped_crash told c) status))
+  files_stay (inl p) = inl p
+  files_stay (inr h) = inr (
+    h.1,
+    where_files old.files _ (λ files told.
+        files_held (mapped_crash files c) accepted desc status listed (subst (λ (parts : List Mapping). FilesHold (parts_bytes parts c) status) (program_at files told) h)),
+  )

@@ -1,0 +1,354 @@
+-- How a core file that lists the files of its program ends the call, and what is written of it.
+use Rattle.std.proofs.Common.{◌≡◌, ◌⊎◌, ℕ, zero, suc, ◌+◌, ◌-◌, ◌<◌, ◌≤◌, List, [], ◌∷◌, length, map, min, Bool, true, false, ◌&&◌, cond, get_or, nat_le, Option, None, Some, IfErr, IfSome, MatchOption, Result, Ok, Err, MatchResult, inl, inr, refl, sym, ap, subst, ◌∙◌, arith}
+use Rattle.std.specs.Prelude.{slice_get}
+use Rattle.std.specs.Option.{option_and_then, option_map}
+use Rattle.std.proofs.lemmas.Option.{slice_get-get_or, slice_get-map}
+use Rattle.std.proofs.lemmas.List.{length-map}
+use Rattle.rept_elf.specs.Segments.{segments}
+use Rattle.rept_elf.specs.declared.fault.ElfFault.{ElfFault}
+use Rattle.rept_dump.specs.Program.Program.{MappedFiles}
+use Rattle.rept_dump.specs.Registers.{Says as NotesSay}
+use Rattle.rept_dump.specs.declared.fault.CoreFault.{CoreFault}
+use Rattle.rept_found.specs.Crash.{Crash}
+use Rattle.rept_maps.specs.declared.fault.MapFault.{MapFault}
+use Rattle.rept_elf.specs.Image.{file_of}
+use Rattle.rept_elf.specs.declared.image.Image.{Image}
+use Rattle.rept_maps.specs.FileMap.{entry_at, entry_named}
+use Rattle.rept_mapped.specs.Mapped.{Mapping, mapping_by, mappings, mappings_from}
+use Rattle.rept_mapfiles.specs.Kept.{as_image, asked_names, image_at, is_image, kept_all, kept_at, kept_by, kept_in, loads_after, most_bytes, most_in_all, names_of, place_in, taken}
+use Rattle.rept_ports.specs.Causes.{Rose, OneFault}
+use Rattle.rept_ports.specs.Port.{Port, Move, move}
+use Rattle.rept_ports.specs.Shelves.{Files, Shelved}
+use Rattle.rept_serve.specs.Serving.{Reading}
+use Rattle.rept_app.specs.Delivered.{Delivers, Says, Tells}
+use Rattle.rept_app.specs.Ends.{EndsSession, FaultEnds, PortsEnd, Stopped, Yields}
+use Rattle.rept_app.specs.Examine.{Examines, FilesEnd, FilesExclude, FilesHold, IsExamined, IsWalkStatus}
+use Rattle.rept_app.specs.Forms.{core_image_fault, crash_in}
+use Rattle.rept_app.specs.Lines.{status_of}
+use Rattle.rept_app.specs.Loading.{CoreBytes, CrashBytes, parts_bytes}
+use Rattle.rept_app.specs.Mapped.{AreAsked, IsMappedAs, ListSays, MappedCrash, NameFails, NamesLoaded, NamesMove, kept_of, mapped_bytes, mapped_crash, mapped_files, mapped_part, parts_from}
+use Rattle.rept_app.specs.MappedEnds.{ExaminesMapped, IsExaminedMapped, ListEnds, MappedCall, MappedEnd, MappedExcludes, MappedHolds, Moves, TellsName, mapped_call, moves}
+use Rattle.rept_app.specs.Reading.{HasNoCrash, NotesRefuse}
+use Rattle.rept_app.specs.Told.{CrashTrace, MappedTold, Examined, crash_trace, trace_in}
+use Rattle.rept_app.specs.declared.refusal.Refusal.{Refusal}
+use Rattle.rept_app.specs.declared.refusal.Refusal.TheVariants as refusal
+use Rattle.rept_app.specs.declared.status.Status.{Status}
+use Rattle.rept_app.specs.declared.status.Status.TheVariants as ends
+use Rattle.rept_app.proofs.DeliveredLemmas.{ends_told}
+use Rattle.rept_app.proofs.ExamineLemmas.{all_walks, stopped_end}
+use Rattle.rept_app.proofs.Counted.{counted}
+
+-- a call that stopped ends so whatever the core file lists
+pub mapped_stopped : (m : MappedCrash) (status : Status) → Stopped status → MappedEnd m status
+mapped_stopped m status s = at (core_image_fault m.bytes.core)
+  where
+    list : (said : Result (List ℕ) MapFault) → ListEnds m said status
+    list (Err fault) = inr s
+    list (Ok desc) = stopped_end (mapped_bytes m desc) status s
+
+    at : (o : Option ElfFault) → MatchOption o ((said : Result (List ℕ) MapFault) → ListSays m.bytes.core said → ListEnds m said status) (λ _. Yields ends.Core status)
+    at (Some f) = inr s
+    at None = λ said says. list said
+
+-- the crash of mapped files
+parts_crash : (crash : Crash) (ms : List Mapping) (core : List ℕ) → crash.exe ≡ MappedFiles ms → crash.core ≡ segments core → crash ≡ crash_in (MappedFiles ms) core crash.note
+parts_crash crash ms core e k =
+    ap (λ x. record { exe = x; core = crash.core; note = crash.note }) e ∙ ap (λ x. record { exe = MappedFiles ms; core = x; note = crash.note }) k
+
+pub parts_trace : (crash : Crash) (ms : List Mapping) (c : CoreBytes) (trace : List ℕ) → crash.exe ≡ MappedFiles ms → crash.core ≡ segments c.core → trace ≡ c.trace → crash_trace crash trace c.manner ≡ trace_in (parts_bytes ms c) crash.note
+parts_trace crash ms c trace e k t =
+    ap (λ (x : Crash). crash_trace x trace c.manner) (parts_crash crash ms c.core e k) ∙ ap (λ (x : List ℕ). crash_trace (crash_in (MappedFiles ms) c.core crash.note) x c.manner) t
+
+pub parts_refused : (ms : List Mapping) (c : CoreBytes) (f : CoreFault) → core_image_fault c.core ≡ None → NotesSay (length c.core) (segments c.core) (Err f)
+    → ((said : Result (List ℕ) CoreFault) → NotesSay (length c.core) (segments c.core) said → said ≡ Err f) → HasNoCrash (parts_bytes ms c) (refusal.Core f)
+parts_refused ms c f accepted says only =
+    let P : Option ElfFault → Type 0 = λ o. MatchOption o (NotesRefuse c.core (refusal.Core f)) (λ g. refusal.Core f ≡ refusal.CoreImage g) in
+    subst P (sym accepted) (f, says, only, refl)
+
+-- a trace that is walked isn't ended by its executable
+pub not_executable : (status : Status) → IsWalkStatus status → status ≡ ends.Executable → ⊥
+not_executable status (inl h) e = cc
+not_executable status (inr (inl h)) e = cc
+not_executable status (inr (inr (inl h))) e = cc
+not_executable status (inr (inr (inr (inl h)))) e = cc
+not_executable status (inr (inr (inr (inr (inl h))))) e = cc
+not_executable status (inr (inr (inr (inr (inr (inl h)))))) e = cc
+not_executable status (inr (inr (inr (inr (inr (inr h)))))) e = cc
+
+not_load_fault : (status : Status) → IsWalkStatus status → status ≡ ends.LoadFault → ⊥
+not_load_fault status (inl h) e = cc
+not_load_fault status (inr (inl h)) e = cc
+not_load_fault status (inr (inr (inl h))) e = cc
+not_load_fault status (inr (inr (inr (inl h)))) e = cc
+not_load_fault status (inr (inr (inr (inr (inl h))))) e = cc
+not_load_fault status (inr (inr (inr (inr (inr (inl h)))))) e = cc
+not_load_fault status (inr (inr (inr (inr (inr (inr h)))))) e = cc
+
+stopped_fails : (status : Status) → Stopped status → status ≡ ends.LoadFault → ⊥
+stopped_fails status s e = not_load_fault status (all_walks status (inr s)) e
+
+-- where there was no memory
+pub memory_stopped : (out : Move Port) (status : Status) → Delivers (Says refusal.OutOfMemory) out status → Stopped status
+memory_stopped out status (inl (text, says, written, calm)) = inr says.ending
+memory_stopped out status (inr (e, fault, whole)) = inl e
+
+-- the line of a name
+pub name_told : (name : List ℕ) (out : Move Port) (status : Status) → Delivers (TellsName name) out status → (status ≡ ends.LoadFault) ⊎ Stopped status
+name_told name out status (inl (text, inl h, written, calm)) = inl h.1
+name_told name out status (inl (text, inr says, written, calm)) = inr (inr says.ending)
+name_told name out status (inr (e, fault, whole)) = inr (inl e)
+
+pub name_ports : (name : List ℕ) (source : Port) (out : Move Port) (status : Status) → Delivers (TellsName name) out status → PortsEnd (move source source) out status
+name_ports name source out status d = record {
+  input = λ e. absurd (unread (name_told name out status d) e);
+  input_ends = inl refl;
+  output = failed d;
+  output_ends = count d;
+}
+  where
+    unread : (status ≡ ends.LoadFault) ⊎ Stopped status → status ≡ ends.InputFault → ⊥
+    unread (inl h) e = let bad : ends.LoadFault ≡ ends.InputFault = sym h ∙ e in cc
+    unread (inr (inl h)) e = let bad : ends.OutputFault ≡ ends.InputFault = sym h ∙ e in cc
+    unread (inr (inr h)) e = let bad : ends.OutOfMemory ≡ ends.InputFault = sym h ∙ e in cc
+
+    failed : Delivers (TellsName name) out status → status ≡ ends.OutputFault → OneFault out.before.faults out.after.faults
+    failed (inl (text, inl h, written, calm)) e = let bad : ends.LoadFault ≡ ends.OutputFault = sym h.1 ∙ e in let no : ⊥ = cc in absurd no
+    failed (inl (text, inr says, written, calm)) e = let bad : ends.OutOfMemory ≡ ends.OutputFault = sym says.ending ∙ e in let no : ⊥ = cc in absurd no
+    failed (inr (so, fault, whole)) e = fault
+
+    count : Delivers (TellsName name) out status → FaultEnds out.before.faults out.after.faults (status ≡ ends.OutputFault)
+    count (inl h) = inl h.3
+    count (inr h) = inr (h.1, h.0)
+
+-- what loads of names did to a shelf
+module _ (old new : Shelved) (status : Status) where
+  told_move : (o : Option Files) → old.faults ≤ new.faults → IfSome o (λ _. new.faults ≤ old.faults + 1) → (status ≡ ends.LoadFault) ⊎ Stopped status
+      → IfSome o (λ _. FaultEnds old.faults new.faults ((status ≡ ends.LoadFault) ⊎ Stopped status))
+  told_move None later once so = tt
+  told_move (Some files) later once so = elim (counted old.faults new.faults later once) [ inl h ↦ inl h | inr h ↦ inr (h, so) ]
+
+  pub ended_move : new.files ≡ old.files → old.faults ≤ new.faults → IfSome old.files (λ _. new.faults ≤ old.faults + 1) → (status ≡ ends.LoadFault) ⊎ Stopped status → (status ≡ ends.LoadFault → Rose old.faults new.faults)
+      → NamesMove (move old new) status
+  ended_move files later once so failed = record { files = files; later = later; told = told_move old.files later once so; failed = failed }
+
+  pub stopped_move : new.files ≡ old.files → old.faults ≤ new.faults → IfSome old.files (λ _. new.faults ≤ old.faults + 1) → Stopped status → NamesMove (move old new) status
+  stopped_move files later once s = ended_move files later once (inr s) (λ e. absurd (stopped_fails status s e))
+
+  calm_told : (P : Type 0) (o : Option Files) → IfSome o (λ _. new.faults ≡ old.faults) → IfSome o (λ _. FaultEnds old.faults new.faults P)
+  calm_told P None h = tt
+  calm_told P (Some files) h = inl h
+
+  pub calm_move : new.files ≡ old.files → old.faults ≤ new.faults → IfSome old.files (λ _. new.faults ≡ old.faults) → (status ≡ ends.LoadFault → ⊥) → NamesMove (move old new) status
+  calm_move files later calm never = record { files = files; later = later; told = calm_told ((status ≡ ends.LoadFault) ⊎ Stopped status) old.files calm; failed = λ e. absurd (never e) }
+
+pub idle_move : (old : Shelved) (status : Status) → (status ≡ ends.LoadFault → ⊥) → NamesMove (move old old) status
+idle_move old status never = calm_move old old status refl (omega arith) (same old.files) never
+  where
+    same : (o : Option Files) → IfSome o (λ _. old.faults ≡ old.faults)
+    same None = tt
+    same (Some files) = refl
+
+-- a refusal of the core file or its list
+pub core_not_loading : (status : Status) → Yields ends.Core status → status ≡ ends.LoadFault → ⊥
+core_not_loading status (inl h) e = cc
+core_not_loading status (inr s) e = stopped_fails status s e
+
+pub core_ends : (status : Status) → Yields ends.Core status → (status ≡ ends.LoadFault) ⊎ (status ≡ ends.Core) ⊎ IsWalkStatus status
+core_ends status (inl h) = inr (inl h)
+core_ends status (inr s) = inr (inr (all_walks status (inr s)))
+
+pub stopped_so : (status : Status) → Stopped status → (status ≡ ends.LoadFault) ⊎ (status ≡ ends.Core) ⊎ IsWalkStatus status
+stopped_so status s = inr (inr (all_walks status (inr s)))
+
+pub named_so : (status : Status) → (status ≡ ends.LoadFault) ⊎ Stopped status → (status ≡ ends.LoadFault) ⊎ (status ≡ ends.Core) ⊎ IsWalkStatus status
+named_so status (inl h) = inl h
+named_so status (inr s) = stopped_so status s
+
+-- the files, where the shelf tells them, and a core file
+module _ (o : Option Files) (c : CoreBytes) (status : Status) where
+  abbrev pub Ended : Type 0
+  Ended = IfSome o (λ files. MappedEnd (mapped_crash files c) status ⊎ (status ≡ ends.LoadFault))
+
+pub where_files : (o : Option Files) (P : Files → Type 0) → ((files : Files) → o ≡ Some files → P files) → IfSome o P
+where_files None P h = tt
+where_files (Some files) P h = h files refl
+
+pub stopped_yields : (o : Option Files) (c : CoreBytes) (status : Status) → Stopped status → Ended o c status
+stopped_yields o c status s = where_files o (λ files. MappedEnd (mapped_crash files c) status ⊎ (status ≡ ends.LoadFault)) (λ files is. inl (mapped_stopped (mapped_crash files c) status s))
+
+pub named_yields : (o : Option Files) (c : CoreBytes) (status : Status) → (status ≡ ends.LoadFault) ⊎ Stopped status → Ended o c status
+named_yields o c status (inl e) = where_files o (λ files. MappedEnd (mapped_crash files c) status ⊎ (status ≡ ends.LoadFault)) (λ files is. inr e)
+named_yields o c status (inr s) = stopped_yields o c status s
+
+pub image_yields : (o : Option Files) (c : CoreBytes) (status : Status) (f : ElfFault) → Some f ≡ core_image_fault c.core → Yields ends.Core status → Ended o c status
+image_yields o c status f e so = where_files o (λ files. MappedEnd (mapped_crash files c) status ⊎ (status ≡ ends.LoadFault)) (λ files is. inl (at files))
+  where
+    at : (files : Files) → MappedEnd (mapped_crash files c) status
+    at files =
+        let P : Option ElfFault → Type 0 = λ w. MatchOption w ((said : Result (List ℕ) MapFault) → ListSays c.core said → ListEnds (mapped_crash files c) said status) (λ _. Yields ends.Core status) in
+        subst P e so
+
+-- how an accepted core file ends the call, by what its list says
+module _ (m : MappedCrash) (accepted : core_image_fault m.bytes.core ≡ None) (here : Result (List ℕ) MapFault) (only : (said : Result (List ℕ) MapFault) → ListSays m.bytes.core said → said ≡ here) where
+  pub list_ends : (status : Status) → ListEnds m here status → MappedEnd m status
+  list_ends status yields =
+      let P : Option ElfFault → Type 0 = λ w. MatchOption w ((said : Result (List ℕ) MapFault) → ListSays m.bytes.core said → ListEnds m said status) (λ _. Yields ends.Core status) in
+      subst P (sym accepted) (λ said says. subst (λ (s : Result (List ℕ) MapFault). ListEnds m s status) (sym (only said says)) yields)
+
+pub list_yields : (o : Option Files) (c : CoreBytes) (status : Status) (f : MapFault) → core_image_fault c.core ≡ None → ((said : Result (List ℕ) MapFault) → ListSays c.core said → said ≡ Err f) → Yields ends.Core status → Ended o c status
+list_yields o c status f accepted only so = where_files o (λ files. MappedEnd (mapped_crash files c) status ⊎ (status ≡ ends.LoadFault)) (λ files is. inl (list_ends (mapped_crash files c) accepted (Err f) only status so))
+
+-- what is written
+module _ (c : MappedCall) (text : List ℕ) (status : Status) where
+  abbrev Whole : Option ElfFault → Type 0
+  Whole o = MatchOption o
+      ((said : Result (List ℕ) MapFault) × ListSays c.crash.bytes.core said × MatchResult said (λ desc. Examined (mapped_bytes c.crash desc) c.reading.input text status) (λ fault. Says (refusal.Maps fault) text status))
+      (λ fault. Says (refusal.CoreImage fault) text status)
+
+  pub image_written : (f : ElfFault) → Some f ≡ core_image_fault c.crash.bytes.core → Tells (refusal.CoreImage f) text status → ExaminesMapped c text status
+  image_written f e (inl says) = inl (subst Whole e says)
+  image_written f e (inr says) = inr (inl says)
+
+  pub list_written : (f : MapFault) → core_image_fault c.crash.bytes.core ≡ None → ListSays c.crash.bytes.core (Err f) → Tells (refusal.Maps f) text status → ExaminesMapped c text status
+  list_written f accepted listed (inl says) = inl (subst Whole (sym accepted) (Err f, listed, says))
+  list_written f accepted listed (inr says) = inr (inl says)
+
+  module _ (accepted : core_image_fault c.crash.bytes.core ≡ None) (desc : List ℕ) (listed : ListSays c.crash.bytes.core (Ok desc)) where
+    pub files_written : Examines (mapped_bytes c.crash desc) c.reading text status → ExaminesMapped c text status
+    files_written (inl h) = inl (subst Whole (sym accepted) (Ok desc, listed, h))
+    files_written (inr (inl h)) = inr (inl h)
+    files_written (inr (inr (note, read, cut))) = inr (inr (inr (mapped_bytes c.crash desc, note, record { accepted = accepted; desc = desc; listed = listed; same = refl }, read, cut)))
+
+    pub name_written : (place : ℕ) (name : List ℕ) → slice_get (asked_names desc) place ≡ Some name → c.loads.after ≡ loads_after (suc place) c.loads.before → TellsName name text status → ExaminesMapped c text status
+    name_written place name named loads (inl h) =
+        inr (inr (inl (record { accepted = accepted; desc = desc; listed = listed; place = place; name = name; named = named; loads = loads; line = h.0; ending = h.1 })))
+    name_written place name named loads (inr h) = inr (inl h)
+
+abbrev said_list : List ℕ → Result (List ℕ) MapFault
+said_list desc = Ok desc
+
+-- a session may have been held, and no execution ends in the crash
+module _ (m : MappedCrash) (accepted : core_image_fault m.bytes.core ≡ None) (desc : List ℕ) where
+  pub files_held : (status : Status) → ListSays m.bytes.core (Ok desc) → FilesHold (mapped_bytes m desc) status → MappedHolds m status
+  files_held status listed h = (mapped_bytes m desc, record { accepted = accepted; desc = desc; listed = listed; same = refl }, h)
+
+  same_desc : (other : List ℕ) → said_list other ≡ said_list desc → other ≡ desc
+  same_desc other e = cc
+
+  pub files_excluded : ((said : Result (List ℕ) MapFault) → ListSays m.bytes.core said → said ≡ Ok desc) → FilesExclude (mapped_bytes m desc) → MappedExcludes m
+  files_excluded only none bytes is =
+      let same : bytes ≡ mapped_bytes m desc = is.same ∙ ap (mapped_bytes m) (same_desc is.desc (only (Ok is.desc) is.listed)) in
+      subst FilesExclude (sym same) none
+
+-- how an examination ends, as one of mapped files
+pub examined_so : (status : Status) → (status ≡ ends.Executable → ⊥) → (status ≡ ends.Executable) ⊎ (status ≡ ends.Core) ⊎ IsWalkStatus status → (status ≡ ends.LoadFault) ⊎ (status ≡ ends.Core) ⊎ IsWalkStatus status
+examined_so status never (inl h) = absurd (never h)
+examined_so status never (inr h) = inr h
+
+pub never_loading : (status : Status) → (status ≡ ends.Executable) ⊎ (status ≡ ends.Core) ⊎ IsWalkStatus status → status ≡ ends.LoadFault → ⊥
+never_loading status (inl h) e = cc
+never_loading status (inr (inl h)) e = cc
+never_loading status (inr (inr h)) e = not_load_fault status h e
+
+pub not_walked_so : (status other : Status) → (ends.LoadFault ≡ other → ⊥) → (ends.Core ≡ other → ⊥) → (IsWalkStatus other → ⊥) → (status ≡ ends.LoadFault) ⊎ (status ≡ ends.Core) ⊎ IsWalkStatus status → status ≡ other → ⊥
+not_walked_so status other a b d (inl h) e = a (sym h ∙ e)
+not_walked_so status other a b d (inr (inl h)) e = b (sym h ∙ e)
+not_walked_so status other a b d (inr (inr h)) e = d (subst IsWalkStatus e h)
+
+-- where two ports tell
+pub where_both : {S T : Type 0} (o : Option S) (p : Option T) (Q : S → T → Type 0) → ((x : S) (y : T) → Q x y) → IfSome o (λ x. IfSome p (Q x))
+where_both None p Q h = tt
+where_both (Some x) None Q h = tt
+where_both (Some x) (Some y) Q h = h x y
+
+-- what the list of the bytes says that an image borrows
+pub list_at : (bytes core : List ℕ) (said : Result (List ℕ) MapFault) → bytes ≡ core → ListSays bytes said → ListSays core said
+list_at bytes core said e h = subst (λ b. ListSays b said) e h
+
+pub list_only_at : (bytes core : List ℕ) (here : Result (List ℕ) MapFault) → bytes ≡ core → ((said : Result (List ℕ) MapFault) → ListSays bytes said → said ≡ here) → (said : Result (List ℕ) MapFault) → ListSays core said → said ≡ here
+list_only_at bytes core here e only said h = only said (subst (λ b. ListSays b said) (sym e) h)
+
+-- what a file note's entries map
+entries_by : List ℕ → ℕ → List (Option (List ℕ)) → List Mapping
+entries_by desc i [] = []
+entries_by desc i (f ∷ fs) = mapped_part (entry_at desc i) f ∷ entries_by desc (i + 1) fs
+
+by_bytes : (desc : List ℕ) (i : ℕ) (images : List (Option Image)) → mappings_from desc i images ≡ entries_by desc i (map (option_map file_of) images)
+unfolding entries_by
+by_bytes desc i [] = refl
+by_bytes desc i (image ∷ images) = ap (λ rest. mapping_by (entry_at desc i) image ∷ rest) (by_bytes desc (i + 1) images)
+
+by_names : (k : List ℕ → Option (List ℕ)) (desc : List ℕ) (i : ℕ) (ns : List (List ℕ)) → entries_by desc i (map k ns) ≡ parts_from k desc i ns
+unfolding entries_by
+by_names k desc i [] = refl
+by_names k desc i (n ∷ ns) = ap (λ rest. mapped_part (entry_named desc i n) (k n) ∷ rest) (by_names k desc (i + 1) ns)
+
+same_parts : (k l : List ℕ → Option (List ℕ)) → ((n : List ℕ) → k n ≡ l n) → (desc : List ℕ) (i : ℕ) (ns : List (List ℕ)) → parts_from k desc i ns ≡ parts_from l desc i ns
+same_parts k l h desc i [] = refl
+same_parts k l h desc i (n ∷ ns) =
+    ap (λ f. mapped_part (entry_named desc i n) f ∷ parts_from k desc (i + 1) ns) (h n) ∙ ap (λ rest. mapped_part (entry_named desc i n) (l n) ∷ rest) (same_parts k l h desc (i + 1) ns)
+
+-- what is kept has an image
+by_tests : (bytes : List ℕ) (within image : Bool) → is_image bytes ≡ image → option_and_then as_image (cond (within && image) (Some bytes) None) ≡ cond (within && image) (Some bytes) None
+by_tests bytes true true e = ap (λ (b : Bool). cond b (Some bytes) None) e
+by_tests bytes true false e = refl
+by_tests bytes false image e = refl
+
+one_image : (limit : ℕ) (o : Option (List ℕ)) → option_and_then as_image (option_and_then (λ bytes. cond (nat_le (length bytes) limit && is_image bytes) (Some bytes) None) o) ≡ option_and_then (λ bytes. cond (nat_le (length bytes) limit && is_image bytes) (Some bytes) None) o
+one_image limit None = refl
+one_image limit (Some bytes) = by_tests bytes (nat_le (length bytes) limit) (is_image bytes) refl
+
+kept_images : (files : Files) (room : ℕ) (names : List (List ℕ)) (place : ℕ) → option_and_then as_image (kept_in (kept_all files room names) place) ≡ kept_in (kept_all files room names) place
+kept_images files room [] place = refl
+kept_images files room (n ∷ ns) zero = one_image (min most_bytes room) (files n)
+kept_images files room (n ∷ ns) (suc place) = kept_images files (room - taken (kept_by files (min most_bytes room) n)) ns place
+
+image_kept : (files : Files) (names : List (List ℕ)) (n : List ℕ) → image_at names (kept_all files most_in_all names) n ≡ kept_at names (kept_all files most_in_all names) n
+image_kept files names n = at (place_in names n)
+  where
+    at : (o : Option ℕ) → option_and_then as_image (option_and_then (kept_in (kept_all files most_in_all names)) o) ≡ option_and_then (kept_in (kept_all files most_in_all names)) o
+    at None = refl
+    at (Some place) = kept_images files most_in_all names place
+
+-- the program of the images is that of the file note
+pub program_is : (files : Files) (desc : List ℕ) (names : List (List ℕ)) (kept : List (Option (List ℕ))) (images : List (Option Image)) → names ≡ asked_names desc → kept ≡ kept_all files most_in_all names
+    → map (option_map file_of) images ≡ map (image_at names kept) (names_of desc) → mappings desc images ≡ mapped_files files desc
+program_is files desc names kept images asked held same =
+    let asked_kept : kept ≡ kept_all files most_in_all (asked_names desc) = held ∙ ap (kept_all files most_in_all) asked in
+    let here : map (option_map file_of) images ≡ map (image_at (asked_names desc) (kept_all files most_in_all (asked_names desc))) (names_of desc) =
+    same ∙ ap (λ ns. map (image_at ns kept) (names_of desc)) asked ∙ ap (λ k. map (image_at (asked_names desc) k) (names_of desc)) asked_kept in
+    by_bytes desc 0 images ∙ ap (entries_by desc 0) here ∙ by_names (image_at (asked_names desc) (kept_all files most_in_all (asked_names desc))) desc 0 (names_of desc)
+    ∙ same_parts (image_at (asked_names desc) (kept_all files most_in_all (asked_names desc))) (kept_of files desc) (image_kept files (asked_names desc)) desc 0 (names_of desc)
+
+-- the name at a place
+pub named_at : {A : Type 0} (f : A → List ℕ) (names : List A) (asked : List (List ℕ)) (place : ℕ) (name : A) → map f names ≡ asked → place < length names → name ≡ get_or names place name → slice_get asked place ≡ Some (f name)
+named_at {A} f names asked place name e within is =
+    let at : slice_get names place ≡ Some name = slice_get-get_or names place name within ∙ ap (λ (x : A). Some x) (sym is) in
+    ap (λ (ns : List (List ℕ)). slice_get ns place) (sym e) ∙ slice_get-map f names place ∙ ap (option_map f) at
+
+-- how many names there are
+pub count_is : {A : Type 0} (f : A → List ℕ) (names : List A) (asked : List (List ℕ)) → map f names ≡ asked → length names ≡ length asked
+count_is f names asked e = sym (length-map names f) ∙ ap length e
+
+-- what is said of a call that answered with this error
+pub err_at : {T E : Type 0} (r : Result T E) (e f : E) (P : E → Type 0) → r ≡ Err e → e ≡ f → IfErr r P → P f
+err_at {T} {E} r e f P is same h =
+    let here : P e = subst (λ (x : Result T E). IfErr x P) is h in
+    subst P same here
+
+-- no fault more
+pub same_count : (o : Option Files) (n : ℕ) → IfSome o (λ _. n ≤ n + 1)
+same_count None n = tt
+same_count (Some files) n = omega arith
+
+-- no load
+pub idle_loads : (core : List ℕ) (loads : ℕ) (status : Status) → Stopped status → NamesLoaded core (move loads loads) status
+idle_loads core loads status s = inl (refl, inr s)
+
+pub within_names : (count names asked : ℕ) → count ≤ names → names ≡ asked → count ≤ asked
+within_names count names asked h e = omega (arith, h, e)
+
+-- what follows where the files are told
+pub over_files : (o : Option Files) (P Q : Files → Type 0) → ((files : Files) → P files → Q files) → IfSome o P → IfSome o Q
+over_files None P Q h k = tt
+over_files (Some files) P Q h k = h files k

@@ -1,0 +1,68 @@
+-- What is written of a crash whose core file lists the files of its program, and how it ends the call.
+use Rattle.std.specs.Prelude.{◌≡◌, ◌⊎◌, ℕ, List, Result, MatchOption, MatchResult, IfSome}
+use Rattle.rept_maps.specs.declared.fault.MapFault.{MapFault}
+use Rattle.rept_ports.specs.Port.{Port, Move, move}
+use Rattle.rept_ports.specs.Shelves.{Shelved}
+use Rattle.rept_serve.specs.Serving.{Reading}
+use Rattle.rept_app.specs.Delivered.{Says}
+use Rattle.rept_app.specs.Ends.{Yields, PortsEnd}
+use Rattle.rept_app.specs.Examine.{FilesEnd, FilesExclude, FilesHold, IsWalkStatus, WalkCut}
+use Rattle.rept_app.specs.Forms.{core_image_fault}
+use Rattle.rept_app.specs.Loading.{CrashBytes, CoreBytes}
+use Rattle.rept_app.specs.Mapped.{MappedCrash, mapped_crash, mapped_bytes, IsMappedAs, ListSays, NameFails, NamesLoaded, NamesMove, name_line}
+use Rattle.rept_app.specs.Told.{MappedTold, Reads, trace_in}
+use Rattle.rept_app.specs.declared.refusal.Refusal.TheVariants as refusal
+use Rattle.rept_app.specs.declared.status.Status.{Status}
+use Rattle.rept_app.specs.declared.status.Status.TheVariants as ends
+
+-- What a call is given that examines a core file: the crash, how many loads the shelf was asked for before and after, and the bytes of the input with those that are left of it.
+pub record MappedCall : Type 0 where
+  pub crash : MappedCrash
+  pub loads : Move ℕ
+  pub reading : Reading
+
+abbrev pub mapped_call : MappedCrash → Move ℕ → Reading → MappedCall
+mapped_call crash loads reading = record { crash = crash; loads = loads; reading = reading }
+
+-- all of it; or memory ran out; or the load of a mapped file failed; or the session was cut short
+abbrev pub ExaminesMapped : MappedCall → List ℕ → Status → Type 0
+ExaminesMapped c text status =
+    MappedTold c.crash c.reading.input text status ⊎ Says refusal.OutOfMemory text status ⊎ NameFails c.crash c.loads text status
+    ⊎ ((bytes : CrashBytes) × (note : List ℕ) × IsMappedAs c.crash bytes × Reads bytes note × WalkCut (trace_in bytes note) c.reading text status)
+
+-- how what the core file's list says ends the call
+abbrev pub ListEnds : MappedCrash → Result (List ℕ) MapFault → Status → Type 0
+ListEnds m said status = MatchResult said (λ desc. FilesEnd (mapped_bytes m desc) status) (λ _. Yields ends.Core status)
+
+-- how the core file and the files that it lists end the call
+abbrev pub MappedEnd : MappedCrash → Status → Type 0
+MappedEnd m status = MatchOption (core_image_fault m.bytes.core) ((said : Result (List ℕ) MapFault) → ListSays m.bytes.core said → ListEnds m said status) (λ _. Yields ends.Core status)
+
+-- What a call does to its three ports.
+pub record Moves : Type 0 where
+  pub shelf : Move Shelved
+  pub source : Move Port
+  pub sink : Move Port
+
+abbrev pub moves : Move Shelved → Move Port → Move Port → Moves
+moves shelf source sink = record { shelf = shelf; source = source; sink = sink }
+
+-- Each fault has its cause, and each status comes where the core file and the files that it lists say so: where these are told, they decide on it, unless a load fails.
+pub record IsExaminedMapped (bytes : CoreBytes) (m : Moves) (status : Status) : Type 0 where
+  pub ports : PortsEnd m.source m.sink status
+  pub shelf : NamesMove m.shelf status
+  pub loads : NamesLoaded bytes.core (move m.shelf.before.loads m.shelf.after.loads) status
+  pub ends_so : (status ≡ ends.LoadFault) ⊎ (status ≡ ends.Core) ⊎ IsWalkStatus status
+  pub yields : IfSome m.shelf.before.files (λ files. MappedEnd (mapped_crash files bytes) status ⊎ (status ≡ ends.LoadFault))
+
+-- a session may have been held, since the trace has a path whose closure has no conflict
+abbrev pub MappedHolds : MappedCrash → Status → Type 0
+MappedHolds m status = (bytes : CrashBytes) × IsMappedAs m bytes × FilesHold bytes status
+
+-- no execution of the path ends in the crash
+abbrev pub MappedExcludes : MappedCrash → Type 0
+MappedExcludes m = (bytes : CrashBytes) → IsMappedAs m bytes → FilesExclude bytes
+
+-- the line of a mapped file whose load failed, with its status; or memory ran out
+abbrev pub TellsName : List ℕ → List ℕ → Status → Type 0
+TellsName name text status = ((text ≡ name_line name) × (status ≡ ends.LoadFault)) ⊎ Says refusal.OutOfMemory text status

@@ -1,0 +1,144 @@
+//! From a core file that lists the files of its program to the study of its path.
+
+ghost use Rattle.std.specs.Prelude.{◌≡◌, ◌⊎◌, ◌<◌, ◌^◌, List, None, Ok, Result, ℕ, length, IfOk, IfSome};
+ghost use Rattle.rept_elf.specs.Image.{file_of};
+ghost use Rattle.rept_maps.specs.FileMap.{map_count};
+ghost use Rattle.rept_maps.specs.Views.{desc_of};
+ghost use Rattle.rept_maps.specs.declared.fault.MapFault.{MapFault};
+ghost use Rattle.rept_mapped.specs.Mapped.{mappings};
+ghost use Rattle.rept_ports.specs.Port.{move};
+ghost use Rattle.rept_app.specs.Delivered.{Delivers};
+ghost use Rattle.rept_app.specs.Ends.{EndsSession};
+ghost use Rattle.rept_app.specs.Examine.{Examines, FilesExclude, FilesHold, IsExamined};
+ghost use Rattle.rept_app.specs.Forms.{core_image_fault};
+ghost use Rattle.rept_app.specs.Loading.{core_bytes, parts_bytes};
+ghost use Rattle.rept_app.specs.Mapped.{ListSays, mapped_crash, name_line};
+ghost use Rattle.rept_app.specs.MappedEnds.{ExaminesMapped, IsExaminedMapped, MappedExcludes, MappedHolds, TellsName, mapped_call, moves};
+
+use crate::examine::walk;
+use crate::load::CoreFiles;
+use crate::refusal::Refusal;
+use crate::status::Status;
+use crate::telling::{deliver, tell, tell_no_memory};
+use crate::texts::push_visible;
+use rept_dump::Dump;
+use rept_elf::{Image, Want};
+use rept_mapfiles::{LoadStop, asked_names, images_of, load_names};
+use rept_maps::{Images, Maps};
+use rept_ports::{Shelf, Sink, Source};
+use rept_word::{OutOfMemory, Text};
+use std::alloc::Global;
+
+/// Reads the core file and its list of mapped files, loads those, rebuilds the path and studies it.
+pub fn examine_mapped<H: Shelf, S: Source, K: Sink>(
+    alloc: Global,
+    shelf: &mut H,
+    files: &CoreFiles,
+    input: &mut S,
+    out: &mut K,
+) -> Status
+    requires { length files.now.trace.items < 2 ^ 32 }
+    ensures text { let bytes = core_bytes files.now.core.items files.now.trace.items files.now.manner in IfSome (H.port shelf.old).files (λ told. IfSome (S.port input.old).bytes (λ left.
+        Delivers (ExaminesMapped (mapped_call (mapped_crash told bytes) (move (H.port shelf.old).loads (H.port shelf.new).loads) (record { input = left; left = (S.port input.new).bytes }))) (move (K.port out.old) (K.port out.new)) result)) }
+    ensures causes { IsExaminedMapped (core_bytes files.now.core.items files.now.trace.items files.now.manner) (moves (move (H.port shelf.old) (H.port shelf.new)) (move (S.port input.old) (S.port input.new)) (move (K.port out.old) (K.port out.new))) result }
+    ensures stays { let bytes = core_bytes files.now.core.items files.now.trace.items files.now.manner in (input.new ≡ input.old) ⊎ (EndsSession result × IfSome (H.port shelf.old).files (λ told. MappedHolds (mapped_crash told bytes) result)) }
+    ensures impossible { let bytes = core_bytes files.now.core.items files.now.trace.items files.now.manner in result ≡ Status.Inconsistent → IfSome (H.port shelf.old).files (λ told. MappedExcludes (mapped_crash told bytes)) }
+{
+    let core = match Image::read(files.core.as_slice(), Want::Core) {
+        Ok(core) => core,
+        Err(fault) => return tell(alloc, out, &Refusal::CoreImage(fault)),
+    };
+    match Maps::read(core) {
+        Ok(maps) => study_mapped(alloc, shelf, maps, core, files, input, out),
+        Err(fault) => tell(alloc, out, &Refusal::Maps(fault)),
+    }
+}
+
+/// The same of a list, with the core file's image.
+fn study_mapped<H: Shelf, S: Source, K: Sink>(
+    alloc: Global,
+    shelf: &mut H,
+    maps: Maps<'_>,
+    core: Image<'_>,
+    files: &CoreFiles,
+    input: &mut S,
+    out: &mut K,
+) -> Status
+    requires short { length files.now.trace.items < 2 ^ 32 }
+    requires accepted { core_image_fault (file_of core) ≡ None }
+    requires listed { ListSays (file_of core) (Ok (desc_of maps)) }
+    requires only { (said : Result (List ℕ) MapFault) → ListSays (file_of core) said → said ≡ Ok (desc_of maps) }
+    ensures text { let bytes = core_bytes (file_of core.entry) files.now.trace.items files.now.manner in IfSome (H.port shelf.old).files (λ told. IfSome (S.port input.old).bytes (λ left.
+        Delivers (ExaminesMapped (mapped_call (mapped_crash told bytes) (move (H.port shelf.old).loads (H.port shelf.new).loads) (record { input = left; left = (S.port input.new).bytes }))) (move (K.port out.old) (K.port out.new)) result)) }
+    ensures causes { IsExaminedMapped (core_bytes (file_of core.entry) files.now.trace.items files.now.manner) (moves (move (H.port shelf.old) (H.port shelf.new)) (move (S.port input.old) (S.port input.new)) (move (K.port out.old) (K.port out.new))) result }
+    ensures stays { let bytes = core_bytes (file_of core.entry) files.now.trace.items files.now.manner in (input.new ≡ input.old) ⊎ (EndsSession result × IfSome (H.port shelf.old).files (λ told. MappedHolds (mapped_crash told bytes) result)) }
+    ensures impossible { let bytes = core_bytes (file_of core.entry) files.now.trace.items files.now.manner in result ≡ Status.Inconsistent → IfSome (H.port shelf.old).files (λ told. MappedExcludes (mapped_crash told bytes)) }
+{
+    let names = match asked_names(alloc, &maps) {
+        Ok(names) => names,
+        Err(_) => return tell_no_memory(out),
+    };
+    let kept = match load_names(alloc, shelf, names.as_slice()) {
+        Ok(kept) => kept,
+        Err(LoadStop::Failed(place)) => return tell_failed(alloc, out, names[place]),
+        Err(LoadStop::OutOfMemory) => return tell_no_memory(out),
+    };
+    let images = match images_of(alloc, &maps, names.as_slice(), kept.as_slice()) {
+        Ok(images) => images,
+        Err(_) => return tell_no_memory(out),
+    };
+    examine_images(alloc, maps, &images, core, files, input, out)
+}
+
+/// The same of the images of the list's entries, by place.
+fn examine_images<S: Source, K: Sink>(
+    alloc: Global,
+    maps: Maps<'_>,
+    images: &Images<'_>,
+    core: Image<'_>,
+    files: &CoreFiles,
+    input: &mut S,
+    out: &mut K,
+) -> Status
+    requires short { length files.now.trace.items < 2 ^ 32 }
+    requires accepted { core_image_fault (file_of core) ≡ None }
+    requires places { length images.now ≡ map_count (desc_of maps) }
+    ensures text { let bytes = parts_bytes (mappings (desc_of maps.entry) images.now) (core_bytes (file_of core.entry) files.now.trace.items files.now.manner) in IfSome (S.port input.old).bytes (λ left. Delivers (Examines bytes (record { input = left; left = (S.port input.new).bytes })) (move (K.port out.old) (K.port out.new)) result) }
+    ensures causes { IsExamined (parts_bytes (mappings (desc_of maps.entry) images.now) (core_bytes (file_of core.entry) files.now.trace.items files.now.manner)) (move (S.port input.old) (S.port input.new)) (move (K.port out.old) (K.port out.new)) result }
+    ensures ended { result ≡ Status.Executable → ⊥ }
+    ensures stays { (input.new ≡ input.old) ⊎ FilesHold (parts_bytes (mappings (desc_of maps.entry) images.now) (core_bytes (file_of core.entry) files.now.trace.items files.now.manner)) result }
+    ensures impossible { result ≡ Status.Inconsistent → FilesExclude (parts_bytes (mappings (desc_of maps.entry) images.now) (core_bytes (file_of core.entry) files.now.trace.items files.now.manner)) }
+{
+    match Dump::mapped(maps, images, core, false) {
+        Ok(dump) => walk(
+            alloc,
+            &dump,
+            files.trace.as_slice(),
+            files.manner,
+            input,
+            out,
+        ),
+        Err(fault) => tell(alloc, out, &Refusal::Core(fault)),
+    }
+}
+
+/// The line of a load of a name that failed: `load-fault NAME`, with `?` for what is no visible character.
+fn failed_line(alloc: Global, name: &str) -> Result<Text, OutOfMemory>
+    ensures { IfOk result (λ text. text ≡ name_line name.now) }
+{
+    let mut text = Text::new(alloc);
+    text.push(b"load-fault ")?;
+    push_visible(&mut text, name.as_bytes())?;
+    text.push(b"\n")?;
+    Ok(text)
+}
+
+/// Writes that line and answers its status; where memory runs out, the line and status of that; where the output fails, its status.
+fn tell_failed<K: Sink>(alloc: Global, out: &mut K, name: &str) -> Status
+    ensures { Delivers (TellsName name.now) (move (K.port out.old) (K.port out.new)) result }
+{
+    match failed_line(alloc, name) {
+        Ok(line) => deliver(out, line.bytes(), Status::LoadFault),
+        Err(_) => tell_no_memory(out),
+    }
+}
