@@ -1,5 +1,5 @@
 -- What an analysis that has ended answers of registers, ranges, bytes and writers.
-use Rattle.std.proofs.Common.{◌≡◌, ℕ, zero, suc, ◌+◌, ◌-◌, ◌<◌, ◌≤◌, ◌^◌, nat_lt, nat_le, leb, if◌then◌else◌, Bool, true, false, ◌&&◌, cond, List, [], ◌∷◌, length, Option, Some, None, inl, inr, refl, sym, ap, ◌∙◌, arith, slice_get}
+use Rattle.std.proofs.Common.{◌≡◌, ℕ, zero, suc, ◌+◌, ◌<◌, ◌≤◌, ◌^◌, nat_lt, nat_le, leb, if◌then◌else◌, Bool, true, false, ◌&&◌, cond, List, [], ◌∷◌, Option, Some, None, inl, inr, refl, sym, ap, subst, ◌∙◌, arith}
 use mathlib.Core.Path.{fun_ext}
 use Rattle.std.proofs.lemmas.Bool.{cases_eq, cases_lt, cases_Bool, cond-true, cond-false, lt-ltb, le-leb, false_from_ne_true, false≢true}
 use Rattle.rept_isa.specs.declared.row.StepRow.{StepRow}
@@ -12,9 +12,9 @@ use Rattle.rept_span.specs.Filled.{entry_at}
 use Rattle.rept_view.specs.Seen.{Seen}
 use Rattle.rept_report.specs.declared.writer.Writer.{Writer}
 use Rattle.rept_report.specs.declared.writer.Writer as writers
-use Rattle.rept_report.specs.Setting.{Setting, IsInstant, way_of}
+use Rattle.rept_report.specs.Setting.{Setting, HasLaws, IsInstant, way_of}
 use Rattle.rept_report.specs.Knowing.{SameRegisters}
-use Rattle.rept_report.specs.Views.{may_write, is_sure}
+use Rattle.rept_report.specs.Views.{may_write, is_sure, Carries}
 use Rattle.rept_report.specs.Closure.{Derivation, InClosure}
 use Rattle.rept_report.specs.Log.{oldest}
 use Rattle.rept_report.specs.Implied.{all_past, implied}
@@ -23,14 +23,16 @@ use Rattle.rept_report.specs.Writers.{IsCandidate, IsLastCandidate, is_certain, 
 use Rattle.rept_report.proofs.Told.{none_some}
 use Rattle.rept_report.proofs.Places.{oldest_all}
 use Rattle.rept_report.proofs.Registers.{range_same, may_write_same, is_sure_same}
-use Rattle.rept_report.proofs.OneThread.{last_candidate}
+use Rattle.rept_report.specs.Moments.{Moments}
+use Rattle.rept_report.specs.OneThread.{IsLine}
+use Rattle.rept_report.proofs.Implied.{ImpliedAt, implied_at, implied_next, implied_carries}
+use Rattle.rept_report.proofs.Line.{last_candidate}
 use Rattle.rept_analysis.specs.State.{State, all_known, Path, along}
 use Rattle.rept_analysis.specs.Moments.{moment}
 use Rattle.rept_report.specs.Why.{fact_of}
 use Rattle.rept_analysis.specs.Drawing.{Knows, IsTracked, IsFitted, IsSettled}
 use Rattle.rept_analysis.specs.Kept.{is_among, register_answer, answers, IsFinished}
 use Rattle.rept_analysis.specs.Answers.{NoneMayWrite}
-use Rattle.rept_analysis.proofs.Along.{early_at, implied_at, implied_is}
 use Rattle.rept_analysis.proofs.Following.{moment_is}
 use Rattle.rept_analysis.proofs.Reported.{among_contains, contains_among}
 
@@ -48,7 +50,7 @@ pub closure_early : {W : Type 0} (S : Setting W) (f : Fact) → InClosure S f �
 closure_early S f h = derived_early S h.0 h.1 f h.2
 
 -- whether a row is sure, by sets that are those of some of the facts
-pub sure_is : {W : Type 0} (s : State W) (i : ℕ) → i < length s.path.given.rows → IsFitted s → (row : StepRow) → slice_get s.path.given.rows i ≡ Some row → s.path.rules.sure row (moment s.path.sets (oldest s.filled s.known.log) s.spans i) ≡ is_sure (along s.path) (told (oldest s.filled s.known.log)) i
+pub sure_is : {W : Type 0} (s : State W) (i : ℕ) → i < s.path.given.legs.count → IsFitted s → (row : StepRow) → s.path.given.legs.row i ≡ Some row → s.path.rules.sure row (moment s.path.sets (oldest s.filled s.known.log) s.spans i) ≡ is_sure (along s.path) (told (oldest s.filled s.known.log)) i
 sure_is s i inside fitted row found = rw found (ap (λ (v : Seen). s.path.rules.sure row v) (moment_is s i inside fitted))
 
 -- what is said of a writer looks at registers alone
@@ -74,7 +76,7 @@ module _ {W : Type 0} (S : Setting W) (K L : Knowledge) (same : SameRegisters K 
   writer_same writers.TheVariants.Several h = (λ j last. h.0 j (same_last j last), λ none. h.1 (record { rows = λ k c. none.rows k (candidate_same k c); light = none.light }))
   writer_same writers.TheVariants.None h = record { rows = λ k c. h.rows k (same_candidate k c); light = h.light }
 
-module _ {W : Type 0} (P : Path W) (K : Knowledge) (p a : ℕ) where
+module _ {W : Type 0} (P : Path W) (line : IsLine P.given) (K : Knowledge) (p a : ℕ) where
   -- one step less to look at
   pub spared_too : (j : ℕ) → NoneMayWrite (along P) K (passage a (j + 1) p) → may_write (along P) K j a ≡ false → NoneMayWrite (along P) K (passage a j p)
   spared_too j h out k low high = elim (cases_eq k j) [ inl is ↦ rw is out | inr later ↦ h k (omega (arith, low, later)) high ]
@@ -84,7 +86,7 @@ module _ {W : Type 0} (P : Path W) (K : Knowledge) (p a : ℕ) where
 
   -- no step was found
   pub none_found : NoneMayWrite (along P) K (passage a 0 p) → IsWriter (along P) K (spot p a) writers.TheVariants.None
-  none_found h = record { rows = λ k c. false≢true (sym (h k (omega arith) (before k c.reaches)) ∙ c.may); light = refl }
+  none_found h = record { rows = λ k c. false≢true (sym (h k (omega arith) (before k (subst (λ (t : Moments). t.ahead k p ≡ false) line.moments c.reaches))) ∙ c.may); light = ap (λ (t : Moments). t.is_dark) line.moments }
     where
       before : (k : ℕ) → leb p k ≡ false → k < p
       before k e = elim (cases_lt k p) [ inl low ↦ low | inr high ↦ absurd (false≢true (sym e ∙ le-leb p k high)) ]
@@ -94,27 +96,14 @@ module _ {W : Type 0} (P : Path W) (K : Knowledge) (p a : ℕ) where
   writer_found j inside h may sure is = of sure is
     where
       last : IsLastCandidate (along P) K (spot p a) j
-      last = last_candidate P.sets P.moves P.rules P.given K p a j (record { earlier = inside; may = may; later = λ k low high. h k (omega (arith, low)) high })
+      last = last_candidate P.sets P.moves P.rules P.given line K p a j (record { earlier = inside; may = may; later = λ k low high. h k (omega (arith, low)) high })
 
       of : (b : Bool) → is_sure (along P) K j ≡ b → IsWriter (along P) K (spot p a) (cond b (writers.TheVariants.Writes j) (writers.TheVariants.MayWrite j))
-      of true e = (last, rw e (lt-ltb j p inside))
+      of true e = (last, rw e (subst (λ (t : Moments). t.past j p ≡ true) (sym line.moments) (lt-ltb j p inside)))
       of false e = (last, rw e refl)
 
-module _ {W : Type 0} (P : Path W) (K : Knowledge) (p a : ℕ) where
-  -- where no row from the point on may write a byte, the dump's is carried back
-  pub implied_free : p ≤ length P.given.rows → a < 2 ^ 32 → ((k : ℕ) → p ≤ k → k < length P.given.rows → may_write (along P) K k a ≡ false) → P.given.dump a ≡ implied (along P) K p a
-  implied_free early small spared = of (P.given.dump a) refl
-    where
-      of : (x : Option ℕ) → P.given.dump a ≡ x → x ≡ implied (along P) K p a
-      of (Some v) e = sym (implied_is P K p a v (record { small = small; early = early; spared = spared; byte = e }))
-      of None e = sym (none_unless (implied (along P) K p a) (λ v x. none_some (sym e ∙ (implied_at P K p a v x).byte)))
-
-  -- where one may, nothing is
-  pub implied_stopped : (k : ℕ) → p ≤ k → k < length P.given.rows → may_write (along P) K k a ≡ true → None ≡ implied (along P) K p a
-  implied_stopped k low high may = sym (none_unless (implied (along P) K p a) (λ v x. false≢true (sym ((implied_at P K p a v x).spared k low high) ∙ may)))
-
 pub implied_same : {W : Type 0} (P : Path W) (K L : Knowledge) → SameRegisters K L → (p a : ℕ) → implied (along P) K p a ≡ implied (along P) L p a
-implied_same P K L same p a = ap (λ (may : ℕ → ℕ → Bool). if nat_lt a (2 ^ 32) && nat_le p (length P.given.rows) && all_past (along P).moments may (spot p a) (length P.given.rows) then P.given.dump a else None) (fun_ext (λ i. fun_ext (λ b. may_write_same (along P) K L same i b)))
+implied_same P K L same p a = ap (λ (may : ℕ → ℕ → Bool). if nat_lt a (2 ^ 32) && nat_le p P.given.moments.end && (P.given.moments.dark_past p && all_past P.given.moments may (spot p a) P.given.legs.count) then P.given.dump a else None) (fun_ext (λ i. fun_ext (λ b. may_write_same (along P) K L same i b)))
 
 module _ {W : Type 0} (s : State W) (settled : IsSettled s) where
   -- the sets are those of the whole log
@@ -132,10 +121,10 @@ module _ {W : Type 0} (s : State W) (settled : IsSettled s) where
   is_sure_answers i = is_sure_same (along s.path) (told (oldest s.filled s.known.log)) (answers s) filled_answers i
 
   -- the sets are the ranges by what is answered, and none is empty
-  pub range_answers : (p r : ℕ) → p ≤ length s.path.given.rows → r < 32 → entry_at s.spans p r ≡ range (way_of (along s.path)) (answers s) p r
+  pub range_answers : (p r : ℕ) → p ≤ s.path.given.legs.count → r < 32 → entry_at s.spans p r ≡ range (way_of (along s.path)) (answers s) p r
   range_answers p r early in_file = settled.fitted p early r in_file ∙ range_same (along s.path) (told (oldest s.filled s.known.log)) (answers s) filled_answers p r
 
-  pub range_some : (p r : ℕ) → p ≤ length s.path.given.rows → r < 32 → (set : W) × (entry_at s.spans p r ≡ Some set) × (range (way_of (along s.path)) (answers s) p r ≡ Some set)
+  pub range_some : (p r : ℕ) → p ≤ s.path.given.legs.count → r < 32 → (set : W) × (entry_at s.spans p r ≡ Some set) × (range (way_of (along s.path)) (answers s) p r ≡ Some set)
   range_some p r early in_file = of (range (way_of (along s.path)) (answers s) p r) refl
     where
       of : (x : Option W) → range (way_of (along s.path)) (answers s) p r ≡ x → (set : W) × (entry_at s.spans p r ≡ Some set) × (range (way_of (along s.path)) (answers s) p r ≡ Some set)
@@ -158,32 +147,44 @@ module _ {W : Type 0} (s : State W) (settled : IsSettled s) where
   byte_untracked p a free = sym (cond-false (is_among s.known.store.tracked a) (all_known s p (Byte a)) (implied (along s.path) (all_known s) p a) (false_from_ne_true (is_among s.known.store.tracked a) (λ e. free (among_contains s.known.store.tracked a e))))
 
   -- a byte of a tracked address that the dump implies is known
-  module _ (a v : ℕ) (tracked : IsTracked a s) (byte : s.path.given.dump a ≡ Some v) where
-    carried_back : (k p : ℕ) → p + k ≡ length s.path.given.rows → ((i : ℕ) → p ≤ i → i < length s.path.given.rows → may_write (along s.path) (all_known s) i a ≡ false) → Knows p (Byte a) v s
-    carried_back zero p at spared = let is : length s.path.given.rows ≡ p = omega (arith, at) in rw (← is) (settled.drawn.bytes a tracked v byte)
-    carried_back (suc k) p at spared =
-        let later = carried_back k (p + 1) (omega (arith, at)) (λ i low high. spared i (omega (arith, low)) high) in
-        let out : may_write (along s.path) (all_known s) p a ≡ false = spared p (omega arith) (omega (arith, at)) in
-        let out' : may_write (along s.path) (told (oldest s.filled s.known.log)) p a ≡ false = may_write_same (along s.path) (told (oldest s.filled s.known.log)) (all_known s) (λ q r. rw filled_all refl) p a ∙ out in
-        (settled.drawn.carried a p tracked (omega (arith, at))).back v out' later
+  module _ (laws : HasLaws (along s.path)) (a v : ℕ) (tracked : IsTracked a s) where
+    same_carries : (m w : ℕ) → Carries (along s.path) (all_known s) (passage a m w) → Carries (along s.path) (told (oldest s.filled s.known.log)) (passage a m w)
+    same_carries m w h = record { next = h.next; light = h.light; spared = λ i falls. may_write_same (along s.path) (told (oldest s.filled s.known.log)) (all_known s) (λ q r. rw filled_all refl) i a ∙ h.spared i falls }
 
-  pub implied_known : (p a v : ℕ) → IsTracked a s → implied (along s.path) (all_known s) p a ≡ Some v → Knows p (Byte a) v s
-  implied_known p a v tracked e =
-      let h = implied_at s.path (all_known s) p a v e in
-      let early = h.early in
-      carried_back a v tracked h.byte (length s.path.given.rows - p) p (omega (arith, early)) h.spared
+    at_end : (m : ℕ) → m ≡ s.path.given.moments.end → ImpliedAt (along s.path) (all_known s) m a v → Knows m (Byte a) v s
+    at_end m at h = rw at (settled.drawn.bytes a tracked v h.byte)
+
+    -- the end is so many steps away at most
+    from_end : (n m : ℕ) → s.path.given.moments.left m ≤ n → ImpliedAt (along s.path) (all_known s) m a v → Knows m (Byte a) v s
+    from_end zero m near h =
+        elim (cases_eq m s.path.given.moments.end) [
+          | inl at ↦ at_end m at h
+          | inr other ↦ let less = (laws.moments.reaches m h.early other).nearer in absurd (omega (arith, near, less))
+        ]
+    from_end (suc k) m near h =
+        elim (cases_eq m s.path.given.moments.end) [
+          | inl at ↦ at_end m at h
+          | inr other ↦
+              let next = laws.moments.reaches m h.early other in
+              let less = next.nearer in
+              let later = from_end k next.to (omega (arith, near, less)) (implied_next (along s.path) laws (all_known s) m next.to a v next.next h) in
+              (settled.drawn.carried a m next.to tracked).back v (same_carries m next.to (implied_carries (along s.path) laws (all_known s) m next.to a v next.next h)) later
+        ]
+
+  pub implied_known : HasLaws (along s.path) → (p a v : ℕ) → IsTracked a s → implied (along s.path) (all_known s) p a ≡ Some v → Knows p (Byte a) v s
+  implied_known laws p a v tracked e = from_end laws a v tracked (s.path.given.moments.left p) p (omega arith) (implied_at (along s.path) laws (all_known s) p a v e)
 
   -- what the store tells is answered
   pub byte_known : ((p a v : ℕ) → Knows p (Byte a) v s → IsTracked a s) → (p a v : ℕ) → s.known.store.fact p a ≡ Some v → Some v ≡ answers s p (Byte a)
   byte_known listed p a v e = sym e ∙ byte_tracked p a (listed p a v e)
 
   -- and where it tells nothing, what the dump implies
-  pub byte_implied : (p a : ℕ) → s.known.store.fact p a ≡ None → implied (along s.path) (all_known s) p a ≡ answers s p (Byte a)
-  byte_implied p a none =
+  pub byte_implied : HasLaws (along s.path) → (p a : ℕ) → s.known.store.fact p a ≡ None → implied (along s.path) (all_known s) p a ≡ answers s p (Byte a)
+  byte_implied laws p a none =
       elim (cases_Bool (is_among s.known.store.tracked a)) [
         | inl there ↦
             let tracked = among_contains s.known.store.tracked a there in
-            none_unless (implied (along s.path) (all_known s) p a) (λ v e. none_some (sym none ∙ implied_known p a v tracked e)) ∙ sym none ∙ byte_tracked p a tracked
+            none_unless (implied (along s.path) (all_known s) p a) (λ v e. none_some (sym none ∙ implied_known laws p a v tracked e)) ∙ sym none ∙ byte_tracked p a tracked
         | inr free ↦ byte_untracked p a (λ h. false≢true (sym free ∙ contains_among s.known.store.tracked a h))
       ]
 
@@ -205,9 +206,5 @@ module _ {W : Type 0} (s : State W) (finished : IsFinished s) where
   pub answers_derived : (p : ℕ) (c : Cell) (v : ℕ) → answers s p c ≡ Some v → InClosure (along s.path) (fact_of p c v)
   answers_derived p c v e = (finished.report.exact (fact_of p c v)).0 e
 
-  pub answers_early : (p : ℕ) (c : Cell) (v : ℕ) → answers s p c ≡ Some v → (p ≤ length s.path.given.rows) × IsCell c
-  answers_early p c v e = let h = closure_early (along s.path) (fact_of p c v) (answers_derived p c v e) in (early_at s.path c p h.0, h.1)
-
-  -- past the path nothing is answered
-  pub answers_past : (p : ℕ) (c : Cell) → length s.path.given.rows < p → None ≡ answers s p c
-  answers_past p c past = sym (none_unless (answers s p c) (λ v e. let early = (answers_early p c v e).0 in absurd (omega (arith, past, early))))
+  pub answers_early : (p : ℕ) (c : Cell) (v : ℕ) → answers s p c ≡ Some v → IsInstant (along s.path) c p × IsCell c
+  answers_early p c v e = closure_early (along s.path) (fact_of p c v) (answers_derived p c v e)

@@ -33,7 +33,7 @@ module _ {W : Type 0} (s t : State W) (laws : HasLaws (along s.path)) (words : H
   barriers_still list h = record {
     each = λ k w at. let x = h.each k w at in record { low = x.low; inside = rw setting x.inside; others = λ a small miss. spared_still w.row a small (x.others a small miss); silent = silent_still (past list k) w.row x.silent };
     low = rw setting h.low;
-    silent = λ i a le lt small. silent_still (past list (length list)) (length s.path.given.rows) h.silent i a le (subst (λ (P : Path W). i < length P.given.rows) setting lt) small;
+    silent = λ i a le lt small. silent_still (past list (length list)) (s.path.given.legs.count) h.silent i a le (subst (λ (P : Path W). i < P.given.legs.count) setting lt) small;
   }
 
 pub writings_still : {W : Type 0} (s t : State W) → t.path ≡ s.path → t.spans ≡ s.spans → oldest t.filled t.known.log ≡ oldest s.filled s.known.log → ((p : ℕ) (c : Cell) (v : ℕ) → Knows p c v s → Knows p c v t) → t.work.writing ≡ s.work.writing → (HasWords (all_known s) → HasWords (all_known t)) → AreWritings s → AreWritings t
@@ -108,7 +108,7 @@ put_writings s t k w x found row free is h = subst (λ (y : State _). AreWriting
 
 -- only the list differs
 pub put_grows : {W : Type 0} (s t : State W) (list : List Writing) → t ≡ with_writing s list → (AreWritings s → AreWritings t) → Grows s t
-put_grows s t list is keeps = subst (λ (y : State _). (AreWritings s → AreWritings y) → Grows s y) (sym is) (λ f. record { path = refl; rows = refl; spans = refl; filled = refl; shown = refl; complete = refl; conflict = refl; answers = refl; older = refl; more = λ p c v e. e; tracked = λ a h. h; counted = omega arith; writing = f; fewer = omega arith; spent = omega arith; words = λ w. w }) keeps
+put_grows s t list is keeps = subst (λ (y : State _). (AreWritings s → AreWritings y) → Grows s y) (sym is) (λ f. record { path = refl; count = refl; row = λ i. refl; spans = refl; filled = refl; shown = refl; complete = refl; conflict = refl; answers = refl; older = refl; more = λ p c v e. e; tracked = λ a h. h; counted = omega arith; writing = f; fewer = omega arith; spent = omega arith; words = λ w. w }) keeps
 
 pub put_uncut : {W : Type 0} (s t : State W) (list : List Writing) → t ≡ with_writing s list → IsUncut s → IsUncut t
 put_uncut s t list is u = subst (λ (y : State _). IsUncut y) (sym is) u

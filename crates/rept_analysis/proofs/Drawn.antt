@@ -4,7 +4,8 @@ use Rattle.std.proofs.lemmas.Bool.{cases_lt, or_parts, false≢true, true≢fals
 use Rattle.std.proofs.Common.{slice_get}
 use Rattle.rept_isa.specs.declared.row.StepRow.{StepRow}
 use Rattle.rept_reason.specs.declared.fact.Cell.{Cell}
-use Rattle.rept_analysis.specs.State.{State, all_known}
+use Rattle.rept_report.specs.Setting.{IsInstant}
+use Rattle.rept_analysis.specs.State.{State, Path, all_known, along}
 use Rattle.std.proofs.lemmas.Option.{slice_get-get_or, slice_get_within}
 use Rattle.rept_view.specs.declared.drawn.Drawn.{Drawn}
 use Rattle.rept_report.proofs.Told.{same_some}
@@ -13,12 +14,17 @@ use Rattle.rept_analysis.specs.Drawing.{Knows, IsTracked, Grows, HasNews, Drew, 
 use Rattle.rept_analysis.specs.Drawing.HasNews.{fact, address, anew}
 
 pub Grows_itself : {W : Type 0} (a : State W) → Grows a a
-Grows_itself a = record { path = refl; rows = refl; spans = refl; filled = refl; shown = refl; complete = refl; conflict = refl; answers = refl; older = refl; more = λ p c v e. e; tracked = λ x h. h; counted = omega arith; writing = λ h. h; fewer = omega arith; spent = omega arith; words = λ w. w }
+Grows_itself a = record { path = refl; count = refl; row = λ i. refl; spans = refl; filled = refl; shown = refl; complete = refl; conflict = refl; answers = refl; older = refl; more = λ p c v e. e; tracked = λ x h. h; counted = omega arith; writing = λ h. h; fewer = omega arith; spent = omega arith; words = λ w. w }
+
+-- where nothing changed, no less is known
+pub Grows_same : {W : Type 0} (a b : State W) → b ≡ a → Grows a b
+Grows_same a b same = subst (λ (x : State _). Grows a x) (sym same) (Grows_itself a)
 
 pub Grows_trans : {W : Type 0} (a b c : State W) → Grows a b → Grows b c → Grows a c
 Grows_trans a b c g h = record {
   path = h.path ∙ g.path;
-  rows = h.rows ∙ g.rows;
+  count = h.count ∙ g.count;
+  row = λ i. h.row i ∙ g.row i;
   spans = h.spans ∙ g.spans;
   filled = h.filled ∙ g.filled;
   shown = h.shown ∙ g.shown;
@@ -42,7 +48,7 @@ news_then a b c g (address x small was_not here) = address x small was_not (g.tr
 news_then a b c g (anew less) = anew (let more = g.fewer in omega (arith, more, less))
 
 pub news_before : {W : Type 0} (a b c : State W) → Grows a b → HasNews b c → HasNews a c
-news_before a b c g (fact p d v early cell none here) = fact p d v (subst (λ n. p ≤ length n.given.rows) g.path early) cell (was_none (all_known a p d) refl) here
+news_before a b c g (fact p d v early cell none here) = fact p d v (subst (λ (P : Path _). IsInstant (along P) d p) g.path early) cell (was_none (all_known a p d) refl) here
   where
     was_none : (x : Option ℕ) → all_known a p d ≡ x → all_known a p d ≡ None
     was_none None e = e
@@ -104,8 +110,8 @@ one_more C r below here s h =
 pub clash_found : {W : Type 0} (old new : State W) (p : ℕ) (c : Cell) (w v : ℕ) → new ≡ old → Knows p c w old → w ≢ v → IsFollowing old (fact_of p c v) → IsClash new (fact_of p c v) w
 clash_found old new p c w v same known differs follows = subst (λ (x : State _). IsClash x (fact_of p c v) w) (sym same) (record { is_known = known; differs = differs; follows = follows })
 
-pub row_after : {W : Type 0} (old new : State W) (i : ℕ) (row : StepRow) → Grows old new → slice_get old.path.given.rows i ≡ Some row → slice_get new.path.given.rows i ≡ Some row
-row_after old new i row grows found = rw grows.rows found
+pub row_after : {W : Type 0} (old new : State W) (i : ℕ) (row : StepRow) → Grows old new → old.path.given.legs.row i ≡ Some row → new.path.given.legs.row i ≡ Some row
+row_after old new i row grows found = grows.row i ∙ found
 
 -- one more conclusion of a list is known
 pub drawn_more : {W : Type 0} (s : State W) (i : ℕ) (list : List Drawn) (k : ℕ) (d : Drawn) → slice_get list k ≡ Some d → DrawnBelow k list i s → KnowsDrawn i d s → DrawnBelow (k + 1) list i s
@@ -168,4 +174,4 @@ one_before C k n above here s low high =
 
 -- all that rows from one on let one conclude is known
 abbrev pub RowsClosedFrom : {W : Type 0} → ℕ → State W → Type 0
-RowsClosedFrom n s = (i : ℕ) → n ≤ i → i < length s.path.given.rows → IsRowClosed i s
+RowsClosedFrom n s = (i : ℕ) → n ≤ i → i < s.path.given.legs.count → IsRowClosed i s

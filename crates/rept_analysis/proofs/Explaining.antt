@@ -1,5 +1,5 @@
 -- Each fact that an analysis answers at the end has a reason, and bytes are found in the prefixes of its log.
-use Rattle.std.proofs.Common.{◌≡◌, ℕ, ◌≤◌, Bool, List, length, Some, sym, ap, subst, ◌∙◌}
+use Rattle.std.proofs.Common.{◌≡◌, ℕ, ◌≤◌, Bool, List, Some, sym, ap, subst, ◌∙◌}
 use Rattle.rept_reason.specs.declared.fact.Fact.{Fact}
 use Rattle.rept_reason.specs.declared.fact.Cell.TheVariants.{Byte}
 use Rattle.rept_reason.specs.Facts.{Knowledge}
@@ -9,6 +9,7 @@ use Rattle.rept_report.specs.Log.{oldest}
 use Rattle.rept_report.specs.Reasons.{StandsIn, IsStanding}
 use Rattle.rept_report.specs.Implied.{with_implied, IsClosed, HasEnded, known_at_end}
 use Rattle.rept_report.specs.Why.{Because, fact_of, IsReason}
+use Rattle.rept_report.proofs.Line.{end_is}
 use Rattle.rept_report.proofs.Explained.{reason_exists}
 use Rattle.rept_report.proofs.Standing.{stands_up, stands_single, front_early}
 use Rattle.rept_log.specs.Fronts.{FrontView, stands}
@@ -48,14 +49,14 @@ module _ {W : Type 0} (s : State W) (laws : HasLaws (along s.path)) (kept : IsKe
 
   -- what the log's look-up finds in a prefix is what stands there
   pub front_finds : (t : ℕ) → IsStanding (along s.path) (oldest t s.known.log) (stands (front_at t))
-  front_finds t = front_standing (front_at t) single early
+  front_finds t = front_standing (front_at t) kept.line single (λ p a v h. subst (λ (n : ℕ). p ≤ n) (end_is s.path.sets s.path.moves s.path.rules s.path.given kept.line) (early p a v h))
     where
       single : (p a v w : ℕ) → StandsIn (along s.path) (oldest t s.known.log) (fact_of p (Byte a) v) → StandsIn (along s.path) (oldest t s.known.log) (fact_of p (Byte a) w) → v ≡ w
       single p a v w h k =
           let log = sym kept.traced.logged in
           stands_single (along s.path) laws kept.traced.entries has_ended.trace has_ended.quiet tracked has_ended.closed t t p v w (Byte a) (subst (λ (fs : List Fact). StandsIn (along s.path) (oldest t fs) (fact_of p (Byte a) v)) log h) (subst (λ (fs : List Fact). StandsIn (along s.path) (oldest t fs) (fact_of p (Byte a) w)) log k)
 
-      early : (p a v : ℕ) → StandsIn (along s.path) (oldest t s.known.log) (fact_of p (Byte a) v) → p ≤ length s.path.given.rows
+      early : (p a v : ℕ) → StandsIn (along s.path) (oldest t s.known.log) (fact_of p (Byte a) v) → p ≤ s.path.given.moments.end
       early p a v h = front_early (along s.path) laws kept.traced.entries has_ended.trace has_ended.quiet t (fact_of p (Byte a) v) (subst (λ (fs : List Fact). StandsIn (along s.path) (oldest t fs) (fact_of p (Byte a) v)) (sym kept.traced.logged) h)
 
   -- and then in each longer prefix

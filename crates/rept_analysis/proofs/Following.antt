@@ -24,9 +24,11 @@ use Rattle.rept_view.specs.declared.drawn.Drawn.{Drawn}
 use Rattle.rept_view.specs.Seen.{Seen, KnowsMore, seen_cell}
 use Rattle.rept_view.specs.Rules.{offset_of, IsRowByte, IsRowCell, Rules}
 use Rattle.rept_log.specs.Around.{around, around_lawful}
-use Rattle.rept_report.specs.Setting.{HasLaws, way_of}
+use Rattle.rept_report.specs.Setting.{HasLaws, IsLast, IsInstant, way_of}
+use Rattle.rept_report.specs.OneThread.{IsLine}
+use Rattle.rept_report.specs.Moments.{Moments}
 use Rattle.rept_report.specs.Spots.{passage}
-use Rattle.rept_report.specs.Views.{point_of, all_words, bounds, register_range, known_or, seen_at, registers_at, may_write, Carries}
+use Rattle.rept_report.specs.Views.{point_of, instant_of, all_words, bounds, register_range, known_or, seen_at, registers_at, may_write, Carries}
 use Rattle.rept_report.specs.Conclusions.{IsWordOf, HasWords, Concludes}
 use Rattle.rept_report.specs.Conclusions.IsCarried.{last_byte, onward, back}
 use Rattle.rept_report.specs.Conclusions.Follows.{last_value, kept_onward, kept_back, carried, drawn, only_value}
@@ -44,7 +46,7 @@ use Rattle.rept_analysis.specs.Room.{IsDrawable, own_at, IsOwnByte}
 use Rattle.rept_analysis.proofs.Reserve.{drawable_more, own_byte_more}
 use Rattle.rept_report.specs.Why.{fact_of}
 use Rattle.rept_analysis.specs.Drawing.{Knows, IsTracked, Grows, IsFollowing, IsBrought, IsLearntAt, IsKeptAt, LastKnown, IsFitted, IsAccess, IsCarriedAt, AreTrackedFrom, IsRowTracked, IsConclusion, IsBroughtTo, KeptBelow, DrawnKnown, IsRowDrawn, IsRowClosed, LastByteKnown, SingleKnown, AreRowAddresses}
-use Rattle.rept_analysis.proofs.Along.{at_last, at_early, point_is, carried_over}
+use Rattle.rept_analysis.proofs.Along.{last_at, carried_over}
 
 pub flat_known : (x : Option ℕ) (v : ℕ) → flat x ≡ Known v → x ≡ Some v
 flat_known None v e = cc
@@ -65,7 +67,7 @@ told_known s p r v x read h named = read ∙ ap flat (other ∙ h)
     other : register_known (told s.known.log) p r ≡ told s.known.log p (Register r)
     other = cond-false (eqb r 0) (Some 0) (told s.known.log p (Register r)) (ne_eqb r 0 (λ e. omega (arith, named, e)))
 
-module _ {W : Type 0} (s : State W) (i : ℕ) (row : StepRow) (found : slice_get s.path.given.rows i ≡ Some row) (inside : i < length s.path.given.rows) (r v : ℕ) (named : 0 < r) (in_file : r < 32) (small : v < 2 ^ 32) (kept : written_by row.instr ≢ Some r) (x : Flat) where
+module _ {W : Type 0} (s : State W) (i : ℕ) (row : StepRow) (found : s.path.given.legs.row i ≡ Some row) (inside : i < s.path.given.legs.count) (r v : ℕ) (named : 0 < r) (in_file : r < 32) (small : v < 2 ^ 32) (kept : written_by row.instr ≢ Some r) (x : Flat) where
   pub onward_follows : x ≡ flat (register_known (told s.known.log) i r) → x ≡ Known v → IsFollowing s (fact_of (i + 1) (Register r) v)
   onward_follows read is quiet = record { early = omega (arith, inside); cell = (named, in_file); word = small; by = kept_onward i r row found refl refl kept (known_told s i r v x read is named) }
 
@@ -88,14 +90,17 @@ read_after s t p r v x g read is =
 pub back_known : {W : Type 0} (s : State W) (i r : ℕ) (x : Flat) → x ≡ flat (register_known (told s.known.log) (i + 1) r) → IsLearntAt i r x s → (v : ℕ) → 0 < r → Knows (i + 1) (Register r) v s → Knows i (Register r) v s
 back_known s i r x read learnt v named h = learnt v (told_known s (i + 1) r v x read h named) named
 
-pub last_follows : {W : Type 0} (s : State W) (p r v w : ℕ) → p ≡ length s.path.given.rows → slice_get s.path.given.last r ≡ Some w → Known w ≡ Known v → 0 < r → r < 32 → v < 2 ^ 32 → IsFollowing s (fact_of p (Register r) v)
-last_follows s p r v w at found is named in_file small quiet = record { early = omega (arith, at); cell = (named, in_file); word = small; by = last_value r (at_last s.path p at) refl (found ∙ ap Some (same_flat is)) }
+pub last_follows : {W : Type 0} (s : State W) (p r v w : ℕ) → IsLast (along s.path) p → slice_get (s.path.given.last p) r ≡ Some w → Known w ≡ Known v → 0 < r → r < 32 → v < 2 ^ 32 → IsFollowing s (fact_of p (Register r) v)
+last_follows s p r v w at found is named in_file small quiet = record { early = at.0; cell = (named, in_file); word = small; by = last_value r at refl (found ∙ ap Some (same_flat is)) }
   where
     same_flat : {x y : ℕ} → Known x ≡ Known y → x ≡ y
     same_flat e = cc
 
-pub last_known : {W : Type 0} (s : State W) (p r w : ℕ) → p ≡ length s.path.given.rows → slice_get s.path.given.last r ≡ Some w → IsLearntAt p r (Known w) s → LastKnown r s
-last_known s p r w at found learnt v named is = rw (← at) (learnt v (ap Known (same_some (sym found ∙ is))) named)
+-- of one path there is one last point
+pub last_known : {W : Type 0} (s : State W) → IsLine s.path.given → (p r w : ℕ) → p ≡ s.path.given.legs.count → slice_get (s.path.given.last p) r ≡ Some w → IsLearntAt p r (Known w) s → LastKnown r s
+last_known s line p r w at found learnt q v last named is =
+    let same : p ≡ q = at ∙ sym (last_at s.path line q last) in
+    subst (λ (n : ℕ). Knows n (Register r) v s) same (learnt v (ap Known (same_some (sym found ∙ rw same is))) named)
 
 -- what followed still follows
 pub follows_more : {W : Type 0} (s t : State W) → HasLaws (along s.path) → Grows s t → HasWords (all_known t) → (f : Fact) → IsFollowing s f → IsFollowing t f
@@ -124,52 +129,54 @@ word_fits (Register r) v h = h
 word_fits (Byte a) v h = tt
 
 -- what a row lets one draw follows
-module _ {W : Type 0} (s : State W) (laws : HasLaws (along s.path)) (words : HasWords (all_known s)) (i : ℕ) (row : StepRow) (found : slice_get s.path.given.rows i ≡ Some row) (inside : i < length s.path.given.rows) where
+module _ {W : Type 0} (s : State W) (laws : HasLaws (along s.path)) (words : HasWords (all_known s)) (i : ℕ) (row : StepRow) (found : s.path.given.legs.row i ≡ Some row) (inside : i < s.path.given.legs.count) where
   log_words : HasWords (told s.known.log)
   log_words p r v e = words p r v e
 
-  same_cells : (w : When) (c : Cell) → seen_cell (seen_at (along s.path) (all_known s) i) w c ≡ seen_cell (around s.known i) w c
+  same_cells : (w : When) (c : Cell) → seen_cell (seen_at (along s.path) (all_known s) i) w c ≡ seen_cell (around s.path.given.moments s.known i) w c
   same_cells w (Register r) = refl
-  same_cells Before (Byte a) = refl
-  same_cells After (Byte a) = refl
+  same_cells w (Byte a) = refl
 
-  pub drawn_seen : (d : Drawn) → Contains (s.path.rules.draw row (around s.known i)) d → Contains (s.path.rules.draw row (seen_at (along s.path) (all_known s) i)) d
-  drawn_seen d h = laws.rules.needs_enough row (around s.known i) (seen_at (along s.path) (all_known s) i) d (around_lawful s.known i log_words) (seen_at_lawful (along s.path) (all_known s) words i) h (λ n needed. same_cells n.when n.cell)
+  pub drawn_seen : (d : Drawn) → Contains (s.path.rules.draw row (around s.path.given.moments s.known i)) d → Contains (s.path.rules.draw row (seen_at (along s.path) (all_known s) i)) d
+  drawn_seen d h = laws.rules.needs_enough row (around s.path.given.moments s.known i) (seen_at (along s.path) (all_known s) i) d (around_lawful s.path.given.moments s.known i log_words) (seen_at_lawful (along s.path) (all_known s) words i) h (λ n needed. same_cells n.when n.cell)
 
-  pub seen_drawn : (d : Drawn) → Contains (s.path.rules.draw row (seen_at (along s.path) (all_known s) i)) d → Contains (s.path.rules.draw row (around s.known i)) d
-  seen_drawn d h = laws.rules.needs_enough row (seen_at (along s.path) (all_known s) i) (around s.known i) d (seen_at_lawful (along s.path) (all_known s) words i) (around_lawful s.known i log_words) h (λ n needed. sym (same_cells n.when n.cell))
+  pub seen_drawn : (d : Drawn) → Contains (s.path.rules.draw row (seen_at (along s.path) (all_known s) i)) d → Contains (s.path.rules.draw row (around s.path.given.moments s.known i)) d
+  seen_drawn d h = laws.rules.needs_enough row (seen_at (along s.path) (all_known s) i) (around s.path.given.moments s.known i) d (seen_at_lawful (along s.path) (all_known s) words i) (around_lawful s.path.given.moments s.known i log_words) h (λ n needed. sym (same_cells n.when n.cell))
 
-  point_early : (w : When) → point_of i w ≤ length s.path.given.rows
-  point_early Before = omega (arith, inside)
-  point_early After = omega (arith, inside)
+  -- before and after the row there are places for facts
+  instant_early : (w : When) (c : Cell) → IsInstant (along s.path) c (instant_of s.path.given.moments i w c)
+  instant_early Before (Register r) = omega (arith, inside)
+  instant_early After (Register r) = omega (arith, inside)
+  instant_early Before (Byte a) = laws.moments.rows_before i row found
+  instant_early After (Byte a) = laws.moments.rows_after i row found
 
-  drawn_here : (d : Drawn) (a : ℕ) → Contains (s.path.rules.draw row (around s.known i)) d → IsRowByte s.path.rules row (around s.known i) a → IsDrawable s.path s.known.log i d
-  drawn_here d a h own = record { row = row; found = found; view = around s.known i; lawful = around_lawful s.known i log_words; drawn = h; base_register = own.base_register; base = own.base; read = own.read; seen = own.base_known; known = own.base_known }
+  drawn_here : (d : Drawn) (a : ℕ) → Contains (s.path.rules.draw row (around s.path.given.moments s.known i)) d → IsRowByte s.path.rules row (around s.path.given.moments s.known i) a → IsDrawable s.path s.known.log i d
+  drawn_here d a h own = record { row = row; found = found; view = around s.path.given.moments s.known i; lawful = around_lawful s.path.given.moments s.known i log_words; drawn = h; base_register = own.base_register; base = own.base; read = own.read; seen = own.base_known; known = own.base_known }
 
-  pub drawn_conclusion : IsRowTracked row i s → (d : Drawn) → Contains (s.path.rules.draw row (around s.known i)) d → IsConclusion i d s
+  pub drawn_conclusion : IsRowTracked row i s → (d : Drawn) → Contains (s.path.rules.draw row (around s.path.given.moments s.known i)) d → IsConclusion i d s
   drawn_conclusion tracked d h =
-      let own = laws.rules.own row (around s.known i) d (around_lawful s.known i log_words) h in
+      let own = laws.rules.own row (around s.path.given.moments s.known i) d (around_lawful s.path.given.moments s.known i log_words) h in
       record {
         cell = own.1;
         fits = own.2;
-        follows = λ small quiet. record { early = at_early s.path d.cell (point_of i d.when) (point_early d.when); cell = own.1; word = word_fits d.cell d.value small; by = drawn i row d found (drawn_seen d h) (sym (point_is s.path i d.when d.cell)) refl refl };
-        tracked = λ a is. tracked a (subst (λ (c : Cell). IsRowCell s.path.rules row (around s.known i) d.when c) is own.0);
-        byte = λ a is. drawn_here d a h (subst (λ (c : Cell). IsRowCell s.path.rules row (around s.known i) d.when c) is own.0);
+        follows = λ small quiet. record { early = instant_early d.when d.cell; cell = own.1; word = word_fits d.cell d.value small; by = drawn i row d found (drawn_seen d h) refl refl refl };
+        tracked = λ a is. tracked a (subst (λ (c : Cell). IsRowCell s.path.rules row (around s.path.given.moments s.known i) d.when c) is own.0);
+        byte = λ a is. drawn_here d a h (subst (λ (c : Cell). IsRowCell s.path.rules row (around s.path.given.moments s.known i) d.when c) is own.0);
       }
 
 pub conclusion_more : {W : Type 0} (s t : State W) → HasLaws (along s.path) → Grows s t → HasWords (all_known t) → (i : ℕ) (d : Drawn) → IsConclusion i d s → IsConclusion i d t
-conclusion_more s t laws g words i d h = record { cell = h.cell; fits = h.fits; follows = λ small. follows_more s t laws g words _ (h.follows small); tracked = λ a is. g.tracked a (h.tracked a is); byte = λ a is. subst (λ (P : Path _). IsDrawable P t.known.log i d) (sym g.path) (drawable_more s.path s.known.log t.known.log (λ p r v e. g.more p (Register r) v e) i d (h.byte a is)) }
+conclusion_more s t laws g words i d h = record { cell = h.cell; fits = h.fits; follows = λ small. subst (λ (P : Path _). IsFollowing t (fact_of (instant_of P.given.moments i d.when d.cell) d.cell d.value)) (sym g.path) (follows_more s t laws g words (fact_of (instant_of s.path.given.moments i d.when d.cell) d.cell d.value) (h.follows small)); tracked = λ a is. g.tracked a (h.tracked a is); byte = λ a is. subst (λ (P : Path _). IsDrawable P t.known.log i d) (sym g.path) (drawable_more s.path s.known.log t.known.log (λ p r v e. g.more p (Register r) v e) i d (h.byte a is)) }
 
 -- the sets of a moment are the ranges
-module _ {W : Type 0} (s : State W) (i : ℕ) (inside : i < length s.path.given.rows) (fitted : IsFitted s) where
+module _ {W : Type 0} (s : State W) (i : ℕ) (inside : i < s.path.given.legs.count) (fitted : IsFitted s) where
   abbrev older : List Fact
   older = oldest s.filled s.known.log
 
-  early : (w : When) → point_of i w ≤ length s.path.given.rows
+  early : (w : When) → point_of i w ≤ s.path.given.legs.count
   early Before = omega (arith, inside)
   early After = omega (arith, inside)
 
-  same_range : (p r : ℕ) → p ≤ length s.path.given.rows → filled_range s.path.sets s.spans p r ≡ register_range (along s.path) (told older) p r
+  same_range : (p r : ℕ) → p ≤ s.path.given.legs.count → filled_range s.path.sets s.spans p r ≡ register_range (along s.path) (told older) p r
   same_range p r h =
       elim (cases_lt r 32) [
         | inl lt ↦ rw (cond-true (ltb r 32) (bounds s.path.sets (entry_at s.spans p r)) all_words (lt-ltb r 32 lt), cond-true (ltb r 32) (bounds s.path.sets (range (way_of (along s.path)) (told older) p r)) all_words (lt-ltb r 32 lt)) (ap (λ (x : Option W). bounds s.path.sets x) (fitted p h r lt))
@@ -182,11 +189,11 @@ module _ {W : Type 0} (s : State W) (i : ℕ) (inside : i < length s.path.given.
   pub moment_is : moment s.path.sets older s.spans i ≡ registers_at (along s.path) (told older) i
   moment_is = ap seen_with (fun_ext (λ (w : When). fun_ext (λ (r : ℕ). same_range (point_of i w) r (early w))))
 
-  pub access_is : (row : StepRow) (access : CallAccess) → slice_get s.path.given.rows i ≡ Some row → ((a : ℕ) → a < 2 ^ 32 → call_hits access a ≡ s.path.rules.touched row (moment s.path.sets older s.spans i) s.path.given.image_end a) → IsAccess i access s
+  pub access_is : (row : StepRow) (access : CallAccess) → s.path.given.legs.row i ≡ Some row → ((a : ℕ) → a < 2 ^ 32 → call_hits access a ≡ s.path.rules.touched row (moment s.path.sets older s.spans i) s.path.given.image_end a) → IsAccess i access s
   access_is row access found hits a small = hits a small ∙ rw found (ap (λ (v : Seen). s.path.rules.touched row v s.path.given.image_end a) moment_is)
 
 -- what a row may not write by all facts and the sets of older ones, it may not write by what is known
-module _ {W : Type 0} (s : State W) (i : ℕ) (inside : i < length s.path.given.rows) (fitted : IsFitted s) (laws : HasLaws (along s.path)) (words : HasWords (all_known s)) (once : OnceEach s.known.log) (quiet : IsQuiet (along s.path) (all_known s)) where
+module _ {W : Type 0} (s : State W) (i : ℕ) (inside : i < s.path.given.legs.count) (fitted : IsFitted s) (laws : HasLaws (along s.path)) (words : HasWords (all_known s)) (once : OnceEach s.known.log) (quiet : IsQuiet (along s.path) (all_known s)) where
   now_seen : KnowsMore (moment s.path.sets s.known.log s.spans i) (registers_at (along s.path) (all_known s) i)
   now_seen = seen_more (along s.path).moments (register_known (told s.known.log)) (λ p a. None) (filled_range s.path.sets s.spans) (register_known (all_known s)) (λ p a. None) (register_range (along s.path) (all_known s)) i (record {
     registers = λ p r v e. e;
@@ -197,7 +204,7 @@ module _ {W : Type 0} (s : State W) (i : ℕ) (inside : i < length s.path.given.
         (ranges_lie (along s.path) laws (told (oldest s.filled s.known.log)) (all_known s) (λ p q v e. oldest_less s.filled s.known.log once p (Register q) v e) words quiet (point_of i w) r (early s i inside fitted w));
   })
 
-  pub not_touched : (row : StepRow) (access : CallAccess) (a : ℕ) → a < 2 ^ 32 → slice_get s.path.given.rows i ≡ Some row → call_hits access a ≡ s.path.rules.touched row (moment s.path.sets s.known.log s.spans i) s.path.given.image_end a → call_hits access a ≡ false → may_write (along s.path) (all_known s) i a ≡ false
+  pub not_touched : (row : StepRow) (access : CallAccess) (a : ℕ) → a < 2 ^ 32 → s.path.given.legs.row i ≡ Some row → call_hits access a ≡ s.path.rules.touched row (moment s.path.sets s.known.log s.spans i) s.path.given.image_end a → call_hits access a ≡ false → may_write (along s.path) (all_known s) i a ≡ false
   not_touched row access a small found hits miss =
       elim (cases_Bool (s.path.rules.touched row (registers_at (along s.path) (all_known s) i) s.path.given.image_end a)) [
         | inl t ↦ absurd (false≢true (sym miss ∙ hits ∙ laws.rules.touched_less s.path.given.image_end row (moment s.path.sets s.known.log s.spans i) (registers_at (along s.path) (all_known s) i) a (moment_lawful s.path.sets s.known.log s.spans i (λ p r v e. words p r v e)) (registers_at_lawful (along s.path) (all_known s) words i) now_seen small t))
@@ -205,9 +212,9 @@ module _ {W : Type 0} (s : State W) (i : ℕ) (inside : i < length s.path.given.
       ]
 
 -- what a row may not write is carried over it
-module _ {W : Type 0} (s : State W) (laws : HasLaws (along s.path)) (words : HasWords (all_known s)) (once : OnceEach s.known.log) (i a v : ℕ) (inside : i < length s.path.given.rows) (small : a < 2 ^ 32) (access : CallAccess) (is_access : IsAccess i access s) (spared : call_hits access a ≡ false) where
+module _ {W : Type 0} (s : State W) (line : IsLine s.path.given) (laws : HasLaws (along s.path)) (words : HasWords (all_known s)) (once : OnceEach s.known.log) (i a v : ℕ) (inside : i < s.path.given.legs.count) (small : a < 2 ^ 32) (access : CallAccess) (is_access : IsAccess i access s) (spared : call_hits access a ≡ false) where
   carries : IsQuiet (along s.path) (all_known s) → Carries (along s.path) (all_known s) (passage a i (i + 1))
-  carries quiet = carried_over s.path (all_known s) a i inside (spared_more (along s.path) laws (told (oldest s.filled s.known.log)) (all_known s) (λ p r w e. oldest_less s.filled s.known.log once p (Register r) w e) words quiet i a small (sym (is_access a small) ∙ spared))
+  carries quiet = carried_over s.path line (all_known s) a i inside (spared_more (along s.path) laws (told (oldest s.filled s.known.log)) (all_known s) (λ p r w e. oldest_less s.filled s.known.log once p (Register r) w e) words quiet i a small (sym (is_access a small) ∙ spared))
 
   pub onward_brought : Knows i (Byte a) v s → IsBrought s (fact_of (i + 1) (Byte a) v)
   onward_brought h quiet = onward a i (i + 1) refl refl (carries quiet) h
@@ -215,7 +222,7 @@ module _ {W : Type 0} (s : State W) (laws : HasLaws (along s.path)) (words : Has
   pub back_brought : Knows (i + 1) (Byte a) v s → IsBrought s (fact_of i (Byte a) v)
   back_brought h quiet = back a i (i + 1) refl refl (carries quiet) h
 
-pub brought_follows : {W : Type 0} (s : State W) (p a v : ℕ) → p ≤ length s.path.given.rows → a < 2 ^ 32 → IsBrought s (fact_of p (Byte a) v) → IsFollowing s (fact_of p (Byte a) v)
+pub brought_follows : {W : Type 0} (s : State W) (p a v : ℕ) → p ≤ s.path.given.moments.end → a < 2 ^ 32 → IsBrought s (fact_of p (Byte a) v) → IsFollowing s (fact_of p (Byte a) v)
 brought_follows s p a v h small brought quiet = record { early = h; cell = small; word = tt; by = carried (brought quiet) }
 
 pub access_after : {W : Type 0} (s t : State W) (i : ℕ) (access : CallAccess) → Grows s t → IsAccess i access s → IsAccess i access t
@@ -234,7 +241,7 @@ brought_to s from to a w at h v e = h ∙ ap Some (same_some (sym at ∙ e))
 pub carried_both : {W : Type 0} (s : State W) (i a : ℕ) → IsBroughtTo i (i + 1) a s → IsBroughtTo (i + 1) i a s → IsCarriedAt i a s
 carried_both s i a p q = record { onward = λ v spared h. p v h; back = λ v spared h. q v h }
 
-pub row_closed : {W : Type 0} (s : State W) (i : ℕ) (row : StepRow) → slice_get s.path.given.rows i ≡ Some row → KeptBelow 32 row i s → IsRowTracked row i s → DrawnKnown row i s → IsRowClosed i s
+pub row_closed : {W : Type 0} (s : State W) (i : ℕ) (row : StepRow) → s.path.given.legs.row i ≡ Some row → KeptBelow 32 row i s → IsRowTracked row i s → DrawnKnown row i s → IsRowClosed i s
 row_closed s i row found registers tracked drawn_ row' found' =
     let same : row ≡ row' = same_row (sym found ∙ found') in
     subst (λ (x : StepRow). IsRowDrawn x i s) same (record { registers = registers; tracked = tracked; drawn = drawn_ })
@@ -242,10 +249,10 @@ row_closed s i row found registers tracked drawn_ row' found' =
     same_row : {x y : StepRow} → Some x ≡ Some y → x ≡ y
     same_row e = cc
 
-pub last_byte_brought : {W : Type 0} (s : State W) (p a v : ℕ) → p ≡ length s.path.given.rows → s.path.given.dump a ≡ Some v → IsBrought s (fact_of p (Byte a) v)
+pub last_byte_brought : {W : Type 0} (s : State W) (p a v : ℕ) → p ≡ s.path.given.moments.end → s.path.given.dump a ≡ Some v → IsBrought s (fact_of p (Byte a) v)
 last_byte_brought s p a v at found quiet = last_byte a at refl found
 
-pub last_byte_known : {W : Type 0} (s : State W) (p a w : ℕ) → p ≡ length s.path.given.rows → s.path.given.dump a ≡ Some w → Knows p (Byte a) w s → LastByteKnown a s
+pub last_byte_known : {W : Type 0} (s : State W) (p a w : ℕ) → p ≡ s.path.given.moments.end → s.path.given.dump a ≡ Some w → Knows p (Byte a) w s → LastByteKnown a s
 last_byte_known s p a w at found h v is = subst (λ (q : ℕ). Knows q (Byte a) v s) at (h ∙ ap Some (same_some (sym found ∙ is)))
 
 pub no_last_byte : {W : Type 0} (s : State W) (a : ℕ) → s.path.given.dump a ≡ None → LastByteKnown a s
@@ -253,7 +260,7 @@ no_last_byte s a none v is = absurd (none_some (sym none ∙ is))
 
 -- a set of one value, as the sets were filled
 module _ {W : Type 0} (s : State W) (laws : HasLaws (along s.path)) (words : HasWords (all_known s)) (once : OnceEach s.known.log) (fitted : IsFitted s) where
-  pub single_follows : (p r v : ℕ) (set : W) → p ≤ length s.path.given.rows → 0 < r → r < 32 → v < 2 ^ 32 → entry_at s.spans p r ≡ Some set → s.path.sets.as_exact set ≡ Some v → IsFollowing s (fact_of p (Register r) v)
+  pub single_follows : (p r v : ℕ) (set : W) → p ≤ s.path.given.legs.count → 0 < r → r < 32 → v < 2 ^ 32 → entry_at s.spans p r ≡ Some set → s.path.sets.as_exact set ≡ Some v → IsFollowing s (fact_of p (Register r) v)
   single_follows p r v set early_ named in_file small at only quiet =
       let is : range (way_of (along s.path)) (told (oldest s.filled s.known.log)) p r ≡ Some set = sym (fitted p early_ r in_file) ∙ at in
       let next = single_value_more (along s.path) laws (told (oldest s.filled s.known.log)) (all_known s) (λ q t w e. oldest_less s.filled s.known.log once q (Register t) w e) words quiet p r v set early_ in_file is only in
@@ -277,14 +284,14 @@ pub words_below : {W : Type 0} (s : State W) (t : ℕ) → OnceEach s.known.log 
 words_below s t once words p r v e = words p r v (oldest_less t s.known.log once p (Register r) v e)
 
 -- the bytes of a row whose base is known
-pub row_bytes : (rules : Rules) (row : StepRow) (k : LogKnown) (i r base start count n : ℕ) (x : Flat) → first_read row.instr ≡ Some r → x ≡ flat (register_known (told k.log) i r) → x ≡ Known base → start ≡ plus base (offset_of row.instr) → count ≡ min (rules.places row) 4 → n ≡ bytes_from (around k i) start count → n ≡ bytes_known rules row (around k i) (base_known (first_read row.instr) (around k i))
-row_bytes rules row k i r base start count n x reads read is from few counted =
+pub row_bytes : (rules : Rules) (row : StepRow) (moments : Moments) (k : LogKnown) (i r base start count n : ℕ) (x : Flat) → first_read row.instr ≡ Some r → x ≡ flat (register_known (told k.log) i r) → x ≡ Known base → start ≡ plus base (offset_of row.instr) → count ≡ min (rules.places row) 4 → n ≡ bytes_from (around moments k i) start count → n ≡ bytes_known rules row (around moments k i) (base_known (first_read row.instr) (around moments k i))
+row_bytes rules row moments k i r base start count n x reads read is from few counted =
     let known : register_known (told k.log) i r ≡ Some base = flat_known (register_known (told k.log) i r) base (sym read ∙ is) in
-    let there : base_known (first_read row.instr) (around k i) ≡ Some base = rw reads known in
+    let there : base_known (first_read row.instr) (around moments k i) ≡ Some base = rw reads known in
     rw there (rw (← from, ← few) counted)
 
 -- the bytes that a row's rules look at, from its address on
-pub row_addresses : {W : Type 0} (s : State W) (i : ℕ) (row : StepRow) (r base start count : ℕ) (x : Flat) → slice_get s.path.given.rows i ≡ Some row → first_read row.instr ≡ Some r → x ≡ flat (register_known (told s.known.log) i r) → x ≡ Known base → start ≡ plus base (offset_of row.instr) → count ≡ min (s.path.rules.places row) 4 → AreRowAddresses start count s
+pub row_addresses : {W : Type 0} (s : State W) (i : ℕ) (row : StepRow) (r base start count : ℕ) (x : Flat) → s.path.given.legs.row i ≡ Some row → first_read row.instr ≡ Some r → x ≡ flat (register_known (told s.known.log) i r) → x ≡ Known base → start ≡ plus base (offset_of row.instr) → count ≡ min (s.path.rules.places row) 4 → AreRowAddresses start count s
 row_addresses s i row r base start count x found reads read is from few k lt =
     let known : register_known (told s.known.log) i r ≡ Some base = flat_known (register_known (told s.known.log) i r) base (sym read ∙ is) in
     (i, k, record { row = row; found = found; base_register = r; base = base; read = reads; known = known; below_places = omega (arith, lt, few); below_four = omega (arith, lt, few); address = ap (λ (z : ℕ). beside z k) from })

@@ -123,7 +123,7 @@ module _ {W : Type 0} (s : State W) (laws : HasLaws (along s.path)) (kept : IsKe
       rw (oldest_all (length s.known.log) s.known.log (omega arith)) h'
 
   -- what is found is what stands
-  pub stands_there : (t : ℕ) (f : Fact) (a : ℕ) → f.cell ≡ Byte a → f.point ≤ length s.path.given.rows → a < 2 ^ 32 → stands (front_at s laws kept finished t) f.point (Byte a) ≡ Some f.value → StandsIn (along s.path) (oldest t s.known.log) f
+  pub stands_there : (t : ℕ) (f : Fact) (a : ℕ) → f.cell ≡ Byte a → f.point ≤ s.path.given.moments.end → a < 2 ^ 32 → stands (front_at s laws kept finished t) f.point (Byte a) ≡ Some f.value → StandsIn (along s.path) (oldest t s.known.log) f
   stands_there t f a cell early small e = subst (StandsIn (along s.path) (oldest t s.known.log)) (fact_is (fact_of f.point (Byte a) f.value) f refl (sym cell) refl) ((front_finds s laws kept finished t).sound f.point a f.value early small e)
 
   pub found_there : (t : ℕ) (f : Fact) (a : ℕ) → f.cell ≡ Byte a → a < 2 ^ 32 → StandsIn (along s.path) (oldest t s.known.log) f → stands (front_at s laws kept finished t) f.point (Byte a) ≡ Some f.value
@@ -177,7 +177,7 @@ module _ {W : Type 0} (s : State W) (laws : HasLaws (along s.path)) (kept : IsKe
       other (h.at ∙ ap (λ (x : Fact). Some x) same)
 
   -- whether a byte's fact stands in a prefix, by the byte that is found there
-  pub found_stands : (t : ℕ) (f : Fact) (a : ℕ) → f.cell ≡ Byte a → f.point ≤ length s.path.given.rows → a < 2 ^ 32 → (v : ℕ) → stands (front_at s laws kept finished t) f.point (Byte a) ≡ Some v → (IsTrue (eqb v f.value) → StandsIn (along s.path) (oldest t s.known.log) f) × (StandsIn (along s.path) (oldest t s.known.log) f → IsTrue (eqb v f.value))
+  pub found_stands : (t : ℕ) (f : Fact) (a : ℕ) → f.cell ≡ Byte a → f.point ≤ s.path.given.moments.end → a < 2 ^ 32 → (v : ℕ) → stands (front_at s laws kept finished t) f.point (Byte a) ≡ Some v → (IsTrue (eqb v f.value) → StandsIn (along s.path) (oldest t s.known.log) f) × (StandsIn (along s.path) (oldest t s.known.log) f → IsTrue (eqb v f.value))
   found_stands t f a cell early small v e = (
     λ same. stands_there t f a cell early small (e ∙ ap Some (eqb-true v f.value same)),
     λ h. eq-eqb v f.value (same_some (sym e ∙ found_there t f a cell small h)),
@@ -215,13 +215,14 @@ module _ {W : Type 0} (s : State W) (kept : IsKept s) (n : ℕ) where
       last = h.drawn.last;
       rows = λ i inside row found. row_again i row (h.drawn.rows i inside row found);
       bytes = h.drawn.bytes;
-      carried = λ a i at inside. let k = h.drawn.carried a i at inside in record { onward = k.onward; back = k.back };
+      carried = λ a m w at. let k = h.drawn.carried a m w at in record { onward = k.onward; back = k.back };
       singles = h.drawn.singles;
     };
   }
 
   pub kept_redrawn : IsKept (with_draws s n)
   kept_redrawn = record {
+    line = kept.line;
     few = kept.few;
     registers = kept.registers;
     last_is = kept.last_is;

@@ -9,7 +9,8 @@ use Rattle.rept_reason.specs.declared.fact.Fact.{Fact}
 use Rattle.rept_reason.specs.declared.fact.Cell.{Cell}
 use Rattle.rept_reason.specs.declared.fact.Cell.TheVariants.{Register, Byte}
 use Rattle.rept_reason.specs.Facts.{Knowledge, IsCell, told, speaks}
-use Rattle.rept_report.specs.Setting.{HasLaws}
+use Rattle.rept_report.specs.Setting.{HasLaws, IsInstant}
+use Rattle.rept_report.specs.OneThread.{IsLine}
 use Rattle.rept_report.specs.Conclusions.{IsWordOf, HasWords}
 use Rattle.rept_report.specs.Log.{oldest, OnceEach, Entry, facts_of, add_if, logged_of, IsByte, IsLearnt, IsTrace}
 use Rattle.rept_report.specs.declared.conflict.ConflictKind.{ConflictKind}
@@ -71,7 +72,7 @@ module _ {W : Type 0} (s : State W) (kept : IsKept s) where
 
 -- a fact that was learnt, and what is known with it
 pub record IsNext {W : Type 0} (s : State W) (kept : IsKept s) (f : Fact) (keep : Bool) (k : Known) : Type 0 where
-  pub early : f.point ≤ length s.path.given.rows
+  pub early : IsInstant (along s.path) f.cell f.point
   pub cell : IsCell f.cell
   pub word : IsWordOf f.cell f.value
   pub new : all_known s f.point f.cell ≡ None
@@ -129,6 +130,7 @@ module _ {W : Type 0} (s : State W) (kept : IsKept s) (f : Fact) (keep : Bool) (
       let filled = kept.filled in
       let shown = kept.shown in
       record {
+        line = kept.line;
         few = kept.few;
         registers = kept.registers;
         last_is = n.last ∙ kept.last_is;
@@ -154,7 +156,8 @@ module _ {W : Type 0} (s : State W) (kept : IsKept s) (f : Fact) (keep : Bool) (
   next_told = record {
     grows = record {
       path = refl;
-      rows = refl;
+      count = refl;
+      row = λ i. refl;
       spans = refl;
       filled = refl;
       shown = refl;
@@ -176,7 +179,7 @@ module _ {W : Type 0} (s : State W) (kept : IsKept s) (f : Fact) (keep : Bool) (
   }
 
 -- a register
-module _ {W : Type 0} (s : State W) (kept : IsKept s) (p r v : ℕ) (early : p ≤ length s.path.given.rows) (named : 0 < r) (in_file : r < 32) (small : v < 2 ^ 32) (open_ : s.complete ≡ false) (follows : IsFollowing s (fact_of p (Register r) v)) where
+module _ {W : Type 0} (s : State W) (kept : IsKept s) (p r v : ℕ) (early : p ≤ s.path.given.legs.count) (named : 0 < r) (in_file : r < 32) (small : v < 2 ^ 32) (open_ : s.complete ≡ false) (follows : IsFollowing s (fact_of p (Register r) v)) where
   register_agrees : (q : ℕ) (c : Cell) → told (fact_of p (Register r) v ∷ facts_of kept.traced.entries) q c ≡ knows (with_entry s.known (fact_of p (Register r) v)) q c
   register_agrees q (Register t) = ap (λ (x : Option ℕ). cond (speaks (fact_of p (Register r) v) q (Register t)) (Some v) x) (kept.traced.agree q (Register t))
   register_agrees q (Byte a) = told_old (fact_of p (Register r) v) (facts_of kept.traced.entries) q (Byte a) (false_from_ne_true (speaks (fact_of p (Register r) v) q (Byte a)) (λ e. register_differs (speaks_is (fact_of p (Register r) v) q (Byte a) e).1)) ∙ kept.traced.agree q (Byte a)
@@ -207,7 +210,7 @@ module _ {W : Type 0} (s : State W) (kept : IsKept s) (p r v : ℕ) (early : p �
       subst (λ (x : Known). IsKept (with_known s x) × Tells s (with_known s x) (fact_of p (Register r) v) New) (sym same) (next_kept s kept _ true _ n, next_told s kept _ true _ n)
 
 -- a byte
-module _ {W : Type 0} (s : State W) (kept : IsKept s) (joins : Bool) (p a v : ℕ) (early : p ≤ length s.path.given.rows) (small : a < 2 ^ 32) (tracked : IsTracked a s) (open_ : s.complete ≡ false) (follows : IsFollowing s (fact_of p (Byte a) v)) (keep : Bool) (brought : keep ≡ false → IsBrought s (fact_of p (Byte a) v)) where
+module _ {W : Type 0} (s : State W) (kept : IsKept s) (joins : Bool) (p a v : ℕ) (early : p ≤ s.path.given.moments.end) (small : a < 2 ^ 32) (tracked : IsTracked a s) (open_ : s.complete ≡ false) (follows : IsFollowing s (fact_of p (Byte a) v)) (keep : Bool) (brought : keep ≡ false → IsBrought s (fact_of p (Byte a) v)) where
   abbrev f : Fact
   f = fact_of p (Byte a) v
 
@@ -274,7 +277,7 @@ module _ {W : Type 0} (s : State W) (kept : IsKept s) (joins : Bool) (p a v : �
     new_byte once roomy = let n = byte_next once roomy in (next_kept s kept f keep k n, next_told s kept f keep k n)
 
 -- a byte for which there is room
-module _ {W : Type 0} (s : State W) (laws : HasLaws (along s.path)) (kept : IsKept s) (joins : Bool) (p a v : ℕ) (early : p ≤ length s.path.given.rows) (small : a < 2 ^ 32) (tracked : IsTracked a s) (open_ : s.complete ≡ false) (follows : IsFollowing s (fact_of p (Byte a) v)) where
+module _ {W : Type 0} (s : State W) (laws : HasLaws (along s.path)) (kept : IsKept s) (joins : Bool) (p a v : ℕ) (early : p ≤ s.path.given.moments.end) (small : a < 2 ^ 32) (tracked : IsTracked a s) (open_ : s.complete ≡ false) (follows : IsFollowing s (fact_of p (Byte a) v)) where
   abbrev g : Fact
   g = fact_of p (Byte a) v
 
@@ -307,6 +310,7 @@ module _ {W : Type 0} (s : State W) (kept : IsKept s) (a : ℕ) (small : a < 2 ^
 
     track_kept : IsKept (with_known s k)
     track_kept = record {
+      line = kept.line;
       few = kept.few;
       registers = kept.registers;
       last_is = h.last ∙ kept.last_is;
@@ -322,13 +326,14 @@ module _ {W : Type 0} (s : State W) (kept : IsKept s) (a : ℕ) (small : a < 2 ^
       room = kept.room;
       rows = kept.rows;
       drawn = passes_more s (with_known s k) refl (λ p c v e. sym (same_knows p c) ∙ e) refl kept.drawn;
-      roomy = λ j. room_tracked s.path s.known (kept.roomy j) row.0 row.1 a row.2 h.was_not k h;
+      roomy = λ j. room_tracked s.path (record { inside = kept.line.inside }) s.known (kept.roomy j) row.0 row.1 a row.2 h.was_not k h;
     }
 
     track_grows : Grows s (with_known s k)
     track_grows = record {
       path = refl;
-      rows = refl;
+      count = refl;
+      row = λ i. refl;
       spans = refl;
       filled = refl;
       shown = refl;
@@ -349,7 +354,7 @@ module _ {W : Type 0} (s : State W) (kept : IsKept s) (a : ℕ) (small : a < 2 ^
     now_tracked = rw h.tracked (Contains-push s.known.store.tracked a)
 
   never_full : (IsTracked a s → ⊥) → (s.work.joins ≡ true → s.known.store.places ≤ length s.known.store.tracked) → s.work.joins ≡ false
-  never_full was_not full = false_from_ne_true s.work.joins (λ j. let free = room_to_track s.path s.known (kept.roomy j) row.0 row.1 a row.2 was_not in let none = full j in omega (arith, free, none))
+  never_full was_not full = false_from_ne_true s.work.joins (λ j. let free = room_to_track s.path (record { inside = kept.line.inside }) s.known (kept.roomy j) row.0 row.1 a row.2 was_not in let none = full j in omega (arith, free, none))
 
   pub tracked_byte : (k : Known) (r : Result Bool AllocError) → TracksByte (known_change s.work.joins s.known k) a r → IsKept (with_known s k) × Tracks s (with_known s k) a r
   tracked_byte k (Err e) (same, was_not, full) = (kept_same s k same kept, (same_known s k same, never_full was_not full))
@@ -357,8 +362,9 @@ module _ {W : Type 0} (s : State W) (kept : IsKept s) (a : ℕ) (small : a < 2 ^
   tracked_byte k (Ok true) h = (track_kept k h, (track_grows k h, address a small h.was_not (now_tracked k h), now_tracked k h, h.log, h.fact, refl))
 
 -- a new analysis
-pub fresh_kept : {W : Type 0} (s : State W) (bytes : ℕ) → bytes ≡ sum_to (places_at s.path) (length s.path.given.rows) → length s.path.given.rows ≤ 65536 → length s.path.given.last ≡ 32 → IsNew s.work.joins s.known (length s.path.given.rows) bytes → s.spans.points ≡ length s.path.given.rows + 1 → s.filled ≡ 0 → s.shown ≡ 0 → s.complete ≡ false → s.conflict ≡ None → length s.path.given.rows ≤ s.work.room → length s.work.drawn ≡ length s.path.given.rows → ((i : ℕ) (x : Pass) → slice_get s.work.drawn i ≡ Some x → x ≡ Never) → IsKept s
-fresh_kept s bytes sum few registers new sized filled shown open_ calm_ room rows never = record {
+pub fresh_kept : {W : Type 0} (s : State W) (bytes : ℕ) → IsLine s.path.given → bytes ≡ sum_to (places_at s.path) (s.path.given.legs.count) → s.path.given.legs.count ≤ 65536 → ((p : ℕ) → length (s.path.given.last p) ≡ 32) → IsNew s.work.joins s.known (s.path.given.legs.count) bytes → s.spans.points ≡ s.path.given.legs.count + 1 → s.filled ≡ 0 → s.shown ≡ 0 → s.complete ≡ false → s.conflict ≡ None → s.path.given.legs.count ≤ s.work.room → length s.work.drawn ≡ s.path.given.legs.count → ((i : ℕ) (x : Pass) → slice_get s.work.drawn i ≡ Some x → x ≡ Never) → IsKept s
+fresh_kept s bytes line sum few registers new sized filled shown open_ calm_ room rows never = record {
+  line = line;
   few = few;
   registers = registers;
   last_is = new.last_is;

@@ -8,14 +8,18 @@ use Rattle.rept_alias.specs.declared.addresses.CallAccess.{CallAccess}
 use Rattle.rept_writing.specs.Hits.{hits_at, IsFirstHit, IsPastHit}
 use Rattle.rept_versions.specs.declared.facts.Stretch.{Stretch}
 use Rattle.rept_versions.specs.Facts.{Told, Nexts}
+use Rattle.rept_reason.specs.declared.fact.Cell.TheVariants.{Byte}
 use Rattle.rept_reason.specs.Facts.{told}
-use Rattle.rept_report.specs.Views.{may_write}
+use Rattle.rept_report.specs.OneThread.{IsLine}
+use Rattle.rept_report.specs.Spots.{passage}
+use Rattle.rept_report.specs.Views.{may_write, Carries}
 use Rattle.rept_report.proofs.Told.{same_some, none_some}
 use Rattle.rept_report.specs.Log.{oldest}
 use Rattle.rept_writing.specs.declared.list.Writing.{Writing}
 use Rattle.rept_analysis.specs.Work.{row_past}
-use Rattle.rept_analysis.specs.State.{State, with_writing, along}
-use Rattle.rept_analysis.specs.Drawing.{Grows, IsAccess, IsSparedAt, IsSpared, IsSparedBetween, IsSilent, IsCarriedAt, IsCarriedFrom, IsCarriedBeside, IsCarriedAlong, IsStopAt, past, IsWriting, AreWritingsBefore, AreBarriers, AreWritings, AreExact, SameFacts, IsFitted}
+use Rattle.rept_analysis.specs.State.{State, with_writing, all_known, along}
+use Rattle.rept_analysis.specs.Drawing.{Grows, IsAccess, Knows, IsSparedAt, IsSpared, IsBridged, IsSparedBetween, IsSilent, IsCarriedOver, IsCarriedAt, IsCarriedFrom, IsCarriedBeside, IsCarriedAlong, IsStopAt, past, IsWriting, AreWritingsBefore, AreBarriers, AreWritings, AreExact, SameFacts, IsFitted}
+use Rattle.rept_analysis.proofs.Along.{carried_over, over_carried}
 use Rattle.rept_analysis.proofs.Barriers.{past_at}
 use Rattle.rept_analysis.proofs.Spreading.{between_none, segment_free}
 
@@ -67,7 +71,7 @@ past_all list w zero e = absurd (omega (arith, e))
 past_all list w (suc n) e = let same : n ≡ length list = omega (arith, e) in rw same (ap row_past (at_push list w))
 
 -- one that may
-pub listed_more : {W : Type 0} (s : State W) (i : ℕ) (list : List Writing) (w : Writing) → w.row ≡ i → i < length s.path.given.rows → IsAccess i w.access s → AreWritingsBefore i list s → AreWritingsBefore (i + 1) (list ++ w ∷ []) s
+pub listed_more : {W : Type 0} (s : State W) (i : ℕ) (list : List Writing) (w : Writing) → w.row ≡ i → i < s.path.given.legs.count → IsAccess i w.access s → AreWritingsBefore i list s → AreWritingsBefore (i + 1) (list ++ w ∷ []) s
 listed_more s i list w row inside access h =
     let long = length_push list w in
     let end = past_all list w (length (list ++ w ∷ [])) (omega (arith, long)) in
@@ -103,16 +107,21 @@ nothing_listed s = record { each = λ k w at. absurd (none_here k w at); low = o
     none_here : (k : ℕ) (w : Writing) → slice_get [] k ≡ Some w → ⊥
     none_here k w e = let lt = slice_get_within [] k w e in omega (arith, lt)
 
+-- of one path a byte is carried over a row that may not write it
+bridged : {W : Type 0} (s : State W) → IsLine s.path.given → (i a : ℕ) → i < s.path.given.legs.count → IsSpared i a s → IsBridged i a s
+bridged s line i a inside (inl old) = inl (carried_over s.path line (told (oldest s.filled s.known.log)) a i inside old)
+bridged s line i a inside (inr now) = inr (λ quiet. carried_over s.path line (all_known s) a i inside (now quiet))
+
 -- rows that may not write a byte, and then rows that may write nothing
-pub between_silent : {W : Type 0} (s : State W) (from middle to a : ℕ) → a < 2 ^ 32 → middle ≤ to → IsSparedBetween from middle a s → IsSilent middle to s → from ≤ middle → IsSparedBetween from to a s
-between_silent s from middle to a small le before after low i (inl x) =
+pub between_silent : {W : Type 0} (s : State W) → IsLine s.path.given → (from middle to a : ℕ) → a < 2 ^ 32 → middle ≤ to → to ≤ s.path.given.legs.count → IsSparedBetween from middle a s → IsSilent middle to s → from ≤ middle → IsSparedBetween from to a s
+between_silent s line from middle to a small le early before after low i (inl x) =
     let p = x.0 in
     let q = x.1 in
     elim (cases_lt i middle) [
       | inl lt ↦ before i (inl (p, lt))
-      | inr ge ↦ inl (after i a ge q small)
+      | inr ge ↦ bridged s line i a (omega (arith, q, early)) (inl (after i a ge q small))
     ]
-between_silent s from middle to a small le before after low i (inr x) = let p = x.0 in let q = x.1 in absurd (omega (arith, p, q, le, low))
+between_silent s line from middle to a small le early before after low i (inr x) = let p = x.0 in let q = x.1 in absurd (omega (arith, p, q, le, low))
 
 -- with another list everything else is the same
 pub listed_same : {W : Type 0} (s t : State W) (list : List Writing) → t ≡ with_writing s list → SameFacts s t
@@ -140,11 +149,11 @@ pub record IsReached {W : Type 0} (s : State W) (from to a : ℕ) : Type 0 where
   pub spared : IsSparedBetween from to a s
 
 -- rows that may write nothing come after
-reach_silent : {W : Type 0} (s : State W) (from middle to a : ℕ) → a < 2 ^ 32 → middle ≤ to → IsSilent middle to s → IsReached s from middle a → IsReached s from to a
-reach_silent s from middle to a small le silent x = let order = x.order in record { order = omega (arith, le, order); spared = between_silent s from middle to a small le x.spared silent order }
+reach_silent : {W : Type 0} (s : State W) → IsLine s.path.given → (from middle to a : ℕ) → a < 2 ^ 32 → middle ≤ to → to ≤ s.path.given.legs.count → IsSilent middle to s → IsReached s from middle a → IsReached s from to a
+reach_silent s line from middle to a small le early silent x = let order = x.order in record { order = omega (arith, le, order); spared = between_silent s line from middle to a small le early x.spared silent order }
 
 -- then one that may not write the byte
-reach_spared : {W : Type 0} (s : State W) (from to a : ℕ) → IsSpared to a s → IsReached s from to a → IsReached s from (to + 1) a
+reach_spared : {W : Type 0} (s : State W) (from to a : ℕ) → IsBridged to a s → IsReached s from to a → IsReached s from (to + 1) a
 reach_spared s from to a spared x = let order = x.order in record { order = omega (arith, order); spared = each }
   where
     each : IsSparedBetween from (to + 1) a s
@@ -157,12 +166,13 @@ reach_none s from a = record { order = omega arith; spared = between_none s from
 same_hit : (list : List Writing) (j a : ℕ) (w : Writing) → slice_get list j ≡ Some w → hits_at list j a ≡ call_hits w.access a
 same_hit list j a w at = rw at refl
 
-module _ {W : Type 0} (list : List Writing) (s : State W) (h : AreBarriers list s) (from a : ℕ) (small : a < 2 ^ 32) where
+module _ {W : Type 0} (list : List Writing) (s : State W) (line : IsLine s.path.given) (h : AreBarriers list s) (from a : ℕ) (small : a < 2 ^ 32) where
   -- over a row of the list that may not write the byte
   reach_over : (j : ℕ) (w : Writing) → slice_get list j ≡ Some w → hits_at list j a ≡ false → IsReached s from (past list j) a → IsReached s from (past list (j + 1)) a
   reach_over j w at miss x =
       let row = h.each j w at in
-      rw (past_at list j w at) (reach_spared s from w.row a (row.others a small (sym (same_hit list j a w at) ∙ miss)) (reach_silent s from (past list j) w.row a small row.low row.silent x))
+      let inside = row.inside in
+      rw (past_at list j w at) (reach_spared s from w.row a (bridged s line w.row a inside (row.others a small (sym (same_hit list j a w at) ∙ miss))) (reach_silent s line from (past list j) w.row a small row.low (omega (arith, inside)) row.silent x))
 
   -- over all of them from an index to another one
   reach_all : (k m j : ℕ) → j ≡ k + m → j ≤ length list → IsMissed list k j a → IsReached s from (past list k) a → IsReached s from (past list j) a
@@ -175,7 +185,7 @@ module _ {W : Type 0} (list : List Writing) (s : State W) (h : AreBarriers list 
       rw same (reach_over i _ there (miss i (omega arith) (omega (arith, same))) before)
 
 -- from an index of the list on, to the next row that may write the byte, or to the end
-module _ {W : Type 0} (s : State W) (h : AreWritings s) (a k : ℕ) (small : a < 2 ^ 32) where
+module _ {W : Type 0} (s : State W) (line : IsLine s.path.given) (h : AreWritings s) (a k : ℕ) (small : a < 2 ^ 32) where
   abbrev rows : List Writing
   rows = s.work.writing
 
@@ -187,39 +197,54 @@ module _ {W : Type 0} (s : State W) (h : AreWritings s) (a k : ℕ) (small : a <
       let low = first.from in
       let inside = first.inside in
       let row = h.barriers.each hit w at in
-      let all = reach_all rows s h.barriers (past rows k) a small k (hit - k) hit (omega (arith, low)) (omega (arith, inside)) first.none_before here in
-      reach_silent s (past rows k) (past rows hit) w.row a small row.low row.silent all
+      let within = row.inside in
+      let all = reach_all rows s line h.barriers (past rows k) a small k (hit - k) hit (omega (arith, low)) (omega (arith, inside)) first.none_before here in
+      reach_silent s line (past rows k) (past rows hit) w.row a small row.low (omega (arith, within)) row.silent all
 
-  pub hit_inside : (hit : ℕ) (w : Writing) → slice_get rows hit ≡ Some w → w.row < length s.path.given.rows
+  pub hit_inside : (hit : ℕ) (w : Writing) → slice_get rows hit ≡ Some w → w.row < s.path.given.legs.count
   hit_inside hit w at = (h.barriers.each hit w at).inside
 
   pub hit_stops : (hit : ℕ) (w : Writing) → IsFirstHit rows k a hit → slice_get rows hit ≡ Some w → IsStopAt k a w.row s
   hit_stops hit w first at = inr (record { index = hit; writing = w; from = first.from; found = at; row = refl; hits = sym (same_hit rows hit a w at) ∙ first.hits })
 
-  pub end_reached : k ≤ length rows → ((j : ℕ) → k ≤ j → hits_at rows j a ≡ false) → IsReached s (past rows k) (length s.path.given.rows) a
+  pub end_reached : k ≤ length rows → ((j : ℕ) → k ≤ j → hits_at rows j a ≡ false) → IsReached s (past rows k) (s.path.given.legs.count) a
   end_reached low missed =
-      let all = reach_all rows s h.barriers (past rows k) a small k (length rows - k) (length rows) (omega (arith, low)) (omega arith) (λ j le lt. missed j le) here in
-      reach_silent s (past rows k) (past rows (length rows)) (length s.path.given.rows) a small h.barriers.low h.barriers.silent all
+      let all = reach_all rows s line h.barriers (past rows k) a small k (length rows - k) (length rows) (omega (arith, low)) (omega arith) (λ j le lt. missed j le) here in
+      reach_silent s line (past rows k) (past rows (length rows)) (s.path.given.legs.count) a small h.barriers.low (omega arith) h.barriers.silent all
 
 -- the list as it was made
-pub listed_barriers : {W : Type 0} (s : State W) → AreWritingsBefore (length s.path.given.rows) s.work.writing s → AreBarriers s.work.writing s
+pub listed_barriers : {W : Type 0} (s : State W) → AreWritingsBefore (s.path.given.legs.count) s.work.writing s → AreBarriers s.work.writing s
 listed_barriers s h = record {
   each = λ k w at. let x = h.each k w at in record { low = x.low; inside = x.inside; others = λ a small miss. inl (sym (x.access a small) ∙ miss); silent = x.silent };
   low = h.low;
   silent = h.silent;
 }
 
-pub listed_exact : {W : Type 0} (s : State W) → AreWritingsBefore (length s.path.given.rows) s.work.writing s → AreExact s
+pub listed_exact : {W : Type 0} (s : State W) → AreWritingsBefore (s.path.given.legs.count) s.work.writing s → AreExact s
 listed_exact s h k w a at small hits = sym ((h.each k w at).access a small) ∙ hits
 
 -- a byte that a row may write needs no carrying over it
-blocked : {W : Type 0} (s : State W) (i a : ℕ) → may_write (along s.path) (told (oldest s.filled s.known.log)) i a ≡ true → IsCarriedAt i a s
-blocked s i a hit = record { onward = λ v spared h. absurd (false≢true (sym spared ∙ hit)); back = λ v spared h. absurd (false≢true (sym spared ∙ hit)) }
+blocked : {W : Type 0} (s : State W) → IsLine s.path.given → (i a : ℕ) → may_write (along s.path) (told (oldest s.filled s.known.log)) i a ≡ true → IsCarriedAt i a s
+blocked s line i a hit = record {
+  onward = λ v carries h. absurd (false≢true (sym (over_carried s.path line (told (oldest s.filled s.known.log)) a i (i + 1) carries).spared ∙ hit));
+  back = λ v carries h. absurd (false≢true (sym (over_carried s.path line (told (oldest s.filled s.known.log)) a i (i + 1) carries).spared ∙ hit));
+}
 
-module _ {W : Type 0} (s : State W) (a point k to : ℕ) (small : a < 2 ^ 32) (last : IsPastHit s.work.writing point a k) (stop : IsStopAt k a to s) where
-  at_stop : IsStopAt k a to s → AreExact s → (i : ℕ) → i ≡ to → i < length s.path.given.rows → IsCarriedAt i a s
+-- of one path a byte is carried over single rows alone
+along_line : {W : Type 0} (s : State W) → IsLine s.path.given → (a : ℕ) → ((i : ℕ) → i < s.path.given.legs.count → IsCarriedAt i a s) → (m w : ℕ) → IsCarriedOver (passage a m w) s
+along_line s line a each m w = record {
+  onward = λ v carries h.
+      let x = over_carried s.path line (told (oldest s.filled s.known.log)) a m w carries in
+      subst (λ (q : ℕ). Knows q (Byte a) v s) (sym x.next) ((each m x.inside).onward v (subst (λ (q : ℕ). Carries (along s.path) (told (oldest s.filled s.known.log)) (passage a m q)) x.next carries) h);
+  back = λ v carries h.
+      let x = over_carried s.path line (told (oldest s.filled s.known.log)) a m w carries in
+      (each m x.inside).back v (subst (λ (q : ℕ). Carries (along s.path) (told (oldest s.filled s.known.log)) (passage a m q)) x.next carries) (subst (λ (q : ℕ). Knows q (Byte a) v s) x.next h);
+}
+
+module _ {W : Type 0} (s : State W) (line : IsLine s.path.given) (a point k to : ℕ) (small : a < 2 ^ 32) (last : IsPastHit s.work.writing point a k) (stop : IsStopAt k a to s) where
+  at_stop : IsStopAt k a to s → AreExact s → (i : ℕ) → i ≡ to → i < s.path.given.legs.count → IsCarriedAt i a s
   at_stop (inl end) exact i e inside = absurd (omega (arith, end, e, inside))
-  at_stop (inr x) exact i e inside = subst (λ (n : ℕ). IsCarriedAt n a s) (x.row ∙ sym e) (blocked s x.writing.row a (exact x.index x.writing a x.found small x.hits))
+  at_stop (inr x) exact i e inside = subst (λ (n : ℕ). IsCarriedAt n a s) (x.row ∙ sym e) (blocked s line x.writing.row a (exact x.index x.writing a x.found small x.hits))
 
   -- over the rows around a point, and those at both ends
   pub beside_closed : IsCarriedFrom a (past s.work.writing k) to s → IsCarriedBeside a point to s
@@ -237,7 +262,7 @@ module _ {W : Type 0} (s : State W) (a point k to : ℕ) (small : a < 2 ^ 32) (l
           first = hit.writing.row;
           low = let lower = hit.lower in omega (arith, lower);
           closed = λ exact i low le inside. elim (cases_eq i hit.writing.row) [
-            | inl same ↦ subst (λ (n : ℕ). IsCarriedAt n a s) (sym same) (blocked s hit.writing.row a (exact j hit.writing a hit.stands small hit.hits))
+            | inl same ↦ subst (λ (n : ℕ). IsCarriedAt n a s) (sym same) (blocked s line hit.writing.row a (exact j hit.writing a hit.stands small hit.hits))
             | inr ne ↦ elim (cases_lt i to) [
               | inl lt ↦ carried i (let next = past_at s.work.writing j hit.writing hit.stands in rw (e, next) (omega (arith, low, ne))) lt
               | inr ge ↦ at_stop stop exact i (omega (arith, le, ge)) inside
@@ -249,7 +274,7 @@ module _ {W : Type 0} (s : State W) (a point k to : ℕ) (small : a < 2 ^ 32) (l
       from_start : k ≡ 0 → (i : ℕ) → past s.work.writing k ≤ i
       from_start e i = rw e (omega arith)
 
-  pub beside_onward : point ≤ length s.path.given.rows → point ≤ to
+  pub beside_onward : point ≤ s.path.given.legs.count → point ≤ to
   beside_onward early =
       elim stop [
         | inl end ↦ omega (arith, early, end)
@@ -261,7 +286,7 @@ module _ {W : Type 0} (s : State W) (a point k to : ℕ) (small : a < 2 ^ 32) (l
 
 -- the byte is carried over the rows below one, where the list is exact
 abbrev pub IsCarriedBelow : {W : Type 0} → ℕ → ℕ → State W → Type 0
-IsCarriedBelow a from s = AreExact s → (i : ℕ) → i < from → i < length s.path.given.rows → IsCarriedAt i a s
+IsCarriedBelow a from s = AreExact s → (i : ℕ) → i < from → i < s.path.given.legs.count → IsCarriedAt i a s
 
 -- where a value begins after a point, or where it ends if it begins there or before
 abbrev pub IsEdge : ℕ → Stretch → ℕ → Type 0
@@ -293,12 +318,11 @@ module _ {W : Type 0} (s : State W) (a from point : ℕ) (stretch : Stretch) (ne
       ]
 
   -- the edge is after all rows
-  pub below_edge : length s.path.given.rows < point → IsCarriedBelow a from s → IsCarriedAlong a s
-  below_edge far below exact i low lt =
-      elim (cases_lt i from) [
-        | inl less ↦ below exact i less lt
-        | inr more ↦ edge_carried edge i more (omega (arith, lt, far))
-      ]
+  pub below_edge : IsLine s.path.given → s.path.given.legs.count < point → IsCarriedBelow a from s → IsCarriedAlong a s
+  below_edge line far below exact = along_line s line a (λ i lt. elim (cases_lt i from) [
+    | inl less ↦ below exact i less lt
+    | inr more ↦ edge_carried edge i more (omega (arith, lt, far))
+  ])
 
 -- a stretch that wasn't found
 pub nexts_none : (f : Told) (a p : ℕ) (x : Option Stretch) → ((y : Stretch) → x ≡ Some y → ⊥) → Nexts f a p x → Nexts f a p None
@@ -306,13 +330,12 @@ nexts_none f a p None never h = h
 nexts_none f a p (Some y) never h = absurd (never y refl)
 
 -- nothing is known of the byte from a point on
-pub below_free : {W : Type 0} (s : State W) (a from : ℕ) → Nexts s.known.store.fact a from None → IsCarriedBelow a from s → IsCarriedAlong a s
-below_free s a from none below exact i low lt =
-    elim (cases_lt i from) [
-      | inl less ↦ below exact i less lt
-      | inr more ↦ segment_free s a from (length s.path.given.rows) (λ q least most. none q least) i more lt
-    ]
+pub below_free : {W : Type 0} (s : State W) → IsLine s.path.given → (a from : ℕ) → Nexts s.known.store.fact a from None → IsCarriedBelow a from s → IsCarriedAlong a s
+below_free s line a from none below exact = along_line s line a (λ i lt. elim (cases_lt i from) [
+  | inl less ↦ below exact i less lt
+  | inr more ↦ segment_free s a from (s.path.given.legs.count) (λ q least most. none q least) i more lt
+])
 
 -- all rows are below
-pub below_all : {W : Type 0} (s : State W) (a from : ℕ) → length s.path.given.rows < from → IsCarriedBelow a from s → IsCarriedAlong a s
-below_all s a from far below exact i low lt = below exact i (omega (arith, lt, far)) lt
+pub below_all : {W : Type 0} (s : State W) → IsLine s.path.given → (a from : ℕ) → s.path.given.legs.count < from → IsCarriedBelow a from s → IsCarriedAlong a s
+below_all s line a from far below exact = along_line s line a (λ i lt. below exact i (omega (arith, lt, far)) lt)

@@ -15,7 +15,7 @@ use Rattle.rept_view.specs.declared.drawn.Drawn.{Drawn}
 use Rattle.rept_view.specs.Seen.{seen_cell}
 use Rattle.rept_log.specs.Around.{around, around_lawful}
 use Rattle.rept_report.specs.Setting.{HasLaws}
-use Rattle.rept_report.specs.Views.{point_of}
+use Rattle.rept_report.specs.Views.{point_of, instant_of}
 use Rattle.rept_report.specs.Conclusions.{HasWords}
 use Rattle.rept_report.proofs.ViewLaws.{known_more}
 use Rattle.rept_analysis.specs.declared.pass.Pass.{Pass}
@@ -37,17 +37,17 @@ use Rattle.rept_view.specs.declared.drawn.When.TheVariants.{Before, After}
 
 -- where no less is known
 module _ {W : Type 0} (s t : State W) (same : t.path ≡ s.path) (more : (p : ℕ) (c : Cell) (v : ℕ) → Knows p c v s → Knows p c v t) where
-  pub seen_more : (i : ℕ) (w : When) (c : Cell) (v : ℕ) → seen_cell (around s.known i) w c ≡ Some v → seen_cell (around t.known i) w c ≡ Some v
+  pub seen_more : (i : ℕ) (w : When) (c : Cell) (v : ℕ) → seen_cell (around s.path.given.moments s.known i) w c ≡ Some v → seen_cell (around t.path.given.moments t.known i) w c ≡ Some v
   seen_more i w (Register r) v e = known_more (told s.known.log) (told t.known.log) (λ q x y h. more q (Register x) y h) (point_of i w) r v e
-  seen_more i Before (Byte a) v e = more i (Byte a) v e
-  seen_more i After (Byte a) v e = more (i + 1) (Byte a) v e
+  seen_more i Before (Byte a) v e = subst (λ (P : Path W). Knows (P.given.moments.before i) (Byte a) v t) (sym same) (more (s.path.given.moments.before i) (Byte a) v e)
+  seen_more i After (Byte a) v e = subst (λ (P : Path W). Knows (P.given.moments.after i) (Byte a) v t) (sym same) (more (s.path.given.moments.after i) (Byte a) v e)
 
   with_more : (row : StepRow) (i k : ℕ) → IsDrawnWith row i k s → IsDrawnWith row i k t
   with_more row i k d = record {
     view = d.view;
     lawful = d.lawful;
     count = subst (λ (P : Path W). cells_known P.rules row d.view ≡ k) (sym same) d.count;
-    learnt = λ x h. more (point_of i x.when) x.cell x.value (d.learnt x (subst (λ (P : Path W). Contains (P.rules.draw row d.view) x) same h));
+    learnt = λ x h. subst (λ (P : Path W). Knows (instant_of P.given.moments i x.when x.cell) x.cell x.value t) (sym same) (more (instant_of s.path.given.moments i x.when x.cell) x.cell x.value (d.learnt x (subst (λ (P : Path W). Contains (P.rules.draw row d.view) x) same h)));
     less = λ w c v e. seen_more i w c v (d.less w c v e);
   }
 
@@ -56,15 +56,16 @@ module _ {W : Type 0} (s t : State W) (same : t.path ≡ s.path) (more : (p : �
   pass_more row i (With k) h = with_more row i k h
   pass_more row i Cut h = h
 
-  pub passes_more : t.work.drawn ≡ s.work.drawn → ((i : ℕ) (row : StepRow) (pass : Pass) → slice_get s.path.given.rows i ≡ Some row → slice_get s.work.drawn i ≡ Some pass → IsPass row i pass s) → (i : ℕ) (row : StepRow) (pass : Pass) → slice_get t.path.given.rows i ≡ Some row → slice_get t.work.drawn i ≡ Some pass → IsPass row i pass t
-  passes_more drawn h i row pass at is = pass_more row i pass (h i row pass (subst (λ (P : Path W). slice_get P.given.rows i ≡ Some row) same at) (subst (λ (xs : List Pass). slice_get xs i ≡ Some pass) drawn is))
+  pub passes_more : t.work.drawn ≡ s.work.drawn → ((i : ℕ) (row : StepRow) (pass : Pass) → s.path.given.legs.row i ≡ Some row → slice_get s.work.drawn i ≡ Some pass → IsPass row i pass s) → (i : ℕ) (row : StepRow) (pass : Pass) → t.path.given.legs.row i ≡ Some row → slice_get t.work.drawn i ≡ Some pass → IsPass row i pass t
+  passes_more drawn h i row pass at is = pass_more row i pass (h i row pass (subst (λ (P : Path W). P.given.legs.row i ≡ Some row) same at) (subst (λ (xs : List Pass). slice_get xs i ≡ Some pass) drawn is))
 
 pub never_pass : {W : Type 0} (s : State W) (row : StepRow) (i : ℕ) (x : Pass) → x ≡ Never → IsPass row i x s
 never_pass s row i x e = subst (λ (y : Pass). IsPass row i y s) (sym e) tt
 
 -- other work
-pub kept_work : {W : Type 0} (s : State W) → IsKept s → s.complete ≡ false → (w : Work) → length s.path.given.rows ≤ w.room → length w.drawn ≡ length s.path.given.rows → ((i : ℕ) (row : StepRow) (pass : Pass) → slice_get s.path.given.rows i ≡ Some row → slice_get w.drawn i ≡ Some pass → IsPass row i pass s) → w.joins ≡ s.work.joins → IsKept (with_work s w)
+pub kept_work : {W : Type 0} (s : State W) → IsKept s → s.complete ≡ false → (w : Work) → s.path.given.legs.count ≤ w.room → length w.drawn ≡ s.path.given.legs.count → ((i : ℕ) (row : StepRow) (pass : Pass) → s.path.given.legs.row i ≡ Some row → slice_get w.drawn i ≡ Some pass → IsPass row i pass s) → w.joins ≡ s.work.joins → IsKept (with_work s w)
 kept_work s kept open_ w room rows passes joins = record {
+  line = kept.line;
   few = kept.few;
   registers = kept.registers;
   last_is = kept.last_is;
@@ -87,7 +88,7 @@ pub same_pass : {x y : Pass} → Some x ≡ Some y → x ≡ y
 same_pass e = cc
 
 -- the list after one row's rules were drawn
-pub put_passes : {W : Type 0} (s : State W) → IsKept s → (i : ℕ) (p : Pass) → i < length s.path.given.rows → ((row : StepRow) → slice_get s.path.given.rows i ≡ Some row → IsPass row i p s) → (j : ℕ) (row : StepRow) (pass : Pass) → slice_get s.path.given.rows j ≡ Some row → slice_get (set s.work.drawn i p) j ≡ Some pass → IsPass row j pass s
+pub put_passes : {W : Type 0} (s : State W) → IsKept s → (i : ℕ) (p : Pass) → i < s.path.given.legs.count → ((row : StepRow) → s.path.given.legs.row i ≡ Some row → IsPass row i p s) → (j : ℕ) (row : StepRow) (pass : Pass) → s.path.given.legs.row j ≡ Some row → slice_get (set s.work.drawn i p) j ≡ Some pass → IsPass row j pass s
 put_passes s kept i p inside here j row pass at is =
     elim (cases_eq j i) [
       | inl e ↦
@@ -97,7 +98,7 @@ put_passes s kept i p inside here j row pass at is =
       | inr ne ↦ kept.drawn j row pass at (sym (set_elsewhere s.work.drawn i j p ne) ∙ is)
     ]
 
-pub kept_put : {W : Type 0} (s : State W) → IsKept s → s.complete ≡ false → (i : ℕ) (p : Pass) → i < length s.path.given.rows → ((row : StepRow) → slice_get s.path.given.rows i ≡ Some row → IsPass row i p s) → IsKept (with_drawn s (set s.work.drawn i p))
+pub kept_put : {W : Type 0} (s : State W) → IsKept s → s.complete ≡ false → (i : ℕ) (p : Pass) → i < s.path.given.legs.count → ((row : StepRow) → s.path.given.legs.row i ≡ Some row → IsPass row i p s) → IsKept (with_drawn s (set s.work.drawn i p))
 kept_put s kept open_ i p inside here = kept_work s kept open_ (record { joins = s.work.joins; writing = s.work.writing; room = s.work.room; draws = s.work.draws; drawn = set s.work.drawn i p }) kept.room (length-set s.work.drawn i p ∙ kept.rows) (put_passes s kept i p inside here) refl
 
 pub kept_draws : {W : Type 0} (s : State W) → IsKept s → s.complete ≡ false → (n : ℕ) → IsKept (with_draws s n)
@@ -105,15 +106,15 @@ kept_draws s kept open_ n = kept_work s kept open_ (record { joins = s.work.join
 
 -- where no more cells are known than when the row's rules were drawn, all that they let one conclude is known
 module _ {W : Type 0} (s : State W) (laws : HasLaws (along s.path)) (words : HasWords (all_known s)) (i k : ℕ) (row : StepRow) (d : IsDrawnWith row i k s) where
-  pub drawn_before : k ≤ cells_known s.path.rules row (around s.known i)
-  drawn_before = let less = cells_less s.path.rules row d.view (around s.known i) d.less in let count = d.count in omega (arith, less, count)
+  pub drawn_before : k ≤ cells_known s.path.rules row (around s.path.given.moments s.known i)
+  drawn_before = let less = cells_less s.path.rules row d.view (around s.path.given.moments s.known i) d.less in let count = d.count in omega (arith, less, count)
 
-  pub nothing_more : k ≡ cells_known s.path.rules row (around s.known i) → DrawnKnown row i s
+  pub nothing_more : k ≡ cells_known s.path.rules row (around s.path.given.moments s.known i) → DrawnKnown row i s
   nothing_more same x h =
-      let lawful = around_lawful s.known i (λ p r v e. words p r v e) in
-      d.learnt x (laws.rules.needs_enough row (around s.known i) d.view x lawful d.lawful h (λ n needed.
-      let own = laws.rules.needs_own row (around s.known i) x n lawful h needed in
-      cells_back s.path.rules row d.view (around s.known i) d.less (d.count ∙ same) n.when n.cell own.0 own.1.0 own.1.1 ∙ sym own.1.1))
+      let lawful = around_lawful s.path.given.moments s.known i (λ p r v e. words p r v e) in
+      d.learnt x (laws.rules.needs_enough row (around s.path.given.moments s.known i) d.view x lawful d.lawful h (λ n needed.
+      let own = laws.rules.needs_own row (around s.path.given.moments s.known i) x n lawful h needed in
+      cells_back s.path.rules row d.view (around s.path.given.moments s.known i) d.less (d.count ∙ same) n.when n.cell own.0 own.1.0 own.1.1 ∙ sym own.1.1))
 
 -- a row's rules were drawn once more
 module _ {W : Type 0} (s b : State W) (n i : ℕ) (p q : Pass) (once : n ≤ s.work.draws + 1) (grows : Grows (with_draws s n) b) (still : b.work ≡ (with_draws s n).work) (at : slice_get s.work.drawn i ≡ Some p) (lower : left_of q + 1 ≤ left_of p) where
@@ -129,7 +130,8 @@ module _ {W : Type 0} (s b : State W) (n i : ℕ) (p q : Pass) (once : n ≤ s.w
   pub row_grows : Grows s (with_drawn b (set b.work.drawn i q))
   row_grows = record {
     path = grows.path;
-    rows = grows.rows;
+    count = grows.count;
+    row = grows.row;
     spans = grows.spans;
     filled = grows.filled;
     shown = grows.shown;
@@ -180,11 +182,11 @@ pub left_most : (xs : List Pass) → left xs ≤ 12 * length xs
 left_most xs = let le = sum_by-le left_of 12 xs (each_few xs) in omega (arith, le)
 
 -- how far a row's rules were drawn
-pub pass_there : {W : Type 0} (s : State W) → IsKept s → (i : ℕ) → i < length s.path.given.rows → (p : Pass) × (slice_get s.work.drawn i ≡ Some p)
+pub pass_there : {W : Type 0} (s : State W) → IsKept s → (i : ℕ) → i < s.path.given.legs.count → (p : Pass) × (slice_get s.work.drawn i ≡ Some p)
 pass_there s kept i inside = let rows = kept.rows in (get_or s.work.drawn i Never, slice_get-get_or s.work.drawn i Never (omega (arith, inside, rows)))
 
 -- where more cells are known than when they were, they can be drawn once less afterwards
-module _ {W : Type 0} (s : State W) (laws : HasLaws (along s.path)) (kept : IsKept s) (words : HasWords (all_known s)) (i cells : ℕ) (row : StepRow) (found : slice_get s.path.given.rows i ≡ Some row) (is_cells : cells ≡ cells_known s.path.rules row (around s.known i)) (few : cells ≤ 11) (more : slice_get s.work.drawn i ≡ Some (With cells) → ⊥) (uncut : IsUncut s) where
+module _ {W : Type 0} (s : State W) (laws : HasLaws (along s.path)) (kept : IsKept s) (words : HasWords (all_known s)) (i cells : ℕ) (row : StepRow) (found : s.path.given.legs.row i ≡ Some row) (is_cells : cells ≡ cells_known s.path.rules row (around s.path.given.moments s.known i)) (few : cells ≤ 11) (more : slice_get s.work.drawn i ≡ Some (With cells) → ⊥) (uncut : IsUncut s) where
   known_fewer : (k : ℕ) → slice_get s.work.drawn i ≡ Some (With k) → k < cells
   known_fewer k at =
       let le = drawn_before s laws words i k row (kept.drawn i row (With k) found at) in
@@ -204,12 +206,12 @@ module _ {W : Type 0} (s : State W) (laws : HasLaws (along s.path)) (kept : IsKe
   cut_lower Cut at = absurd (uncut i at)
 
 -- all that a row's rules let one conclude was learnt
-pub drawn_with : {W : Type 0} (s b : State W) (n i cells : ℕ) (row : StepRow) (items : List Drawn) → HasWords (all_known s) → Grows (with_draws s n) b → cells ≡ cells_known s.path.rules row (around s.known i) → items ≡ s.path.rules.draw row (around s.known i) → DrawnBelow (length items) items i b → IsDrawnWith row i cells b
+pub drawn_with : {W : Type 0} (s b : State W) (n i cells : ℕ) (row : StepRow) (items : List Drawn) → HasWords (all_known s) → Grows (with_draws s n) b → cells ≡ cells_known s.path.rules row (around s.path.given.moments s.known i) → items ≡ s.path.rules.draw row (around s.path.given.moments s.known i) → DrawnBelow (length items) items i b → IsDrawnWith row i cells b
 drawn_with s b n i cells row items words grows is_cells is_items known = record {
-  view = around s.known i;
-  lawful = around_lawful s.known i (λ p r v e. words p r v e);
-  count = subst (λ (P : Path _). cells_known P.rules row (around s.known i) ≡ cells) (sym grows.path) (sym is_cells);
-  learnt = λ d h. list_known b i items known d (rw is_items (subst (λ (P : Path _). Contains (P.rules.draw row (around s.known i)) d) grows.path h));
+  view = around s.path.given.moments s.known i;
+  lawful = around_lawful s.path.given.moments s.known i (λ p r v e. words p r v e);
+  count = subst (λ (P : Path _). cells_known P.rules row (around s.path.given.moments s.known i) ≡ cells) (sym grows.path) (sym is_cells);
+  learnt = λ d h. list_known b i items known d (rw is_items (subst (λ (P : Path _). Contains (P.rules.draw row (around s.path.given.moments s.known i)) d) grows.path h));
   less = λ w c v e. seen_more s b grows.path grows.more i w c v e;
 }
 
@@ -219,8 +221,9 @@ halt_work s w (Clash p c known value) joins h = record { is_known = h.is_known; 
 halt_work s w OutOfMemory joins h = joins ∙ h
 
 -- with other sets
-pub kept_filled : {W : Type 0} (s : State W) → IsKept s → s.complete ≡ false → (spans : View W) (filled : ℕ) → spans.points ≡ length s.path.given.rows + 1 → filled ≤ length s.known.log → IsKept (record { path = s.path; known = s.known; spans = spans; filled = filled; shown = s.shown; complete = s.complete; conflict = s.conflict; work = s.work })
+pub kept_filled : {W : Type 0} (s : State W) → IsKept s → s.complete ≡ false → (spans : View W) (filled : ℕ) → spans.points ≡ s.path.given.legs.count + 1 → filled ≤ length s.known.log → IsKept (record { path = s.path; known = s.known; spans = spans; filled = filled; shown = s.shown; complete = s.complete; conflict = s.conflict; work = s.work })
 kept_filled s kept open_ spans filled sized within = record {
+  line = kept.line;
   few = kept.few;
   registers = kept.registers;
   last_is = kept.last_is;
@@ -240,7 +243,7 @@ kept_filled s kept open_ spans filled sized within = record {
 }
 
 -- a row's rules are drawn anew
-module _ {W : Type 0} (s a b : State W) (laws : HasLaws (along s.path)) (kept : IsKept s) (words : HasWords (all_known s)) (i cells : ℕ) (row : StepRow) (inside : i < length s.path.given.rows) (found : slice_get s.path.given.rows i ≡ Some row) (is_cells : cells ≡ cells_known s.path.rules row (around s.known i)) (few : cells ≤ 11) (more : slice_get s.work.drawn i ≡ Some (With cells) → ⊥) (uncut : IsUncut s) (once : a.work.draws ≤ s.work.draws + 1) (same : a ≡ with_draws s a.work.draws) (grows : Grows a b) (still : b.work ≡ a.work) where
+module _ {W : Type 0} (s a b : State W) (laws : HasLaws (along s.path)) (kept : IsKept s) (words : HasWords (all_known s)) (i cells : ℕ) (row : StepRow) (inside : i < s.path.given.legs.count) (found : s.path.given.legs.row i ≡ Some row) (is_cells : cells ≡ cells_known s.path.rules row (around s.path.given.moments s.known i)) (few : cells ≤ 11) (more : slice_get s.work.drawn i ≡ Some (With cells) → ⊥) (uncut : IsUncut s) (once : a.work.draws ≤ s.work.draws + 1) (same : a ≡ with_draws s a.work.draws) (grows : Grows a b) (still : b.work ≡ a.work) where
   from_same : Grows (with_draws s a.work.draws) b
   from_same = subst (λ (x : State W). Grows x b) same grows
 
@@ -269,9 +272,9 @@ module _ {W : Type 0} (s a b : State W) (laws : HasLaws (along s.path)) (kept : 
       with_cut : With cells ≡ Cut → ⊥
       with_cut e = cc
 
-  pub anew_pass : (items : List Drawn) → items ≡ s.path.rules.draw row (around s.known i) → DrawnBelow (length items) items i b → (other : StepRow) → slice_get b.path.given.rows i ≡ Some other → IsDrawnWith other i cells b
+  pub anew_pass : (items : List Drawn) → items ≡ s.path.rules.draw row (around s.path.given.moments s.known i) → DrawnBelow (length items) items i b → (other : StepRow) → b.path.given.legs.row i ≡ Some other → IsDrawnWith other i cells b
   anew_pass items is_items known other at =
-      let is_row : row ≡ other = same_row (sym found ∙ subst (λ (P : Path W). slice_get P.given.rows i ≡ Some other) from_same.path at) in
+      let is_row : row ≡ other = same_row (sym found ∙ subst (λ (P : Path W). P.given.legs.row i ≡ Some other) from_same.path at) in
       subst (λ (x : StepRow). IsDrawnWith x i cells b) is_row (drawn_with s b a.work.draws i cells row items words from_same is_cells is_items known)
     where
       same_row : {x y : StepRow} → Some x ≡ Some y → x ≡ y

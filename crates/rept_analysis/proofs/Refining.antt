@@ -4,7 +4,7 @@ use Rattle.rept_reason.specs.declared.fact.Fact.{Fact}
 use Rattle.rept_reason.specs.declared.fact.Cell.TheVariants.{Register}
 use Rattle.rept_report.proofs.Told.{same_some}
 use Rattle.rept_analysis.proofs.Stopping.{answered}
-use Rattle.std.proofs.Common.{◌≡◌, ◌≤◌, length, arith, inl, inr, ℕ, true, Some, None, Result, Ok, Err, refl, sym, subst, ◌∙◌}
+use Rattle.std.proofs.Common.{◌≡◌, ◌≤◌, arith, inl, inr, ℕ, true, Some, None, Result, Ok, Err, refl, sym, subst, ◌∙◌}
 use Rattle.std.specs.Prelude.{⊤, OnOk, IsOk, ◌⊎◌}
 use Rattle.rept_report.specs.declared.conflict.ConflictKind.{ConflictKind}
 use Rattle.rept_report.specs.Setting.{HasLaws}
@@ -93,7 +93,7 @@ pub closure_holds : {W : Type 0} (s : State W) → HasLaws (along s.path) → (f
 closure_holds s laws f h = closure_sound (along s.path) laws f h
 
 -- what is answered of a register holds in every execution; x0 is 0
-pub answer_sound : {W : Type 0} (s : State W) → HasLaws (along s.path) → IsKept s → (p r v : ℕ) → p ≤ length s.path.given.rows → register_answer s p r ≡ Some v → AlwaysHolds (along s.path) p (Register r) v
+pub answer_sound : {W : Type 0} (s : State W) → HasLaws (along s.path) → IsKept s → (p r v : ℕ) → p ≤ s.path.given.legs.count → register_answer s p r ≡ Some v → AlwaysHolds (along s.path) p (Register r) v
 answer_sound s laws kept p r v early e =
     elim (cases_eq r 0) [
       | inl z ↦

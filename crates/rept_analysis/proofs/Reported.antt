@@ -1,15 +1,15 @@
 -- An analysis that has ended is the report.
-use Rattle.std.proofs.Common.{◌≡◌, ℕ, zero, suc, ◌+◌, ◌<◌, true, false, eqb, List, [], ◌∷◌, length, Some, inl, inr, refl, sym, subst, ◌∙◌, arith, Contains, slice_get}
+use Rattle.std.proofs.Common.{◌≡◌, ℕ, zero, suc, ◌+◌, ◌<◌, ◌≤◌, true, false, eqb, List, [], ◌∷◌, length, Some, inl, inr, refl, sym, subst, ◌∙◌, arith, Contains, slice_get}
 use Rattle.std.proofs.lemmas.Bool.{cases_eq, eq-eqb, ne_eqb, or_left, or_right, false≢true}
-use Rattle.std.proofs.lemmas.Option.{slice_get_within}
 use Rattle.rept_isa.specs.declared.row.StepRow.{StepRow}
 use Rattle.rept_reason.specs.declared.fact.Fact.{Fact}
 use Rattle.rept_reason.specs.declared.fact.Cell.{Cell}
 use Rattle.rept_reason.specs.declared.fact.Cell.TheVariants.{Register, Byte}
 use Rattle.rept_reason.specs.Facts.{Knowledge, IsCell, told}
-use Rattle.rept_report.specs.Setting.{Setting, HasLaws}
+use Rattle.rept_report.specs.Setting.{Setting, HasLaws, IsInstant}
+use Rattle.rept_report.specs.Spots.{passage}
 use Rattle.rept_report.specs.Knowing.{SameRegisters}
-use Rattle.rept_report.specs.Views.{may_write}
+use Rattle.rept_report.specs.Views.{may_write, Carries}
 use Rattle.rept_report.specs.Conclusions.{IsCarried, Follows, Concludes}
 use Rattle.rept_report.specs.Conclusions.IsCarried.{last_byte, onward, back}
 use Rattle.rept_report.specs.Conclusions.Follows.{last_value, kept_onward, kept_back, carried, drawn, only_value}
@@ -25,7 +25,6 @@ use Rattle.rept_analysis.specs.Drawing.{IsTracked, IsSettled, IsRowDrawn}
 use Rattle.rept_analysis.specs.Kept.{is_among, answers, IsKept}
 use Rattle.rept_analysis.proofs.Learning.{trace_known, known_words}
 use Rattle.rept_analysis.proofs.Following.{seen_drawn}
-use Rattle.rept_analysis.proofs.Along.{last_at, early_at, point_is, over_carried}
 
 pub among_contains : (xs : List ℕ) (a : ℕ) → is_among xs a ≡ true → Contains xs a
 among_contains [] a e = absurd (false≢true e)
@@ -64,8 +63,11 @@ module _ {W : Type 0} (s : State W) (laws : HasLaws (along s.path)) (kept : IsKe
   spared : (i a : ℕ) → may_write S K i a ≡ false → may_write S (told (oldest s.filled s.known.log)) i a ≡ false
   spared i a e = may_write_same S (told (oldest s.filled s.known.log)) K log_same i a ∙ e
 
-  row_at : (i : ℕ) (row : StepRow) → slice_get s.path.given.rows i ≡ Some row → IsRowDrawn row i s
-  row_at i row found = settled.drawn.rows i (slice_get_within s.path.given.rows i row found) row found
+  carries_same : (a p q : ℕ) → Carries S K (passage a p q) → Carries S (told (oldest s.filled s.known.log)) (passage a p q)
+  carries_same a p q h = record { next = h.next; light = h.light; spared = λ i falls. spared i a (h.spared i falls) }
+
+  row_at : (i : ℕ) (row : StepRow) → s.path.given.legs.row i ≡ Some row → IsRowDrawn row i s
+  row_at i row found = settled.drawn.rows i (laws.legs.inside i row found) row found
 
   moved : (f : Fact) (p : ℕ) (c : Cell) → f.point ≡ p → f.cell ≡ c → K p c ≡ Some f.value → K f.point f.cell ≡ Some f.value
   moved f p c ep ec h = rw (ep, ec) h
@@ -78,27 +80,21 @@ module _ {W : Type 0} (s : State W) (laws : HasLaws (along s.path)) (kept : IsKe
 
   carried_known : (f : Fact) → IsListed (is_among s.known.store.tracked) f.cell → IsCarried S K f → K f.point f.cell ≡ Some f.value
   carried_known f listed (last_byte a p c e) = moved f _ (Byte a) p c (settled.drawn.bytes a (is_tracked f a listed c) f.value e)
-  carried_known f listed (onward a p q is c h e) =
-      let over = over_carried s.path K a p q h in
-      let at = settled.drawn.carried a p (is_tracked f a listed c) over.inside in
-      moved f (p + 1) (Byte a) (is ∙ over.next) c (at.onward f.value (spared p a over.spared) e)
-  carried_known f listed (back a p q is c h e) =
-      let over = over_carried s.path K a p q h in
-      let at = settled.drawn.carried a p (is_tracked f a listed c) over.inside in
-      moved f p (Byte a) is c (at.back f.value (spared p a over.spared) (rw (← over.next) e))
+  carried_known f listed (onward a p q is c h e) = moved f q (Byte a) is c ((settled.drawn.carried a p q (is_tracked f a listed c)).onward f.value (carries_same a p q h) e)
+  carried_known f listed (back a p q is c h e) = moved f p (Byte a) is c ((settled.drawn.carried a p q (is_tracked f a listed c)).back f.value (carries_same a p q h) e)
 
   closed_conclusions : (f : Fact) → IsListed (is_among s.known.store.tracked) f.cell → Concludes S K f → K f.point f.cell ≡ Some f.value
   closed_conclusions f listed h = go h.by
     where
       go : Follows S K f → K f.point f.cell ≡ Some f.value
-      go (last_value r p c e) = let cell = register_cell f r h.cell c in moved f _ (Register r) (last_at s.path f.point p) c (settled.drawn.last r f.value cell.0 cell.1 e)
+      go (last_value r p c e) = let cell = register_cell f r h.cell c in moved f f.point (Register r) refl c (settled.drawn.last r cell.1 f.point f.value p cell.0 e)
       go (kept_onward i r row found p c kept' e) = let cell = register_cell f r h.cell c in moved f (i + 1) (Register r) p c (((row_at i row found).registers r cell.0 cell.1 kept').onward f.value e)
       go (kept_back i r row found p c kept' e) = let cell = register_cell f r h.cell c in moved f i (Register r) p c (((row_at i row found).registers r cell.0 cell.1 kept').back f.value e)
       go (carried x) = carried_known f listed x
-      go (drawn i row d found x p c v) = rw (p ∙ point_is s.path i d.when d.cell, c, v) ((row_at i row found).drawn d (seen_drawn s laws (known_words s kept) i row found (slice_get_within s.path.given.rows i row found) d x))
+      go (drawn i row d found x p c v) = rw (p, c, v) ((row_at i row found).drawn d (seen_drawn s laws (known_words s kept) i row found (laws.legs.inside i row found) d x))
       go (only_value r set c is only) =
           let cell = register_cell f r h.cell c in
-          let early = early_at s.path f.cell f.point h.early in
+          let early : f.point ≤ s.path.given.legs.count = subst (λ (x : Cell). IsInstant S x f.point) c h.early in
           moved f f.point (Register r) refl c (settled.drawn.singles f.point (omega (arith, early)) r cell.1 set f.value (settled.fitted f.point early r cell.1 ∙ range_same S (told (oldest s.filled s.known.log)) K log_same f.point r ∙ is) only cell.0)
 
   pub settled_closed : IsClosed S K (is_among s.known.store.tracked)

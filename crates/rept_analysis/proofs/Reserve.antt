@@ -1,8 +1,7 @@
 -- The room that an analysis took at first stays enough for all bytes that it can learn.
-use Rattle.std.proofs.Common.{◌≡◌, ℕ, zero, suc, ◌+◌, ◌*◌, ◌<◌, ◌≤◌, ◌⊎◌, ◌&&◌, Bool, true, false, cond, eqb, List, [], ◌∷◌, length, Option, Some, None, Contains, inl, inr, refl, sym, ap, subst, ◌∙◌, arith, slice_get, get_or, is_none}
+use Rattle.std.proofs.Common.{◌≡◌, ℕ, zero, suc, ◌+◌, ◌*◌, ◌<◌, ◌≤◌, ◌⊎◌, ◌&&◌, Bool, true, false, cond, eqb, List, [], ◌∷◌, length, Option, Some, None, Contains, inl, inr, refl, sym, ap, subst, ◌∙◌, arith, get_or, is_none}
 use Rattle.std.specs.Prelude.{sum_by}
 use Rattle.std.proofs.lemmas.Bool.{cases_Bool, cond-true, and_parts, and_from, eqb-true, eq-eqb, false≢true}
-use Rattle.std.proofs.lemmas.Option.{slice_get_within}
 use Rattle.std.proofs.lemmas.List.{length_push}
 use Rattle.std.proofs.lemmas.List.Elements.{Contains-append_left, Contains-push}
 use Rattle.std.proofs.lemmas.List.Sums.{sum_by-cons, sum_by_push, sum_by-le-sum_by, get_or-le-sum_by}
@@ -18,8 +17,9 @@ use Rattle.rept_view.specs.declared.drawn.Drawn.{Drawn}
 use Rattle.rept_view.specs.declared.drawn.When.{When}
 use Rattle.rept_view.specs.declared.drawn.When.TheVariants.{Before}
 use Rattle.rept_view.specs.Rules.{offset_of}
+use Rattle.rept_span.specs.Ranges.{AreLegs}
 use Rattle.rept_report.specs.Setting.{HasLaws}
-use Rattle.rept_report.specs.Views.{point_of}
+use Rattle.rept_report.specs.Views.{moment_of}
 use Rattle.rept_report.proofs.Told.{same_some, none_some}
 use Rattle.rept_report.proofs.ViewLaws.{known_more}
 use Rattle.rept_versions.specs.Facts.{Told}
@@ -174,22 +174,22 @@ own_same P log i j a b h g =
     let address = subst (λ (x : StepRow). a ≡ beside (plus h.base (offset_of x.instr)) j) row h.address in
     subst (λ (x : ℕ). a ≡ beside (plus x (offset_of g.row.instr)) j) base address ∙ sym g.address
 
-row_places : {W : Type 0} (P : Path W) (i : ℕ) (row : StepRow) → slice_get P.given.rows i ≡ Some row → places_at P i ≡ P.rules.places row
+row_places : {W : Type 0} (P : Path W) (i : ℕ) (row : StepRow) → P.given.legs.row i ≡ Some row → places_at P i ≡ P.rules.places row
 row_places P i row found = ap (λ (x : Option StepRow). places_of P.rules x) found
 
 -- a slot of a row, and a byte of it
-drawn_slot : {W : Type 0} (P : Path W) → HasLaws (along P) → (log : List Fact) (i : ℕ) (d : Drawn) (a : ℕ) → IsDrawable P log i d → d.cell ≡ Byte a → (i < length P.given.rows) × (d.slot < places_at P i)
+drawn_slot : {W : Type 0} (P : Path W) → HasLaws (along P) → (log : List Fact) (i : ℕ) (d : Drawn) (a : ℕ) → IsDrawable P log i d → d.cell ≡ Byte a → (i < P.given.legs.count) × (d.slot < places_at P i)
 drawn_slot P laws log i d a h on_a =
     let below = laws.rules.slot_inside h.row h.view d a h.lawful h.drawn on_a in
     let places = row_places P i h.row h.found in
-    (slice_get_within P.given.rows i h.row h.found, omega (arith, below, places))
+    (laws.legs.inside i h.row h.found, omega (arith, below, places))
 
-own_byte : {W : Type 0} (P : Path W) (log : List Fact) (i j a : ℕ) → IsOwnByte P log (own_at i j a) → (i < length P.given.rows) × (j < bytes_at P i)
-own_byte P log i j a h =
+own_byte : {W : Type 0} (P : Path W) → AreLegs P.given.legs → (log : List Fact) (i j a : ℕ) → IsOwnByte P log (own_at i j a) → (i < P.given.legs.count) × (j < bytes_at P i)
+own_byte P legs log i j a h =
     let below : j < P.rules.places h.row = h.below_places in
     let four : j < 4 = h.below_four in
     let places = row_places P i h.row h.found in
-    (slice_get_within P.given.rows i h.row h.found, omega (arith, below, four, places))
+    (legs.inside i h.row h.found, omega (arith, below, four, places))
 
 module _ {W : Type 0} (P : Path W) (old new : Known) (more : (p : ℕ) (c : Cell) (v : ℕ) → knows old p c ≡ Some v → knows new p c ≡ Some v) where
   slot_more : (i j : ℕ) → IsSlotLearnt P old i j → IsSlotLearnt P new i j
@@ -200,7 +200,7 @@ module _ {W : Type 0} (P : Path W) (old new : Known) (more : (p : ℕ) (c : Cell
     slot = h.slot;
     cell = h.cell;
     drawn = drawable_more P old.log new.log (λ p r v e. more p (Register r) v e) i h.conclusion h.drawn;
-    byte = more (point_of i h.conclusion.when) (Byte h.address) h.value h.byte;
+    byte = more (moment_of P.given.moments i h.conclusion.when) (Byte h.address) h.value h.byte;
   }
 
   byte_more : ((a : ℕ) → Contains old.store.tracked a → Contains new.store.tracked a) → (i j : ℕ) → IsByteTracked P old i j → IsByteTracked P new i j
@@ -216,7 +216,7 @@ module _ {W : Type 0} (P : Path W) (old new : Known) (more : (p : ℕ) (c : Cell
   -- where no less is known, and no less room is left
   pub room_like : old.store.spare ≤ new.store.spare → old.left ≤ new.left → new.store.tracked ≡ old.store.tracked → new.store.places ≡ old.store.places → HasRoom P old → HasRoom P new
   room_like spare left tracked places r =
-      let read = unread_more (length P.given.rows) old new more tracked in
+      let read = unread_more P.given.moments.end old new more tracked in
       let count : length new.store.tracked ≡ length old.store.tracked = ap length tracked in
       let old_spare = r.spare in
       let old_log = r.log in
@@ -232,11 +232,11 @@ module _ {W : Type 0} (P : Path W) (old new : Known) (more : (p : ℕ) (c : Cell
       }
 
   -- the byte of the dump was learnt
-  pub room_last : (joins : Bool) (p a v : ℕ) → p ≡ length P.given.rows → Contains old.store.tracked a → AddsByte (known_change joins old new) (record { point = p; address = a; value = v }) false → HasRoom P old → HasRoom P new
+  pub room_last : (joins : Bool) (p a v : ℕ) → p ≡ P.given.moments.end → Contains old.store.tracked a → AddsByte (known_change joins old new) (record { point = p; address = a; value = v }) false → HasRoom P old → HasRoom P new
   room_last joins p a v end tracked adds r =
-      let was : old.store.fact (length P.given.rows) a ≡ None = subst (λ (q : ℕ). old.store.fact q a ≡ None) end adds.store.none in
-      let is : new.store.fact (length P.given.rows) a ≡ Some v = subst (λ (q : ℕ). new.store.fact q a ≡ Some v) end adds.store.here in
-      let read = unread_less (length P.given.rows) old new more a v adds.store.tracked tracked was is in
+      let was : old.store.fact P.given.moments.end a ≡ None = subst (λ (q : ℕ). old.store.fact q a ≡ None) end adds.store.none in
+      let is : new.store.fact P.given.moments.end a ≡ Some v = subst (λ (q : ℕ). new.store.fact q a ≡ Some v) end adds.store.here in
+      let read = unread_less P.given.moments.end old new more a v adds.store.tracked tracked was is in
       let count : length new.store.tracked ≡ length old.store.tracked = ap length adds.store.tracked in
       let taken = adds.store.spare in
       let places = adds.store.places in
@@ -255,11 +255,11 @@ module _ {W : Type 0} (P : Path W) (old new : Known) (more : (p : ℕ) (c : Cell
       }
 
 -- a slot that isn't marked is of a byte that is known
-slot_known : {W : Type 0} (P : Path W) → HasLaws (along P) → (k : Known) → (i : ℕ) (d : Drawn) (a : ℕ) → IsDrawable P k.log i d → d.cell ≡ Byte a → IsSlotLearnt P k i d.slot → (v : ℕ) × (k.store.fact (point_of i d.when) a ≡ Some v)
+slot_known : {W : Type 0} (P : Path W) → HasLaws (along P) → (k : Known) → (i : ℕ) (d : Drawn) (a : ℕ) → IsDrawable P k.log i d → d.cell ≡ Byte a → IsSlotLearnt P k i d.slot → (v : ℕ) × (k.store.fact (moment_of P.given.moments i d.when) a ≡ Some v)
 slot_known P laws k i d a h on_a l =
     let same = slot_same P laws k.log i l.conclusion d l.address a l.drawn l.cell h on_a l.slot in
-    let point = subst (λ (w : When). k.store.fact (point_of i w) l.address ≡ Some l.value) same.0 l.byte in
-    (l.value, subst (λ (x : ℕ). k.store.fact (point_of i d.when) x ≡ Some l.value) same.1 point)
+    let point = subst (λ (w : When). k.store.fact (moment_of P.given.moments i w) l.address ≡ Some l.value) same.0 l.byte in
+    (l.value, subst (λ (x : ℕ). k.store.fact (moment_of P.given.moments i d.when) x ≡ Some l.value) same.1 point)
 
 -- so where nothing is known of the byte, its slot is marked
 slot_marked : {W : Type 0} (P : Path W) → HasLaws (along P) → (k : Known) → (r : HasRoom P k) → (p a : ℕ) → (place : IsDrawnAt P k.log p a) → k.store.fact p a ≡ None → r.unlearnt place.number place.conclusion.slot ≡ true
@@ -268,7 +268,7 @@ slot_marked P laws k r p a place none =
       | inl is ↦ is
       | inr isnt ↦
           let known = slot_known P laws k place.number place.conclusion a place.drawn place.cell (r.learnt place.number place.conclusion.slot isnt) in
-          let here : k.store.fact p a ≡ Some known.0 = subst (λ (q : ℕ). k.store.fact q a ≡ Some known.0) (sym place.point) known.1 in
+          let here : k.store.fact p a ≡ Some known.0 = subst (λ (q : ℕ). k.store.fact q a ≡ Some known.0) (sym place.moment) known.1 in
           absurd (none_some (sym none ∙ here))
     ]
 
@@ -280,10 +280,10 @@ module _ {W : Type 0} (P : Path W) (laws : HasLaws (along P)) (old new : Known) 
   abbrev slot : ℕ
   slot = place.conclusion.slot
 
-  fewer : marked (places_at P) (unmark r.unlearnt i slot) (length P.given.rows) < marked (places_at P) r.unlearnt (length P.given.rows)
+  fewer : marked (places_at P) (unmark r.unlearnt i slot) (P.given.legs.count) < marked (places_at P) r.unlearnt (P.given.legs.count)
   fewer =
       let inside = drawn_slot P laws old.log i place.conclusion a place.drawn place.cell in
-      unmark_fewer r.unlearnt i slot (places_at P) (length P.given.rows) inside.0 inside.1 (slot_marked P laws old r p a place adds.store.none)
+      unmark_fewer r.unlearnt i slot (places_at P) (P.given.legs.count) inside.0 inside.1 (slot_marked P laws old r p a place adds.store.none)
 
   here : IsSlotLearnt P new i slot
   here = record {
@@ -293,13 +293,13 @@ module _ {W : Type 0} (P : Path W) (laws : HasLaws (along P)) (old new : Known) 
     slot = refl;
     cell = place.cell;
     drawn = drawable_more P old.log new.log (λ q s w e. more q (Register s) w e) i place.conclusion place.drawn;
-    byte = subst (λ (q : ℕ). new.store.fact q a ≡ Some v) place.point adds.store.here;
+    byte = subst (λ (q : ℕ). new.store.fact q a ≡ Some v) place.moment adds.store.here;
   }
 
   pub room_drawn : HasRoom P new
   room_drawn =
       let less = fewer in
-      let read = unread_more (length P.given.rows) old new more adds.store.tracked in
+      let read = unread_more P.given.moments.end old new more adds.store.tracked in
       let count : length new.store.tracked ≡ length old.store.tracked = ap length adds.store.tracked in
       let taken = adds.store.spare in
       let places = adds.store.places in
@@ -321,7 +321,7 @@ module _ {W : Type 0} (P : Path W) (laws : HasLaws (along P)) (old new : Known) 
       }
 
 -- a byte of a row was tracked
-module _ {W : Type 0} (P : Path W) (old : Known) (r : HasRoom P old) (i j a : ℕ) (own : IsOwnByte P old.log (own_at i j a)) (was_not : Contains old.store.tracked a → ⊥) where
+module _ {W : Type 0} (P : Path W) (legs : AreLegs P.given.legs) (old : Known) (r : HasRoom P old) (i j a : ℕ) (own : IsOwnByte P old.log (own_at i j a)) (was_not : Contains old.store.tracked a → ⊥) where
   byte_marked : r.untracked i j ≡ true
   byte_marked =
       elim (cases_Bool (r.untracked i j)) [
@@ -331,8 +331,8 @@ module _ {W : Type 0} (P : Path W) (old : Known) (r : HasRoom P old) (i j a : �
             absurd (was_not (subst (λ (x : ℕ). Contains old.store.tracked x) (own_same P old.log i j h.address a h.own own) h.tracked))
       ]
 
-  fewer_bytes : marked (bytes_at P) (unmark r.untracked i j) (length P.given.rows) < marked (bytes_at P) r.untracked (length P.given.rows)
-  fewer_bytes = let inside = own_byte P old.log i j a own in unmark_fewer r.untracked i j (bytes_at P) (length P.given.rows) inside.0 inside.1 byte_marked
+  fewer_bytes : marked (bytes_at P) (unmark r.untracked i j) (P.given.legs.count) < marked (bytes_at P) r.untracked (P.given.legs.count)
+  fewer_bytes = let inside = own_byte P legs old.log i j a own in unmark_fewer r.untracked i j (bytes_at P) (P.given.legs.count) inside.0 inside.1 byte_marked
 
   -- there was a place for it
   pub room_to_track : length old.store.tracked < old.store.places
@@ -352,7 +352,7 @@ module _ {W : Type 0} (P : Path W) (old : Known) (r : HasRoom P old) (i j a : �
     pub room_tracked : HasRoom P new
     room_tracked =
         let less = fewer_bytes in
-        let read = unread_track (length P.given.rows) old new a h in
+        let read = unread_track P.given.moments.end old new a h in
         let count : length new.store.tracked ≡ length old.store.tracked + 1 = let long = length_push old.store.tracked a in rw h.tracked (omega (arith, long)) in
         let spare = h.spare in
         let places = h.places in
@@ -377,7 +377,7 @@ module _ {W : Type 0} (P : Path W) (old : Known) (r : HasRoom P old) (i j a : �
 pub room_to_draw : {W : Type 0} (P : Path W) → HasLaws (along P) → (k : Known) → HasRoom P k → (p a : ℕ) → IsDrawnAt P k.log p a → HasNoRoom k p a true → ⊥
 room_to_draw P laws k r p a place full =
     let inside = drawn_slot P laws k.log place.number place.conclusion a place.drawn place.cell in
-    let less = unmark_fewer r.unlearnt place.number place.conclusion.slot (places_at P) (length P.given.rows) inside.0 inside.1 (slot_marked P laws k r p a place full.none) in
+    let less = unmark_fewer r.unlearnt place.number place.conclusion.slot (places_at P) (P.given.legs.count) inside.0 inside.1 (slot_marked P laws k r p a place full.none) in
     let spare = r.spare in
     let log = r.log in
     elim full.full [
@@ -386,9 +386,9 @@ room_to_draw P laws k r p a place full =
     ]
 
 -- and for the byte of the dump at a tracked address
-pub room_to_read : {W : Type 0} (P : Path W) (k : Known) → HasRoom P k → (p a : ℕ) → p ≡ length P.given.rows → Contains k.store.tracked a → HasNoRoom k p a false → ⊥
+pub room_to_read : {W : Type 0} (P : Path W) (k : Known) → HasRoom P k → (p a : ℕ) → p ≡ P.given.moments.end → Contains k.store.tracked a → HasNoRoom k p a false → ⊥
 room_to_read P k r p a end tracked full =
-    let some = unread_some (length P.given.rows) k a tracked (subst (λ (q : ℕ). k.store.fact q a ≡ None) end full.none) in
+    let some = unread_some P.given.moments.end k a tracked (subst (λ (q : ℕ). k.store.fact q a ≡ None) end full.none) in
     let spare = r.spare in
     elim full.full [
       | inl both ↦ absurd (false≢true both.0)
@@ -396,12 +396,12 @@ room_to_read P k r p a end tracked full =
     ]
 
 -- all is marked at first
-pub room_new : {W : Type 0} (P : Path W) (k : Known) (bytes : ℕ) → bytes ≡ sum_to (places_at P) (length P.given.rows) → k.store.tracked ≡ [] → k.left ≡ bytes → bytes ≤ k.store.places → 2 * bytes ≤ k.store.spare → HasRoom P k
+pub room_new : {W : Type 0} (P : Path W) (k : Known) (bytes : ℕ) → bytes ≡ sum_to (places_at P) (P.given.legs.count) → k.store.tracked ≡ [] → k.left ≡ bytes → bytes ≤ k.store.places → 2 * bytes ≤ k.store.spare → HasRoom P k
 room_new P k bytes is tracked left places spare =
-    let slots = marked_all (places_at P) (length P.given.rows) in
-    let own = marked_all (bytes_at P) (length P.given.rows) in
-    let less = sum_le (places_at P) (bytes_at P) (length P.given.rows) (λ i lt. omega arith) in
-    let none : unread (length P.given.rows) k ≡ 0 = rw tracked refl in
+    let slots = marked_all (places_at P) (P.given.legs.count) in
+    let own = marked_all (bytes_at P) (P.given.legs.count) in
+    let less = sum_le (places_at P) (bytes_at P) (P.given.legs.count) (λ i lt. omega arith) in
+    let none : unread P.given.moments.end k ≡ 0 = rw tracked refl in
     let empty : length k.store.tracked ≡ 0 = rw tracked refl in
     record {
       unlearnt = λ x y. true;

@@ -1,13 +1,15 @@
 -- A byte's value that is carried over several points is as if it were learnt at one after another.
-use Rattle.std.proofs.Common.{◌≡◌, ℕ, zero, suc, ◌+◌, ◌-◌, ◌<◌, ◌≤◌, ◌^◌, ◌⊎◌, ◌&&◌, Bool, true, false, cond, eqb, List, length, Option, Some, None, Result, Ok, Err, inl, inr, refl, sym, ap, subst, ◌∙◌, arith, Contains, max}
+use Rattle.std.proofs.Common.{◌≡◌, ℕ, zero, suc, ◌+◌, ◌-◌, ◌<◌, ◌≤◌, ◌^◌, ◌⊎◌, ◌&&◌, Bool, true, false, cond, eqb, List, Option, Some, None, Result, Ok, Err, inl, inr, refl, sym, ap, subst, ◌∙◌, arith, Contains, max}
 use Rattle.std.proofs.lemmas.Bool.{cases_lt, cases_eq, cond-true, cond-false, and_parts, and_from, eq-eqb, eqb-true, false≢true}
 use mathlib.Core.Path.{fun_ext}
 use Rattle.rept_reason.specs.declared.fact.Cell.{Cell}
 use Rattle.rept_reason.specs.declared.fact.Cell.TheVariants.{Register, Byte}
-use Rattle.rept_reason.specs.Facts.{told}
-use Rattle.rept_report.specs.Setting.{HasLaws}
+use Rattle.rept_reason.specs.Facts.{Knowledge, told}
+use Rattle.rept_report.specs.Setting.{Setting, HasLaws}
+use Rattle.rept_report.specs.Knowing.{RegistersExtend}
+use Rattle.rept_report.specs.Conclusions.{HasWords}
 use Rattle.rept_report.specs.Spots.{passage}
-use Rattle.rept_report.specs.Views.{Carries, may_write}
+use Rattle.rept_report.specs.Views.{Carries}
 use Rattle.rept_report.specs.Conclusions.IsCarried.{onward, back}
 use Rattle.rept_report.specs.Conflicts.{IsQuiet}
 use Rattle.rept_report.specs.Log.{oldest}
@@ -24,7 +26,7 @@ use Rattle.rept_log.proofs.Stores.{stays_same}
 use Rattle.rept_log.specs.Known.{Known, knows, known_change, AddsByte, SameLog}
 use Rattle.rept_analysis.specs.State.{State, all_known, Path, along}
 use Rattle.rept_report.specs.Why.{fact_of}
-use Rattle.rept_analysis.specs.Drawing.{Knows, IsTracked, Grows, IsBrought, IsSpared, IsSparedBetween, IsSpreadTo, IsCarriedFrom}
+use Rattle.rept_analysis.specs.Drawing.{Knows, IsTracked, Grows, IsBrought, IsBridged, IsSparedBetween, IsSpreadTo, IsCarriedFrom}
 use Rattle.rept_analysis.specs.Drawing.HasNews.{fact}
 use Rattle.rept_analysis.specs.Told.{Sends}
 use Rattle.rept_analysis.specs.Kept.{IsKept}
@@ -35,11 +37,11 @@ use Rattle.rept_analysis.proofs.Passing.{passes_more}
 use Rattle.rept_analysis.proofs.Learning.{with_known, same_known, kept_same, known_words, new_byte}
 use Rattle.rept_analysis.proofs.Reserve.{room_like}
 use Rattle.rept_analysis.specs.Room.{HasRoom}
-use Rattle.rept_analysis.proofs.Along.{carried_over}
 
 -- the same log, facts and addresses
 pub kept_like : {W : Type 0} (s : State W) (k k' : Known) → k'.last ≡ k.last → k'.log ≡ k.log → k'.store.fact ≡ k.store.fact → k'.store.tracked ≡ k.store.tracked → s.complete ≡ false → (s.work.joins ≡ true → HasRoom s.path k') → IsKept (with_known s k) → IsKept (with_known s k')
 kept_like s k k' last log facts tracked open_ roomy kept = record {
+  line = kept.line;
   few = kept.few;
   registers = kept.registers;
   last_is = last ∙ kept.last_is;
@@ -62,25 +64,29 @@ kept_like s k k' last log facts tracked open_ roomy kept = record {
     same p (Register r) = rw log refl
     same p (Byte a) = rw facts refl
 
--- a byte that a row may not write is brought over it
-module _ {W : Type 0} (s : State W) (laws : HasLaws (along s.path)) (kept : IsKept s) (i a v : ℕ) (inside : i < length s.path.given.rows) (small : a < 2 ^ 32) (spared : IsSpared i a s) where
-  carries : IsQuiet (along s.path) (all_known s) → Carries (along s.path) (all_known s) (passage a i (i + 1))
-  carries quiet = carried_over s.path (all_known s) a i inside (missed spared)
+-- a byte is carried still where more is known
+carries_more : {W : Type 0} (S : Setting W) → HasLaws S → (K L : Knowledge) → RegistersExtend K L → HasWords L → IsQuiet S L → (a m w : ℕ) → a < 2 ^ 32 → Carries S K (passage a m w) → Carries S L (passage a m w)
+carries_more S laws K L more words quiet a m w small h = record { next = h.next; light = h.light; spared = λ i falls. spared_more S laws K L more words quiet i a small (h.spared i falls) }
+
+-- a byte is brought to where it is carried
+module _ {W : Type 0} (s : State W) (laws : HasLaws (along s.path)) (kept : IsKept s) (m a v : ℕ) (small : a < 2 ^ 32) (bridged : IsBridged m a s) where
+  carries : IsQuiet (along s.path) (all_known s) → Carries (along s.path) (all_known s) (passage a m (m + 1))
+  carries quiet = missed bridged
     where
-      missed : IsSpared i a s → may_write (along s.path) (all_known s) i a ≡ false
-      missed (inl old) = spared_more (along s.path) laws (told (oldest s.filled s.known.log)) (all_known s) (λ p r w e. oldest_less s.filled s.known.log kept.once p (Register r) w e) (known_words s kept) quiet i a small old
+      missed : IsBridged m a s → Carries (along s.path) (all_known s) (passage a m (m + 1))
+      missed (inl old) = carries_more (along s.path) laws (told (oldest s.filled s.known.log)) (all_known s) (λ p r w e. oldest_less s.filled s.known.log kept.once p (Register r) w e) (known_words s kept) quiet a m (m + 1) small old
       missed (inr now) = now quiet
 
-  pub up_brought : Knows i (Byte a) v s → IsBrought s (fact_of (i + 1) (Byte a) v)
-  up_brought h quiet = onward a i (i + 1) refl refl (carries quiet) h
+  pub up_brought : Knows m (Byte a) v s → IsBrought s (fact_of (m + 1) (Byte a) v)
+  up_brought h quiet = onward a m (m + 1) refl refl (carries quiet) h
 
-  pub down_brought : Knows (i + 1) (Byte a) v s → IsBrought s (fact_of i (Byte a) v)
-  down_brought h quiet = back a i (i + 1) refl refl (carries quiet) h
+  pub down_brought : Knows (m + 1) (Byte a) v s → IsBrought s (fact_of m (Byte a) v)
+  down_brought h quiet = back a m (m + 1) refl refl (carries quiet) h
 
-pub spared_after : {W : Type 0} (s t : State W) → HasLaws (along s.path) → IsKept t → Grows s t → (i a : ℕ) → a < 2 ^ 32 → IsSpared i a s → IsSpared i a t
-spared_after s t laws kept g i a small (inl old) = inl (rw (g.path, g.older) old)
-spared_after s t laws kept g i a small (inr now) = inr (subst (λ (P : Path _). IsQuiet (along P) (all_known t) → may_write (along P) (all_known t) i a ≡ false) (sym g.path) (λ quiet.
-    spared_more (along s.path) laws (all_known s) (all_known t) (λ p r v e. g.more p (Register r) v e) (known_words t kept) quiet i a small (now (quiet_less (along s.path) laws (all_known s) (all_known t) (λ p r v e. g.more p (Register r) v e) quiet))))
+pub bridged_after : {W : Type 0} (s t : State W) → HasLaws (along s.path) → IsKept t → Grows s t → (m a : ℕ) → a < 2 ^ 32 → IsBridged m a s → IsBridged m a t
+bridged_after s t laws kept g m a small (inl old) = inl (rw (g.path, g.older) old)
+bridged_after s t laws kept g m a small (inr now) = inr (subst (λ (P : Path _). IsQuiet (along P) (all_known t) → Carries (along P) (all_known t) (passage a m (m + 1))) (sym g.path) (λ quiet.
+    carries_more (along s.path) laws (all_known s) (all_known t) (λ p r v e. g.more p (Register r) v e) (known_words t kept) quiet a m (m + 1) small (now (quiet_less (along s.path) laws (all_known s) (all_known t) (λ p r v e. g.more p (Register r) v e) quiet))))
 
 module _ {W : Type 0} (s : State W) (laws : HasLaws (along s.path)) (kept : IsKept s) (open_ : s.complete ≡ false) (a v : ℕ) (small : a < 2 ^ 32) (tracked : IsTracked a s) where
   -- one fact more
@@ -159,10 +165,10 @@ module _ {W : Type 0} (s : State W) (laws : HasLaws (along s.path)) (kept : IsKe
         | inr ne ↦ fact_else (chain pt d).known (pt (suc d)) q a (λ x f. ne x) ∙ e
       ]
 
-  module _ (pt : ℕ → ℕ) (D : ℕ) (early : (d : ℕ) → d ≤ D → pt d ≤ length s.path.given.rows) (free : (d w : ℕ) → d ≤ D → s.known.store.fact (pt d) a ≡ Some w → w ≡ v) (start : s.known.store.fact (pt 0) a ≡ Some v) (reach : (d : ℕ) → d < D → (t : State W) → HasLaws (along t.path) → IsKept t → Grows s t → Knows (pt d) (Byte a) v t → IsBrought t (fact_of (pt (suc d)) (Byte a) v)) where
-    step : (t : State W) → IsKept t → Grows s t → (p : ℕ) → p ≤ length s.path.given.rows → t.known.store.fact p a ≡ None → IsBrought t (fact_of p (Byte a) v) → IsKept (with_known t (with_fact t.known p)) × Grows t (with_known t (with_fact t.known p))
+  module _ (pt : ℕ → ℕ) (D : ℕ) (early : (d : ℕ) → d ≤ D → pt d ≤ s.path.given.moments.end) (free : (d w : ℕ) → d ≤ D → s.known.store.fact (pt d) a ≡ Some w → w ≡ v) (start : s.known.store.fact (pt 0) a ≡ Some v) (reach : (d : ℕ) → d < D → (t : State W) → HasLaws (along t.path) → IsKept t → Grows s t → Knows (pt d) (Byte a) v t → IsBrought t (fact_of (pt (suc d)) (Byte a) v)) where
+    step : (t : State W) → IsKept t → Grows s t → (p : ℕ) → p ≤ s.path.given.moments.end → t.known.store.fact p a ≡ None → IsBrought t (fact_of p (Byte a) v) → IsKept (with_known t (with_fact t.known p)) × Grows t (with_known t (with_fact t.known p))
     step t kept_t g p le none brought =
-        let early_t : p ≤ length t.path.given.rows = rw g.rows le in
+        let early_t : p ≤ t.path.given.moments.end = subst (λ (P : Path W). p ≤ P.given.moments.end) (sym g.path) le in
         let both = new_byte t kept_t true p a v early_t small (g.tracked a tracked) (g.complete ∙ open_) (brought_follows t p a v early_t small brought) false (λ _. brought) (with_fact t.known p) (adds t.known p none) kept_t.once (λ more j. room_like t.path t.known (with_fact t.known p) more (omega arith) (omega arith) refl refl (kept_t.roomy j)) in
         (both.0, both.1.grows)
 
@@ -201,7 +207,8 @@ module _ {W : Type 0} (s : State W) (laws : HasLaws (along s.path)) (kept : IsKe
           kept_like s (chain pt D).known k (last ∙ sym (chain_last pt D)) k_log facts (same_tracked ∙ sym (chain_tracked pt D)) open_ roomy at,
           record {
             path = refl;
-            rows = refl;
+            count = refl;
+            row = λ i. refl;
             spans = refl;
             filled = refl;
             shown = refl;
@@ -224,7 +231,7 @@ module _ {W : Type 0} (s : State W) (laws : HasLaws (along s.path)) (kept : IsKe
         more_of p (Byte b) w e facts k_log = rw facts e
 
   -- a store in which the value was spread from a point to another one
-  module _ (k : Known) (from to : ℕ) (last : k.last ≡ s.known.last) (log : k.log ≡ s.known.log) (left : k.left ≡ s.known.left) (from_early : from ≤ length s.path.given.rows) (to_early : to ≤ length s.path.given.rows) (known : Knows from (Byte a) v s) (spared : IsSparedBetween from to a s) (spreads : Spreads (change s.work.joins s.known.store k.store) (record { address = a; from = from; to = to; value = v })) where
+  module _ (k : Known) (from to : ℕ) (last : k.last ≡ s.known.last) (log : k.log ≡ s.known.log) (left : k.left ≡ s.known.left) (from_early : from ≤ s.path.given.moments.end) (to_early : to ≤ s.path.given.moments.end) (known : Knows from (Byte a) v s) (spared : IsSparedBetween from to a s) (spreads : Spreads (change s.work.joins s.known.store k.store) (record { address = a; from = from; to = to; value = v })) where
     start_up : s.known.store.fact (from + 0) a ≡ Some v
     start_up = let e : from ≡ from + 0 = omega arith in subst (λ (p : ℕ). s.known.store.fact p a ≡ Some v) e known
 
@@ -236,8 +243,7 @@ module _ {W : Type 0} (s : State W) (laws : HasLaws (along s.path)) (kept : IsKe
       where
         reach : (d : ℕ) → d < to - from → (t : State W) → HasLaws (along t.path) → IsKept t → Grows s t → Knows (from + d) (Byte a) v t → IsBrought t (fact_of (from + suc d) (Byte a) v)
         reach d lt t laws_t kept_t g h =
-            let inside : from + d < length t.path.given.rows = rw g.rows (omega (arith, lt, to_early)) in
-            let at = up_brought t laws_t kept_t (from + d) a v inside small (spared_after s t laws kept_t g (from + d) a small (spared (from + d) (inl (omega arith, omega (arith, lt))))) h in
+            let at = up_brought t laws_t kept_t (from + d) a v small (bridged_after s t laws kept_t g (from + d) a small (spared (from + d) (inl (omega arith, omega (arith, lt))))) h in
             let next : from + d + 1 ≡ from + suc d = omega arith in
             subst (λ (p : ℕ). IsBrought t (fact_of p (Byte a) v)) next at
 
@@ -263,10 +269,9 @@ module _ {W : Type 0} (s : State W) (laws : HasLaws (along s.path)) (kept : IsKe
       where
         reach : (d : ℕ) → d < from - to → (t : State W) → HasLaws (along t.path) → IsKept t → Grows s t → Knows (from - d) (Byte a) v t → IsBrought t (fact_of (from - suc d) (Byte a) v)
         reach d lt t laws_t kept_t g h =
-            let inside : from - suc d < length t.path.given.rows = rw g.rows (omega (arith, lt, from_early)) in
             let next : from - d ≡ from - suc d + 1 = omega (arith, lt) in
             let above : Knows (from - suc d + 1) (Byte a) v t = subst (λ (p : ℕ). Knows p (Byte a) v t) next h in
-            down_brought t laws_t kept_t (from - suc d) a v inside small (spared_after s t laws kept_t g (from - suc d) a small (spared (from - suc d) (inr (omega (arith, lt), omega (arith, lt))))) above
+            down_brought t laws_t kept_t (from - suc d) a v small (bridged_after s t laws kept_t g (from - suc d) a small (spared (from - suc d) (inr (omega (arith, lt), omega (arith, lt))))) above
 
         same : (q b : ℕ) → k.store.fact q b ≡ (chain (λ d. from - d) (from - to)).known.store.fact q b
         same q b =
@@ -293,11 +298,11 @@ module _ {W : Type 0} (s : State W) (laws : HasLaws (along s.path)) (kept : IsKe
         ]
 
 -- what a store's answer to `carry` comes to
-module _ {W : Type 0} (s : State W) (laws : HasLaws (along s.path)) (kept : IsKept s) (open_ : s.complete ≡ false) (a from to v : ℕ) (small : a < 2 ^ 32) (from_early : from ≤ length s.path.given.rows) (to_early : to ≤ length s.path.given.rows) (known : Knows from (Byte a) v s) (spared : IsSparedBetween from to a s) where
+module _ {W : Type 0} (s : State W) (laws : HasLaws (along s.path)) (kept : IsKept s) (open_ : s.complete ≡ false) (a from to v : ℕ) (small : a < 2 ^ 32) (from_early : from ≤ s.path.given.moments.end) (to_early : to ≤ s.path.given.moments.end) (known : Knows from (Byte a) v s) (spared : IsSparedBetween from to a s) where
   tracked : IsTracked a s
   tracked = kept.listed from a v known
 
-  between_early : (q : ℕ) → Between from to q → q ≤ length s.path.given.rows
+  between_early : (q : ℕ) → Between from to q → q ≤ s.path.given.moments.end
   between_early q (inl y) = let z = y.1 in omega (arith, z, to_early)
   between_early q (inr y) = let z = y.1 in omega (arith, z, from_early)
 
@@ -310,13 +315,13 @@ module _ {W : Type 0} (s : State W) (laws : HasLaws (along s.path)) (kept : IsKe
   spread : (k : Known) → SameLog s.known k → (before : ℕ) → Between from to before → Spreads (change s.work.joins s.known.store k.store) (record { address = a; from = from; to = before; value = v }) → IsKept (with_known s k) × Grows s (with_known s k)
   spread k log before at h = spread_kept s laws kept open_ a v small tracked k from before log.last log.log log.left from_early (between_early before at) known (within before at) h
 
-  up_spared : (before stop : ℕ) → before + 1 ≡ stop → Between from to before → Between from to stop → IsSpared before a s
+  up_spared : (before stop : ℕ) → before + 1 ≡ stop → Between from to before → Between from to stop → IsBridged before a s
   up_spared before stop next (inl y) (inl x) = let p = y.0 in let q = x.1 in spared before (inl (p, omega (arith, next, q)))
   up_spared before stop next (inr y) (inr x) = let p = y.0 in let q = x.1 in spared before (inr (p, omega (arith, next, q)))
   up_spared before stop next (inl y) (inr x) = let p = y.0 in let q = x.1 in let z = y.1 in absurd (omega (arith, next, p, q, z))
   up_spared before stop next (inr y) (inl x) = let p = y.0 in let q = x.1 in let z = y.1 in let w = x.0 in spared before (inl (omega (arith, z, w, next, q, p), omega (arith, next, q)))
 
-  down_spared : (before stop : ℕ) → stop + 1 ≡ before → Between from to before → Between from to stop → IsSpared stop a s
+  down_spared : (before stop : ℕ) → stop + 1 ≡ before → Between from to before → Between from to stop → IsBridged stop a s
   down_spared before stop next (inl y) (inl x) = let p = x.0 in let q = y.1 in spared stop (inl (p, omega (arith, next, q)))
   down_spared before stop next (inr y) (inr x) = let p = x.0 in let q = y.1 in spared stop (inr (p, omega (arith, next, q)))
   down_spared before stop next (inl y) (inr x) = let p = x.0 in let q = x.1 in let z = y.0 in let w = y.1 in spared stop (inr (p, omega (arith, next, q, z, w)))
@@ -350,11 +355,9 @@ module _ {W : Type 0} (s : State W) (laws : HasLaws (along s.path)) (kept : IsKe
 
       next_brought : (k : Known) → IsKept (with_known s k) → Grows s (with_known s k) → (before stop : ℕ) → (before + 1 ≡ stop) ⊎ (stop + 1 ≡ before) → Between from to before → Between from to stop → k.store.fact before a ≡ Some v → IsBrought (with_known s k) (fact_of stop (Byte a) v)
       next_brought k kept_t g before stop (inl next) at within_ h =
-          let early = between_early stop within_ in
-          subst (λ (p : ℕ). IsBrought (with_known s k) (fact_of p (Byte a) v)) next (up_brought (with_known s k) laws kept_t before a v (omega (arith, next, early)) small (spared_after s (with_known s k) laws kept_t g before a small (up_spared before stop next at within_)) h)
+          subst (λ (p : ℕ). IsBrought (with_known s k) (fact_of p (Byte a) v)) next (up_brought (with_known s k) laws kept_t before a v small (bridged_after s (with_known s k) laws kept_t g before a small (up_spared before stop next at within_)) h)
       next_brought k kept_t g before stop (inr next) at within_ h =
-          let early = between_early before at in
-          down_brought (with_known s k) laws kept_t stop a v (omega (arith, next, early)) small (spared_after s (with_known s k) laws kept_t g stop a small (down_spared before stop next at within_)) (subst (λ (p : ℕ). k.store.fact p a ≡ Some v) (sym next) h)
+          down_brought (with_known s k) laws kept_t stop a v small (bridged_after s (with_known s k) laws kept_t g stop a small (down_spared before stop next at within_)) (subst (λ (p : ℕ). k.store.fact p a ≡ Some v) (sym next) h)
   sent k log (Err e) h = let both = spread k log h.reaches.before h.reaches.toward h.reaches.spreads in (both.0, (both.1, h.plain))
 
 -- a segment in which no row may write the byte

@@ -16,8 +16,9 @@ use Rattle.rept_span.specs.Filled.{entry_at, IsFilled}
 use Rattle.rept_view.specs.declared.drawn.Drawn.{Drawn}
 use Rattle.rept_view.specs.Rules.{IsRowByte, Fits}
 use Rattle.rept_log.specs.Around.{around}
-use Rattle.rept_report.specs.Setting.{HasLaws, way_of}
-use Rattle.rept_report.specs.Views.{point_of, may_write}
+use Rattle.rept_report.specs.Setting.{HasLaws, IsLast, IsInstant, way_of}
+use Rattle.rept_report.specs.Spots.{Passage, passage}
+use Rattle.rept_report.specs.Views.{instant_of, may_write, Carries}
 use Rattle.rept_report.specs.Conclusions.{HasWords, IsCarried, Concludes}
 use Rattle.rept_report.specs.Conflicts.{IsQuiet}
 use Rattle.rept_report.specs.Log.{oldest}
@@ -66,15 +67,15 @@ past list (suc k) = row_past (slice_get list k)
 -- it and this one may write.
 pub record IsBarrier {W : Type 0} (list : List Writing) (k : ℕ) (w : Writing) (s : State W) : Type 0 where
   pub low : past list k ≤ w.row
-  pub inside : w.row < length s.path.given.rows
+  pub inside : w.row < s.path.given.legs.count
   pub others : (a : ℕ) → a < 2 ^ 32 → call_hits w.access a ≡ false → IsSpared w.row a s
   pub silent : IsSilent (past list k) w.row s
 
 -- no row but these may write
 pub record AreBarriers {W : Type 0} (list : List Writing) (s : State W) : Type 0 where
   pub each : (k : ℕ) (w : Writing) → slice_get list k ≡ Some w → IsBarrier list k w s
-  pub low : past list (length list) ≤ length s.path.given.rows
-  pub silent : IsSilent (past list (length list)) (length s.path.given.rows) s
+  pub low : past list (length list) ≤ s.path.given.legs.count
+  pub silent : IsSilent (past list (length list)) (s.path.given.legs.count) s
 
 -- the sets are those of some of the facts, and no row may write but those of the list
 pub record AreWritings {W : Type 0} (s : State W) : Type 0 where
@@ -86,7 +87,8 @@ pub record AreWritings {W : Type 0} (s : State W) : Type 0 where
 -- another state of the same analysis, which knows no less
 pub record Grows {W : Type 0} (old new : State W) : Type 0 where
   pub path : new.path ≡ old.path
-  pub rows : new.path.given.rows ≡ old.path.given.rows
+  pub count : new.path.given.legs.count ≡ old.path.given.legs.count
+  pub row : (i : ℕ) → new.path.given.legs.row i ≡ old.path.given.legs.row i
   pub spans : new.spans ≡ old.spans
   pub filled : new.filled ≡ old.filled
   pub shown : new.shown ≡ old.shown
@@ -104,7 +106,7 @@ pub record Grows {W : Type 0} (old new : State W) : Type 0 where
 
 -- a cell is known that wasn't, an address is tracked that wasn't, or rules were drawn
 pub data HasNews {W : Type 0} (old new : State W) : Type 0 where
-  fact : (p : ℕ) (c : Cell) (v : ℕ) → p ≤ length old.path.given.rows → IsCell c → all_known old p c ≡ None → Knows p c v new → HasNews old new
+  fact : (p : ℕ) (c : Cell) (v : ℕ) → IsInstant (along old.path) c p → IsCell c → all_known old p c ≡ None → Knows p c v new → HasNews old new
   address : (a : ℕ) → a < 2 ^ 32 → (IsTracked a old → ⊥) → IsTracked a new → HasNews old new
   anew : left new.work.drawn < left old.work.drawn → HasNews old new
 
@@ -147,14 +149,18 @@ pub record IsKeptAt {W : Type 0} (i r : ℕ) (s : State W) : Type 0 where
 abbrev pub KeptBelow : {W : Type 0} → ℕ → StepRow → ℕ → State W → Type 0
 KeptBelow n row i s = (r : ℕ) → 0 < r → r < n → written_by row.instr ≢ Some r → IsKeptAt i r s
 
--- a byte has one value before and after row i, which may not write it by the facts of which the sets are
-pub record IsCarriedAt {W : Type 0} (i a : ℕ) (s : State W) : Type 0 where
-  pub onward : (v : ℕ) → may_write (along s.path) (told (oldest s.filled s.known.log)) i a ≡ false → Knows i (Byte a) v s → Knows (i + 1) (Byte a) v s
-  pub back : (v : ℕ) → may_write (along s.path) (told (oldest s.filled s.known.log)) i a ≡ false → Knows (i + 1) (Byte a) v s → Knows i (Byte a) v s
+-- a byte has one value at two moments, where it is carried from the one to the other by the facts of which the sets are
+pub record IsCarriedOver {W : Type 0} (x : Passage) (s : State W) : Type 0 where
+  pub onward : (v : ℕ) → Carries (along s.path) (told (oldest s.filled s.known.log)) x → Knows x.from (Byte x.address) v s → Knows x.to (Byte x.address) v s
+  pub back : (v : ℕ) → Carries (along s.path) (told (oldest s.filled s.known.log)) x → Knows x.to (Byte x.address) v s → Knows x.from (Byte x.address) v s
+
+-- so it has at a moment and the one of the next number
+abbrev pub IsCarriedAt : {W : Type 0} → ℕ → ℕ → State W → Type 0
+IsCarriedAt m a s = IsCarriedOver (passage a m (m + 1)) s
 
 -- a conclusion of row i is known
 abbrev pub KnowsDrawn : {W : Type 0} → ℕ → Drawn → State W → Type 0
-KnowsDrawn i d s = Knows (point_of i d.when) d.cell d.value s
+KnowsDrawn i d s = Knows (instant_of s.path.given.moments i d.when d.cell) d.cell d.value s
 
 -- so are the first n that a list has
 abbrev pub DrawnBelow : {W : Type 0} → ℕ → List Drawn → ℕ → State W → Type 0
@@ -162,11 +168,11 @@ DrawnBelow n list i s = (k : ℕ) (d : Drawn) → k < n → slice_get list k ≡
 
 -- so are all that the row lets one draw
 abbrev pub DrawnKnown : {W : Type 0} → StepRow → ℕ → State W → Type 0
-DrawnKnown row i s = (d : Drawn) → Contains (s.path.rules.draw row (around s.known i)) d → KnowsDrawn i d s
+DrawnKnown row i s = (d : Drawn) → Contains (s.path.rules.draw row (around s.path.given.moments s.known i)) d → KnowsDrawn i d s
 
 -- the bytes that the row's rules look at are tracked
 abbrev pub IsRowTracked : {W : Type 0} → StepRow → ℕ → State W → Type 0
-IsRowTracked row i s = (a : ℕ) → IsRowByte s.path.rules row (around s.known i) a → IsTracked a s
+IsRowTracked row i s = (a : ℕ) → IsRowByte s.path.rules row (around s.path.given.moments s.known i) a → IsTracked a s
 
 -- all that row i lets one conclude is known
 pub record IsRowDrawn {W : Type 0} (row : StepRow) (i : ℕ) (s : State W) : Type 0 where
@@ -175,22 +181,22 @@ pub record IsRowDrawn {W : Type 0} (row : StepRow) (i : ℕ) (s : State W) : Typ
   pub drawn : DrawnKnown row i s
 
 abbrev pub IsRowClosed : {W : Type 0} → ℕ → State W → Type 0
-IsRowClosed i s = (row : StepRow) → slice_get s.path.given.rows i ≡ Some row → IsRowDrawn row i s
+IsRowClosed i s = (row : StepRow) → s.path.given.legs.row i ≡ Some row → IsRowDrawn row i s
 
 abbrev pub RowsClosedBelow : {W : Type 0} → ℕ → State W → Type 0
 RowsClosedBelow n s = (i : ℕ) → i < n → IsRowClosed i s
 
--- the last value of a register is known after the last row
+-- the last value of a register is known at the last point of each thread
 abbrev pub LastKnown : {W : Type 0} → ℕ → State W → Type 0
-LastKnown r s = (v : ℕ) → 0 < r → slice_get s.path.given.last r ≡ Some v → Knows (length s.path.given.rows) (Register r) v s
+LastKnown r s = (p v : ℕ) → IsLast (along s.path) p → 0 < r → slice_get (s.path.given.last p) r ≡ Some v → Knows p (Register r) v s
 
 -- so are those of the registers below x(n)
 abbrev pub LastKnownBelow : {W : Type 0} → ℕ → State W → Type 0
-LastKnownBelow n s = (r v : ℕ) → 0 < r → r < n → slice_get s.path.given.last r ≡ Some v → Knows (length s.path.given.rows) (Register r) v s
+LastKnownBelow n s = (r : ℕ) → r < n → LastKnown r s
 
--- the byte of the dump is known after the last row
+-- the byte of the dump is known at the end
 abbrev pub LastByteKnown : {W : Type 0} → ℕ → State W → Type 0
-LastByteKnown a s = (v : ℕ) → s.path.given.dump a ≡ Some v → Knows (length s.path.given.rows) (Byte a) v s
+LastByteKnown a s = (v : ℕ) → s.path.given.dump a ≡ Some v → Knows s.path.given.moments.end (Byte a) v s
 
 -- so are those of the first n tracked addresses
 abbrev pub LastBytesBelow : {W : Type 0} → ℕ → State W → Type 0
@@ -209,10 +215,10 @@ SinglesBelow n s = (p : ℕ) → p < n → PointSingles 32 p s
 -- all one-step conclusions are known, with the sets as they are
 pub record IsDrawnAll {W : Type 0} (s : State W) : Type 0 where
   pub last : LastKnownBelow 32 s
-  pub rows : RowsClosedBelow (length s.path.given.rows) s
+  pub rows : RowsClosedBelow (s.path.given.legs.count) s
   pub bytes : (a : ℕ) → IsTracked a s → LastByteKnown a s
-  pub carried : (a i : ℕ) → IsTracked a s → i < length s.path.given.rows → IsCarriedAt i a s
-  pub singles : SinglesBelow (length s.path.given.rows + 1) s
+  pub carried : (a m w : ℕ) → IsTracked a s → IsCarriedOver (passage a m w) s
+  pub singles : SinglesBelow (s.path.given.legs.count + 1) s
 
 -- the same path and facts, with other sets
 pub record SameFacts {W : Type 0} (old new : State W) : Type 0 where
@@ -259,16 +265,16 @@ IsRowAddress a s = (i : ℕ) × (j : ℕ) × IsOwnByte s.path s.known.log (own_a
 abbrev pub AreRowAddresses : {W : Type 0} → ℕ → ℕ → State W → Type 0
 AreRowAddresses start n s = (k : ℕ) → k < n → IsRowAddress (beside start k) s
 
--- There is room for the byte at a point: a row lets one conclude it, and the log keeps it, or the path ends there.
+-- There is room for the byte at a moment: a row lets one conclude it, and the log keeps it, or it is the end.
 abbrev pub HasPlace : {W : Type 0} → Bool → ℕ → ℕ → State W → Type 0
 HasPlace true p a s = IsDrawnAt s.path s.known.log p a
-HasPlace false p a s = p ≡ length s.path.given.rows
+HasPlace false p a s = p ≡ s.path.given.moments.end
 
 -- a conclusion that follows, on a cell that can be learnt
 pub record IsConclusion {W : Type 0} (i : ℕ) (d : Drawn) (s : State W) : Type 0 where
   pub cell : IsCell d.cell
   pub fits : Fits d.cell d.value
-  pub follows : d.value < 2 ^ 32 → IsFollowing s (fact_of (point_of i d.when) d.cell d.value)
+  pub follows : d.value < 2 ^ 32 → IsFollowing s (fact_of (instant_of s.path.given.moments i d.when d.cell) d.cell d.value)
   pub tracked : (a : ℕ) → d.cell ≡ Byte a → IsTracked a s
   pub byte : (a : ℕ) → d.cell ≡ Byte a → IsDrawable s.path s.known.log i d
 
@@ -280,23 +286,28 @@ abbrev pub IsBroughtTo : {W : Type 0} → ℕ → ℕ → ℕ → State W → Ty
 IsBroughtTo from to a s = (v : ℕ) → Knows from (Byte a) v s → Knows to (Byte a) v s
 
 abbrev pub RowsClosed : {W : Type 0} → State W → Type 0
-RowsClosed s = RowsClosedBelow (length s.path.given.rows) s
+RowsClosed s = RowsClosedBelow (s.path.given.legs.count) s
 
 abbrev pub LastBytesKnown : {W : Type 0} → State W → Type 0
 LastBytesKnown s = (a : ℕ) → IsTracked a s → LastByteKnown a s
 
 abbrev pub SinglesKnown : {W : Type 0} → State W → Type 0
-SinglesKnown s = SinglesBelow (length s.path.given.rows + 1) s
+SinglesKnown s = SinglesBelow (s.path.given.legs.count + 1) s
 
--- so may none of the rows between two points
+-- the byte is carried from a moment to the one of the next number, by the facts of which the sets are, or by all that is known by now, if
+-- that leaves no range empty and no turn wrong
+abbrev pub IsBridged : {W : Type 0} → ℕ → ℕ → State W → Type 0
+IsBridged m a s = Carries (along s.path) (told (oldest s.filled s.known.log)) (passage a m (m + 1)) ⊎ (IsQuiet (along s.path) (all_known s) → Carries (along s.path) (all_known s) (passage a m (m + 1)))
+
+-- so it is from each number between two
 abbrev pub IsSparedBetween : {W : Type 0} → ℕ → ℕ → ℕ → State W → Type 0
-IsSparedBetween from to a s = (i : ℕ) → ((from ≤ i) × (i < to)) ⊎ ((to ≤ i) × (i < from)) → IsSpared i a s
+IsSparedBetween from to a s = (m : ℕ) → ((from ≤ m) × (m < to)) ⊎ ((to ≤ m) × (m < from)) → IsBridged m a s
 
 -- the byte has the value at each point of a course
 abbrev pub IsSpreadTo : {W : Type 0} → Course → State W → Type 0
 IsSpreadTo course s = (q : ℕ) → Between course.from course.to q → Knows q (Byte course.address) course.value s
 
--- the byte is carried over each of the rows from one to before another that may not write it
+-- the byte is carried from each number from one to before another to the next one
 abbrev pub IsCarriedFrom : {W : Type 0} → ℕ → ℕ → ℕ → State W → Type 0
 IsCarriedFrom a from to s = (i : ℕ) → from ≤ i → i < to → IsCarriedAt i a s
 
@@ -304,9 +315,9 @@ IsCarriedFrom a from to s = (i : ℕ) → from ≤ i → i < to → IsCarriedAt 
 abbrev pub AreExact : {W : Type 0} → State W → Type 0
 AreExact s = (k : ℕ) (w : Writing) (a : ℕ) → slice_get s.work.writing k ≡ Some w → a < 2 ^ 32 → call_hits w.access a ≡ true → may_write (along s.path) (told (oldest s.filled s.known.log)) w.row a ≡ true
 
--- over all rows, where the list is exact
+-- between all moments, where the list is exact
 abbrev pub IsCarriedAlong : {W : Type 0} → ℕ → State W → Type 0
-IsCarriedAlong a s = AreExact s → IsCarriedFrom a 0 (length s.path.given.rows) s
+IsCarriedAlong a s = AreExact s → (m w : ℕ) → IsCarriedOver (passage a m w) s
 
 -- the row at which a search for one that may write the byte ended, from an index of the list on: such a row, or the end
 pub record IsHitFrom {W : Type 0} (k a to : ℕ) (s : State W) : Type 0 where
@@ -318,13 +329,13 @@ pub record IsHitFrom {W : Type 0} (k a to : ℕ) (s : State W) : Type 0 where
   pub hits : call_hits writing.access a ≡ true
 
 abbrev pub IsStopAt : {W : Type 0} → ℕ → ℕ → ℕ → State W → Type 0
-IsStopAt k a to s = (to ≡ length s.path.given.rows) ⊎ IsHitFrom k a to s
+IsStopAt k a to s = (to ≡ s.path.given.legs.count) ⊎ IsHitFrom k a to s
 
 -- the byte is carried over the rows from one before a point to another one, where the list is exact
 pub record IsCarriedBeside {W : Type 0} (a point to : ℕ) (s : State W) : Type 0 where
   pub first : ℕ
   pub low : first ≤ point - 1
-  pub closed : AreExact s → (i : ℕ) → first ≤ i → i ≤ to → i < length s.path.given.rows → IsCarriedAt i a s
+  pub closed : AreExact s → (i : ℕ) → first ≤ i → i ≤ to → i < s.path.given.legs.count → IsCarriedAt i a s
 
 -- so are the first n tracked bytes
 abbrev pub CarriedAlongBelow : {W : Type 0} → ℕ → State W → Type 0
@@ -337,7 +348,7 @@ AllCarried s = (a : ℕ) → IsTracked a s → IsCarriedAlong a s
 -- a row of such a list, with the bytes that it may write; no row between the one before it and this one may write
 pub record IsWriting {W : Type 0} (list : List Writing) (k : ℕ) (w : Writing) (s : State W) : Type 0 where
   pub low : past list k ≤ w.row
-  pub inside : w.row < length s.path.given.rows
+  pub inside : w.row < s.path.given.legs.count
   pub access : IsAccess w.row w.access s
   pub silent : IsSilent (past list k) w.row s
 

@@ -4,6 +4,7 @@ use Rattle.rept_reason.specs.declared.fact.Cell.{Cell}
 use Rattle.rept_reason.specs.declared.fact.Cell.TheVariants.{Byte}
 use Rattle.rept_reason.specs.Facts.{Knowledge, told, register_known}
 use Rattle.rept_report.specs.declared.conflict.ConflictKind.{ConflictKind}
+use Rattle.rept_report.specs.OneThread.{IsLine}
 use Rattle.rept_report.specs.Conflicts.{IsQuiet}
 use Rattle.rept_report.specs.Closure.{ClosureHas, IsReport}
 use Rattle.rept_report.specs.Log.{oldest, Entry, facts_of, logged_of, IsTrace, OnceEach}
@@ -52,7 +53,7 @@ pub record IsDrawnWith {W : Type 0} (row : StepRow) (i k : ℕ) (s : State W) : 
   pub lawful : IsLawful view
   pub count : cells_known s.path.rules row view ≡ k
   pub learnt : (d : Drawn) → Contains (s.path.rules.draw row view) d → KnowsDrawn i d s
-  pub less : (w : When) (c : Cell) (v : ℕ) → seen_cell view w c ≡ Some v → seen_cell (around s.known i) w c ≡ Some v
+  pub less : (w : When) (c : Cell) (v : ℕ) → seen_cell view w c ≡ Some v → seen_cell (around s.path.given.moments s.known i) w c ≡ Some v
 
 -- what is kept of how far they were drawn is so
 abbrev pub IsPass : {W : Type 0} → StepRow → ℕ → Pass → State W → Type 0
@@ -61,10 +62,11 @@ IsPass row i (With k) s = IsDrawnWith row i k s
 IsPass row i Cut s = Unit {0}
 
 pub record IsKept {W : Type 0} (s : State W) : Type 0 where
-  pub few : length s.path.given.rows ≤ 65536
-  pub registers : length s.path.given.last ≡ 32
-  pub last_is : s.known.last ≡ length s.path.given.rows
-  pub sized : s.spans.points ≡ length s.path.given.rows + 1
+  pub line : IsLine s.path.given
+  pub few : s.path.given.legs.count ≤ 65536
+  pub registers : (p : ℕ) → length (s.path.given.last p) ≡ 32
+  pub last_is : s.known.last ≡ s.path.given.legs.count
+  pub sized : s.spans.points ≡ s.path.given.legs.count + 1
   pub filled : s.filled ≤ length s.known.log
   pub once : OnceEach s.known.log
   pub traced : IsTraced s
@@ -73,7 +75,7 @@ pub record IsKept {W : Type 0} (s : State W) : Type 0 where
   pub calm : (u : ℕ) → u < s.shown → IsQuiet (along s.path) (told (oldest u s.known.log))
   pub stopped : (kind : ConflictKind) → s.conflict ≡ Some kind → ClosureHas (along s.path) kind
   pub finished : s.complete ≡ true → IsFinished s
-  pub room : length s.path.given.rows ≤ s.work.room
-  pub rows : length s.work.drawn ≡ length s.path.given.rows
-  pub drawn : (i : ℕ) (row : StepRow) (pass : Pass) → slice_get s.path.given.rows i ≡ Some row → slice_get s.work.drawn i ≡ Some pass → IsPass row i pass s
+  pub room : s.path.given.legs.count ≤ s.work.room
+  pub rows : length s.work.drawn ≡ s.path.given.legs.count
+  pub drawn : (i : ℕ) (row : StepRow) (pass : Pass) → s.path.given.legs.row i ≡ Some row → slice_get s.work.drawn i ≡ Some pass → IsPass row i pass s
   pub roomy : s.work.joins ≡ true → HasRoom s.path s.known

@@ -1,7 +1,7 @@
 -- That the room which an analysis took at first is enough for all bytes that it can learn, where its store joins what stands side by
 -- side: each byte that rows let one conclude is learnt once, as is the byte of the dump at each tracked address, and what is carried
 -- takes none. This project's own.
-use Rattle.std.specs.Prelude.{◌≡◌, ℕ, ◌+◌, ◌<◌, ◌≤◌, Bool, false, min, List, length, Option, Some, None, Contains, slice_get, sum_by, is_none}
+use Rattle.std.specs.Prelude.{◌≡◌, ℕ, ◌+◌, ◌<◌, ◌≤◌, Bool, false, min, List, length, Option, Some, None, Contains, sum_by, is_none}
 use Rattle.rept_isa.specs.declared.row.StepRow.{StepRow}
 use Rattle.rept_isa.specs.Numbers.{plus}
 use Rattle.rept_isa.specs.Operands.{first_read}
@@ -13,7 +13,7 @@ use Rattle.rept_view.specs.declared.drawn.When.TheVariants.{Before}
 use Rattle.rept_view.specs.declared.drawn.Drawn.{Drawn}
 use Rattle.rept_view.specs.Seen.{Seen, IsLawful}
 use Rattle.rept_view.specs.Rules.{Rules, offset_of}
-use Rattle.rept_report.specs.Views.{point_of}
+use Rattle.rept_report.specs.Views.{moment_of}
 use Rattle.rept_log.specs.Known.{Known}
 use Rattle.rept_analysis.specs.Sums.{one_if, count_true, sum_to}
 use Rattle.rept_analysis.specs.State.{Path}
@@ -25,7 +25,7 @@ places_of rules (Some row) = rules.places row
 
 -- so many has row i
 abbrev pub places_at : {W : Type 0} → Path W → ℕ → ℕ
-places_at P i = places_of P.rules (slice_get P.given.rows i)
+places_at P i = places_of P.rules (P.given.legs.row i)
 
 -- how many bytes its rules look at
 abbrev pub bytes_at : {W : Type 0} → Path W → ℕ → ℕ
@@ -35,14 +35,14 @@ bytes_at P i = min (places_at P i) 4
 abbrev pub marked : (ℕ → ℕ) → (ℕ → ℕ → Bool) → ℕ → ℕ
 marked width marks n = sum_to (λ i. count_true (marks i) (width i)) n
 
--- at how many tracked addresses no byte is known after the last row
+-- at how many tracked addresses no byte is known at the end
 abbrev pub unread : ℕ → Known → ℕ
 unread last k = sum_by (λ a. one_if (is_none (k.store.fact last a))) k.store.tracked
 
 -- a conclusion that row i's rules let one draw, from something that was seen around the row, in which its base was what is known now
 pub record IsDrawable {W : Type 0} (P : Path W) (log : List Fact) (i : ℕ) (d : Drawn) : Type 0 where
   pub row : StepRow
-  pub found : slice_get P.given.rows i ≡ Some row
+  pub found : P.given.legs.row i ≡ Some row
   pub view : Seen
   pub lawful : IsLawful view
   pub drawn : Contains (P.rules.draw row view) d
@@ -52,11 +52,11 @@ pub record IsDrawable {W : Type 0} (P : Path W) (log : List Fact) (i : ℕ) (d :
   pub seen : view.register Before base_register ≡ Some base
   pub known : register_known (told log) i base_register ≡ Some base
 
--- such a conclusion on this byte at this point
+-- such a conclusion on this byte at this moment
 pub record IsDrawnAt {W : Type 0} (P : Path W) (log : List Fact) (p a : ℕ) : Type 0 where
   pub number : ℕ
   pub conclusion : Drawn
-  pub point : p ≡ point_of number conclusion.when
+  pub moment : p ≡ moment_of P.given.moments number conclusion.when
   pub cell : conclusion.cell ≡ Byte a
   pub drawn : IsDrawable P log number conclusion
 
@@ -68,7 +68,7 @@ pub record IsSlotLearnt {W : Type 0} (P : Path W) (k : Known) (i j : ℕ) : Type
   pub slot : conclusion.slot ≡ j
   pub cell : conclusion.cell ≡ Byte address
   pub drawn : IsDrawable P k.log i conclusion
-  pub byte : k.store.fact (point_of i conclusion.when) address ≡ Some value
+  pub byte : k.store.fact (moment_of P.given.moments i conclusion.when) address ≡ Some value
 
 -- a byte of a row: its number among those that the rules of the row look at, and its address
 pub record OwnByte : Type 0 where
@@ -82,7 +82,7 @@ own_at i j a = record { row = i; number = j; address = a }
 -- that it is one of the row, whose base is known
 pub record IsOwnByte {W : Type 0} (P : Path W) (log : List Fact) (b : OwnByte) : Type 0 where
   pub row : StepRow
-  pub found : slice_get P.given.rows b.row ≡ Some row
+  pub found : P.given.legs.row b.row ≡ Some row
   pub base_register : ℕ
   pub base : ℕ
   pub read : first_read row.instr ≡ Some base_register
@@ -102,8 +102,8 @@ pub record IsByteTracked {W : Type 0} (P : Path W) (k : Known) (i j : ℕ) : Typ
 pub record HasRoom {W : Type 0} (P : Path W) (k : Known) : Type 0 where
   pub unlearnt : ℕ → ℕ → Bool
   pub untracked : ℕ → ℕ → Bool
-  pub spare : marked (places_at P) unlearnt (length P.given.rows) + marked (bytes_at P) untracked (length P.given.rows) + unread (length P.given.rows) k ≤ k.store.spare
-  pub log : marked (places_at P) unlearnt (length P.given.rows) ≤ k.left
-  pub places : length k.store.tracked + marked (bytes_at P) untracked (length P.given.rows) ≤ k.store.places
+  pub spare : marked (places_at P) unlearnt (P.given.legs.count) + marked (bytes_at P) untracked (P.given.legs.count) + unread P.given.moments.end k ≤ k.store.spare
+  pub log : marked (places_at P) unlearnt (P.given.legs.count) ≤ k.left
+  pub places : length k.store.tracked + marked (bytes_at P) untracked (P.given.legs.count) ≤ k.store.places
   pub learnt : (i j : ℕ) → unlearnt i j ≡ false → IsSlotLearnt P k i j
   pub tracked : (i j : ℕ) → untracked i j ≡ false → IsByteTracked P k i j

@@ -14,13 +14,14 @@ use Rattle.rept_versions.specs.Facts.{Store}
 use Rattle.rept_log.specs.Known.{Held, Known, known_of, knows}
 use Rattle.rept_report.specs.declared.conflict.ConflictKind.{ConflictKind}
 use Rattle.rept_report.specs.Setting.{Setting}
-use Rattle.rept_report.specs.OneThread.{Given, one_thread}
+use Rattle.rept_report.specs.Given.{Given, setting_by}
+use Rattle.rept_report.specs.OneThread.{Alone, given_alone}
 use Rattle.rept_reason.specs.Facts.{Knowledge}
 use Rattle.rept_writing.specs.declared.list.Writing.{Writing}
 use Rattle.rept_analysis.specs.declared.pass.Pass.{Pass}
 use Rattle.rept_analysis.specs.Work.{Work}
 
--- The rows and the last register values; the files of the program, and the segments of the core file; the facts that were learnt; the
+-- The rows and the last register values of one thread; the files of the program, and the segments of the core file; the facts that were learnt; the
 -- sets of values that were filled last, and of how many facts in the log; the rules; how many facts in the log, from the oldest on,
 -- are answered; whether all is learnt, and the conflict that was answered; and its work.
 pub record Whole (B W R : Type 0) : Type 0 where
@@ -37,19 +38,18 @@ pub record Whole (B W R : Type 0) : Type 0 where
   pub conflict : Option ConflictKind
   pub work : Work
 
--- what is given of one thread, and what it is read by: the kind of sets of values that is followed along its path, and the rules of its
--- rows
+-- what is given, and what it is read by: the kind of sets of values that is followed along the paths, and the rules of the rows
 pub record Path (W : Type 0) : Type 0 where
   pub sets : Sets W
   pub moves : Moves W
   pub rules : Rules
   pub given : Given
 
--- the setting of which a report of the path speaks
+-- the setting of which a report speaks
 abbrev pub along : {W : Type 0} → Path W → Setting W
-along p = one_thread p.sets p.moves p.rules p.given
+along p = setting_by p.sets p.moves p.rules p.given
 
--- the same, with the path along which it is read
+-- the same, with what is given
 pub record State (W : Type 0) : Type 0 where
   pub path : Path W
   pub known : Known
@@ -60,12 +60,16 @@ pub record State (W : Type 0) : Type 0 where
   pub conflict : Option ConflictKind
   pub work : Work
 
+-- the thread
+abbrev pub alone_of : {B W R : Type 0} → Whole B W R → Alone
+alone_of a = record { rows = a.rows; last = a.last; dump = byte_at (contents a.exe) a.core; image_end = (contents a.exe).end }
+
 abbrev pub path_of : {B W R : Type 0} → Sets W → Moves W → Rules → Whole B W R → Path W
 path_of sets moves rules a = record {
   sets = sets;
   moves = moves;
   rules = rules;
-  given = record { rows = a.rows; last = a.last; dump = byte_at (contents a.exe) a.core; image_end = (contents a.exe).end };
+  given = given_alone (alone_of a);
 }
 
 abbrev pub setting_of : {B W R : Type 0} → Sets W → Moves W → Rules → Whole B W R → Setting W

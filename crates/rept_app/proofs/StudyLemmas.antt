@@ -3,12 +3,12 @@ use Rattle.std.proofs.Common.{◌≡◌, ◌⊎◌, ℕ, List, inl, inr, refl, s
 use Rattle.rept_path.specs.declared.rebuilding.Path.{Path}
 use Rattle.rept_ports.specs.Port.{Port, Move}
 use Rattle.rept_report.specs.Closure.{ClosureHas, IsConsistent}
-use Rattle.rept_analysis.specs.State.{Path as AnalysedPath}
+use Rattle.rept_report.specs.OneThread.{Path as AnalysedPath}
 use Rattle.rept_report.specs.declared.conflict.ConflictKind.{ConflictKind}
 use Rattle.rept_analysis.specs.Kept.{answers}
 use Rattle.rept_found.specs.Crash.{Crash, Means, scene_of, setting, route}
 use Rattle.rept_found.specs.Telling.{Account, told_of}
-use Rattle.rept_found.specs.View.{View, IsFoundIn, state_in}
+use Rattle.rept_found.specs.View.{View, IsFoundIn, state_in, path_in}
 use Rattle.rept_serve.specs.Serving.{Reading}
 use Rattle.rept_app.specs.Delivered.{Tells}
 use Rattle.rept_app.specs.Ends.{Stopped, Yields, EndsSession, IsCaused, PortsEnd}
@@ -35,7 +35,7 @@ module _ {W R : Type 0} (m : Means W) (v : View W R) (crash : Crash) (path : Pat
   abbrev pub account_of : Account
   account_of = record { known = answers (state_in m v); log = (state_in m v).known.log; scene = v.scene; skipped = path.skipped }
 
-  pub held_studies : (reading : Reading) (text : List ℕ) (status : Status) → Holds (told_of (state_in m v).path account_of) reading text status → Studies (crash_path m crash path) reading text status
+  pub held_studies : (reading : Reading) (text : List ℕ) (status : Status) → Holds (told_of (path_in m v) account_of) reading text status → Studies (crash_path m crash path) reading text status
   held_studies reading text status h =
       inr (inl (account_of, record { report = found.report; log = found.log; scene = found.same_scene; skipped = refl }, subst (λ (P : AnalysedPath W). Holds (told_of P account_of) reading text status) found.path h))
 

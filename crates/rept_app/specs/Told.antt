@@ -15,7 +15,7 @@ use Rattle.rept_report.specs.Closure.{ClosureHas, IsConsistent, IsReport}
 use Rattle.rept_report.specs.Setting.{Setting}
 use Rattle.rept_report.specs.declared.conflict.ConflictKind.{ConflictKind}
 use Rattle.rept_analysis.specs.Logged.{IsLogOf}
-use Rattle.rept_analysis.specs.State.{Path as AnalysedPath}
+use Rattle.rept_report.specs.OneThread.{Path as AnalysedPath}
 use Rattle.rept_found.specs.Crash.{Crash, Means, route, scene_of, setting}
 use Rattle.rept_found.specs.Telling.{Account, told_of}
 use Rattle.rept_found.specs.Truth.{Executes, HasNoExecution, IsTrueReport}

@@ -7,13 +7,13 @@ use Rattle.rept_path.specs.declared.rebuilding.Path.{Path}
 use Rattle.rept_ports.specs.Port.{Port, Move}
 use Rattle.rept_report.specs.Closure.{ClosureHas}
 use Rattle.rept_report.specs.declared.conflict.ConflictKind.{ConflictKind}
-use Rattle.rept_analysis.specs.State.{Path as AnalysedPath}
+use Rattle.rept_report.specs.OneThread.{Path as AnalysedPath}
 use Rattle.rept_analysis.specs.declared.stop.Stop.{Stop}
 use Rattle.rept_analysis.specs.declared.stop.Stop.TheVariants as stop
 use Rattle.rept_found.specs.Crash.{Crash, Means, crash_of, route, scene_of}
 use Rattle.rept_found.specs.Telling.{told_of}
 use Rattle.rept_found.specs.Truth.{HasNoExecution}
-use Rattle.rept_found.specs.View.{View, IsFoundIn, state_in}
+use Rattle.rept_found.specs.View.{View, IsFoundIn, path_in}
 use Rattle.rept_dialog.specs.Converse.{Parties, Converses, parties_over}
 use Rattle.rept_dialog.specs.declared.conversation.Conversed.{Conversed}
 use Rattle.rept_app.proofs.StudyLemmas.{account_of}
@@ -29,7 +29,7 @@ module _ {W R : Type 0} (m : Means W) (v : View W R) (crash : Crash) (path : Pat
   abbrev parties_on : AnalysedPath W → ℕ → Parties
   parties_on P signal = parties_over (told_of P (account_of m v crash path found)) signal
 
-  pub talks_over : (signal : ℕ) (source sink : Move Port) (end : Conversed) → signal ≡ half_at crash.note 12 → Converses (parties_on (state_in m v).path signal) source sink end → TalksOver (crash_path m crash path) source sink end
+  pub talks_over : (signal : ℕ) (source sink : Move Port) (end : Conversed) → signal ≡ half_at crash.note 12 → Converses (parties_on (path_in m v) signal) source sink end → TalksOver (crash_path m crash path) source sink end
   talks_over signal source sink end is h = record {
     account = account_of m v crash path found;
     report = record { report = found.report; log = found.log; scene = found.same_scene; skipped = refl };

@@ -27,7 +27,7 @@ use Rattle.rept_report.specs.Why.{Because, IsReason, IsGiven, RangeAlwaysHolds a
 use Rattle.rept_report.specs.Implied.{HasEnded, known_at_end}
 use Rattle.rept_report.specs.Log.{Entry, logged_of}
 use Rattle.rept_report.proofs.OneThread.{rows_within, are_points, execution_runs, none_later, writes_told}
-use Rattle.rept_analysis.specs.State.{Path, along}
+use Rattle.rept_report.specs.OneThread.{Path, along}
 use Rattle.rept_found.specs.Crash.{Crash, Means, route, setting, Scene}
 use Rattle.rept_found.specs.Telling.{last_writer, noted, shown_of}
 use Rattle.rept_found.specs.Truth.{Executes, HasNoExecution, StepWrites, WriterHolds, RangeAlwaysHolds, IsTrueOf, IsTrueReason, IsTrueReport}

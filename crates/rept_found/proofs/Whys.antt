@@ -6,7 +6,8 @@ use Rattle.rept_reason.specs.declared.fact.Cell.{Cell}
 use Rattle.rept_reason.specs.declared.fact.Cell.TheVariants.{Register, Byte}
 use Rattle.rept_reason.specs.Facts.{Knowledge}
 use Rattle.rept_report.specs.Why.{Because, IsReason}
-use Rattle.rept_analysis.specs.State.{Path, State, along}
+use Rattle.rept_report.specs.OneThread.{Path}
+use Rattle.rept_analysis.specs.State.{Path as Read, State, along}
 use Rattle.rept_analysis.specs.Kept.{answers}
 use Rattle.rept_analysis.specs.Reasoned.{KeepsAll}
 use Rattle.rept_session.specs.Shown.{known_value}
@@ -14,13 +15,13 @@ use Rattle.rept_found.specs.Crash.{Scene}
 use Rattle.rept_found.specs.Telling.{shown_of}
 
 module _ {W : Type 0} (s t : State W) (kept : KeepsAll s t) where
-  pub same_shown : (end later : Scene) → later ≡ end → shown_of t.path (answers t) later ≡ shown_of s.path (answers s) end
-  same_shown end later e = rw (kept.path, kept.known, e) refl
+  pub same_shown : (P Q : Path W) (end later : Scene) → Q ≡ P → later ≡ end → shown_of Q (answers t) later ≡ shown_of P (answers s) end
+  same_shown P Q end later path e = rw (path, kept.path, kept.known, e) refl
 
   pub same_reasons : (fact : Fact) (why : Because) → IsReason (along s.path) s.known.log fact why ↔ IsReason (along t.path) t.known.log fact why
   same_reasons fact why =
       let log : t.known.log ≡ s.known.log = ap (λ x. x.log) kept.known in
-      (λ h. subst (λ (P : Path W). IsReason (along P) t.known.log fact why) (sym kept.path) (subst (λ (fs : List Fact). IsReason (along s.path) fs fact why) (sym log) h), λ h. subst (λ (P : Path W). IsReason (along P) s.known.log fact why) kept.path (subst (λ (fs : List Fact). IsReason (along t.path) fs fact why) log h))
+      (λ h. subst (λ (P : Read W). IsReason (along P) t.known.log fact why) (sym kept.path) (subst (λ (fs : List Fact). IsReason (along s.path) fs fact why) (sym log) h), λ h. subst (λ (P : Read W). IsReason (along P) s.known.log fact why) kept.path (subst (λ (fs : List Fact). IsReason (along t.path) fs fact why) log h))
 
 -- a fact on another cell than x0 that isn't known, isn't shown
 pub not_shown : {W : Type 0} (P : Path W) (K : Knowledge) (end : Scene) (p v : ℕ) (c : Cell) → c ≢ Register 0 → K p c ≢ Some v → known_value (shown_of P K end) p c ≢ Some v

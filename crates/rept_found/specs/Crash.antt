@@ -12,7 +12,7 @@ use Rattle.rept_partial.specs.Sets.{Sets}
 use Rattle.rept_report.specs.Setting.{Setting}
 use Rattle.rept_span.specs.Moves.{Moves}
 use Rattle.rept_view.specs.Rules.{Rules}
-use Rattle.rept_analysis.specs.State.{Path, along}
+use Rattle.rept_report.specs.OneThread.{Path, along}
 
 -- a program and the core file of its crash: its files, the segments of the core file, and the descriptor of the register note
 pub record Crash : Type 0 where

@@ -12,7 +12,7 @@ use Rattle.rept_report.specs.Setting.{Setting, way_of}
 use Rattle.rept_report.specs.Views.{bounds, may_write, is_sure}
 use Rattle.rept_report.specs.Why.{IsReason}
 use Rattle.rept_analysis.specs.Counts.{calls_below, stores_below, known_below}
-use Rattle.rept_analysis.specs.State.{Path, along}
+use Rattle.rept_report.specs.OneThread.{Path, along}
 use Rattle.rept_session.specs.Shown.{Shown, Told, told}
 use Rattle.rept_session.specs.declared.place.Place.TheVariants as places
 use Rattle.rept_dump.specs.Program.{contents}

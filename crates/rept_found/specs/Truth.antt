@@ -12,7 +12,7 @@ use Rattle.rept_report.specs.declared.writer.Writer as writers
 use Rattle.rept_report.specs.Spots.{Spot, spot}
 use Rattle.rept_report.specs.Why.{Because, IsReason, IsGiven}
 use Rattle.rept_analysis.specs.Logged.{IsLogOf}
-use Rattle.rept_analysis.specs.State.{Path, along}
+use Rattle.rept_report.specs.OneThread.{Path, along}
 use Rattle.rept_session.specs.Shown.{Shown}
 use Rattle.rept_found.specs.Crash.{Scene}
 use Rattle.rept_found.specs.Telling.{shown_of}

@@ -2,7 +2,8 @@
 use Rattle.std.specs.Prelude.{◌≡◌}
 use Rattle.rept_report.specs.Closure.{IsReport}
 use Rattle.rept_versions.specs.OnLine.{Parts, store}
-use Rattle.rept_analysis.specs.State.{Path, State, Whole, along, state_of}
+use Rattle.rept_report.specs.OneThread.{Path, along}
+use Rattle.rept_analysis.specs.State.{State, Whole, alone_of, state_of}
 use Rattle.rept_analysis.specs.Kept.{answers}
 use Rattle.rept_analysis.specs.Logged.{IsLogOf}
 use Rattle.rept_found.specs.Crash.{Means, Scene}
@@ -16,9 +17,13 @@ pub record View (W R : Type 0) : Type 0 where
 abbrev pub state_in : {W R : Type 0} → Means W → View W R → State W
 state_in m v = state_of m.sets m.moves m.rules store v.analysis
 
+-- the path that it is of
+abbrev pub path_in : {W R : Type 0} → Means W → View W R → Path W
+path_in m v = record { sets = m.sets; moves = m.moves; rules = m.rules; given = alone_of v.analysis }
+
 -- it has the report, and an order in which that was learnt
 pub record IsFoundIn {W R : Type 0} (m : Means W) (P : Path W) (scene : Scene) (v : View W R) : Type 0 where
-  pub path : (state_in m v).path ≡ P
+  pub path : path_in m v ≡ P
   pub same_scene : v.scene ≡ scene
   pub report : IsReport (along P) (answers (state_in m v))
   pub log : IsLogOf (along P) (answers (state_in m v)) (state_in m v).known.log

@@ -15,14 +15,14 @@ use std::alloc::Global;
 impl<'a, W: Transfer, R: RowRules> Findings for Found<'a, W, R> {
     ghost use Rattle.rept_report.specs.Why.{IsReason};
     ghost use Rattle.rept_analysis.specs.Kept.{answers};
-    ghost use Rattle.rept_analysis.specs.State.{along};
+    ghost use Rattle.rept_report.specs.OneThread.{along};
     ghost use Rattle.rept_found.specs.Telling.{shown_of};
     ghost use Rattle.rept_found.specs.Crash.{means};
-    ghost use Rattle.rept_found.specs.View.{state_in};
+    ghost use Rattle.rept_found.specs.View.{state_in, path_in};
 
-    ghost shown = { λ f. shown_of (state_in (means W.sets W.moves R.rules) f).path (answers (state_in (means W.sets W.moves R.rules) f)) f.scene };
+    ghost shown = { λ f. shown_of (path_in (means W.sets W.moves R.rules) f) (answers (state_in (means W.sets W.moves R.rules) f)) f.scene };
 
-    ghost reasons = { λ f fact why. IsReason (along (state_in (means W.sets W.moves R.rules) f).path) (state_in (means W.sets W.moves R.rules) f).known.log fact why };
+    ghost reasons = { λ f fact why. IsReason (along (path_in (means W.sets W.moves R.rules) f)) (state_in (means W.sets W.moves R.rules) f).known.log fact why };
 
     fn threads(&self) -> u32 {
         1

@@ -1,6 +1,7 @@
 //! How many of a row's registers and bytes are known.
 
 ghost use Rattle.std.specs.Prelude.{◌≡◌, ◌*◌, ◌<◌, ◌≤◌, length, is_some};
+ghost use Rattle.rept_report.specs.Moments.{points_of};
 ghost use Rattle.rept_log.specs.Around.{around};
 ghost use Rattle.rept_log.specs.Known.{known_of};
 ghost use Rattle.rept_analysis.specs.Cells.{operand_known, byte_known, bytes_from, bytes_known, base_known, cells_known};
@@ -20,7 +21,7 @@ impl<'a, B: ByteFacts, W: Transfer, R: RowRules> Analysis<'a, B, W, R> {
     /// 1 where there is a register and it is known before row i or after it.
     fn operand_cell(&self, i: u32, when: When, r: Option<Reg>) -> u32
         requires { i < length self.now.rows }
-        ensures value { result ≡ operand_known (around (known_of B.store self.now.known) i) when r }
+        ensures value { result ≡ operand_known (around (points_of (length self.now.rows)) (known_of B.store self.now.known) i) when r }
         ensures few { result ≤ 1 }
     {
         let _count = self.count();
@@ -48,7 +49,7 @@ impl<'a, B: ByteFacts, W: Transfer, R: RowRules> Analysis<'a, B, W, R> {
     /// At how many of the two points around row i the byte at an address is known.
     fn byte_cells(&self, i: u32, a: u32) -> u32
         requires { i < length self.now.rows }
-        ensures value { result ≡ byte_known (around (known_of B.store self.now.known) i) a }
+        ensures value { result ≡ byte_known (around (points_of (length self.now.rows)) (known_of B.store self.now.known) i) a }
         ensures few { result ≤ 2 }
     {
         let _count = self.count();
@@ -59,7 +60,7 @@ impl<'a, B: ByteFacts, W: Transfer, R: RowRules> Analysis<'a, B, W, R> {
     fn byte_cells_from(&self, i: u32, start: u32, count: u32) -> u32
         requires inside { i < length self.now.rows }
         requires four { count ≤ 4 }
-        ensures value { result ≡ bytes_from (around (known_of B.store self.now.known) i) start count }
+        ensures value { result ≡ bytes_from (around (points_of (length self.now.rows)) (known_of B.store self.now.known) i) start count }
         ensures few { result ≤ 2 * count }
     {
         let mut sum = 0;
@@ -72,7 +73,7 @@ impl<'a, B: ByteFacts, W: Transfer, R: RowRules> Analysis<'a, B, W, R> {
     /// So for the bytes that row i's rules look at.
     fn row_byte_cells(&self, i: u32, row: &StepRow) -> u32
         requires inside { i < length self.now.rows }
-        ensures value { result ≡ bytes_known R.rules row.now (around (known_of B.store self.now.known) i) (base_known (first_read row.now.instr) (around (known_of B.store self.now.known) i)) }
+        ensures value { result ≡ bytes_known R.rules row.now (around (points_of (length self.now.rows)) (known_of B.store self.now.known) i) (base_known (first_read row.now.instr) (around (points_of (length self.now.rows)) (known_of B.store self.now.known) i)) }
         ensures few { result ≤ 8 }
     {
         let (first, _) = reads(&row.instr);
@@ -91,7 +92,7 @@ impl<'a, B: ByteFacts, W: Transfer, R: RowRules> Analysis<'a, B, W, R> {
     /// How many of the registers and bytes that row i's rules look at are known.
     pub(super) fn cells(&self, i: u32, row: &StepRow) -> u32
         requires inside { i < length self.now.rows }
-        ensures value { result ≡ cells_known R.rules row.now (around (known_of B.store self.now.known) i) }
+        ensures value { result ≡ cells_known R.rules row.now (around (points_of (length self.now.rows)) (known_of B.store self.now.known) i) }
         ensures few { result ≤ 11 }
     {
         let (first, second) = reads(&row.instr);

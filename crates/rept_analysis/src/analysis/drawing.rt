@@ -6,6 +6,7 @@ ghost use Rattle.rept_isa.specs.Operands.{written_by};
 ghost use Rattle.rept_reason.specs.declared.fact.Cell.{Cell};
 ghost use Rattle.rept_reason.specs.declared.fact.Cell.TheVariants.{Register, Byte};
 ghost use Rattle.rept_view.specs.declared.drawn.Drawn.{Drawn};
+ghost use Rattle.rept_report.specs.Moments.{points_of};
 ghost use Rattle.rept_log.specs.Around.{around};
 ghost use Rattle.rept_analysis.specs.declared.pass.Pass.{Pass};
 ghost use Rattle.rept_analysis.specs.Cells.{cells_known};
@@ -188,7 +189,7 @@ impl<'a, B: ByteFacts, W: Transfer, R: RowRules> Analysis<'a, B, W, R> {
         requires inside { i < length self.old.rows }
         requires row { slice_get self.old.rows i ≡ Some row.now }
         requires open { self.old.complete ≡ false }
-        ensures list { result.items ≡ R.rules.draw row.now (around (known_of B.store self.old.known) i) }
+        ensures list { result.items ≡ R.rules.draw row.now (around (points_of (length self.old.rows)) (known_of B.store self.old.known) i) }
         ensures same { (state_of W.sets W.moves R.rules B.store self.new) ≡ with_draws (state_of W.sets W.moves R.rules B.store self.old) self.new.work.draws }
         ensures once { self.new.work.draws ≤ self.old.work.draws + 1 }
     {
@@ -293,7 +294,7 @@ impl<'a, B: ByteFacts, W: Transfer, R: RowRules> Analysis<'a, B, W, R> {
         requires tracked { IsRowTracked row.now i (state_of W.sets W.moves R.rules B.store self.old) }
         requires open { self.old.complete ≡ false }
         requires uncut { IsUncut (state_of W.sets W.moves R.rules B.store self.old) }
-        requires cells { cells ≡ cells_known R.rules row.now (around (known_of B.store self.old.known) i) }
+        requires cells { cells ≡ cells_known R.rules row.now (around (points_of (length self.old.rows)) (known_of B.store self.old.known) i) }
         requires few { cells ≤ 11 }
         requires more { slice_get self.old.work.drawn i ≡ Some (Pass.With cells) → ⊥ }
         ensures grows { Grows (state_of W.sets W.moves R.rules B.store self.old) (state_of W.sets W.moves R.rules B.store self.new) }

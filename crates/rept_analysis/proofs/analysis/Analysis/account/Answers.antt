@@ -13,3 +13,6 @@ pub returns-clause-log : goal.returns-clause-log
 returns-clause-log g c = λ complete.
     let s : State g.row.W.Denot = state_of g.W.Partial.sets g.W.Transfer.moves g.R.RowRules.rules g.B.ByteFacts.store c.args.self.now in
     log_of s (record { sets = g.met.W.Partial.lawful; moves = g.met.W.Transfer.covers; rules = g.met.R.RowRules.lawful; legs = rows_within _; moments = are_points _ }) c.ended-ended.ensures.kept ((c.ended-ended.ensures.kept).finished complete)
+
+pub returns-clause-last : goal.returns-clause-last
+returns-clause-last g c = c.ended-ended.ensures.kept.registers 0

@@ -1,10 +1,10 @@
 use Rattle.std.proofs.Common.{◌<◌, ◌^◌, arith, sym, ◌∙◌}
 use Rattle.rept_reason.specs.declared.fact.Cell.TheVariants.{Byte}
+use Rattle.rept_report.proofs.OneThread.{rows_within, are_points}
 use Rattle.rept_analysis.specs.State.{State, state_of}
 use Rattle.rept_analysis.proofs.Answering.{byte_known, byte_implied, implied_answers, answers_derived}
 use Rattle.rept_analysis.proofs.Refining.{closure_holds}
 use Rattle.rept_analysis.proofs.Stopping.{byte_answered}
-use Rattle.rept_report.proofs.OneThread.{rows_within, are_points}
 use Rattle.rept_report.specs.Why.{fact_of}
 use Rattle.rept_analysis.proofs.analysis.Analysis.byte.Goals as goal
 
@@ -43,14 +43,14 @@ pub returns-in-None-clause-ended : goal.returns-in-None-clause-ended
 returns-in-None-clause-ended g c = λ complete.
     let s : State g.row.W.Denot = state_of g.W.Partial.sets g.W.Transfer.moves g.R.RowRules.rules g.B.ByteFacts.store c.args.self.now in
     let settled = ((c.ended.ensures.kept).finished complete).settled in
-    c.implied.ensures ∙ implied_answers s settled c.args.point c.args.a ∙ byte_implied s settled c.args.point c.args.a (sym c.known_byte.ensures ∙ c.in-None.is)
+    c.implied.ensures ∙ implied_answers s settled c.args.point c.args.a ∙ byte_implied s settled (record { sets = g.met.W.Partial.lawful; moves = g.met.W.Transfer.covers; rules = g.met.R.RowRules.lawful; legs = rows_within _; moments = are_points _ }) c.args.point c.args.a (sym c.known_byte.ensures ∙ c.in-None.is)
 
 pub returns-in-None-clause-derived : goal.returns-in-None-clause-derived
 returns-in-None-clause-derived g c = λ v e.
     let s : State g.row.W.Denot = state_of g.W.Partial.sets g.W.Transfer.moves g.R.RowRules.rules g.B.ByteFacts.store c.args.self.now in
     let complete = sym c.ended.ensures.value ∙ c.if-not-ended.false in
     let finished = (c.ended.ensures.kept).finished complete in
-    let is = c.implied.ensures ∙ implied_answers s finished.settled c.args.point c.args.a ∙ byte_implied s finished.settled c.args.point c.args.a (sym c.known_byte.ensures ∙ c.in-None.is) in
+    let is = c.implied.ensures ∙ implied_answers s finished.settled c.args.point c.args.a ∙ byte_implied s finished.settled (record { sets = g.met.W.Partial.lawful; moves = g.met.W.Transfer.covers; rules = g.met.R.RowRules.lawful; legs = rows_within _; moments = are_points _ }) c.args.point c.args.a (sym c.known_byte.ensures ∙ c.in-None.is) in
     answers_derived s finished c.args.point (Byte c.args.a) v (sym is ∙ e)
 
 pub returns-in-None-clause-sound : goal.returns-in-None-clause-sound
@@ -58,6 +58,6 @@ returns-in-None-clause-sound g c = λ v e.
     let s : State g.row.W.Denot = state_of g.W.Partial.sets g.W.Transfer.moves g.R.RowRules.rules g.B.ByteFacts.store c.args.self.now in
     let complete = sym c.ended.ensures.value ∙ c.if-not-ended.false in
     let finished = (c.ended.ensures.kept).finished complete in
-    let is = c.implied.ensures ∙ implied_answers s finished.settled c.args.point c.args.a ∙ byte_implied s finished.settled c.args.point c.args.a (sym c.known_byte.ensures ∙ c.in-None.is) in
+    let is = c.implied.ensures ∙ implied_answers s finished.settled c.args.point c.args.a ∙ byte_implied s finished.settled (record { sets = g.met.W.Partial.lawful; moves = g.met.W.Transfer.covers; rules = g.met.R.RowRules.lawful; legs = rows_within _; moments = are_points _ }) c.args.point c.args.a (sym c.known_byte.ensures ∙ c.in-None.is) in
     let derived = answers_derived s finished c.args.point (Byte c.args.a) v (sym is ∙ e) in
     closure_holds s (record { sets = g.met.W.Partial.lawful; moves = g.met.W.Transfer.covers; rules = g.met.R.RowRules.lawful; legs = rows_within _; moments = are_points _ }) (fact_of c.args.point (Byte c.args.a) v) derived

@@ -1,4 +1,4 @@
-use Rattle.std.proofs.Common.{◌≢◌, ◌<◌, ◌+◌, ℕ, length, Some, refl}
+use Rattle.std.proofs.Common.{◌≢◌, ◌<◌, ◌+◌, ℕ, Some, refl}
 use Rattle.rept_isa.specs.Operands.{written_by}
 use Rattle.rept_reason.specs.declared.fact.Cell.TheVariants.{Register}
 use Rattle.rept_analysis.specs.State.{state_of}
@@ -17,7 +17,7 @@ learn_if-requires-2-clause-follows g c =
     let kept : written_by c.args.row.now.instr ≢ Some c.args.r = c.if-not-keeps.ensures.0 refl in
     let b = state_of g.W.Partial.sets g.W.Transfer.moves g.R.RowRules.rules g.B.ByteFacts.store c.learn_if.new.self in
     let grows = c.in_ok-onward.ensures.grows in
-    let inside : c.args.i < length b.path.given.rows = rw grows.rows c.requires.inside in
+    let inside : c.args.i < b.path.given.legs.count = rw grows.count c.requires.inside in
     λ v is named in_file small. back_follows b c.args.i c.args.row.now (row_after _ b c.args.i c.args.row.now grows c.requires.row) inside c.args.r v named in_file small kept c.known-after.result c.known-after.ensures.value is
 
 pub returns-in_err-back-clause-grows : goal.returns-in_err-back-clause-grows

@@ -1,9 +1,9 @@
-use Rattle.std.proofs.Common.{◌+◌, ◌<◌, List, Some, None, length, refl, false, ap, arith}
-use Rattle.rept_isa.specs.declared.row.StepRow.{StepRow}
+use Rattle.std.proofs.Common.{◌+◌, ◌<◌, Some, None, refl, false, arith}
 use Rattle.rept_versions.specs.Facts.{Nexts}
-use Rattle.rept_analysis.specs.State.{State, state_of}
+use Rattle.rept_analysis.specs.State.{State, alone_of, state_of}
 use Rattle.rept_analysis.specs.Drawing.{IsCarriedBeside, IsCarriedAlong}
 use Rattle.rept_analysis.proofs.Drawn.{Drew_as, Drew_both, Drew_first, Drew_same, Grows_itself, Grows_trans}
+use Rattle.rept_report.proofs.Line.{is_line}
 use Rattle.rept_analysis.proofs.Listing.{IsCarriedBelow, below_beside, below_edge, below_free, below_all, nexts_none}
 use Rattle.rept_analysis.proofs.analysis.Analysis.carry_address.Goals as goal
 
@@ -17,7 +17,7 @@ returns-in_default-clause-drew g c =
     let a = c.args.a in
     let from = c.loop-from.from in
     let Q : State g.row.W.Denot → Type 0 = λ x. Nexts x.known.store.fact a from None in
-    Drew_first s t t c.loop-from.learnt false (IsCarriedBelow a from) Q (IsCarriedAlong a) (Grows_itself t) refl c.loop-from.invariant.drew (Drew_same t Q (nexts_none t.known.store.fact a from c.stretch.result c.in_default.not-Some c.stretch.ensures)) (λ p q. below_free s a from q p)
+    Drew_first s t t c.loop-from.learnt false (IsCarriedBelow a from) Q (IsCarriedAlong a) (Grows_itself t) refl c.loop-from.invariant.drew (Drew_same t Q (nexts_none t.known.store.fact a from c.stretch.result c.in_default.not-Some c.stretch.ensures)) (λ p q. below_free s (is_line (alone_of c.args.self.now)) a from q p)
 
 pub returns-then-point-rows-clause-drew : goal.returns-then-point-rows-clause-drew
 returns-then-point-rows-clause-drew g c =
@@ -28,8 +28,8 @@ returns-then-point-rows-clause-drew g c =
     let Q : State g.row.W.Denot → Type 0 = λ x. Nexts x.known.store.fact a from (Some c.in-Some.stretch) in
     let rows = c.loop-from.invariant.rows in
     let after = c.if-point-rows.true in
-    let far : length s.path.given.rows < c.edge-point.result = omega (arith, rows, after) in
-    Drew_first s t t c.loop-from.learnt false (IsCarriedBelow a from) Q (IsCarriedAlong a) (Grows_itself t) refl c.loop-from.invariant.drew (Drew_same t Q (rw c.in-Some.is at c.stretch.ensures)) (λ p q. below_edge s a from c.edge-point.result c.in-Some.stretch q c.edge-point.ensures far p)
+    let far : s.path.given.legs.count < c.edge-point.result = omega (arith, rows, after) in
+    Drew_first s t t c.loop-from.learnt false (IsCarriedBelow a from) Q (IsCarriedAlong a) (Grows_itself t) refl c.loop-from.invariant.drew (Drew_same t Q (rw c.in-Some.is at c.stretch.ensures)) (λ p q. below_edge s a from c.edge-point.result c.in-Some.stretch q c.edge-point.ensures (is_line (alone_of c.args.self.now)) far p)
 
 pub returns-in_err-beside-clause-grows : goal.returns-in_err-beside-clause-grows
 returns-in_err-beside-clause-grows g c = Grows_trans _ _ _ c.loop-from.invariant.grows c.carry_beside.ensures.grows
@@ -47,7 +47,7 @@ loop-from-preserved g c =
     let e = c.in_ok-beside.ensures in
     let P : State g.row.W.Denot → Type 0 = λ x. Nexts x.known.store.fact a from (Some c.in-Some.stretch) × IsCarriedBeside a point to x in
     let rows = i.rows in
-    let same = ap (λ (xs : List StepRow). length xs) i.grows.rows in
+    let same = i.grows.count in
     let onward = e.onward.1 in
     record {
       grows = Grows_trans s t u i.grows e.grows;
@@ -64,5 +64,5 @@ returns-clause-drew g c =
     let t = state_of g.W.Partial.sets g.W.Transfer.moves g.R.RowRules.rules g.B.ByteFacts.store c.loop-from.self in
     let rows = c.loop-from.invariant.rows in
     let ended = c.loop-from-test.false in
-    let far : length s.path.given.rows < c.loop-from.from = omega (arith, rows, ended) in
-    Drew_as s t c.loop-from.learnt (IsCarriedBelow c.args.a c.loop-from.from) (IsCarriedAlong c.args.a) c.loop-from.invariant.drew (λ p. below_all s c.args.a c.loop-from.from far p)
+    let far : s.path.given.legs.count < c.loop-from.from = omega (arith, rows, ended) in
+    Drew_as s t c.loop-from.learnt (IsCarriedBelow c.args.a c.loop-from.from) (IsCarriedAlong c.args.a) c.loop-from.invariant.drew (λ p. below_all s (is_line (alone_of c.args.self.now)) c.args.a c.loop-from.from far p)

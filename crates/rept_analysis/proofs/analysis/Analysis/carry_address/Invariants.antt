@@ -1,4 +1,4 @@
-use Rattle.std.proofs.Common.{◌≡◌, ◌+◌, ◌-◌, ◌≤◌, length}
+use Rattle.std.proofs.Common.{◌≡◌, ◌+◌, ◌-◌, ◌≤◌}
 use Rattle.rept_analysis.specs.State.{state_of}
 use Rattle.rept_analysis.specs.Drawing.{Grows, Drew}
 use Rattle.rept_analysis.proofs.Listing.{IsCarriedBelow}
@@ -10,7 +10,7 @@ invariant-loop-from g l =
     record {
       grows : Grows (st l.fn.self) (st l.self);
       drew : Drew (st l.fn.self) (st l.self) l.learnt (IsCarriedBelow l.a l.from);
-      rows : l.rows ≡ length (st l.fn.self).path.given.rows;
+      rows : l.rows ≡ (st l.fn.self).path.given.legs.count;
       near : l.from ≤ l.rows + 1;
     }
 

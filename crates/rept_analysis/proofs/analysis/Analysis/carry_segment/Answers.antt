@@ -3,7 +3,7 @@ use Rattle.rept_reason.specs.declared.fact.Cell.TheVariants.{Byte}
 use Rattle.rept_analysis.specs.State.{state_of}
 use Rattle.rept_analysis.specs.Drawing.{IsSpreadTo, IsCarriedFrom}
 use Rattle.rept_analysis.proofs.Drawn.{Drew_both, Drew_same, Grows_trans}
-use Rattle.rept_analysis.proofs.Spreading.{next_value, next_at, segment_spread, segment_covered, spared_after, spared_down}
+use Rattle.rept_analysis.proofs.Spreading.{next_value, next_at, segment_spread, segment_covered, bridged_after, spared_down}
 use Rattle.rept_report.proofs.OneThread.{rows_within, are_points}
 use Rattle.rept_analysis.proofs.analysis.Analysis.carry_segment.Goals as goal
 
@@ -34,4 +34,4 @@ spread-requires-in-Some-clause-spared g c =
     let s = (state_of g.W.Partial.sets g.W.Transfer.moves g.R.RowRules.rules g.B.ByteFacts.store c.args.self.now) in
     let t = state_of g.W.Partial.sets g.W.Transfer.moves g.R.RowRules.rules g.B.ByteFacts.store c.spread.new.self in
     let ordered = next_at c.args.from c.args.to c.max-at.result c.in-Some.stretch.first c.requires.order c.if-to-stretch.false c.max-at.ensures in
-    λ i between. spared_after s t (record { sets = g.met.W.Partial.lawful; moves = g.met.W.Transfer.covers; rules = g.met.R.RowRules.lawful; legs = rows_within _; moments = are_points _ }) c.held.ensures c.in_ok-right-in-Some.ensures.grows i c.args.a (omega arith) (spared_down s c.args.from c.args.to c.max-at.result c.args.a ordered.0 ordered.1 c.requires.spared i between)
+    λ i between. bridged_after s t (record { sets = g.met.W.Partial.lawful; moves = g.met.W.Transfer.covers; rules = g.met.R.RowRules.lawful; legs = rows_within _; moments = are_points _ }) c.held.ensures c.in_ok-right-in-Some.ensures.grows i c.args.a (omega arith) (spared_down s c.args.from c.args.to c.max-at.result c.args.a ordered.0 ordered.1 c.requires.spared i between)

@@ -14,10 +14,10 @@ loop-r-preserved g c =
       grows = Grows_trans _ _ _ c.loop-r.invariant.grows c.in_ok-new.ensures.grows;
       drew = Drew_both _ _ _ c.loop-r.learnt c.in_ok-new.new (LastKnownBelow c.loop-r.r) (LastKnown c.loop-r.r) (LastKnownBelow (c.loop-r.r + 1))
           c.loop-r.invariant.grows c.in_ok-new.ensures.grows c.loop-r.invariant.drew here
-          (λ below at_r r v named inside is. one_more (λ s. LastKnown s (state_of g.W.Partial.sets g.W.Transfer.moves g.R.RowRules.rules g.B.ByteFacts.store c.args.self.now)) c.loop-r.r (λ s lt w n k. below s w n lt k) at_r r inside v named is);
+          (λ below at_r r inside. one_more (λ s. LastKnown s (state_of g.W.Partial.sets g.W.Transfer.moves g.R.RowRules.rules g.B.ByteFacts.store c.args.self.now)) c.loop-r.r below at_r r inside);
     }
 
 pub returns-clause-drew : goal.returns-clause-drew
 returns-clause-drew g c =
     let passed : 32 ≤ c.loop-r.r = omega arith in
-    Drew_as _ _ c.loop-r.learnt (LastKnownBelow c.loop-r.r) (LastKnownBelow 32) c.loop-r.invariant.drew (λ h r v named inside is. h r v named (omega (arith, passed, inside)) is)
+    Drew_as _ _ c.loop-r.learnt (LastKnownBelow c.loop-r.r) (LastKnownBelow 32) c.loop-r.invariant.drew (λ h r inside. h r (omega (arith, passed, inside)))

@@ -1,4 +1,4 @@
-use Rattle.std.proofs.Common.{◌≡◌, length}
+use Rattle.std.proofs.Common.{◌≡◌}
 use Rattle.rept_analysis.specs.State.{state_of}
 use Rattle.rept_analysis.specs.Drawing.{Grows, Drew, SinglesBelow}
 use Rattle.rept_analysis.proofs.analysis.Analysis.draw_singles.Given as goal
@@ -9,5 +9,5 @@ invariant-loop-point g l =
     record {
       grows : Grows (st l.fn.self) (st l.self);
       drew : Drew (st l.fn.self) (st l.self) l.learnt (SinglesBelow l.point);
-      count : l.count ≡ length (st l.fn.self).path.given.rows;
+      count : l.count ≡ (st l.fn.self).path.given.legs.count;
     }

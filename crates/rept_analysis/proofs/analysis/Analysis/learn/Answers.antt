@@ -1,7 +1,7 @@
 use Rattle.std.proofs.Common.{◌<◌, ◌^◌, arith}
 use Rattle.rept_reason.specs.declared.fact.Cell.TheVariants.{Register}
 use Rattle.rept_analysis.specs.Drawing.{Knows}
-use Rattle.rept_analysis.proofs.Drawn.{Drew_new, clash_found}
+use Rattle.rept_analysis.proofs.Drawn.{Grows_same, Drew_new, clash_found}
 use Rattle.rept_analysis.proofs.analysis.Analysis.learn.Goals as goal
 
 pub returns-in-New-clause-drew : goal.returns-in-New-clause-drew
@@ -14,3 +14,13 @@ returns-in-Clash-clause-halt g c =
     let told = rw c.in-Clash.is at c.tell.ensures in
     let small : c.args.value < 2 ^ 32 = omega arith in
     clash_found _ _ c.args.point (Register c.args.r) c.in-Clash.known c.args.value told.0 told.1 told.2 (c.requires.follows small)
+
+pub returns-in-Old-clause-grows : goal.returns-in-Old-clause-grows
+returns-in-Old-clause-grows g c =
+    let told = rw c.in-Old.is at c.tell.ensures in
+    Grows_same _ _ told.0
+
+pub returns-in-Clash-clause-grows : goal.returns-in-Clash-clause-grows
+returns-in-Clash-clause-grows g c =
+    let told = rw c.in-Clash.is at c.tell.ensures in
+    Grows_same _ _ told.0

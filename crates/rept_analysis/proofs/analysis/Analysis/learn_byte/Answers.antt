@@ -1,6 +1,6 @@
 use Rattle.rept_reason.specs.declared.fact.Cell.TheVariants.{Byte}
 use Rattle.rept_analysis.specs.Drawing.{Knows}
-use Rattle.rept_analysis.proofs.Drawn.{Drew_new, clash_found}
+use Rattle.rept_analysis.proofs.Drawn.{Grows_same, Drew_new, clash_found}
 use Rattle.rept_analysis.proofs.analysis.Analysis.learn_byte.Goals as goal
 
 pub returns-in-Ok-New-clause-drew : goal.returns-in-Ok-New-clause-drew
@@ -11,3 +11,16 @@ pub returns-in-Ok-Clash-clause-halt : goal.returns-in-Ok-Clash-clause-halt
 returns-in-Ok-Clash-clause-halt g c =
     let told = rw c.in-Ok-Clash.field-0-is at c.in-Ok-Clash.ensures in
     clash_found _ _ c.args.point (Byte c.args.a) c.in-Ok-Clash.known c.args.value told.0 told.1 told.2 c.requires.follows
+
+pub returns-in-Err-clause-grows : goal.returns-in-Err-clause-grows
+returns-in-Err-clause-grows g c = Grows_same _ _ c.in-Err.ensures.0
+
+pub returns-in-Ok-Old-clause-grows : goal.returns-in-Ok-Old-clause-grows
+returns-in-Ok-Old-clause-grows g c =
+    let told = rw c.in-Ok-Old.field-0-is at c.in-Ok-Old.ensures in
+    Grows_same _ _ told.0
+
+pub returns-in-Ok-Clash-clause-grows : goal.returns-in-Ok-Clash-clause-grows
+returns-in-Ok-Clash-clause-grows g c =
+    let told = rw c.in-Ok-Clash.field-0-is at c.in-Ok-Clash.ensures in
+    Grows_same _ _ told.0

@@ -1,4 +1,4 @@
-use Rattle.std.proofs.Common.{◌<◌, ◌≤◌, ◌^◌, length, sym, arith, ◌∙◌}
+use Rattle.std.proofs.Common.{◌<◌, ◌≤◌, ◌^◌, sym, arith, ◌∙◌}
 use Rattle.rept_reason.specs.declared.fact.Cell.TheVariants.{Byte}
 use Rattle.rept_analysis.specs.State.{state_of}
 use Rattle.rept_analysis.specs.Drawing.{Knows, LastByteKnown}
@@ -11,7 +11,7 @@ learn_byte-requires-clause-follows g c =
     let s = state_of g.W.Partial.sets g.W.Transfer.moves g.R.RowRules.rules g.B.ByteFacts.store c.args.self.now in
     let small : c.args.a < 2 ^ 32 = omega arith in
     let n = c.count-point.ensures.value in
-    let early : c.count-point.result ≤ length s.path.given.rows = omega (arith, n) in
+    let early : c.count-point.result ≤ s.path.given.moments.end = omega (arith, n) in
     brought_follows s c.count-point.result c.args.a c.in-Some.v early small (last_byte_brought s c.count-point.result c.args.a c.in-Some.v n (sym c.requires.byte ∙ c.in-Some.is))
 
 pub learn_byte-requires-clause-brought : goal.learn_byte-requires-clause-brought

@@ -2,6 +2,7 @@ use Rattle.std.proofs.Common.{◌≡◌, ◌∙◌, ap, set}
 use Rattle.rept_writing.specs.declared.list.Writing.{Writing}
 use Rattle.rept_analysis.specs.State.{Whole, state_of, with_writing}
 use Rattle.rept_analysis.proofs.Barriers.{anew_grows}
+use Rattle.rept_analysis.proofs.Drawn.{Grows_same}
 use Rattle.rept_analysis.proofs.analysis.Analysis.list_anew.Goals as goal
 
 pub returns-then-put-clause-grows : goal.returns-then-put-clause-grows
@@ -13,3 +14,6 @@ returns-then-put-clause-grows g c =
     let put = c.put_writing-put.ensures.put c.if-put.true in
     let is : t ≡ with_writing s (set s.work.writing c.args.k w) = c.renew_index.ensures ∙ noted ∙ put in
     anew_grows s t c.args.k w c.requires.within c.requires.listed c.access_now-access.ensures is
+
+pub returns-else-put-clause-grows : goal.returns-else-put-clause-grows
+returns-else-put-clause-grows g c = Grows_same _ _ (c.put_writing-put.ensures.same c.if-put.false)

@@ -20,7 +20,7 @@ loop-i-preserved g c = record {
 
 pub returns-clause-listed : goal.returns-clause-listed
 returns-clause-listed g c =
-    let rows = ap (λ (x : State g.row.W.Denot). length x.path.given.rows) c.loop-i.invariant.same in
+    let rows = ap (λ (x : State g.row.W.Denot). x.path.given.legs.count) c.loop-i.invariant.same in
     let count = c.loop-i.invariant.count in
     let all : c.loop-i.i ≡ length c.loop-i.self.rows = omega (arith, rows, count) in
     let listed = subst (λ (n : ℕ). AreWritingsBefore n c.loop-i.self.work.writing (state_of g.W.Partial.sets g.W.Transfer.moves g.R.RowRules.rules g.B.ByteFacts.store c.args.self.now)) all c.loop-i.invariant.listed in
@@ -35,7 +35,7 @@ returns-clause-listed g c =
 
 pub returns-clause-exact : goal.returns-clause-exact
 returns-clause-exact g c =
-    let rows = ap (λ (x : State g.row.W.Denot). length x.path.given.rows) c.loop-i.invariant.same in
+    let rows = ap (λ (x : State g.row.W.Denot). x.path.given.legs.count) c.loop-i.invariant.same in
     let count = c.loop-i.invariant.count in
     let all : c.loop-i.i ≡ length c.loop-i.self.rows = omega (arith, rows, count) in
     let s = state_of g.W.Partial.sets g.W.Transfer.moves g.R.RowRules.rules g.B.ByteFacts.store c.args.self.now in

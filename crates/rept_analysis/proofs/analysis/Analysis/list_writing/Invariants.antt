@@ -10,5 +10,5 @@ invariant-loop-i g l =
       same : st l.self ≡ with_writing (st l.fn.self) (st l.self).work.writing;
       room : length (st l.self).work.writing ≤ l.i;
       listed : AreWritingsBefore l.i (st l.self).work.writing (st l.fn.self);
-      count : l.count ≡ length (st l.fn.self).path.given.rows;
+      count : l.count ≡ (st l.fn.self).path.given.legs.count;
     }

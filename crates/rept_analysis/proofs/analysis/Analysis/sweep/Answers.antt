@@ -1,4 +1,4 @@
-use Rattle.std.proofs.Common.{Bool, subst, arith}
+use Rattle.std.proofs.Common.{Bool, subst}
 use Rattle.rept_analysis.specs.State.{State, state_of}
 use Rattle.rept_analysis.specs.Drawing.{Drew, LastKnownBelow, LastBytesKnown, RowsClosed, AllCarried, SinglesKnown, IsDrawnAll}
 use Rattle.rept_analysis.proofs.Drawn.{Drew_both, Drew_loud, Grows_trans}
@@ -27,4 +27,4 @@ returns-clause-drew g c =
     let b = state_of g.W.Partial.sets g.W.Transfer.moves g.R.RowRules.rules g.B.ByteFacts.store c.sweep_fresh.new.self in
     let d = state_of g.W.Partial.sets g.W.Transfer.moves g.R.RowRules.rules g.B.ByteFacts.store c.draw_back.new.self in
     let P : State g.row.W.Denot → Type 0 = λ x. LastKnownBelow 32 x × AllCarried x × LastBytesKnown x × SinglesKnown x in
-    Drew_both a b d c.in_ok-fresh.fresh c.in_ok-rows.rows P RowsClosed IsDrawnAll c.in_ok-fresh.ensures.grows c.in_ok-rows.ensures.grows c.in_ok-fresh.ensures.drew c.in_ok-rows.ensures.drew (λ p q. record { last = p.0; rows = q; bytes = p.2; carried = λ x i at lt. p.1 x at c.requires.exact i (omega arith) lt; singles = p.3 })
+    Drew_both a b d c.in_ok-fresh.fresh c.in_ok-rows.rows P RowsClosed IsDrawnAll c.in_ok-fresh.ensures.grows c.in_ok-rows.ensures.grows c.in_ok-fresh.ensures.drew c.in_ok-rows.ensures.drew (λ p q. record { last = p.0; rows = q; bytes = p.2; carried = λ x m w at. p.1 x at c.requires.exact m w; singles = p.3 })

@@ -1,7 +1,7 @@
 use Rattle.std.proofs.Common.{true}
 use Rattle.rept_analysis.specs.State.{State, state_of}
 use Rattle.rept_analysis.specs.Drawing.{IsTracked}
-use Rattle.rept_analysis.proofs.Drawn.{Drew_new, Drew_both, Grows_trans}
+use Rattle.rept_analysis.proofs.Drawn.{Drew_new, Drew_both, Grows_same, Grows_trans}
 use Rattle.rept_analysis.proofs.Listing.{writings_after}
 use Rattle.rept_analysis.proofs.analysis.Analysis.track_one.Goals as goal
 
@@ -26,3 +26,9 @@ returns-in_ok-_told-in-Ok-true-clause-drew g c =
 
 pub returns-in_ok-_told-in-Ok-true-clause-tracked : goal.returns-in_ok-_told-in-Ok-true-clause-tracked
 returns-in_ok-_told-in-Ok-true-clause-tracked g c = let told = rw c.in-Ok-true.field-0-test at c.in-Ok-true.ensures in c.in_ok-_told-in-Ok-true.ensures.grows.tracked c.args.a told.2
+
+pub returns-in-Ok-false-clause-grows : goal.returns-in-Ok-false-clause-grows
+returns-in-Ok-false-clause-grows g c = let told = rw c.in-Ok-false.field-0-test at c.in-Ok-false.ensures in Grows_same _ _ told.0
+
+pub returns-in-Err-clause-grows : goal.returns-in-Err-clause-grows
+returns-in-Err-clause-grows g c = Grows_same _ _ c.in-Err.ensures.0

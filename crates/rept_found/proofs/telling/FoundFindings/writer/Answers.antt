@@ -2,13 +2,13 @@ use Rattle.std.proofs.Common.{subst}
 use Rattle.rept_report.specs.Spots.{spot}
 use Rattle.rept_report.specs.Writers.{IsWriter}
 use Rattle.rept_analysis.specs.Kept.{answers}
-use Rattle.rept_analysis.specs.State.{along}
+use Rattle.rept_report.specs.OneThread.{along}
 use Rattle.rept_found.specs.Crash.{means}
-use Rattle.rept_found.specs.View.{View, state_in}
+use Rattle.rept_found.specs.View.{View, state_in, path_in}
 use Rattle.rept_found.proofs.Tellings.{writer_is}
 use Rattle.rept_found.proofs.telling.FoundFindings.writer.Goals as goal
 
 pub returns : goal.returns
 returns g c =
-    writer_is (state_in (means g.W.Partial.sets g.W.Transfer.moves g.R.RowRules.rules) c.args.self.now).path (answers (state_in (means g.W.Partial.sets g.W.Transfer.moves g.R.RowRules.rules) c.args.self.now)) c.args.moment c.args.address c.writer.result
-    (subst (λ (v : View g.row.W.Denot g.row.R.Denot). IsWriter (along (state_in (means g.W.Partial.sets g.W.Transfer.moves g.R.RowRules.rules) v).path) (answers (state_in (means g.W.Partial.sets g.W.Transfer.moves g.R.RowRules.rules) v)) (spot c.args.moment c.args.address) c.writer.result) c.self.view_is (c.writer.ensures.ended c.self.invariant.0))
+    writer_is (path_in (means g.W.Partial.sets g.W.Transfer.moves g.R.RowRules.rules) c.args.self.now) (answers (state_in (means g.W.Partial.sets g.W.Transfer.moves g.R.RowRules.rules) c.args.self.now)) c.args.moment c.args.address c.writer.result
+    (subst (λ (v : View g.row.W.Denot g.row.R.Denot). IsWriter (along (path_in (means g.W.Partial.sets g.W.Transfer.moves g.R.RowRules.rules) v)) (answers (state_in (means g.W.Partial.sets g.W.Transfer.moves g.R.RowRules.rules) v)) (spot c.args.moment c.args.address) c.writer.result) c.self.view_is (c.writer.ensures.ended c.self.invariant.0))
