@@ -1,0 +1,81 @@
+//! One path, of which each row is traced: its moments are its points.
+
+ghost use Rattle.std.specs.Prelude.{◌≡◌, ◌≤◌, length};
+
+use rept_isa::StepRow;
+use rept_report::Paths;
+
+/// The rows of one thread, of which each is traced, at most 65,536: the moments of its memory are its points. This project's own.
+#[derive(Clone, Copy)]
+pub struct OnePath<'a> {
+    rows: &'a [StepRow],
+    ghost few: { length rows.now ≤ 65536 },
+}
+
+impl<'a> OnePath<'a> {
+    /// The path of these rows.
+    pub fn new(rows: &'a [StepRow]) -> OnePath<'a>
+        requires { length rows.now ≤ 65536 }
+        ensures { result.rows.now ≡ rows.now }
+    {
+        OnePath { rows }
+    }
+}
+
+impl<'a> Paths for OnePath<'a> {
+    ghost use Rattle.rept_report.specs.Timeline.{time_alone};
+    ghost use Rattle.rept_line.specs.Lawful.{is_timeline};
+
+    ghost timeline = { λ p. time_alone p.rows.now };
+
+    ghost lawful = { λ p. is_timeline p.rows.now p.few };
+
+    fn last_point(&self) -> u32 {
+        self.rows.len() as u32
+    }
+
+    fn row(&self, point: u32) -> Option<StepRow> {
+        self.rows.get(point as usize).copied()
+    }
+
+    fn end(&self) -> u32 {
+        self.rows.len() as u32
+    }
+
+    fn before(&self, row: u32) -> u32 {
+        row
+    }
+
+    fn after(&self, row: u32) -> u32 {
+        row + 1
+    }
+
+    fn moment_at(&self, point: u32) -> u32 {
+        point
+    }
+
+    fn next_from(&self, number: u32, least: u32) -> Option<u32> {
+        let end = self.rows.len() as u32;
+        if number < end && least <= number + 1 {
+            Some(number + 1)
+        } else {
+            None
+        }
+    }
+
+    fn former_from(&self, number: u32, least: u32) -> Option<u32> {
+        if 0 < number && least < number {
+            Some(number - 1)
+        } else {
+            None
+        }
+    }
+
+    fn falling_from(&self, number: u32, _next: u32, least: u32) -> Option<u32> {
+        if least <= number { Some(number) } else { None }
+    }
+
+    fn is_dark_between(&self, _number: u32, _next: u32) -> bool {
+        false
+    }
+}

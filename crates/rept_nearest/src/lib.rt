@@ -1,0 +1,11 @@
+//! The nearest of many linked numbers that has a value.
+#![tactic(auto)]
+
+pub mod found;
+pub mod net;
+mod reach;
+pub mod search;
+
+pub use found::Found;
+pub use net::Net;
+pub use search::nearest;
