@@ -2,3 +2,4 @@ pub mod Linking
 pub mod Carrying
 pub mod Sparing
 pub mod Keeping
+pub mod Lining

@@ -1,3 +1,4 @@
 pub mod Links
 pub mod Course
 pub mod Passing
+pub mod Lines

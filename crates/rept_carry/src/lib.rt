@@ -2,9 +2,11 @@
 #![tactic(auto)]
 
 pub mod laws;
+mod lines;
 mod links;
 mod passing;
 mod ways;
 
 pub use laws::what_passes_is_carried;
+pub use lines::{Line, Lines};
 pub use ways::Ways;

@@ -1,6 +1,6 @@
 -- Which number is next to one, of one thread, and what an answer from a number on says of that number.
-use Rattle.std.proofs.Common.{◌≡◌, ◌≢◌, ℕ, ◌+◌, ◌<◌, ◌≤◌, ◌&&◌, eqb, nat_lt, Bool, true, false, Option, Some, None, inl, inr, refl, sym, ap, ◌∙◌, arith}
-use Rattle.std.proofs.lemmas.Bool.{false≢true, cases_eq, and_parts, and_from, eq-eqb, ne_eqb, eqb-true, lt-ltb, ltb-true}
+use Rattle.std.proofs.Common.{◌≡◌, ℕ, ◌+◌, ◌<◌, ◌≤◌, eqb, nat_lt, Bool, true, false, Some, None, inl, inr, refl, sym, ap, ◌∙◌, arith}
+use Rattle.std.proofs.lemmas.Bool.{cases_eq, and_parts, and_from, eq-eqb, ne_eqb, eqb-true, lt-ltb, ltb-true}
 use Rattle.rept_report.specs.Moments.{Moments, points_of}
 use Rattle.rept_moments.specs.Seen.{IsNextFrom}
 

@@ -24,7 +24,8 @@ use Rattle.rept_moments.specs.Numbers.{numbers_of, numbered}
 use Rattle.rept_moments.specs.Numbering.{at_place, Numbered}
 use Rattle.rept_moments.specs.Tables.{moments_at}
 use Rattle.rept_moments.specs.Between.{own_to, IsOwn, IsBetween}
-use Rattle.rept_moments.proofs.Places.{row_there, point_of_row, row_point}
+use Rattle.rept_moments.specs.Seen.{seen_many, IsRowAt}
+use Rattle.rept_moments.proofs.Places.{row_there, there_row, point_of_row, row_point}
 use Rattle.rept_moments.proofs.Listing.{at_row}
 use Rattle.rept_moments.proofs.Numbering.{count_same}
 use Rattle.rept_moments.proofs.Told.{told_is}
@@ -77,6 +78,14 @@ module _ (C : Course) (sound : IsSound C) where
         | inr one ↦ absurd (no_pause C (row_on C i) ((numbers_of C).last ((numbers_of C).name (before (row_on C i)))) (stretch (before (row_on C i)) ((numbers_of C).last ((numbers_of C).name (before (row_on C i))))) refl one.pause)
       ]
 
+  -- so is that of a row that may be a call
+  row_last : (m i : ℕ) → is_some (leg_row C i) ≡ true → (numbers_of C).name (before (row_on C i)) ≡ m → before (row_on C i) ≡ (numbers_of C).last m
+  row_last m i there its =
+      elim (names.own (before (row_on C i)) (there_row C (row_on C i) there)) [
+        | inl same ↦ same ∙ ap (numbers_of C).last its
+        | inr one ↦ absurd (no_pause C (row_on C i) ((numbers_of C).last ((numbers_of C).name (before (row_on C i)))) (stretch (before (row_on C i)) ((numbers_of C).last ((numbers_of C).name (before (row_on C i))))) refl one.pause)
+      ]
+
   module _ (n : Numbered) (kept : moments_at C n.list ≡ lasts C (in_order C)) (m : ℕ) where
     module _ (s : Side) (e : at_place n.list m ≡ Some s) where
       placed : (numbers_of C).last m ≡ moment_at C s
@@ -118,8 +127,25 @@ module _ (C : Course) (sound : IsSound C) where
               let last : (numbers_of C).name (after (row_on C s.point)) ≡ w = subst (λ (q : Row). (numbers_of C).name (after q) ≡ w) same own.after in
               false≢true (sym t ∙ and_from (not (calls C (row_on C s.point))) (eqb ((numbers_of C).name (after (row_on C s.point))) w) (ap not plain) (eq-eqb ((numbers_of C).name (after (row_on C s.point))) w last))
 
+      pub row_here : s.is_after ≡ false → IsRowAt (seen_many C) m (Some s.point)
+      row_here is = (leads_placed, ap (numbers_of C).name (sym own_moment) ∙ name_placed, only)
+        where
+          own_moment : moment_at C s ≡ before (row_on C s.point)
+          own_moment = ap (beside_by (row_on C s.point)) is
+
+          only : (j : ℕ) → is_some (leg_row C j) ≡ true → (numbers_of C).name (before (row_on C j)) ≡ m → j ≡ s.point
+          only j there its =
+              let same : row_on C j ≡ row_on C s.point = before_same (row_last m j there its ∙ placed ∙ own_moment) in
+              sym (number_point C j) ∙ ap (λ (r : Row). number_of C r.thread r.step) same ∙ number_point C s.point
+
+      pub no_row_after : s.is_after ≡ true → IsRowAt (seen_many C) m None
+      no_row_after is i there its = before_after (row_last m i there its ∙ placed ∙ ap (beside_by (row_on C s.point)) is)
+
       pub between_after : (w : ℕ) → s.is_after ≡ true → IsBetween C m w None
       between_after w is i own = before_after (own_last m w i own ∙ placed ∙ ap (beside_by (row_on C s.point)) is)
+
+    pub no_row_end : at_place n.list m ≡ None → IsRowAt (seen_many C) m None
+    no_row_end e i there its = before_end (row_last m i there its ∙ sym (told_is C C n m None at_end refl kept (sym e) refl))
 
     pub between_end : (w : ℕ) → at_place n.list m ≡ None → IsBetween C m w None
     between_end w e i own = before_end (own_last m w i own ∙ sym (told_is C C n m None at_end refl kept (sym e) refl))

@@ -1,7 +1,7 @@
 -- To which moments one is next: of each thread the last earlier one, where no other thread's last earlier one is later than it.
 use Rattle.std.proofs.Common.{◌≡◌, ℕ, ◌⊎◌, Option, Some, None, inl, inr, refl, sym, ap, subst}
 use Rattle.rept_steps.specs.Course.{Course, IsSound}
-use Rattle.rept_order.specs.Moments.{Moment, IsMoment, NotLater, Earlier, IsNext}
+use Rattle.rept_order.specs.Moments.{Moment, IsMoment, Earlier, IsNext}
 use Rattle.rept_order.specs.Moments.Moment.{before, after, at_end}
 use Rattle.rept_order.proofs.Nexts.{earlier_trans}
 use Rattle.rept_moments.proofs.Nearest.{InThread}

@@ -1,5 +1,5 @@
 -- The moments of a thread come one after the other, so the first one later than another moment is found by halves.
-use Rattle.std.proofs.Common.{◌≡◌, ◌≢◌, ℕ, zero, suc, ◌+◌, ◌-◌, ◌*◌, ◌/◌, ◌%◌, ◌<◌, ◌≤◌, ◌⊎◌, eqb, cond, Bool, true, false, length, Option, Some, None, inl, inr, refl, sym, ap, ◌∙◌, subst, arith}
+use Rattle.std.proofs.Common.{◌≡◌, ◌≢◌, ℕ, zero, suc, ◌+◌, ◌*◌, ◌/◌, ◌%◌, ◌<◌, ◌≤◌, ◌⊎◌, eqb, cond, Bool, true, false, length, Option, Some, None, inl, inr, refl, sym, ap, ◌∙◌, subst, arith}
 use Rattle.std.proofs.lemmas.Bool.{false≢true, cases_Bool, cases_lt, cases_order, eq-eqb, ne_eqb}
 use Rattle.rept_steps.specs.Course.{Course, Row, row_of, rows_of, IsRow, IsSound}
 use Rattle.rept_order.specs.Moments.{Moment, IsMoment, Earlier}
@@ -16,7 +16,7 @@ use Rattle.rept_moments.specs.Ordering.{side, moment_at}
 use Rattle.rept_moments.specs.Halves.{side_of}
 use Rattle.rept_moments.specs.Nexts.{later_in, first_later}
 use Rattle.rept_moments.proofs.Listing.{row_at_side}
-use Rattle.rept_moments.proofs.Nearest.{InThread, IsFirst, FirstIs}
+use Rattle.rept_moments.proofs.Nearest.{InThread, FirstIs}
 use Rattle.rept_moments.proofs.Sooner.{rows_apart, row_apart}
 
 not_so : (b : Bool) → (b ≡ true → ⊥) → b ≡ false

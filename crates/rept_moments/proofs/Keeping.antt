@@ -1,5 +1,5 @@
 -- An event's slice doesn't end before it begins.
-use Rattle.std.proofs.Common.{◌≡◌, ℕ, ◌+◌, ◌≤◌, nat_lt, cond, Bool, true, false, List, [], ◌∷◌, Option, Some, None, inl, inr, refl, sym, ap, ◌∙◌, subst}
+use Rattle.std.proofs.Common.{◌≡◌, ℕ, ◌+◌, ◌≤◌, nat_lt, cond, Bool, List, [], ◌∷◌, Option, Some, None, inl, inr, sym, ap, ◌∙◌, subst}
 use Rattle.std.proofs.lemmas.Bool.{cases_Bool}
 use Rattle.rept_steps.specs.declared.slice.Slice.{Slice}
 use Rattle.rept_steps.specs.Course.{Course, slices_of, slice_of, first_slice, slice_after, KeepTime, IsSound}

@@ -17,3 +17,4 @@ pub mod Neighbours
 pub mod Offering
 pub mod Alone
 pub mod Former
+pub mod Standing

@@ -1,6 +1,6 @@
 -- Which moments are next to one: of each thread the first later one, where no other thread's first later one is earlier than it.
-use Rattle.std.proofs.Common.{◌≡◌, ◌≢◌, ℕ, ◌⊎◌, Option, Some, None, inl, inr, refl, sym, ap, ◌∙◌, subst}
-use Rattle.rept_steps.specs.Course.{Course, Row, IsSound}
+use Rattle.std.proofs.Common.{◌≡◌, ◌≢◌, ℕ, ◌⊎◌, Option, Some, None, inl, inr, refl, sym, ap, subst}
+use Rattle.rept_steps.specs.Course.{Course, IsSound}
 use Rattle.rept_order.specs.Moments.{Moment, IsMoment, NotLater, Earlier, IsNext}
 use Rattle.rept_order.specs.Moments.Moment.{before, after, at_end}
 use Rattle.rept_order.proofs.Nexts.{earlier_trans}

@@ -1,22 +1,22 @@
 -- The numbers that are offered are those that are next to a number.
 use Rattle.std.proofs.Common.{◌≡◌, ◌≢◌, ℕ, zero, suc, ◌+◌, ◌<◌, ◌≤◌, ◌⊎◌, ◌&&◌, ◌||◌, eqb, nat_lt, nat_le, cond, Bool, true, false, List, [], ◌∷◌, ◌++◌, length, Option, Some, None, inl, inr, refl, sym, ap, ◌∙◌, subst, arith}
 use Rattle.std.specs.Option.{is_some}
-use Rattle.std.proofs.lemmas.Bool.{false≢true, cases_Bool, cases_lt, cases_eq, and_from, eq-eqb, ne_eqb, eqb-true, lt-ltb, le-ltb, ltb-true, ltb-false, leb-true, le-leb}
+use Rattle.std.proofs.lemmas.Bool.{false≢true, cases_Bool, cases_lt, cases_eq, and_from, eq-eqb, ne_eqb, lt-ltb, le-ltb, leb-true, le-leb}
 use Rattle.rept_steps.specs.Course.{Course, Row, row_of, rows_of, IsRow, row_at, IsSound}
-use Rattle.rept_order.specs.Moments.{Moment, IsMoment, NotLater, IsNext, Stretch, stretch, ArePause, AreOne}
+use Rattle.rept_order.specs.Moments.{Moment, IsMoment, IsNext, Stretch, stretch, ArePause}
 use Rattle.rept_order.specs.Moments.Moment.{before, after, at_end}
 use Rattle.rept_order.specs.Moments.ArePause.{between, last}
 use Rattle.rept_order.specs.Runs.{beside_by}
 use Rattle.rept_order.specs.Legs.{points_before, number_of, leg_row}
 use Rattle.rept_order.proofs.Legs.{number_point, thread_inside}
-use Rattle.rept_course.specs.Names.{AreNames, IsLink}
-use Rattle.rept_course.specs.Making.{is_still, next_point, last_of, lasts, link_by, named_by, rank}
+use Rattle.rept_course.specs.Names.{AreNames}
+use Rattle.rept_course.specs.Making.{is_still, next_point, lasts, link_by, named_by, rank}
 use Rattle.rept_course.specs.Numbered.{row_on}
 use Rattle.rept_course.proofs.Naming.{some_is}
 use Rattle.rept_course.proofs.Making.{next_last, last_named}
 use Rattle.rept_moments.specs.declared.side.Side.{Side}
 use Rattle.rept_moments.specs.declared.search.Search.{Search}
-use Rattle.rept_moments.specs.Ordering.{side, moment_at, in_order}
+use Rattle.rept_moments.specs.Ordering.{moment_at, in_order}
 use Rattle.rept_moments.specs.Merging.{merged_at}
 use Rattle.rept_moments.specs.Numbers.{numbers_of, numbered, unless}
 use Rattle.rept_moments.specs.Numbering.{at_place, Numbered}
@@ -24,12 +24,12 @@ use Rattle.rept_moments.specs.Seen.{IsNextFrom}
 use Rattle.rept_moments.specs.Tables.{moments_at}
 use Rattle.rept_moments.specs.Nexts.{nexts_of, merged_nexts, point_nexts, side_nexts, last_nexts, ends_to, numbers_next, lower, offered, offered_all}
 use Rattle.rept_moments.proofs.Places.{row_there, there_row, point_of_row, row_point, next_row}
-use Rattle.rept_moments.proofs.Listing.{are_listed, at_row, row_at_side}
+use Rattle.rept_moments.proofs.Listing.{are_listed, row_at_side}
 use Rattle.rept_moments.proofs.Numbering.{count_same, told}
 use Rattle.rept_moments.proofs.Told.{told_is}
 use Rattle.rept_moments.proofs.Falls.{row_placed, name_placed}
 use Rattle.rept_moments.proofs.Apart.{are_numbers}
-use Rattle.rept_moments.proofs.Offers.{Member, member_left, member_right, member_parts, IsNeighbour, next_has, has_next}
+use Rattle.rept_moments.proofs.Offers.{Member, member_left, member_right, member_parts, next_has, has_next}
 
 not_so : (b : Bool) → (b ≡ true → ⊥) → b ≡ false
 not_so true k = absurd (k refl)

@@ -1,5 +1,5 @@
 -- One offer after the other.
-use Rattle.std.proofs.Common.{◌≡◌, ◌≢◌, ℕ, zero, suc, ◌+◌, ◌-◌, ◌*◌, ◌/◌, ◌<◌, ◌≤◌, cond, Bool, true, false, List, [], ◌∷◌, ◌++◌, length, Option, Some, None, inl, inr, refl, sym, ap, ◌∙◌, subst, arith}
+use Rattle.std.proofs.Common.{◌≡◌, ◌≢◌, ℕ, zero, suc, ◌+◌, ◌-◌, ◌<◌, cond, Bool, true, false, List, [], ◌∷◌, ◌++◌, length, Option, Some, None, refl, sym, ap, ◌∙◌, arith}
 use Rattle.std.specs.Option.{is_some, IsSome}
 use Rattle.std.specs.Prelude.{IfSome}
 use Rattle.std.proofs.lemmas.Bool.{and_parts}
@@ -22,8 +22,6 @@ use Rattle.rept_moments.specs.Numbers.{numbers_of}
 use Rattle.rept_moments.specs.Nexts.{first_later, later_to, offers_at, offers_to, nexts_by, nexts_of, merged_nexts, point_nexts, side_nexts, last_nexts, ends_to, offered, offered_all}
 use Rattle.rept_moments.proofs.Places.{row_there, there_row, row_before, next_thread, points_most}
 use Rattle.rept_moments.proofs.Listing.{at_row, row_at_side}
-use Rattle.rept_moments.proofs.Halving.{as_moment}
-use Rattle.rept_moments.proofs.Nearest.{FirstIs}
 use Rattle.rept_moments.proofs.Offers.{first_at}
 
 pub offered_more : (s : Search) (xs ys : List ℕ) → offered_all s (xs ++ ys) ≡ offered_all (offered_all s xs) ys

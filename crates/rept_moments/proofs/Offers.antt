@@ -1,10 +1,10 @@
 -- The numbers that are found are those of the moments next to one.
-use Rattle.std.proofs.Common.{◌≡◌, ◌≢◌, ℕ, zero, suc, ◌+◌, ◌<◌, ◌≤◌, ◌⊎◌, not, unwrap_or, nat_lt, nat_le, cond, Bool, true, false, List, [], ◌∷◌, ◌++◌, length, Option, Some, None, inl, inr, refl, sym, ap, ◌∙◌, subst, arith}
-use Rattle.std.proofs.lemmas.Bool.{false≢true, cases_Bool, cases_lt, cases_order, cases_eq, lt-ltb, le-ltb, ltb-true, ltb-false, leb-true, le-leb}
+use Rattle.std.proofs.Common.{◌≡◌, ◌≢◌, ℕ, zero, suc, ◌<◌, ◌≤◌, ◌⊎◌, unwrap_or, nat_lt, cond, Bool, true, false, List, [], ◌∷◌, ◌++◌, length, Option, Some, None, inl, inr, refl, sym, ap, ◌∙◌, subst, arith}
+use Rattle.std.proofs.lemmas.Bool.{false≢true, cases_Bool, cases_lt, cases_eq, lt-ltb, le-ltb, ltb-true, leb-true, le-leb}
 use Rattle.std.proofs.lemmas.Option.{slice_get_past}
 use Rattle.rept_steps.specs.declared.slice.Slice.{Slice}
 use Rattle.rept_steps.specs.declared.threads.ThreadRows.{ThreadRows}
-use Rattle.rept_steps.specs.Course.{Course, Row, rows_of, no_thread, IsRow, IsSound}
+use Rattle.rept_steps.specs.Course.{Course, Row, rows_of, no_thread, IsSound}
 use Rattle.rept_order.specs.Events.{event_slice}
 use Rattle.rept_order.specs.Moments.{Moment, IsMoment, Earlier, IsNext}
 use Rattle.rept_order.specs.Moments.Moment.{before, after, at_end}
@@ -15,10 +15,10 @@ use Rattle.rept_order.proofs.Decide.{earlier_true, earlier_from}
 use Rattle.rept_course.specs.Numbered.{row_on}
 use Rattle.rept_moments.specs.declared.side.Side.{Side}
 use Rattle.rept_moments.specs.declared.search.Later.{Later}
-use Rattle.rept_moments.specs.Ordering.{side, moment_at, event_at}
+use Rattle.rept_moments.specs.Ordering.{moment_at, event_at}
 use Rattle.rept_moments.specs.Writers.{end_of, not_past}
 use Rattle.rept_moments.specs.Numbers.{numbers_of}
-use Rattle.rept_moments.specs.Nexts.{later_in, first_later, sooner_end, end_with, later_to, offers_at, offers_to, nexts_by, nexts_of}
+use Rattle.rept_moments.specs.Nexts.{later_in, first_later, sooner_end, end_with, later_to, offers_at, offers_to, nexts_of}
 use Rattle.rept_moments.proofs.Apart.{are_numbers}
 use Rattle.rept_moments.proofs.Nearest.{InThread, IsFirst, FirstIs, next_first, none_sooner, first_next, end_next, next_end}
 use Rattle.rept_moments.proofs.Halving.{as_moment, first_inside}

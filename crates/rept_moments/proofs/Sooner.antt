@@ -1,11 +1,11 @@
 -- Which of two moments of rows is earlier: of two threads by times, of one by the rows' numbers.
-use Rattle.std.proofs.Common.{◌≡◌, ◌≢◌, ℕ, ◌<◌, ◌&&◌, Bool, true, false, inl, inr, refl, sym, ap, ◌∙◌, subst, arith}
+use Rattle.std.proofs.Common.{◌≡◌, ◌≢◌, ◌<◌, ◌&&◌, Bool, true, false, inr, refl, ap, arith}
 use Rattle.std.proofs.lemmas.Bool.{ne_eqb}
 use Rattle.rept_steps.specs.Course.{Course, Row, IsRow, calls}
 use Rattle.rept_order.specs.Events.{Event, event_slice, first_event, last_event}
 use Rattle.rept_order.specs.Events.IsBefore.{by_row}
-use Rattle.rept_order.specs.Moments.{Moment, IsMoment, NotLater, Earlier}
-use Rattle.rept_order.specs.Moments.Moment.{before, after, at_end}
+use Rattle.rept_order.specs.Moments.{Earlier}
+use Rattle.rept_order.specs.Moments.Moment.{before, after}
 use Rattle.rept_order.specs.Runs.{edge_part, beside_by}
 use Rattle.rept_order.specs.Times.{begin_of, ends_by, is_earlier}
 use Rattle.rept_order.proofs.Sequence.{first_is_event, last_is_event, directly}

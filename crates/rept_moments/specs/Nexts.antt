@@ -1,5 +1,5 @@
 -- The moments that are next to one, found thread by thread, and their numbers. This project's own.
-use Rattle.std.specs.Prelude.{ℕ, zero, suc, ◌==◌, ◌||◌, nat_lt, nat_le, if◌then◌else◌, Bool, true, false, List, [], ◌∷◌, ◌++◌, length, Option, Some, None}
+use Rattle.std.specs.Prelude.{ℕ, zero, suc, ◌==◌, ◌||◌, nat_lt, nat_le, if◌then◌else◌, true, false, List, [], ◌∷◌, ◌++◌, length, Option, Some, None}
 use Rattle.rept_steps.specs.Course.{Course, rows_of}
 use Rattle.rept_order.specs.Events.{event_slice}
 use Rattle.rept_order.specs.Moments.{Moment}

@@ -1,6 +1,7 @@
 -- The rows and moments of a run as an analysis takes them. Of one thread in one slice, all of which is told, the moments are its points. This project's
 -- own.
-use Rattle.std.specs.Prelude.{◌≡◌, ℕ, ◌<◌, ◌≤◌, true, false, List, [], ◌∷◌, length, Option, Some, None}
+use Rattle.std.specs.Prelude.{◌≡◌, ◌≢◌, ℕ, ◌<◌, ◌≤◌, true, false, List, [], ◌∷◌, length, Option, Some, None}
+use Rattle.std.specs.Option.{IsSome}
 use Rattle.rept_isa.specs.declared.row.StepRow.{StepRow}
 use Rattle.rept_steps.specs.declared.slice.Slice.{Slice}
 use Rattle.rept_steps.specs.declared.threads.ThreadRows.{ThreadRows}
@@ -48,3 +49,13 @@ moment_in x p = moment_by x.moments (x.legs.row p) p
 abbrev pub IsNextFrom : Moments → ℕ → ℕ → Option ℕ → Type 0
 IsNextFrom moments m least None = (w : ℕ) → least ≤ w → moments.next m w ≡ false
 IsNextFrom moments m least (Some w) = (moments.next m w ≡ true) × (least ≤ w) × ((v : ℕ) → least ≤ v → v < w → moments.next m v ≡ false)
+
+-- the one row that has the moment of a number before it, or that no row has
+abbrev pub IsRowAt : Seen → ℕ → Option ℕ → Type 0
+IsRowAt x m None = (i : ℕ) → IsSome (x.legs.row i) → x.moments.before i ≢ m
+IsRowAt x m (Some i) = IsSome (x.legs.row i) × (x.moments.before i ≡ m) × ((j : ℕ) → IsSome (x.legs.row j) → x.moments.before j ≡ m → j ≡ i)
+
+-- the least point from one on from which no row leads, or that there is none
+abbrev pub IsLastFrom : Legs → ℕ → Option ℕ → Type 0
+IsLastFrom legs least None = legs.count < least
+IsLastFrom legs least (Some p) = (least ≤ p) × (p ≤ legs.count) × (legs.row p ≡ None) × ((q : ℕ) → least ≤ q → q < p → IsSome (legs.row q))

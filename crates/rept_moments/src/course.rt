@@ -5,7 +5,7 @@ ghost use Rattle.rept_steps.specs.Course.{IsSound};
 ghost use Rattle.rept_steps.specs.Runs.{course_of};
 ghost use Rattle.rept_order.specs.Legs.{points_before};
 ghost use Rattle.rept_moments.specs.Points.{points_in};
-ghost use Rattle.rept_moments.specs.Seen.{seen, alone_by, moment_in, IsNextFrom};
+ghost use Rattle.rept_moments.specs.Seen.{seen, alone_by, moment_in, IsNextFrom, IsRowAt, IsLastFrom};
 
 use crate::many::Many;
 use crate::side::Place;
@@ -159,6 +159,38 @@ impl<'a> Course<'a> {
         match self {
             Course::One { .. } => point,
             Course::Many(many) => many.moment_at(point),
+        }
+    }
+
+    /// The row before which the moment of a number lies, if it lies before one.
+    pub fn row_at(&self, number: u32) -> Option<u32>
+        ensures { IsRowAt (seen_in self.now) number result }
+    {
+        match self {
+            Course::One { steps } => {
+                if number < steps.len() {
+                    Some(number)
+                } else {
+                    None
+                }
+            }
+            Course::Many(many) => many.row_at(number),
+        }
+    }
+
+    /// The least point from one on that is the last one of its thread, if there is one.
+    pub fn next_last(&self, least: u32) -> Option<u32>
+        ensures { IsLastFrom (seen_in self.now).legs least result }
+    {
+        match self {
+            Course::One { steps } => {
+                if least <= steps.len() {
+                    Some(steps.len())
+                } else {
+                    None
+                }
+            }
+            Course::Many(many) => many.next_last(least),
         }
     }
 

@@ -13,7 +13,7 @@ ghost use Rattle.rept_moments.specs.Merging.{merged_at};
 ghost use Rattle.rept_moments.specs.Numbers.{numbers_of};
 ghost use Rattle.rept_moments.specs.Numbering.{kept_with};
 ghost use Rattle.rept_moments.specs.Between.{own_to, IsBetween};
-ghost use Rattle.rept_moments.specs.Seen.{moment_in, IsNextFrom};
+ghost use Rattle.rept_moments.specs.Seen.{moment_in, IsNextFrom, IsRowAt, IsLastFrom};
 ghost use Rattle.rept_moments.specs.Nexts.{first_later, later_to, offers_at, offers_to, nexts_of, merged_nexts, point_nexts, side_nexts, last_nexts, ends_to, offered_all};
 ghost use Rattle.rept_moments.specs.Tables.{moments_at};
 
@@ -232,6 +232,41 @@ impl<'a> Many<'a> {
         match self.numbers.at(number) {
             Some(side) => self.points.moment(side),
             None => Moment::End,
+        }
+    }
+
+    /// The row before which the moment of a number lies, if it lies before one.
+    pub fn row_at(&self, number: u32) -> Option<u32>
+        ensures { IsRowAt (seen_of self.now) number result }
+    {
+        match self.numbers.at(number) {
+            Some(side) if !side.is_after => Some(side.point),
+            _ => None,
+        }
+    }
+
+    /// The last point of the thread that a point is of.
+    fn last_of(&self, point: u32) -> u32
+        requires { point < points_in self.now }
+        ensures { IsLastFrom (seen_of self.now).legs point (Some result) }
+    {
+        let thread = self.place(point).thread;
+        self.first(thread) + self.rows(thread)
+    }
+
+    /// The least point from one on that is the last one of its thread, if there is one.
+    pub fn next_last(&self, least: u32) -> Option<u32>
+        ensures { IsLastFrom (seen_of self.now).legs least result }
+    {
+        let count = self.points.count();
+        if least < count {
+            return Some(self.last_of(least));
+        }
+        // of no thread there is one point, from which no row leads
+        if least > self.last_point() {
+            None
+        } else {
+            Some(least)
         }
     }
 

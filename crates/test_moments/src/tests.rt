@@ -5,7 +5,7 @@ ghost use Rattle.std.specs.List.{All};
 ghost use Rattle.rept_moments.specs.Courses.{seen_in};
 
 use super::runs::{Does, Part, run_of};
-use rept_carry::Ways;
+use rept_carry::{Lines, Ways};
 use rept_moments::has_room;
 use rept_sound::is_sound;
 use rept_steps::Run;
@@ -277,5 +277,29 @@ fn next_moments(rt: HostRuntime) -> Result<(), Fail> {
         let run = run_of(rt.alloc(), example.threads, example.dark)?;
         check(&rt, rt.alloc(), &run, example)?;
     }
+    Ok(())
+}
+
+#[test]
+fn lines_and_last_points(rt: HostRuntime) -> Result<(), Fail> {
+    let example = &EXAMPLES[2];
+    let run = run_of(rt.alloc(), example.threads, example.dark)?;
+    assert!(rt; is_sound(&run));
+    assert!(rt; has_room(&run));
+    let ways = Ways::new(rt.alloc(), &run)?;
+    let course = ways.course();
+    // three threads of three rows, one and one: their last points are 3, 5 and 7
+    assert_eq!(rt; course.next_last(0), Some(3));
+    assert_eq!(rt; course.next_last(4), Some(5));
+    assert_eq!(rt; course.next_last(8), None);
+    // 3 is before the second thread's row, 4 after it, 7 before the first thread's last row
+    assert_eq!(rt; course.row_at(3), Some(4));
+    assert_eq!(rt; course.row_at(4), None);
+    assert_eq!(rt; course.row_at(7), Some(2));
+    // each number up to 6 is next to the one before, 7 isn't, and the end is
+    assert!(rt; course.end() == 8);
+    let lines = Lines::new(rt.alloc(), course)?;
+    assert_eq!(rt; lines.line(4).last, 6);
+    assert_eq!(rt; lines.line(8).first, 7);
     Ok(())
 }

@@ -1,4 +1,4 @@
-use Rattle.std.proofs.Common.{◌≡◌, ◌≤◌, ◌<◌, ◌-◌, ◌*◌, ℕ}
+use Rattle.std.proofs.Common.{◌≤◌, ◌<◌, ◌-◌, ◌*◌, ℕ}
 use Rattle.rept_order.specs.Moments.{Earlier}
 use Rattle.rept_order.specs.Runs.{moment_named}
 use Rattle.rept_moments.specs.Ordering.{moment_at}

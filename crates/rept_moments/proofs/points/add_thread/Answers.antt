@@ -1,4 +1,4 @@
-use Rattle.std.proofs.Common.{◌≡◌, ◌≤◌, ◌+◌, arith}
+use Rattle.std.proofs.Common.{arith}
 use Rattle.rept_steps.specs.Runs.{course_of}
 use Rattle.rept_moments.proofs.Places.{add_place, all_added}
 use Rattle.rept_moments.proofs.points.add_thread.Goals as goal

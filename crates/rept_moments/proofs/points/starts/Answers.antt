@@ -1,4 +1,4 @@
-use Rattle.std.proofs.Common.{◌≡◌, ◌≤◌, ◌<◌, ◌+◌, arith, rules}
+use Rattle.std.proofs.Common.{arith, rules}
 use Rattle.rept_steps.specs.Runs.{course_of}
 use Rattle.rept_moments.proofs.Places.{start_next, start_fits, starts_more}
 use Rattle.rept_moments.proofs.points.starts.Goals as goal

@@ -1,4 +1,3 @@
-use Rattle.std.proofs.Common.{◌≡◌}
 use Rattle.rept_moments.proofs.Places.{AreStarts}
 use Rattle.rept_moments.proofs.points.starts.Given as goal
 

@@ -1,4 +1,4 @@
-use Rattle.std.proofs.Common.{◌≡◌, ◌≤◌, ◌<◌, ◌+◌, true, false, arith, rules}
+use Rattle.std.proofs.Common.{arith, rules}
 use Rattle.rept_steps.specs.Runs.{course_of}
 use Rattle.rept_moments.proofs.Places.{start_fits, start_next}
 use Rattle.rept_moments.proofs.room.has_room.Goals as goal

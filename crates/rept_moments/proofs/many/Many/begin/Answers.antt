@@ -1,4 +1,4 @@
-use Rattle.std.proofs.Common.{◌≡◌, ap, ◌∙◌}
+use Rattle.std.proofs.Common.{ap, ◌∙◌}
 use Rattle.rept_steps.specs.Course.{Course}
 use Rattle.rept_order.specs.Times.{begin_of}
 use Rattle.rept_moments.specs.Ordering.{event_at}

@@ -1,4 +1,4 @@
-use Rattle.std.proofs.Common.{◌<◌, arith}
+use Rattle.std.proofs.Common.{arith}
 use Rattle.rept_moments.proofs.Places.{leg_below}
 use Rattle.rept_moments.proofs.Offering.{side_then, side_else}
 use Rattle.rept_moments.proofs.many.Many.offer_side.Goals as goal

@@ -1,6 +1,5 @@
-use Rattle.std.proofs.Common.{◌≡◌, ◌<◌, ℕ, List, length, get_or, ap, sym, ◌∙◌, arith}
+use Rattle.std.proofs.Common.{◌≡◌, ℕ, List, length, ap, ◌∙◌, arith}
 use Rattle.rept_steps.specs.Course.{Course}
-use Rattle.rept_order.specs.Legs.{points_before}
 use Rattle.rept_moments.proofs.Places.{by_point_length, start_at}
 use Rattle.rept_moments.proofs.points.Points.first.Goals as goal
 

@@ -1,6 +1,5 @@
-use Rattle.std.proofs.Common.{◌≡◌, ◌≤◌, ◌<◌, ◌+◌, ℕ, length, subst, ap, ◌∙◌}
+use Rattle.std.proofs.Common.{◌≤◌, length, subst, ap, ◌∙◌}
 use Rattle.rept_steps.specs.Course.{Course, rows_of}
-use Rattle.rept_order.specs.Legs.{points_before}
 use Rattle.rept_moments.specs.Points.{points_in}
 use Rattle.rept_moments.proofs.Offering.{rows_inside}
 use Rattle.rept_moments.proofs.points.Points.rows.Goals as goal

@@ -1,4 +1,4 @@
-use Rattle.std.proofs.Common.{◌≡◌, ◌≤◌, ◌<◌, ℕ, List, length, ap, ◌∙◌, arith}
+use Rattle.std.proofs.Common.{◌≡◌, ℕ, List, length, ap, ◌∙◌, arith}
 use Rattle.rept_steps.specs.Course.{Course}
 use Rattle.rept_moments.proofs.Places.{by_point_length, few_threads}
 use Rattle.rept_moments.proofs.points.Points.threads.Goals as goal

@@ -1,0 +1,13 @@
+use Rattle.std.proofs.Common.{◌≡◌, ◌≤◌, ◌<◌, ◌+◌, ◌-◌, ℕ, true}
+use Rattle.rept_moments.specs.Courses.{seen_in}
+use Rattle.rept_carry.proofs.lines.last_from.Given as goal
+
+abbrev pub invariant-loop-last : goal.invariant-loop-last
+invariant-loop-last l = record {
+  up : l.first ≤ l.last;
+  inside : l.last ≤ l.end;
+  joined : (k : ℕ) → l.first ≤ k → k < l.last → (seen_in l.course).moments.next k (k + 1) ≡ true;
+}
+
+abbrev pub decreases-loop-last : goal.decreases-loop-last
+decreases-loop-last l = l.end - l.last
