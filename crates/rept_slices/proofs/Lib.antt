@@ -23,3 +23,4 @@ pub mod Until
 pub mod Packs
 pub mod Lasting
 mod Leaving
+mod Early

@@ -1,7 +1,7 @@
 //! Until when streams don't tell what happened, and how many packets are skipped.
 
 ghost use Rattle.std.specs.Prelude.{◌≡◌, ◌∷◌, ◌==◌, ◌+◌, ◌<◌, ◌≤◌, ◌^◌, nat_lt, [], ℕ, List, length, slice_get, Some, None, if◌then◌else◌, IfOk, IfErr};
-ghost use Rattle.std.specs.List.{cons_option, filter_map, sum_by};
+ghost use Rattle.std.specs.List.{cons_option, filter_map, list_any, sum_by};
 ghost use Rattle.rept_trace.specs.declared.packet.Packet.{Packet};
 ghost use Rattle.rept_trace.specs.Packets.{rest_of};
 ghost use Rattle.rept_trace.specs.Stream.{Hold};
@@ -66,6 +66,13 @@ fn end_early(slices: &[Entry<'_>], time: u64) -> Option<u64>
     } else {
         None
     }
+}
+
+/// Whether a slice begins before a time.
+fn any_early(slices: &[Entry<'_>], time: u64) -> bool
+    ensures { result ≡ list_any (λ (e : Entry). nat_lt (clock_of e.start) time) slices.now }
+{
+    slices.iter().any(|slice| begin_of(slice) < time)
 }
 
 /// The greatest of a time and of the ends of the slices that begin before it, of slices that stand in order.
@@ -146,6 +153,9 @@ pub fn dark(slices: &mut Vec<Entry<'_>>, time: u64, several: bool) -> Result<Opt
 {
     if !several {
         return Ok(None);
+    }
+    if !any_early(slices, time) {
+        return Ok(Some(time));
     }
     put_in_order(slices)?;
     Ok(Some(last_end(slices, time)))

@@ -1,0 +1,197 @@
+//! A trace that is written and rebuilt.
+
+ghost use Rattle.std.specs.Prelude.{◌<◌, ◌^◌, length, IfOk, IfSome};
+ghost use Rattle.std.specs.List.{All};
+ghost use Rattle.rept_encode.specs.Walkable.{IsWalkable};
+
+use rept_dump::Dump;
+use rept_elf::{Image, Want};
+use rept_encode::{Site, push_step};
+use rept_isa::decode;
+use rept_path::PathFault;
+use rept_steps::{Run, Slice, Steps};
+use rept_threads::rebuilding::rebuild_many;
+use rept_trace::Streams;
+use rept_weave::{Hart, Harts, Stretch, WeaveFault, weave};
+use rept_word::Text;
+use std::alloc::{AllocError, Global};
+use std::test::Fail;
+use test_files::{core_file, executable};
+
+/// Two instructions that do nothing, `jalr x0, 0(x6)`, `ecall`, and one that does nothing.
+const CODE: [u32; 5] = [0x13, 0x13, 0x0003_0067, 0x73, 0x13];
+
+/// The thread of a stretch, its begin and its end, its first address and those that follow it.
+type Row = (u32, u64, u64, u32, &'static [u32]);
+
+/// The steps along these addresses, if there are any. The code stands at 0x10000, and again at each multiple of it.
+fn steps_along(
+    alloc: Global,
+    halves: bool,
+    first: u32,
+    addresses: &[u32],
+) -> Result<Option<Steps>, Fail>
+    ensures { IfOk result (λ made. IfSome made (λ steps. IsWalkable halves steps)) }
+{
+    let mut steps = Steps::new(alloc);
+    let mut at = first;
+    for next in addresses {
+        let word = CODE.get((at % 0x10000 / 4) as usize);
+        let Some(instr) = word.and_then(|word| decode(*word)) else {
+            continue;
+        };
+        let site = Site {
+            at,
+            instr,
+            short: false,
+        };
+        push_step(&mut steps, halves, &site, *next)?;
+        at = *next;
+    }
+    if steps.len() == 0 {
+        return Ok(None);
+    }
+    Ok(Some(steps))
+}
+
+/// A hart that did this.
+fn hart_of(alloc: Global, halves: bool, rows: &[Row]) -> Result<Hart, Fail>
+    ensures { IfOk result (λ hart. All (λ s. IsWalkable halves s.steps) hart) }
+{
+    let mut hart = Hart::new(alloc);
+    for row in rows {
+        let Some(steps) = steps_along(alloc, halves, row.3, row.4)? else {
+            continue;
+        };
+        hart.push(Stretch {
+            process: row.0,
+            begin: row.1,
+            end: row.2,
+            steps,
+        })?;
+    }
+    Ok(hart)
+}
+
+/// The trace of harts that did this.
+fn trace_of(
+    alloc: Global,
+    halves: bool,
+    harts: &[&[Row]],
+) -> Result<Result<Text, WeaveFault>, Fail> {
+    let mut all = Harts::new(alloc);
+    for rows in harts {
+        all.push(hart_of(alloc, halves, rows)?)?;
+    }
+    Ok(weave(alloc, halves, &all))
+}
+
+/// A core file of a note segment of status notes: of each its process and its program counter; all other registers are 0.
+fn core_of(alloc: Global, notes: &[(u32, u32)]) -> Result<Vec<u8>, AllocError> {
+    let mut file = core_file(alloc, 0, [0, 0, 0])?;
+    file.truncate(84);
+    let Ok(size) = u32::try_from(notes.len()) else {
+        return Err(AllocError);
+    };
+    for (i, byte) in size.wrapping_mul(224).to_le_bytes().iter().enumerate() {
+        if let Some(place) = file.get_mut(68 + i) {
+            *place = *byte;
+        }
+    }
+    for (process, pc) in notes {
+        file.extend_from_slice(b"\x05\0\0\0\xcc\0\0\0\x01\0\0\0CORE\0\0\0\0")?;
+        file.extend_from_slice(&[0; 24])?;
+        file.extend_from_slice(&process.to_le_bytes())?;
+        file.extend_from_slice(&[0; 44])?;
+        file.extend_from_slice(&pc.to_le_bytes())?;
+        file.extend_from_slice(&[0; 128])?;
+    }
+    Ok(file)
+}
+
+/// The run that the bytes of a file tell.
+fn rebuilt(alloc: Global, bytes: &[u8], dump: &Dump<'_>) -> Result<Run, PathFault>
+    requires { length bytes.now < 2 ^ 32 }
+{
+    match Streams::open(bytes) {
+        Ok(streams) => rebuild_many(alloc, streams, dump, 0),
+        Err(fault) => Err(PathFault::Packet(fault)),
+    }
+}
+
+/// The run that a trace tells of the code at 0x10000, whose threads ended so.
+fn run_of(
+    alloc: Global,
+    trace: &Text,
+    notes: &[(u32, u32)],
+) -> Result<Result<Run, PathFault>, Fail> {
+    let exe = executable(alloc, 0x10000, &CODE)?;
+    let core = core_of(alloc, notes)?;
+    let dump = Dump::read_many(
+        Image::read(exe.as_slice(), Want::Exec)?,
+        Image::read(core.as_slice(), Want::Core)?,
+    )?;
+    let bytes = trace.bytes();
+    if bytes.len() >= 1000 {
+        return Ok(Err(PathFault::OutOfMemory));
+    }
+    Ok(rebuilt(alloc, bytes, &dump))
+}
+
+/// A slice of so many rows from its first one on.
+const fn slice(stream: u32, begin: u64, end: u64, first: u32, count: u32) -> Slice {
+    Slice {
+        stream,
+        begin,
+        end,
+        first,
+        count,
+    }
+}
+
+/// Two threads that go from one hart to another, the first one over an uninferable jump, the second one into a call that returns on the first hart.
+#[test]
+fn traces_are_rebuilt(rt: HostRuntime) -> Result<(), Fail> {
+    let alloc = rt.alloc();
+    let trace = trace_of(
+        alloc,
+        false,
+        &[
+            &[
+                (1, 1, 3, 0x10000, &[0x10004]),
+                (2, 5, 6, 0x10010, &[0x10014]),
+            ],
+            &[
+                (2, 1, 4, 0x1000c, &[0x10010]),
+                (1, 5, 9, 0x10004, &[0x10008, 0x10000, 0x10004]),
+            ],
+        ],
+    )??;
+    match run_of(alloc, &trace, &[(1, 0x10004), (2, 0x10014)])? {
+        Err(fault) => assert!(rt; false, "{fault}"),
+        Ok(run) => {
+            assert_eq!(rt; (run.dark, run.skipped), (Some(1), 0));
+            let all = run.threads.all();
+            assert_eq!(rt; all.len(), 2);
+            for (i, addresses) in [
+                (0, [0x10000, 0x10004, 0x10008, 0x10000].as_slice()),
+                (1, [0x1000c, 0x10010].as_slice()),
+            ] {
+                let rows = all[i].steps.rows();
+                assert_eq!(rt; rows.len(), addresses.len());
+                for (row, at) in rows.iter().zip(addresses) {
+                    assert_eq!(rt; row.at, *at);
+                }
+            }
+            assert_eq!(rt;
+                all[0].slices.all(),
+                [slice(0, 1, 3, 0, 1), slice(1, 5, 9, 1, 3)].as_slice()
+            );
+            assert_eq!(rt;
+                all[1].slices.all(),
+                [slice(1, 1, 4, 0, 1), slice(0, 5, 6, 1, 1)].as_slice()
+            );
+        }
+    }
+    Ok(())
+}
