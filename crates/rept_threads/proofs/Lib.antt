@@ -3,6 +3,7 @@ pub mod Leading
 pub mod Routed
 pub mod Cutting
 pub mod Gathering
+mod Standing
 pub mod Steering
 pub mod Walking
 pub mod Chaining

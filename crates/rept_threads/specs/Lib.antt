@@ -1,4 +1,5 @@
 pub mod Kept
 pub mod Notes
+pub mod Turns
 pub mod Joining
 pub mod Linking

@@ -1,13 +1,14 @@
 //! The walks of all stretches, and the rows of each slice.
 
 ghost use Rattle.std.specs.Prelude.{◌≡◌, ◌⊎◌, ◌==◌, ◌++◌, ◌+◌, ◌<◌, ◌≤◌, ◌^◌, ◌∷◌, true, ℕ, List, length, [], OnOk, IfOk, IfErr};
-ghost use Rattle.std.specs.List.{filter, sum_by};
+ghost use Rattle.std.specs.List.{AllAdjacentBelow, filter, sum_by};
 ghost use Rattle.std.specs.List.Sorted.{IsPermutation, IsNonDecreasingBy};
 ghost use Rattle.rept_trace.specs.declared.packet.Packet.{Packet};
 ghost use Rattle.rept_path.specs.declared.fault.PathFault.TheVariants.{OutOfMemory};
 ghost use Rattle.rept_path.specs.Program.{code_of};
 ghost use Rattle.rept_slices.specs.Entries.{AreTold};
 ghost use Rattle.rept_threads.specs.Kept.{AreKept, kept_by};
+ghost use Rattle.rept_threads.specs.Turns.{in_turn};
 ghost use Rattle.rept_slices.specs.Ends.{first_or};
 ghost use Rattle.rept_slices.specs.Order.{by_time};
 ghost use Rattle.rept_slices.specs.Parts.{Told, told};
@@ -179,8 +180,28 @@ pub fn walk_all<'a>(
     Ok(walks)
 }
 
-/// Puts slices in order: by the processes of their threads, those of one thread by their begins, and those of one begin as they stood.
-pub fn put_in_order(slices: &mut Vec<Walked<'_>>) -> Result<(), PathFault>
+/// Whether a slice may stand right before another one in order: its thread runs as a lower process, or as the same one and it begins no later.
+fn in_turn(former: &Walked<'_>, latter: &Walked<'_>) -> bool
+    ensures { result ≡ in_turn former.now latter.now }
+{
+    let (process, next) = (process_of(&former.slice), process_of(&latter.slice));
+    process < next || (process == next && begin_of(&former.slice) <= begin_of(&latter.slice))
+}
+
+/// Whether slices stand in order.
+fn stand_in_order(slices: &[Walked<'_>]) -> bool
+    ensures { result ≡ true → AllAdjacentBelow (λ (v w : Walked). in_turn v w ≡ true) slices.now (length slices.now) }
+{
+    for i in 1..slices.len() {
+        if !in_turn(&slices[i - 1], &slices[i]) {
+            return false;
+        }
+    }
+    true
+}
+
+/// As `put_in_order`.
+fn sort_slices(slices: &mut Vec<Walked<'_>>) -> Result<(), PathFault>
     ensures permutation { IsPermutation slices.old.items slices.new.items }
     ensures processes { OnOk result (IsNonDecreasingBy (λ (w : Walked). context_of w.slice.start) slices.new.items) }
     ensures times { (process : ℕ) → OnOk result (filter (λ (w : Walked). context_of w.slice.start == process) slices.new.items ≡ by_time (λ (w : Walked). clock_of w.slice.start) (filter (λ (w : Walked). context_of w.slice.start == process) slices.old.items)) }
@@ -193,6 +214,20 @@ pub fn put_in_order(slices: &mut Vec<Walked<'_>>) -> Result<(), PathFault>
         return Err(PathFault::OutOfMemory);
     }
     Ok(())
+}
+
+/// Puts slices in order: by the processes of their threads, those of one thread by their begins, and those of one begin as they stood.
+pub fn put_in_order(slices: &mut Vec<Walked<'_>>) -> Result<(), PathFault>
+    ensures permutation { IsPermutation slices.old.items slices.new.items }
+    ensures processes { OnOk result (IsNonDecreasingBy (λ (w : Walked). context_of w.slice.start) slices.new.items) }
+    ensures times { (process : ℕ) → OnOk result (filter (λ (w : Walked). context_of w.slice.start == process) slices.new.items ≡ by_time (λ (w : Walked). clock_of w.slice.start) (filter (λ (w : Walked). context_of w.slice.start == process) slices.old.items)) }
+    ensures err { IfErr result (λ e. e ≡ OutOfMemory) }
+{
+    // They do where each stream tells of one thread, and the threads' processes rise from stream to stream.
+    if stand_in_order(slices) {
+        return Ok(());
+    }
+    sort_slices(slices)
 }
 
 /// The slices of the thread that runs as a process, of slices that stand in order.
