@@ -18,7 +18,7 @@ use crate::status::Status;
 use crate::telling::tell;
 use rept_amo::Atomic;
 use rept_dump::Dump;
-use rept_found::{Stop, search};
+use rept_found::{prepare, search};
 use rept_known::Both;
 use rept_partial::Range;
 use rept_path::Path;
@@ -64,9 +64,11 @@ fn study_by<W: Transfer, S: Source, K: Sink>(
     ensures stays { (input.new ≡ input.old) ⊎ StudyHolds (crash_path (means W.sets W.moves atomic_rules) (crash_of dump.now) path.now) result }
     ensures impossible { result ≡ Status.Inconsistent → HasNoExecution (route_of (crash_path (means W.sets W.moves atomic_rules) (crash_of dump.now) path.now)) }
 {
-    match search::<W, Atomic>(alloc, &path.steps, dump, Atomic::new()) {
-        Ok(mut found) => hold(alloc, &mut found, path.skipped, input, out),
-        Err(Stop::Conflict(kind)) => tell(alloc, out, &Refusal::Inconsistent(kind)),
-        Err(Stop::OutOfMemory) => tell(alloc, out, &Refusal::OutOfMemory),
+    match prepare::<W, Atomic>(alloc, &path.steps, dump, Atomic::new()) {
+        Ok(prepared) => match search(prepared) {
+            Ok(mut found) => hold(alloc, &mut found, path.skipped, input, out),
+            Err(kind) => tell(alloc, out, &Refusal::Inconsistent(kind)),
+        },
+        Err(_) => tell(alloc, out, &Refusal::OutOfMemory),
     }
 }

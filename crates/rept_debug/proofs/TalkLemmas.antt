@@ -8,8 +8,6 @@ use Rattle.rept_ports.specs.Port.{Port, Move}
 use Rattle.rept_report.specs.Closure.{ClosureHas}
 use Rattle.rept_report.specs.declared.conflict.ConflictKind.{ConflictKind}
 use Rattle.rept_report.specs.OneThread.{Path as AnalysedPath}
-use Rattle.rept_analysis.specs.declared.stop.Stop.{Stop}
-use Rattle.rept_analysis.specs.declared.stop.Stop.TheVariants as stop
 use Rattle.rept_found.specs.Crash.{Crash, Means, crash_of, route, scene_of}
 use Rattle.rept_found.specs.Telling.{told_of}
 use Rattle.rept_found.specs.Truth.{HasNoExecution}
@@ -22,7 +20,8 @@ use Rattle.rept_app.specs.Reading.{IsDumpOf}
 use Rattle.rept_app.specs.Told.{CrashPath, crash_path, crash_trace, route_of, setting_of}
 use Rattle.rept_app.specs.declared.load.Manner.{Manner}
 use Rattle.rept_app.specs.declared.refusal.Refusal.{Refusal}
-use Rattle.rept_debug.specs.Debugged.{IsHeld, IsHeldTrace, IsRefusedCrash, IsRefusedPath, IsRefusedTrace, Streams, TalksOver, refused_by}
+use Rattle.rept_app.specs.declared.refusal.Refusal.TheVariants as refusal
+use Rattle.rept_debug.specs.Debugged.{IsHeld, IsHeldTrace, IsRefusedCrash, IsRefusedPath, IsRefusedTrace, Streams, TalksOver}
 use Rattle.rept_debug.specs.declared.debugging.Talk.{Talk}
 
 module _ {W R : Type 0} (m : Means W) (v : View W R) (crash : Crash) (path : Path) (found : IsFoundIn m (route m crash path.steps) (scene_of crash) v) where
@@ -36,10 +35,9 @@ module _ {W R : Type 0} (m : Means W) (v : View W R) (crash : Crash) (path : Pat
     talks = subst (λ (s : ℕ). Converses (parties_on (route m crash path.steps) s) source sink end) is (subst (λ (P : AnalysedPath W). Converses (parties_on P signal) source sink end) found.path h);
   }
 
--- the refusal of an analysis of a path that stopped
-pub stopped : {W : Type 0} (p : CrashPath W) (s : Stop) → ((kind : ConflictKind) → s ≡ stop.Conflict kind → ClosureHas (setting_of p) kind) → ((kind : ConflictKind) → s ≡ stop.Conflict kind → HasNoExecution (route_of p)) → IsRefusedPath p (refused_by s)
-stopped p (stop.Conflict kind) has none = inl (kind, has kind refl, none kind refl, refl)
-stopped p stop.OutOfMemory has none = inr refl
+-- the refusal of a path whose closure has a conflict
+pub refused_conflict : {W : Type 0} (p : CrashPath W) (kind : ConflictKind) → ClosureHas (setting_of p) kind → HasNoExecution (route_of p) → IsRefusedPath p (refusal.Inconsistent kind)
+refused_conflict p kind has none = inl (kind, has, none, refl)
 
 -- what was held over the trace of a dump was held over its files
 pub held_at : (exe core trace : List ℕ) (manner : Manner) (dump : Dump) → IsDumpOf exe core dump → (io : Streams) (talk : Talk) → IsHeldTrace (crash_trace (crash_of dump) trace manner) io talk → IsHeld (crash_bytes exe core trace manner) io talk

@@ -10,8 +10,6 @@ use Rattle.rept_path.specs.declared.fault.PathFault.{PathFault}
 use Rattle.rept_path.specs.declared.rebuilding.Path.{Path}
 use Rattle.rept_report.specs.Closure.{ClosureHas}
 use Rattle.rept_report.specs.declared.conflict.ConflictKind.{ConflictKind}
-use Rattle.rept_analysis.specs.declared.stop.Stop.{Stop}
-use Rattle.rept_analysis.specs.declared.stop.Stop.TheVariants as stop
 use Rattle.rept_found.specs.Telling.{Account, told_of}
 use Rattle.rept_found.specs.Truth.{HasNoExecution, IsTrueReport}
 use Rattle.rept_dialog.specs.Converse.{Parties, Converses, parties_over}
@@ -66,11 +64,6 @@ pub record TalksOver {W : Type 0} (p : CrashPath W) (source sink : Move Port) (e
   pub account : Account
   pub report : IsAccountOf p account
   pub talks : Converses (dialog_over p account) source sink end
-
--- the refusal of an analysis that stopped
-abbrev pub refused_by : Stop → Refusal
-refused_by (stop.Conflict kind) = refusal.Inconsistent kind
-refused_by stop.OutOfMemory = refusal.OutOfMemory
 
 -- the closure of the path has a conflict, and no execution of it ends in the crash; or memory ran out
 abbrev pub IsRefusedPath : {W : Type 0} → CrashPath W → Refusal → Type 0

@@ -9,7 +9,7 @@ ghost use Rattle.rept_amo.specs.Atomic.{atomic_rules};
 ghost use Rattle.rept_app.specs.Domains.{means_of};
 ghost use Rattle.rept_app.specs.Loading.{ShelfMoves, crash_bytes};
 ghost use Rattle.rept_app.specs.Told.{crash_path, crash_trace};
-ghost use Rattle.rept_debug.specs.Debugged.{IsDebugged, IsHeld, IsHeldTrace, IsRefused, IsRefusedCrash, IsRefusedPath, IsRefusedTrace, Notices, TalksOver, refused_by, streams};
+ghost use Rattle.rept_debug.specs.Debugged.{IsDebugged, IsHeld, IsHeldTrace, IsRefused, IsRefusedCrash, IsRefusedPath, IsRefusedTrace, Notices, TalksOver, streams};
 
 use crate::begin::begin_path;
 use crate::notice::noticed;
@@ -17,7 +17,7 @@ use rept_amo::Atomic;
 use rept_app::{Asked, CrashFiles, Manner, Refusal, load_files, read_dump};
 use rept_dialog::{Conversed, converse};
 use rept_dump::Dump;
-use rept_found::{Stop, reports_are_true, search};
+use rept_found::{prepare, reports_are_true, search};
 use rept_known::Both;
 use rept_partial::Range;
 use rept_path::Path;
@@ -165,7 +165,10 @@ fn hold_by<W: Transfer, S: Source, K: Sink>(
     ensures refused { IfErr result (IsRefusedPath (crash_path (means W.sets W.moves atomic_rules) (crash_of dump.now) path.now)) }
     ensures unread { IfErr result (λ _. (input.new ≡ input.old) × (out.new ≡ out.old)) }
 {
-    match search::<W, Atomic>(alloc, &path.steps, dump, Atomic::new()) {
+    let Ok(prepared) = prepare::<W, Atomic>(alloc, &path.steps, dump, Atomic::new()) else {
+        return Err(Refusal::OutOfMemory);
+    };
+    match search(prepared) {
         Ok(mut found) => {
             let setting = Setting {
                 skipped: path.skipped,
@@ -173,16 +176,6 @@ fn hold_by<W: Transfer, S: Source, K: Sink>(
             };
             Ok(converse(alloc, &mut found, setting, input, out))
         }
-        Err(stop) => Err(refusal_of(stop)),
-    }
-}
-
-/// The refusal of an analysis that stopped.
-fn refusal_of(stop: Stop) -> Refusal
-    ensures { result ≡ refused_by stop }
-{
-    match stop {
-        Stop::Conflict(kind) => Refusal::Inconsistent(kind),
-        Stop::OutOfMemory => Refusal::OutOfMemory,
+        Err(kind) => Err(Refusal::Inconsistent(kind)),
     }
 }

@@ -9,7 +9,7 @@ use Rattle.rept_dump.specs.Program.{Program, contents}
 use Rattle.rept_dump.specs.Status.{IsStatus}
 use Rattle.rept_dump.specs.declared.status.Status.{Status}
 use Rattle.rept_isa.specs.declared.row.StepRow.{StepRow}
-use Rattle.rept_report.specs.Closure.{IsReport}
+use Rattle.rept_report.specs.Closure.{ClosureHas, IsReport}
 use Rattle.rept_report.specs.declared.conflict.ConflictKind.{ConflictKind}
 use Rattle.rept_report.specs.Given.{Given}
 use Rattle.rept_report.specs.OneThread.{Alone, Path, given_alone, along}
@@ -19,7 +19,7 @@ use Rattle.rept_analysis.specs.Logged.{IsLogOf}
 use Rattle.rept_analysis.specs.declared.stop.Stop.{Stop}
 use Rattle.rept_analysis.specs.declared.stop.Stop.TheVariants.{Conflict}
 use Rattle.rept_found.specs.Crash.{Crash, Means, Scene, last_value, last_values, route}
-use Rattle.rept_found.specs.View.{View, IsFoundIn, state_in, path_in}
+use Rattle.rept_found.specs.View.{View, IsFoundIn, IsPreparedFor, state_in, path_in}
 
 -- the registers of a status are the last values
 pub last_are : (note : List ℕ) (status : Status) → IsStatus note status → length status.regs ≡ 32 → status.regs ≡ last_values note
@@ -76,6 +76,19 @@ found_in {W} m v P scene e p report log = record {
   report = subst (λ (Q : Path W). IsReport (along Q) (answers (state_in m v))) e report;
   log = subst (λ (Q : Path W). IsLogOf (along Q) (answers (state_in m v)) (state_in m v).known.log) e log;
 }
+
+-- what is found of what was prepared for a path is of that path
+pub found_there : {W R : Type 0} (m : Means W) (p v : View W R) (P : Path W) (scene : Scene) → IsPreparedFor m P scene p → IsFoundIn m (path_in m p) p.scene v → IsFoundIn m P scene v
+found_there {W} m p v P scene at h = record {
+  path = h.path ∙ at.path;
+  same_scene = h.same_scene ∙ at.same_scene;
+  report = subst (λ (Q : Path W). IsReport (along Q) (answers (state_in m v))) at.path h.report;
+  log = subst (λ (Q : Path W). IsLogOf (along Q) (answers (state_in m v)) (state_in m v).known.log) at.path h.log;
+}
+
+-- a conflict of one path is one of the same path
+pub conflict_of : {W : Type 0} (P Q : Path W) (kind : ConflictKind) → P ≡ Q → ClosureHas (along P) kind → ClosureHas (along Q) kind
+conflict_of {W} P Q kind e h = subst (λ (R : Path W). ClosureHas (along R) kind) e h
 
 -- a stop that is the conflict is told by a result of it
 pub stop_is : {A : Type 0} (r : Result A Stop) (stop : Stop) (kind : ConflictKind) → r ≡ Err stop → stop ≡ Conflict kind → r ≡ Err (Conflict kind)

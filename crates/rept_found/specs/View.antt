@@ -1,4 +1,4 @@
--- An analysis that has ended, as contracts see it. This project's own.
+-- An analysis that is prepared, or has ended, as contracts see it. This project's own.
 use Rattle.std.specs.Prelude.{◌≡◌}
 use Rattle.rept_report.specs.Closure.{IsReport}
 use Rattle.rept_versions.specs.OnLine.{Parts, store}
@@ -20,6 +20,11 @@ state_in m v = state_of m.sets m.moves m.rules store v.analysis
 -- the path that it is of
 abbrev pub path_in : {W R : Type 0} → Means W → View W R → Path W
 path_in m v = record { sets = m.sets; moves = m.moves; rules = m.rules; given = alone_of v.analysis }
+
+-- it is of this path and crash
+pub record IsPreparedFor {W R : Type 0} (m : Means W) (P : Path W) (scene : Scene) (v : View W R) : Type 0 where
+  pub path : path_in m v ≡ P
+  pub same_scene : v.scene ≡ scene
 
 -- it has the report, and an order in which that was learnt
 pub record IsFoundIn {W R : Type 0} (m : Means W) (P : Path W) (scene : Scene) (v : View W R) : Type 0 where

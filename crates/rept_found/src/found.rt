@@ -1,23 +1,19 @@
 //! An analysis that has ended.
 
-ghost use Rattle.std.specs.Prelude.{◌≡◌, ◌<◌, ℕ, length, IfOk, Err};
-ghost use Rattle.rept_dump.specs.Dump.{registers_of};
-ghost use Rattle.rept_dump.specs.Status.{IsStatus};
-ghost use Rattle.rept_dump.specs.declared.status.Status.{Status};
-ghost use Rattle.rept_steps.specs.Linked.{EndBefore};
-ghost use Rattle.rept_report.specs.declared.conflict.ConflictKind.{ConflictKind};
-ghost use Rattle.rept_report.specs.Closure.{ClosureHas};
-ghost use Rattle.rept_found.specs.Crash.{crash_of, scene_of, means, route, setting};
+ghost use Rattle.std.specs.Prelude.{IfOk, IfErr, IsOk};
+ghost use Rattle.rept_report.specs.Closure.{ClosureHas, IsConsistent};
+ghost use Rattle.rept_report.specs.OneThread.{along};
+ghost use Rattle.rept_found.specs.Crash.{means};
 ghost use Rattle.rept_found.specs.Truth.{HasNoExecution};
-ghost use Rattle.rept_found.specs.View.{IsFoundIn};
+ghost use Rattle.rept_found.specs.View.{IsFoundIn, path_in};
 
+use crate::prepared::Prepared;
 use rept_analysis::{Analysis, Stop};
 use rept_dump::Dump;
+use rept_report::ConflictKind;
 use rept_span::Transfer;
-use rept_steps::Steps;
 use rept_versions::SpanFacts;
 use rept_view::RowRules;
-use std::alloc::Global;
 use std::marker::Model;
 
 /// What an analysis found out: the report of a path and the dump in which it ends, by one kind of sets of values and of rules.
@@ -41,35 +37,34 @@ impl<'a, W: Transfer, R: RowRules> Model for Found<'a, W, R> {
     ghost invariant = { λ f. (f.analysis.complete ≡ true) × (length f.analysis.rows ≤ 65536) };
 }
 
-/// Learns all that follows from the steps and the dump in which they end, with values followed as sets of `W`. A conflict is one that the facts have which follow; then no
-/// execution of the steps ends in the dump.
+/// Learns all that follows, which takes no memory: it is Ok exactly where the closure of the rules has no conflict. A conflict that is told is
+/// one of the closure, and then no execution of the steps ends in the dump.
 pub fn search<'a, W: Transfer, R: RowRules>(
-    alloc: Global,
-    steps: &'a Steps,
-    dump: &'a Dump<'a>,
-    rules: R,
-) -> Result<Found<'a, W, R>, Stop>
-    requires steps { 0 < length steps.now }
-    requires end { (s : Status) → IsStatus (registers_of dump.now) s → EndBefore steps.now s.pc }
-    ensures found { IfOk result (IsFoundIn (means W.sets W.moves R.rules) (route (means W.sets W.moves R.rules) (crash_of dump.now) steps.now) (scene_of (crash_of dump.now))) }
-    ensures conflict { (kind : ConflictKind) → result ≡ Err (Stop.Conflict kind) → ClosureHas (setting (means W.sets W.moves R.rules) (crash_of dump.now) steps.now) kind }
-    ensures impossible { (kind : ConflictKind) → result ≡ Err (Stop.Conflict kind) → HasNoExecution (route (means W.sets W.moves R.rules) (crash_of dump.now) steps.now) }
+    prepared: Prepared<'a, W, R>,
+) -> Result<Found<'a, W, R>, ConflictKind>
+    ensures found { IfOk result (IsFoundIn (means W.sets W.moves R.rules) (path_in (means W.sets W.moves R.rules) prepared.entry) prepared.entry.scene) }
+    ensures conflict { IfErr result (λ kind. ClosureHas (along (path_in (means W.sets W.moves R.rules) prepared.entry)) kind) }
+    ensures impossible { IfErr result (λ _. HasNoExecution (path_in (means W.sets W.moves R.rules) prepared.entry)) }
+    ensures exact { IsConsistent (along (path_in (means W.sets W.moves R.rules) prepared.entry)) → IsOk result }
 {
-    let status = dump.status();
-    let Ok(mut analysis) = Analysis::<SpanFacts, W, R>::prepare(alloc, steps, dump, rules) else {
-        return Err(Stop::OutOfMemory);
-    };
-    analysis.account();
+    let Prepared {
+        analysis,
+        end_pc,
+        process,
+        dump,
+    } = prepared;
+    let mut analysis = analysis;
     match analysis.refine() {
         Ok(()) => {
             analysis.account();
             Ok(Found {
                 analysis,
-                end_pc: status.pc,
-                process: status.pid,
+                end_pc,
+                process,
                 dump,
             })
         }
-        Err(stop) => Err(stop),
+        Err(Stop::Conflict(kind)) => Err(kind),
+        Err(Stop::OutOfMemory) => unreachable!(),
     }
 }

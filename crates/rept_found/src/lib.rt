@@ -3,8 +3,9 @@
 
 pub mod found;
 mod laws;
+pub mod prepared;
 mod telling;
 
 pub use found::{Found, search};
 pub use laws::reports_are_true;
-pub use rept_analysis::Stop;
+pub use prepared::{Prepared, prepare};

@@ -1,30 +1,41 @@
-use Rattle.std.proofs.Common.{◌≡◌, ℕ, ◌∙◌, ap, subst}
-use Rattle.rept_dump.specs.Dump.{exe_of, registers_of}
-use Rattle.rept_elf.specs.Header.{word_at}
+use Rattle.std.proofs.Common.{◌∙◌, ap, subst, sym}
+use Rattle.rept_dump.specs.Dump.{exe_of}
 use Rattle.rept_report.specs.Closure.{ClosureHas}
-use Rattle.rept_report.specs.Soundness.{HasNoExecution}
-use Rattle.rept_analysis.specs.declared.stop.Stop.TheVariants.{Conflict}
 use Rattle.rept_report.specs.OneThread.{Path, along}
-use Rattle.rept_found.specs.Crash.{crash_of, scene_of, means, route}
-use Rattle.rept_found.proofs.Settings.{route_is, path_back, found_in, stop_is}
+use Rattle.rept_report.specs.Soundness.{HasNoExecution}
+use Rattle.rept_report.specs.declared.conflict.ConflictKind.{ConflictKind}
+use Rattle.rept_found.specs.Crash.{means}
+use Rattle.rept_found.specs.View.{View, path_in}
+use Rattle.rept_found.proofs.Settings.{conflict_of, found_in, path_back, stop_is}
 use Rattle.rept_found.proofs.Truths.{no_execution}
 use Rattle.rept_found.proofs.found.search.Goals as goal
 
-pub returns-in-Ok-refine-clause-found : goal.returns-in-Ok-refine-clause-found
-returns-in-Ok-refine-clause-found g c =
-    let here = route_is (means g.W.Partial.sets g.W.Transfer.moves g.R.RowRules.rules) c.in-Ok.analysis (crash_of c.args.dump.now) c.args.steps.now c.in-Ok.ensures.path c.in-Ok.ensures.last c.account.ensures.last c.in-Ok.ensures.memory in
-    let complete = c.in-Ok-refine.ensures.complete in
-    found_in (means g.W.Partial.sets g.W.Transfer.moves g.R.RowRules.rules) (record { analysis = c.refine.new.self; scene = record { end_pc = c.status-status.result.pc; process = c.status-status.result.pid; program = exe_of c.args.dump.now } }) (route (means g.W.Partial.sets g.W.Transfer.moves g.R.RowRules.rules) (crash_of c.args.dump.now) c.args.steps.now) (scene_of (crash_of c.args.dump.now))
-    (path_back (means g.W.Partial.sets g.W.Transfer.moves g.R.RowRules.rules) c.refine.new.self c.in-Ok.analysis c.refine.ensures.path ∙ here) (ap (λ (n : ℕ). record { end_pc = n; process = c.status-status.result.pid; program = exe_of c.args.dump.now }) c.status-status.ensures.pc ∙ ap (λ (n : ℕ). record { end_pc = word_at (registers_of c.args.dump.now) 72; process = n; program = exe_of c.args.dump.now }) c.status-status.ensures.pid) c.in-Ok-refine.ensures.report (c.account-in-Ok-refine.ensures.log complete)
+pub returns-in-Ok-clause-found : goal.returns-in-Ok-clause-found
+returns-in-Ok-clause-found g c =
+    let m = means g.W.Partial.sets g.W.Transfer.moves g.R.RowRules.rules in
+    let at = c.prepared.view_is in
+    found_in m (record { analysis = c.refine.new.self; scene = record { end_pc = c.prepared.inside.end_pc; process = c.prepared.inside.process; program = exe_of c.prepared.inside.dump.now } }) (path_in m c.args.prepared) c.args.prepared.scene
+    (path_back m c.refine.new.self c.prepared.inside.analysis c.refine.ensures.path ∙ ap (λ (v : View g.row.W.Denot g.row.R.Denot). path_in (means g.W.Partial.sets g.W.Transfer.moves g.R.RowRules.rules) v) at)
+    (ap (λ (v : View g.row.W.Denot g.row.R.Denot). v.scene) at) c.in-Ok.ensures.report (c.account.ensures.log c.in-Ok.ensures.complete)
 
-pub returns-clause-conflict : goal.returns-clause-conflict
-returns-clause-conflict g c = λ kind e.
-    let here = route_is (means g.W.Partial.sets g.W.Transfer.moves g.R.RowRules.rules) c.in-Ok.analysis (crash_of c.args.dump.now) c.args.steps.now c.in-Ok.ensures.path c.in-Ok.ensures.last c.account.ensures.last c.in-Ok.ensures.memory in
-    let same : c.in-Err.stop ≡ Conflict kind = cc in
-    subst (λ (P : Path g.row.W.Denot). ClosureHas (along P) kind) here (c.refine.ensures.conflict kind (stop_is c.refine.result c.in-Err.stop kind c.in-Err.is same))
+pub returns-in-Err-Conflict-clause-conflict : goal.returns-in-Err-Conflict-clause-conflict
+returns-in-Err-Conflict-clause-conflict g c =
+    let here = ap (λ (v : View g.row.W.Denot g.row.R.Denot). path_in (means g.W.Partial.sets g.W.Transfer.moves g.R.RowRules.rules) v) c.prepared.view_is in
+    subst (λ (k : ConflictKind). ClosureHas (along (path_in (means g.W.Partial.sets g.W.Transfer.moves g.R.RowRules.rules) c.args.prepared)) k) (sym c.in-Err-Conflict.kind-is)
+    (conflict_of _ (path_in (means g.W.Partial.sets g.W.Transfer.moves g.R.RowRules.rules) c.args.prepared) c.in-Err-Conflict.kind here
+    (c.refine.ensures.conflict c.in-Err-Conflict.kind (stop_is c.refine.result c.in-Err-Conflict.field-0 c.in-Err-Conflict.kind c.in-Err-Conflict.is c.in-Err-Conflict.field-0-is)))
 
-pub returns-clause-impossible : goal.returns-clause-impossible
-returns-clause-impossible g c = λ kind e.
-    let here = route_is (means g.W.Partial.sets g.W.Transfer.moves g.R.RowRules.rules) c.in-Ok.analysis (crash_of c.args.dump.now) c.args.steps.now c.in-Ok.ensures.path c.in-Ok.ensures.last c.account.ensures.last c.in-Ok.ensures.memory in
-    let same : c.in-Err.stop ≡ Conflict kind = cc in
-    no_execution (route (means g.W.Partial.sets g.W.Transfer.moves g.R.RowRules.rules) (crash_of c.args.dump.now) c.args.steps.now) (subst (λ (P : Path g.row.W.Denot). HasNoExecution (along P)) here (c.refine.ensures.impossible kind (stop_is c.refine.result c.in-Err.stop kind c.in-Err.is same)))
+pub returns-in-Err-Conflict-clause-impossible : goal.returns-in-Err-Conflict-clause-impossible
+returns-in-Err-Conflict-clause-impossible g c =
+    let here = ap (λ (v : View g.row.W.Denot g.row.R.Denot). path_in (means g.W.Partial.sets g.W.Transfer.moves g.R.RowRules.rules) v) c.prepared.view_is in
+    no_execution (path_in (means g.W.Partial.sets g.W.Transfer.moves g.R.RowRules.rules) c.args.prepared)
+    (subst (λ (P : Path g.row.W.Denot). HasNoExecution (along P)) here
+    (c.refine.ensures.impossible c.in-Err-Conflict.kind (stop_is c.refine.result c.in-Err-Conflict.field-0 c.in-Err-Conflict.kind c.in-Err-Conflict.is c.in-Err-Conflict.field-0-is)))
+
+pub returns-in-Err-Conflict-clause-exact : goal.returns-in-Err-Conflict-clause-exact
+returns-in-Err-Conflict-clause-exact g c = λ consistent.
+    let here = ap (λ (v : View g.row.W.Denot g.row.R.Denot). path_in (means g.W.Partial.sets g.W.Transfer.moves g.R.RowRules.rules) v) c.prepared.view_is in
+    absurd
+    (consistent c.in-Err-Conflict.kind
+    (subst (λ (P : Path g.row.W.Denot). ClosureHas (along P) c.in-Err-Conflict.kind) here
+    (c.refine.ensures.conflict c.in-Err-Conflict.kind (stop_is c.refine.result c.in-Err-Conflict.field-0 c.in-Err-Conflict.kind c.in-Err-Conflict.is c.in-Err-Conflict.field-0-is))))
