@@ -1,6 +1,11 @@
 //! The top call.
 
-ghost use Rattle.std.specs.Prelude.{◌≡◌, ◌⊎◌, map, string_bytes, IfSome, None};
+ghost use Rattle.std.specs.Prelude.{◌≡◌, ◌⊎◌, ◌↔◌, map, string_bytes, Contains, IfSome, None};
+ghost use Rattle.rept_isa.specs.declared.row.StepRow.{StepRow};
+ghost use Rattle.rept_view.specs.declared.drawn.Drawn.{Drawn};
+ghost use Rattle.rept_view.specs.Seen.{Seen};
+ghost use Rattle.rept_amo.specs.Atomic.{atomic_rules};
+ghost use Rattle.rept_amo.specs.Rows.{RowConcludes};
 ghost use Rattle.rept_ports.specs.Port.{move};
 ghost use Rattle.rept_app.specs.Delivered.{Delivers};
 ghost use Rattle.rept_app.specs.Ends.{EndsSession};
@@ -16,7 +21,7 @@ use crate::made_run::tell_made_run;
 use crate::mapped::examine_mapped;
 use crate::status::Status;
 use crate::telling::tell;
-use rept_amo::Atomic;
+use rept_amo::{Atomic, conclusions_are_listed};
 use rept_found::reports_are_true;
 use rept_known::Both;
 use rept_partial::Range;
@@ -86,9 +91,13 @@ pub fn rept<H: Shelf, S: Source, K: Sink>(
     ensures sound { IfSome (H.port shelf.old).files (λ files. ReportHolds (map string_bytes words.now) files) }
     ensures impossible { IfSome (H.port shelf.old).files (λ files. result ≡ Status.Inconsistent → NoExecution (map string_bytes words.now) files) }
 
+    // The report is what follows by the rules of rows, which are the cases of a relation: each conclusion by one of them, and no other.
+    ensures rules { (row : StepRow) (s : Seen) (d : Drawn) → Contains (atomic_rules.draw row s) d ↔ RowConcludes row s d }
+
     // Each fact of the report of `open` is told by `bits` of the same files.
     ensures bits { IfSome (H.port shelf.old).files (λ files. BitsKnowMore (map string_bytes words.now) files) }
 {
+    conclusions_are_listed();
     reports_are_true::<Range, Atomic>();
     reports_are_true::<Both, Atomic>();
     finer_sets_know_more::<Both, Range, Atomic>();
