@@ -6,6 +6,7 @@ pub mod Listed
 pub mod Sound
 pub mod Own
 pub mod NeedLemmas
+pub mod Telling
 pub mod WriteLemmas
 pub mod Lengths
 pub mod More

@@ -67,6 +67,10 @@ Fits (Byte a) v = v < 2 ^ 8
 abbrev pub HasNeeds : Rules → StepRow → Seen → Drawn → Seen → Type 0
 HasNeeds rules row s d t = (n : Need) → Contains (rules.needs row s d) n → seen_cell t n.when n.cell ≡ seen_cell s n.when n.cell
 
+-- two views have the same of each of the row's own cells
+abbrev pub HasSameCells : Rules → StepRow → Seen → Seen → Type 0
+HasSameCells rules row s t = (w : When) (c : Cell) → IsRowCell rules row s w c → seen_cell t w c ≡ seen_cell s w c
+
 -- a step by the row that has all that is seen
 pub record IsSeenStep (image_end : ℕ) (row : StepRow) (view : Seen) (before after : State) : Type 0 where
   pub state_before : IsState before
@@ -83,6 +87,8 @@ pub record AreLawful (rules : Rules) : Type 0 where
   pub needs_own : (row : StepRow) (view : Seen) (d : Drawn) (n : Need) → IsLawful view → Contains (rules.draw row view) d → Contains (rules.needs row view d) n → IsRowCell rules row view n.when n.cell × ((v : ℕ) × (seen_cell view n.when n.cell ≡ Some v))
   -- and it is enough
   pub needs_enough : (row : StepRow) (s t : Seen) (d : Drawn) → IsLawful s → IsLawful t → Contains (rules.draw row s) d → HasNeeds rules row s d t → Contains (rules.draw row t) d
+  -- the row's own cells tell all that a conclusion rests on
+  pub needs_told : (row : StepRow) (s t : Seen) (d : Drawn) → HasSameCells rules row s t → rules.needs row t d ≡ rules.needs row s d
   pub few_drawn : (row : StepRow) (view : Seen) → length (rules.draw row view) ≤ 16
   pub few_needs : (row : StepRow) (view : Seen) (d : Drawn) → length (rules.needs row view d) ≤ 10
   pub few_places : (row : StepRow) → rules.places row ≤ 8

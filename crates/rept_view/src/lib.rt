@@ -2,9 +2,11 @@
 #![tactic(auto)]
 
 pub mod drawn;
+pub mod offset;
 pub mod rules;
 pub mod view;
 
 pub use drawn::{Drawn, Need, RegisterAt, When};
+pub use offset::offset_of;
 pub use rules::RowRules;
 pub use view::RowView;

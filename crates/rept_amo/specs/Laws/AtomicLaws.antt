@@ -1,9 +1,8 @@
 -- The rules of RV32IMA keep the laws of rules.
-use Rattle.std.proofs.Common.{◌≡◌, ℕ, ◌<◌, ◌≤◌, ◌^◌, refl, sym, subst, true, Option, Some, None, length}
+use Rattle.std.proofs.Common.{◌≡◌, ℕ, ◌<◌, ◌≤◌, ◌^◌, inl, refl, sym, ap, subst, true, Option, Some, None, length}
 use Rattle.std.specs.List.{Contains}
 use Rattle.rept_isa.specs.declared.row.StepRow.{StepRow}
 use Rattle.rept_partial.specs.declared.flat.Flat.{Flat}
-use Rattle.rept_partial.specs.declared.flat.Flat.TheVariants.{Unknown, Known}
 use Rattle.rept_view.specs.declared.drawn.When.{When}
 use Rattle.rept_view.specs.declared.drawn.When.TheVariants.{Before, After}
 use Rattle.rept_view.specs.declared.drawn.Drawn.{Drawn}
@@ -13,9 +12,9 @@ use Rattle.rept_machine.specs.State.{State}
 use Rattle.rept_machine.specs.Writes.{WritesBy}
 use Rattle.rept_reason.specs.declared.fact.Cell.{Cell}
 use Rattle.rept_reason.specs.declared.fact.Cell.TheVariants.{Register, Byte}
-use Rattle.rept_reason.specs.Facts.{IsCell}
+use Rattle.rept_reason.specs.Facts.{IsCell, flat}
 use Rattle.rept_view.specs.declared.drawn.Need.{Need}
-use Rattle.rept_view.specs.Rules.{AreLawful, IsRowCell, IsRowByte, IsSeenStep, HasNeeds, Fits}
+use Rattle.rept_view.specs.Rules.{AreLawful, IsRowCell, IsRowByte, IsSeenStep, HasNeeds, HasSameCells, Fits}
 use Rattle.rept_rules.specs.MayWrite.{may_write}
 use Rattle.rept_rules.specs.Listing.{known_at}
 use Rattle.rept_rules.specs.Base.{base_rules}
@@ -23,11 +22,11 @@ use Rattle.rept_rules.specs.Laws.BaseLaws.{base_lawful}
 use Rattle.rept_amo.specs.declared.form.Form.{Form}
 use Rattle.rept_amo.specs.Conclusions.{form_of}
 use Rattle.rept_amo.specs.Listing.{drawn_of}
-use Rattle.rept_amo.specs.Needs.{needs_by}
+use Rattle.rept_amo.specs.Needs.{needs_at, needs_by}
 use Rattle.rept_amo.specs.Writes.{is_sure, places_of}
 use Rattle.rept_amo.specs.Atomic.{atomic_rules}
 use Rattle.rept_amo.specs.Laws.Listed.{listed, concluded}
-use Rattle.rept_amo.specs.Laws.Sound.{sound_by}
+use Rattle.rept_amo.specs.Laws.Sound.{sound_by, form_is}
 use Rattle.rept_amo.specs.Laws.Own.{own_by, slot_inside_by, slot_once_by}
 use Rattle.rept_amo.specs.Laws.NeedLaws.{good_by, again_by}
 use Rattle.rept_amo.specs.Laws.Counts as counts
@@ -71,6 +70,10 @@ module _ (row : StepRow) where
   enough_law s t d ls lt agree None e has = base_lawful.needs_enough row s t d ls lt has (λ n needed. agree n (subst (λ (o : Option Form). Contains (needs_by o row s d) n) (sym e) needed))
   enough_law s t d ls lt agree (Some form) e has = concluded row t d form e (again_by row s t d ls lt agree (listed row s d form e has))
 
+  needs_told_law : (s t : Seen) (d : Drawn) → HasSameCells atomic_rules row s t → (o : Option Form) → form_of row.instr ≡ o → needs_by o row t d ≡ needs_by o row s d
+  needs_told_law s t d same None e = base_lawful.needs_told row s t d (λ w c own. same w c (cell_of_base row s w c e own))
+  needs_told_law s t d same (Some form) e = ap (λ (x : Flat). needs_at form x d.rule) (ap flat (same Before (Register form.rs1) (inl (ap first_read (form_is row.instr form e)))))
+
   few_drawn_law : (view : Seen) (o : Option Form) → length (drawn_of o row view) ≤ 16
   few_drawn_law view None = base_lawful.few_drawn row view
   few_drawn_law view (Some form) = counts.few_drawn form (known_at view Before form.rs1) view
@@ -105,6 +108,7 @@ atomic_lawful = record {
   own = λ row view d lawful has. own_law row view d lawful (form_of row.instr) refl has;
   needs_own = λ row view d n lawful has needed. needs_law row view d n lawful needed (form_of row.instr) refl has;
   needs_enough = λ row s t d ls lt has agree. enough_law row s t d ls lt agree (form_of row.instr) refl has;
+  needs_told = λ row s t d same. needs_told_law row s t d same (form_of row.instr) refl;
   few_drawn = λ row view. few_drawn_law row view (form_of row.instr);
   few_needs = λ row view d. few_needs_law row view d (form_of row.instr);
   few_places = λ row. few_places_law row (form_of row.instr);

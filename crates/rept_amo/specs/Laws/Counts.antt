@@ -1,24 +1,19 @@
 -- The lists of a row of an atomic instruction keep within their room.
-use Rattle.std.proofs.Common.{ℕ, zero, suc, ◌+◌, ◌≤◌, true, false, Bool, arith, Option, Some, None, List, [], ◌∷◌, ◌++◌, length, lit≤, ◌==◌}
+use Rattle.std.proofs.Common.{ℕ, zero, suc, ◌+◌, ◌≤◌, arith, ◌++◌, length, lit≤, ◌==◌}
 use Rattle.rept_isa.specs.declared.instr.AmoOp.{AmoOp}
 use Rattle.rept_isa.specs.declared.instr.AmoOp.TheVariants as atomic
-use Rattle.rept_isa.specs.declared.row.StepRow.{StepRow}
 use Rattle.rept_partial.specs.declared.flat.Flat.{Flat}
 use Rattle.rept_partial.specs.declared.flat.Flat.TheVariants.{Unknown, Known}
-use Rattle.rept_view.specs.declared.drawn.When.{When}
 use Rattle.rept_view.specs.declared.drawn.When.TheVariants.{Before, After}
-use Rattle.rept_view.specs.declared.drawn.Drawn.{Drawn}
 use Rattle.rept_view.specs.Seen.{Seen}
-use Rattle.rept_view.specs.declared.drawn.Need.{Need}
-use Rattle.rept_reason.specs.Facts.{flat}
-use Rattle.rept_rules.specs.Listing.{register_drawn, known_at}
+use Rattle.rept_rules.specs.Listing.{register_drawn}
 use Rattle.rept_rules.specs.Needs.{register_need, both_needs, byte_needs}
 use Rattle.rept_rules.specs.Laws.Lengths.{joined, wider, either_list, one_register, one_need, two_needs, some_byte_needs}
 use Rattle.rept_amo.specs.declared.form.WordDrawn.{WordDrawn}
 use Rattle.rept_amo.specs.declared.form.Form.{Form}
 use Rattle.rept_amo.specs.declared.form.Access.{Access}
-use Rattle.rept_amo.specs.Conclusions.{byte_drawn, word_before, word_after, word_stored, undone}
-use Rattle.rept_amo.specs.Listing.{bytes_drawn, word_drawn, from_both, word_there, word_left, source_of, answer_of, read_drawn, written_drawn, source_back, source_drawn, word_back_drawn, operation_drawn, if_success, stored_drawn, drawn_by, access_drawn}
+use Rattle.rept_amo.specs.Conclusions.{word_before, word_after, word_stored}
+use Rattle.rept_amo.specs.Listing.{bytes_drawn, word_drawn, word_there, answer_of, read_drawn, written_drawn, source_drawn, word_back_drawn, operation_drawn, drawn_by, access_drawn}
 use Rattle.rept_amo.specs.Needs.{source_needs, access_needs, needs_at}
 
 some_bytes : (w : WordDrawn) (n : ℕ) → length (bytes_drawn w n) ≤ n

@@ -1,5 +1,5 @@
 -- What stands in the list of a row of an atomic instruction is what it lets one conclude.
-use Rattle.std.proofs.Common.{◌≡◌, ◌≢◌, ℕ, zero, suc, ◌<◌, ◌⊎◌, inl, inr, refl, sym, ap, subst, ◌∙◌, Bool, true, false, if◌then◌else◌, arith, Option, Some, None, ◌==◌, [], ◌∷◌, ◌++◌}
+use Rattle.std.proofs.Common.{◌≡◌, ◌≢◌, ℕ, zero, suc, ◌<◌, ◌⊎◌, inl, inr, refl, sym, ap, subst, ◌∙◌, Bool, if◌then◌else◌, arith, Option, Some, None, ◌==◌, [], ◌∷◌, ◌++◌}
 use Rattle.std.specs.List.{Contains}
 use Rattle.std.proofs.lemmas.List.Elements.{Contains-append_left, Contains-append_right, Contains-append_cases}
 use Rattle.std.proofs.lemmas.Bool.{cases_order}
@@ -8,15 +8,14 @@ use Rattle.rept_isa.specs.declared.instr.AmoOp.TheVariants as atomic
 use Rattle.rept_isa.specs.declared.row.StepRow.{StepRow}
 use Rattle.rept_partial.specs.declared.flat.Flat.{Flat}
 use Rattle.rept_partial.specs.declared.flat.Flat.TheVariants.{Unknown, Known}
-use Rattle.rept_view.specs.declared.drawn.When.{When}
 use Rattle.rept_view.specs.declared.drawn.When.TheVariants.{Before, After}
 use Rattle.rept_view.specs.declared.drawn.Drawn.{Drawn}
 use Rattle.rept_view.specs.Seen.{Seen}
 use Rattle.rept_isa.specs.Operands.{unless_zero}
 use Rattle.rept_machine.specs.Arithmetic.{word_at, combined}
 use Rattle.rept_reason.specs.Facts.{flat}
-use Rattle.rept_rules.specs.Conclusions.{Says, IsKnown, AreKnown}
-use Rattle.rept_rules.specs.Listing.{register_drawn, word_from, known_at, known_after}
+use Rattle.rept_rules.specs.Conclusions.{Says, IsKnown}
+use Rattle.rept_rules.specs.Listing.{register_drawn, known_at}
 use Rattle.rept_rules.specs.Laws.ValueLemmas.{either_way, equal, same_some, destination, over_zero}
 use Rattle.rept_rules.specs.Laws.SolveLemmas.{known, unknown}
 use Rattle.rept_rules.specs.Laws.ListLemmas.{nothing, single, has_single, flat_some, some_flat, in_register, register_in, known_after_is, is_known_after, memory_of, word_is, word_there as word_from_bytes}

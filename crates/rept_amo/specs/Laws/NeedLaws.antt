@@ -1,28 +1,25 @@
 -- What a conclusion of a row of an atomic instruction rests on is the row's and known, and is enough.
-use Rattle.std.proofs.Common.{◌≡◌, ◌≢◌, ℕ, zero, suc, ◌+◌, ◌<◌, ◌≤◌, inl, inr, refl, sym, ap, subst, ◌∙◌, Bool, true, false, if◌then◌else◌, arith, Option, Some, None, List, [], ◌∷◌, ◌++◌, ◌==◌}
+use Rattle.std.proofs.Common.{◌≡◌, ◌≢◌, ℕ, inl, inr, refl, sym, ap, subst, ◌∙◌, Bool, if◌then◌else◌, Option, Some, List, ◌++◌, ◌==◌}
 use Rattle.std.specs.List.{Contains}
 use Rattle.std.proofs.lemmas.List.Elements.{Contains-append_cases}
 use Rattle.rept_isa.specs.declared.instr.AmoOp.{AmoOp}
 use Rattle.rept_isa.specs.declared.instr.AmoOp.TheVariants as atomic
 use Rattle.rept_isa.specs.declared.row.StepRow.{StepRow}
-use Rattle.rept_partial.specs.declared.flat.Flat.{Flat}
-use Rattle.rept_partial.specs.declared.flat.Flat.TheVariants.{Unknown, Known}
+use Rattle.rept_partial.specs.declared.flat.Flat.TheVariants.{Known}
 use Rattle.rept_view.specs.declared.drawn.When.{When}
 use Rattle.rept_view.specs.declared.drawn.When.TheVariants.{Before, After}
 use Rattle.rept_view.specs.declared.drawn.Drawn.{Drawn}
 use Rattle.rept_view.specs.Seen.{Seen, IsLawful, seen_cell}
-use Rattle.rept_isa.specs.Operands.{written_by, first_read, second_read, unless_zero}
+use Rattle.rept_isa.specs.Operands.{first_read}
 use Rattle.rept_machine.specs.Arithmetic.{beside, word_at}
-use Rattle.rept_reason.specs.declared.fact.Cell.{Cell}
-use Rattle.rept_reason.specs.declared.fact.Cell.TheVariants.{Register, Byte}
+use Rattle.rept_reason.specs.declared.fact.Cell.TheVariants.{Register}
 use Rattle.rept_reason.specs.Facts.{flat}
 use Rattle.rept_view.specs.declared.drawn.Need.{Need}
 use Rattle.rept_view.specs.Rules.{IsRowCell}
 use Rattle.rept_rules.specs.Conclusions.{Says, IsKnown, AreKnown}
 use Rattle.rept_rules.specs.Needs.{register_need, both_needs, byte_needs}
-use Rattle.rept_rules.specs.Laws.ValueLemmas.{either_way, over_zero}
+use Rattle.rept_rules.specs.Laws.ValueLemmas.{either_way}
 use Rattle.rept_rules.specs.Laws.SolveLemmas.{unknown}
-use Rattle.rept_rules.specs.Laws.ListLemmas.{nothing}
 use Rattle.rept_rules.specs.Laws.NeedLemmas.{in_need, in_byte_needs, Agree, agree_left, agree_right, agree_register, agree_byte, agree_first, agree_second}
 use Rattle.rept_amo.specs.declared.form.WordDrawn.{WordDrawn}
 use Rattle.rept_amo.specs.declared.form.Form.{Form}

@@ -1,23 +1,20 @@
 -- Conclusions of a row of an atomic instruction are on the row's own cells, and bytes have places of their own.
-use Rattle.std.proofs.Common.{◌≡◌, ◌≢◌, ℕ, zero, suc, ◌+◌, ◌<◌, ◌≤◌, ◌^◌, inl, inr, refl, sym, ap, subst, ◌∙◌, Bool, true, false, arith, Option, Some, None, ℤ, pos, lit≤}
-use Rattle.rept_isa.specs.declared.instr.Instr.{Instr}
+use Rattle.std.proofs.Common.{◌≡◌, ◌≢◌, ℕ, zero, suc, ◌+◌, ◌<◌, ◌≤◌, ◌^◌, inr, refl, sym, ap, subst, ◌∙◌, arith, Option, Some, ℤ, lit≤}
 use Rattle.rept_isa.specs.declared.instr.AmoOp.{AmoOp}
 use Rattle.rept_isa.specs.declared.instr.AmoOp.TheVariants as atomic
 use Rattle.rept_isa.specs.declared.row.StepRow.{StepRow}
-use Rattle.rept_partial.specs.declared.flat.Flat.{Flat}
-use Rattle.rept_partial.specs.declared.flat.Flat.TheVariants.{Unknown, Known}
 use Rattle.rept_view.specs.declared.drawn.When.{When}
 use Rattle.rept_view.specs.declared.drawn.When.TheVariants.{Before, After}
 use Rattle.rept_view.specs.declared.drawn.Drawn.{Drawn}
 use Rattle.rept_view.specs.Seen.{Seen}
 use Rattle.rept_isa.specs.Numbers.{plus}
 use Rattle.rept_isa.specs.Operands.{written_by, first_read, second_read, unless_zero, source_of}
-use Rattle.rept_machine.specs.Arithmetic.{beside, byte_of, word_at, combined}
+use Rattle.rept_machine.specs.Arithmetic.{beside, word_at, combined}
 use Rattle.rept_reason.specs.declared.fact.Cell.{Cell}
 use Rattle.rept_reason.specs.declared.fact.Cell.TheVariants.{Register, Byte}
 use Rattle.rept_reason.specs.Facts.{IsCell}
 use Rattle.rept_view.specs.Rules.{IsRowCell, IsRowByte, offset_of, Fits}
-use Rattle.rept_rules.specs.Conclusions.{Says, on_register}
+use Rattle.rept_rules.specs.Conclusions.{Says}
 use Rattle.rept_rules.specs.Laws.ValueLemmas.{same_some, over_zero}
 use Rattle.rept_rules.specs.Laws.WriteLemmas.{beside_plain}
 use Rattle.rept_rules.specs.Laws.Own.{not_byte}

@@ -1,26 +1,24 @@
 -- Each conclusion of a row of an atomic instruction holds in each step that has all that is seen.
-use Rattle.std.proofs.Common.{◌≡◌, ◌≢◌, ℕ, ◌+◌, ◌-◌, ◌*◌, ◌/◌, ◌%◌, ◌<◌, ◌^◌, inl, inr, refl, sym, ap, subst, ◌∙◌, arith, Option, Some, None, lit<}
-use Rattle.std.specs.Prelude.{bit_xor}
+use Rattle.std.proofs.Common.{◌≡◌, ◌≢◌, ℕ, ◌+◌, ◌%◌, ◌<◌, ◌^◌, inl, inr, refl, sym, ap, subst, ◌∙◌, arith, Some, lit<}
 use Rattle.std.proofs.lemmas.Nat.{xor_of_32}
 use Rattle.rept_isa.specs.declared.instr.Instr.{Instr}
 use Rattle.rept_isa.specs.declared.instr.Instr.TheVariants.{Amo}
 use Rattle.rept_isa.specs.declared.instr.AmoOp.{AmoOp}
 use Rattle.rept_isa.specs.declared.instr.AmoOp.TheVariants as atomic
 use Rattle.rept_isa.specs.declared.row.StepRow.{StepRow}
-use Rattle.rept_partial.specs.declared.flat.Flat.{Flat}
-use Rattle.rept_partial.specs.declared.flat.Flat.TheVariants.{Unknown, Known}
+use Rattle.rept_partial.specs.declared.flat.Flat.TheVariants.{Known}
 use Rattle.rept_view.specs.declared.drawn.When.{When}
 use Rattle.rept_view.specs.declared.drawn.When.TheVariants.{Before, After}
 use Rattle.rept_view.specs.declared.drawn.Drawn.{Drawn}
-use Rattle.rept_view.specs.Seen.{Seen, Meets, state_at, held}
+use Rattle.rept_view.specs.Seen.{Seen, state_at}
 use Rattle.rept_isa.specs.declared.instr.LoadOp.TheVariants.{Lw}
 use Rattle.rept_isa.specs.Rows.{Addresses, addresses_of}
-use Rattle.rept_machine.specs.State.{State, IsState}
+use Rattle.rept_machine.specs.State.{State}
 use Rattle.rept_machine.specs.Step.{HasEffect, Acts, Tries}
 use Rattle.rept_machine.specs.Arithmetic.{beside, byte_of, word_at, combined}
 use Rattle.rept_view.specs.Rules.{IsSeenStep}
 use Rattle.rept_rules.specs.Operands.{less}
-use Rattle.rept_rules.specs.Conclusions.{Says, IsKnown, AreKnown}
+use Rattle.rept_rules.specs.Conclusions.{AreKnown}
 use Rattle.rept_rules.specs.Laws.ValueLemmas.{no_some, same_some}
 use Rattle.rept_rules.specs.Laws.SolveLemmas.{known, unknown, xor_back, xor_back_left}
 use Rattle.rept_rules.specs.Laws.Sound.{Holds, says_holds, word_back, byte_back, over_none}

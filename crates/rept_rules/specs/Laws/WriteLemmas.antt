@@ -1,5 +1,5 @@
 -- What a row may write is what its steps write.
-use Rattle.std.proofs.Common.{◌≡◌, ℕ, ◌<◌, ◌≤◌, ◌^◌, ◌⊎◌, true, false, inl, inr, refl, sym, ap, subst, ◌∙◌, Bool, [], ◌∷◌, ◌&&◌, arith, Option, Some, None, ◌==◌, ◌≢◌, ◌%◌, ◌+◌, pos, not}
+use Rattle.std.proofs.Common.{◌≡◌, ℕ, ◌<◌, ◌≤◌, ◌^◌, ◌⊎◌, true, false, inl, inr, refl, sym, ap, subst, ◌∙◌, Bool, [], ◌∷◌, ◌&&◌, arith, Option, Some, None, ◌==◌, ◌≢◌, pos, not}
 use Rattle.std.specs.Prelude.{is_some, cond}
 use Rattle.std.specs.List.{All}
 use Rattle.std.proofs.lemmas.Bool.{cases_eq}

@@ -1,8 +1,6 @@
-use Rattle.std.proofs.Common.{◌≡◌, rules, sym, subst, ◌∙◌, ap, List, Option, Some}
+use Rattle.std.proofs.Common.{◌≡◌, rules, sym, subst, ◌∙◌, ap, List, Option}
 use Rattle.std.specs.List.{Contains}
 use Rattle.rept_view.specs.declared.drawn.Drawn.{Drawn}
-use Rattle.rept_view.specs.declared.drawn.When.TheVariants.{Before}
-use Rattle.rept_rules.specs.Listing.{known_at}
 use Rattle.rept_amo.specs.declared.form.Form.{Form}
 use Rattle.rept_amo.specs.Conclusions.{form_of}
 use Rattle.rept_amo.specs.Listing.{drawn_of}

@@ -1,4 +1,4 @@
-use Rattle.std.proofs.Common.{◌≡◌, ap, ◌∙◌}
+use Rattle.std.proofs.Common.{ap, ◌∙◌}
 use Rattle.rept_isa.specs.declared.instr.Instr.{Instr}
 use Rattle.rept_rules.specs.MayWrite.{may_write}
 use Rattle.rept_rules.specs.Laws.WriteLemmas.{exact_by}
