@@ -8,7 +8,7 @@ ghost use Rattle.rept_order.specs.Legs.{points_before};
 ghost use Rattle.rept_report.specs.Moments.{AreMoments, points_of};
 ghost use Rattle.rept_moments.specs.Points.{points_in};
 ghost use Rattle.rept_moments.specs.Seen.{seen, alone_by};
-ghost use Rattle.rept_moments.specs.Courses.{seen_in, threads_in, first_in, is_one};
+ghost use Rattle.rept_moments.specs.Courses.{seen_in, threads_in, first_in, is_one, IsCourseOf};
 ghost use Rattle.rept_carry.specs.Links.{IsLeastFrom, IsPreviousFrom};
 ghost use Rattle.rept_carry.specs.Passing.{Ground, Passes, ground_of};
 ghost use Rattle.rept_carry.specs.Course.{AreWays};
@@ -86,6 +86,7 @@ impl<'a> Ways<'a> {
         ensures threads { IfOk result (λ w. threads_in w ≡ length run.now.threads) }
         ensures firsts { IfOk result (λ w. (t : ℕ) → t < length run.now.threads → first_in w t ≡ points_before run.now.threads t) }
         ensures alone { IsSome (alone_by run.now.threads run.now.dark) → IsOk result }
+        ensures course { IfOk result (IsCourseOf (course_of run.now)) }
     {
         numbers_are_names();
         let course = Course::new(alloc, run)?;

@@ -1,11 +1,16 @@
 -- The rows and moments that a course of the code stands for.
-use Rattle.std.specs.Prelude.{ℕ, ◌+◌, Bool, true, false, length}
+use Rattle.std.specs.Prelude.{◌≡◌, ℕ, ◌+◌, nat_lt, if◌then◌else◌, Bool, true, false, length, Some, None}
+use Rattle.rept_steps.specs.Course.{row_of}
+use Rattle.rept_steps.specs.Course as runs
 use Rattle.rept_order.specs.Legs.{points_before}
+use Rattle.rept_order.specs.Moments.{Moment}
+use Rattle.rept_order.specs.Moments.Moment.{before, at_end}
 use Rattle.rept_moments.specs.declared.course.Course.{Course}
 use Rattle.rept_moments.specs.declared.course.Course as courses
-use Rattle.rept_moments.specs.Seen.{Seen, seen_alone}
+use Rattle.rept_moments.specs.Seen.{Seen, seen_alone, alone_by}
 use Rattle.rept_moments.specs.Several.{seen_of}
 use Rattle.rept_moments.specs.declared.side.Place.{Place}
+use Rattle.rept_moments.specs.Numbers.{numbers_of}
 use Rattle.rept_moments.specs.Points.{points_in, place_on}
 
 abbrev pub seen_in : Course → Seen
@@ -34,3 +39,13 @@ count_in (courses.TheVariants.Many many) = points_in many
 abbrev pub is_one : Course → Bool
 is_one (courses.TheVariants.One steps) = true
 is_one (courses.TheVariants.Many many) = false
+
+-- it is that of this run: of one thread in one slice, all of which is told, its rows, else the run
+abbrev pub IsCourseOf : runs.Course → Course → Type 0
+IsCourseOf C (courses.TheVariants.One steps) = alone_by C.threads C.dark ≡ Some steps.now
+IsCourseOf C (courses.TheVariants.Many many) = (many ≡ C) × (alone_by C.threads C.dark ≡ None)
+
+-- the last of the moments that have a number
+abbrev pub last_in : Course → ℕ → Moment
+last_in (courses.TheVariants.One steps) m = if nat_lt m (length steps.now) then before (row_of 0 m) else at_end
+last_in (courses.TheVariants.Many many) m = (numbers_of many).last m

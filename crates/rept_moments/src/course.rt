@@ -4,12 +4,14 @@ ghost use Rattle.std.specs.Prelude.{◌≡◌, ◌≤◌, ◌<◌, ℕ, length, 
 ghost use Rattle.rept_steps.specs.Course.{IsSound};
 ghost use Rattle.rept_steps.specs.Runs.{course_of};
 ghost use Rattle.rept_order.specs.Legs.{points_before};
+ghost use Rattle.rept_order.specs.Runs.{moment_named};
 ghost use Rattle.rept_moments.specs.Points.{points_in};
 ghost use Rattle.rept_moments.specs.Seen.{seen, alone_by, moment_in, IsNextFrom, IsRowAt, IsLastFrom};
 
 use crate::many::Many;
 use crate::side::Place;
 use rept_isa::StepRow;
+use rept_order::Moment;
 use rept_steps::{Run, Steps};
 use std::alloc::{AllocError as OutOfMemory, Global};
 
@@ -42,7 +44,7 @@ fn alone<'a>(run: &'a Run) -> Option<&'a Steps>
 }
 
 impl<'a> Course<'a> {
-    ghost use Rattle.rept_moments.specs.Courses.{seen_in, threads_in, first_in, place_in, count_in, is_one};
+    ghost use Rattle.rept_moments.specs.Courses.{seen_in, threads_in, first_in, place_in, count_in, is_one, last_in, IsCourseOf};
 
     /// The rows and moments of this run, which must be sound and have at most 66,560 points: those of 65,536 rows and 1,024 threads. Of one thread in one slice, all of which
     /// is told, it takes no memory; else memory for a few entries a point.
@@ -54,6 +56,7 @@ impl<'a> Course<'a> {
         ensures firsts { IfOk result (λ c. (t : ℕ) → t < length run.now.threads → first_in c t ≡ points_before run.now.threads t) }
         ensures alone { IsSome (alone_by run.now.threads run.now.dark) → IsOk result }
         ensures one { IsSome (alone_by run.now.threads run.now.dark) → IfOk result (λ c. is_one c ≡ true) }
+        ensures course { IfOk result (IsCourseOf (course_of run.now)) }
     {
         match alone(run) {
             Some(steps) => Ok(Course::One { steps }),
@@ -159,6 +162,25 @@ impl<'a> Course<'a> {
         match self {
             Course::One { .. } => point,
             Course::Many(many) => many.moment_at(point),
+        }
+    }
+
+    /// The last of the moments that have a number. Of one thread alone it is that of the point with this number.
+    pub fn last(&self, number: u32) -> Moment
+        ensures { moment_named result ≡ last_in self.now number }
+    {
+        match self {
+            Course::One { steps } => {
+                if number < steps.len() {
+                    Moment::Before {
+                        thread: 0,
+                        step: number,
+                    }
+                } else {
+                    Moment::End
+                }
+            }
+            Course::Many(many) => many.last(number),
         }
     }
 

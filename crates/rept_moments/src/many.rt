@@ -4,8 +4,10 @@ ghost use Rattle.std.specs.Prelude.{◌≡◌, ◌≤◌, ◌<◌, ◌^◌, [], 
 ghost use Rattle.rept_steps.specs.Course.{rows_of, IsSound};
 ghost use Rattle.rept_steps.specs.Runs.{course_of};
 ghost use Rattle.rept_order.specs.Legs.{points_before};
+ghost use Rattle.rept_order.specs.Moments.{stores};
 ghost use Rattle.rept_order.specs.Runs.{moment_named};
 ghost use Rattle.rept_order.specs.Times.{begin_of};
+ghost use Rattle.rept_course.specs.Numbered.{row_on};
 ghost use Rattle.rept_course.specs.Making.{lasts, rank};
 ghost use Rattle.rept_moments.specs.Points.{by_point, place_on, points_in};
 ghost use Rattle.rept_moments.specs.Ordering.{in_order, in_time, moment_at, event_at};
@@ -270,6 +272,13 @@ impl<'a> Many<'a> {
         }
     }
 
+    /// Whether the row that leads from a point, if one does, writes memory by the form of its instruction, whatever is known of it.
+    pub fn stores(&self, point: u32) -> bool
+        ensures { result ≡ stores self.now (row_on self.now point) }
+    {
+        self.points.stores(point)
+    }
+
     /// Whether the row lies wholly before the moment. This is said of each row that can't write.
     pub fn is_past(&self, row: u32, m: u32) -> bool
         requires { IsSome ((seen_of self.now).legs.row row) }
@@ -344,7 +353,7 @@ impl<'a> Many<'a> {
     }
 
     /// The row that is no call and has these moments before and after it.
-    fn row_between(&self, m: u32, w: u32) -> Option<u32>
+    pub fn row_between(&self, m: u32, w: u32) -> Option<u32>
         ensures { IsBetween self.now m w result }
     {
         match self.numbers.at(m) {
