@@ -1,0 +1,59 @@
+-- What a course has of the run that it is of.
+use Rattle.std.proofs.Common.{◌≡◌, ℕ, ◌<◌, ◌≤◌, nat_lt, Bool, true, false, List, length, Option, Some, None, slice_get, inl, inr, refl, sym, ap, ◌∙◌, subst, arith}
+use Rattle.std.specs.Option.{is_some, IsSome}
+use Rattle.std.proofs.lemmas.Bool.{false≢true, le-ltb, ltb-false}
+use Rattle.std.proofs.lemmas.Option.{slice_get_cases}
+use Rattle.rept_isa.specs.declared.row.StepRow.{StepRow}
+use Rattle.rept_steps.specs.Course.{IsSound}
+use Rattle.rept_steps.specs.Course as runs
+use Rattle.rept_report.specs.Timeline.{Timeline, IsTimeline}
+use Rattle.rept_moments.specs.Seen.{Seen, seen, alone_by, seen_alone}
+use Rattle.rept_moments.specs.declared.course.Course.{Course}
+use Rattle.rept_moments.specs.declared.course.Course as courses
+use Rattle.rept_moments.specs.Courses.{seen_in, is_one, IsCourseOf}
+use Rattle.rept_moments.proofs.Places.{some_below}
+use Rattle.rept_carry.specs.Links.{IsLeastFrom}
+use Rattle.rept_carry.proofs.Carrying.{least_same}
+use Rattle.rept_timeline.specs.Small.{IsSmall}
+use Rattle.rept_timeline.specs.Times.{as_timeline, time_of, IsOpen, IsOpenFrom, IsClose, IsCloseFrom}
+use Rattle.rept_timeline.specs.Listed.{IsSoundIn, AreStoring, AreListed}
+use Rattle.rept_timeline.proofs.Counting.{is_timeline}
+
+pub sound_in : (C : runs.Course) (c : Course) → IsSound C → IsCourseOf C c → IsSoundIn c
+sound_in C (courses.TheVariants.One steps) sound its = tt
+sound_in C (courses.TheVariants.Many many) sound its = subst (λ (D : runs.Course). IsSound D) (sym its.0) sound
+
+pub one_of : (C : runs.Course) (c : Course) → IsCourseOf C c → IsSome (alone_by C.threads C.dark) → is_one c ≡ true
+one_of C (courses.TheVariants.One steps) its some = refl
+one_of C (courses.TheVariants.Many many) its some = absurd (false≢true (sym (ap is_some its.1) ∙ some))
+
+pub timeline_in : (C : runs.Course) (c : Course) → IsSound C → IsSmall C → seen_in c ≡ seen C → IsTimeline (time_of c)
+timeline_in C c sound small same = subst (λ (s : Seen). IsTimeline (as_timeline s)) (sym same) (is_timeline C sound small)
+
+-- the list of several threads
+pub many_storing : (c : Course) (many : runs.Course) (list : List ℕ) → c ≡ courses.TheVariants.Many many → ∥ AreListed c list ∥₁ → ∥ AreStoring many list ∥₁
+many_storing c many list e t = subst (λ (d : Course). ∥ AreListed d list ∥₁) e t
+
+-- of one thread alone
+module _ (rows : List StepRow) where
+  abbrev T : Timeline
+  T = as_timeline (seen_alone rows)
+
+  row_there : (i : ℕ) → i < length rows → IsSome (slice_get rows i)
+  row_there i less =
+      elim ((slice_get_cases rows i).1) [
+        | inl found ↦ ap is_some found.2
+        | inr past ↦ absurd (let far = past.0 in omega arith)
+      ]
+
+  pub open_alone : (m least : ℕ) (r : Option ℕ) → IsLeastFrom (λ (i : ℕ). (i < length rows) × (m ≤ i)) least r → IsOpenFrom T m least r
+  open_alone m least r its =
+      least_same (λ (i : ℕ). (i < length rows) × (m ≤ i)) (λ (i : ℕ). IsOpen T m i)
+      (λ i is. record { row = row_there i is.0; open_at = le-ltb i m is.1 })
+      (λ i o. (some_below rows i o.row, ltb-false i m o.open_at)) least r its
+
+  pub close_alone : (j least : ℕ) (r : Option ℕ) → IsLeastFrom (λ (i : ℕ). (i < length rows) × (j ≤ i)) least r → IsCloseFrom T j least r
+  close_alone j least r its =
+      least_same (λ (i : ℕ). (i < length rows) × (j ≤ i)) (λ (i : ℕ). IsClose T j i)
+      (λ i is. record { row = row_there i is.0; close_to = le-ltb i j is.1 })
+      (λ i o. (some_below rows i o.row, ltb-false i j o.close_to)) least r its

@@ -1,0 +1,12 @@
+use Rattle.std.proofs.Common.{◌≡◌, ◌≤◌, ◌<◌, ◌+◌, ◌-◌, ℕ, true}
+use Rattle.rept_moments.specs.Several.{seen_of}
+use Rattle.rept_timeline.proofs.opening.open_from.Given as goal
+
+abbrev pub invariant-loop-row : goal.invariant-loop-row
+invariant-loop-row l = record {
+  up : l.least ≤ l.from;
+  past : (i : ℕ) → l.least ≤ i → i < l.from → (seen_of l.many).moments.past i l.m ≡ true;
+}
+
+abbrev pub decreases-loop-row : goal.decreases-loop-row
+decreases-loop-row l = (seen_of l.many).legs.count - l.from

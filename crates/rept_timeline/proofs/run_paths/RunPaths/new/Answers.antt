@@ -1,0 +1,16 @@
+use Rattle.std.proofs.Common.{◌≡◌, ◌<◌, ◌≤◌, ℕ, List, length, sym, subst, ◌∙◌}
+use Rattle.rept_moments.specs.declared.course.Course.{Course}
+use Rattle.rept_steps.specs.Runs.{course_of}
+use Rattle.rept_timeline.specs.Listed.{AreListed}
+use Rattle.rept_timeline.proofs.Counting.{few_points}
+use Rattle.rept_timeline.proofs.Making.{timeline_in}
+use Rattle.rept_timeline.proofs.run_paths.RunPaths.new.Goals as goal
+
+pub new-requires-clause-few : goal.new-requires-clause-few
+new-requires-clause-few c = few_points (course_of c.args.run.now) c.requires.small
+
+pub invariant_of-result-clause-listed : goal.invariant_of-result-clause-listed
+invariant_of-result-clause-listed c = ∣ subst (λ (d : Course). AreListed d c.in_ok-storing.storing) c.course.ensures.value c.in_ok-storing.ensures.listed ∣₁
+
+pub invariant_of-result-clause-lawful : goal.invariant_of-result-clause-lawful
+invariant_of-result-clause-lawful c = ∣ timeline_in (course_of c.args.run.now) c.in_ok-ways.ways c.requires.sound c.requires.small c.in_ok-ways.ensures.ok ∣₁

@@ -1,0 +1,15 @@
+use Rattle.std.proofs.Common.{◌≡◌, ◌<◌, ◌≤◌, ℕ, List, length, sym, subst, ◌∙◌}
+use Rattle.rept_moments.specs.declared.course.Course.{Course}
+use Rattle.rept_carry.specs.Links.{IsLeastFrom}
+use Rattle.rept_timeline.specs.Times.{time_of, IsOpenFrom, IsCloseFrom}
+use Rattle.rept_timeline.proofs.Lists.{sound_of}
+use Rattle.rept_timeline.proofs.Making.{many_storing, open_alone}
+use Rattle.rept_timeline.proofs.run_paths.RunPaths.open_from.Goals as goal
+
+pub open_from-requires-clause-listed : goal.open_from-requires-clause-listed
+open_from-requires-clause-listed c = (many_storing c.args.self.now.ways c.in-Many.many c.args.self.now.storing (sym c.course.ensures.value ∙ c.in-Many.is) c.args.self.now.listed)
+
+pub returns-in-One : goal.returns-in-One
+returns-in-One c =
+    let low : IsLeastFrom (λ (i : ℕ). (i < length c.in-One.steps.now) × (c.args.number ≤ i)) c.args.least c.in_path.result = subst (λ (n : ℕ). IsLeastFrom (λ (i : ℕ). (i < n) × (c.args.number ≤ i)) c.args.least c.in_path.result) c.len.ensures.value c.in_path.ensures in
+    subst (λ (d : Course). IsOpenFrom (time_of d) c.args.number c.args.least c.in_path.result) (sym (sym c.course.ensures.value ∙ c.in-One.is)) (open_alone c.in-One.steps.now c.args.number c.args.least c.in_path.result low)

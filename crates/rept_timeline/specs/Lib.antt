@@ -1,0 +1,4 @@
+pub mod Small
+pub mod Times
+pub mod Listed
+pub mod Lawful

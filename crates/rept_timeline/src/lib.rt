@@ -1,0 +1,11 @@
+//! The rows and moments of any sound run, as an analysis goes over them, and the rows that are in the way of a moment or of another row.
+#![tactic(auto)]
+
+mod closing;
+mod opening;
+mod run_paths;
+mod small;
+mod storing;
+
+pub use run_paths::RunPaths;
+pub use small::is_small;

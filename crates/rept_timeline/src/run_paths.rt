@@ -1,0 +1,149 @@
+//! The rows and moments of a run.
+
+ghost use Rattle.std.specs.Prelude.{◌≡◌, ◌≤◌, ◌<◌, true, IfOk, IsOk, IsSome};
+ghost use Rattle.rept_steps.specs.Course.{IsSound};
+ghost use Rattle.rept_steps.specs.Runs.{course_of};
+ghost use Rattle.rept_report.specs.Timeline.{IsTimeline};
+ghost use Rattle.rept_moments.specs.Seen.{seen, alone_by};
+ghost use Rattle.rept_moments.specs.Courses.{is_one, IsCourseOf};
+ghost use Rattle.rept_carry.specs.Links.{IsLeastFrom};
+ghost use Rattle.rept_timeline.specs.Small.{IsSmall};
+ghost use Rattle.rept_timeline.specs.Times.{as_timeline, time_of, IsOpenFrom, IsCloseFrom};
+ghost use Rattle.rept_timeline.specs.Listed.{AreListed, IsSoundIn};
+
+use crate::storing::Storing;
+use crate::{closing, opening};
+use rept_carry::Ways;
+use rept_isa::StepRow;
+use rept_moments::Course;
+use rept_report::Paths;
+use rept_steps::Run;
+use std::alloc::{AllocError as OutOfMemory, Global};
+
+/// The rows of all threads of a run, and the moments of their memory. This project's own.
+#[derive(Drop)]
+pub struct RunPaths<'a> {
+    ways: Ways<'a>,
+    storing: Storing,
+    ghost listed: { ∥ AreListed ways storing ∥₁ },
+    ghost lawful: { ∥ IsTimeline (time_of ways) ∥₁ },
+}
+
+/// The rows of several threads that may write memory; of one thread alone none is kept.
+fn storing_of(alloc: Global, course: &Course<'_>) -> Result<Storing, OutOfMemory>
+    requires { IsSoundIn course.now }
+    ensures listed { IfOk result (λ s. AreListed course.now s) }
+    ensures alone { is_one course.now ≡ true → IsOk result }
+{
+    match course {
+        Course::One { .. } => Ok(Storing::none(alloc)),
+        Course::Many(many) => Storing::new(alloc, many),
+    }
+}
+
+impl<'a> RunPaths<'a> {
+    /// The rows and moments of this run, which must be sound and have at most 65,536 rows and 1,024 threads. Of one thread in one slice, all of which is told, it takes no
+    /// memory; else memory for a few entries a point and for two a pair of numbers that are next to one another.
+    pub fn new(alloc: Global, run: &'a Run) -> Result<RunPaths<'a>, OutOfMemory>
+        requires sound { IsSound (course_of run.now) }
+        requires small { IsSmall (course_of run.now) }
+        ensures course { IfOk result (λ p. IsCourseOf (course_of run.now) p.ways) }
+        ensures time { IfOk result (λ p. time_of p.ways ≡ as_timeline (seen (course_of run.now))) }
+        ensures alone { IsSome (alone_by run.now.threads run.now.dark) → IsOk result }
+    {
+        let ways = Ways::new(alloc, run)?;
+        let storing = storing_of(alloc, ways.course())?;
+        Ok(RunPaths { ways, storing })
+    }
+
+    /// The course, and its moments in both directions.
+    pub fn ways(&self) -> &Ways<'a>
+        ensures { result.now ≡ self.now.ways }
+    {
+        &self.ways
+    }
+
+    /// The least row from one on that doesn't lie wholly before a moment.
+    pub fn open_from(&self, number: u32, least: u32) -> Option<u32>
+        requires { number ≤ (time_of self.now.ways).moments.end }
+        ensures { IsOpenFrom (time_of self.now.ways) number least result }
+    {
+        match self.ways.course() {
+            Course::One { steps } => in_path(steps.len(), number, least),
+            Course::Many(many) => opening::open_from(&self.storing, many, number, least),
+        }
+    }
+
+    /// The least row from one on than which this one isn't later.
+    pub fn close_from(&self, row: u32, least: u32) -> Option<u32>
+        requires { IsSome ((time_of self.now.ways).legs.row row) }
+        ensures { IsCloseFrom (time_of self.now.ways) row least result }
+    {
+        match self.ways.course() {
+            Course::One { steps } => in_path(steps.len(), row, least),
+            Course::Many(many) => closing::close_from(many, row, least),
+        }
+    }
+}
+
+/// The least number below a count from two others on.
+fn in_path(count: u32, one: u32, other: u32) -> Option<u32>
+    ensures { IsLeastFrom (λ i. (i < count) × (one ≤ i)) other result }
+{
+    let least = if one < other { other } else { one };
+    if least < count { Some(least) } else { None }
+}
+
+impl<'a> Paths for RunPaths<'a> {
+    ghost use Rattle.rept_timeline.specs.Times.{time_of};
+    ghost use Rattle.rept_timeline.specs.Lawful.{is_timeline};
+
+    ghost timeline = { λ p. time_of p.ways };
+
+    ghost lawful = { λ p. is_timeline (time_of p.ways) p.lawful };
+
+    fn last_point(&self) -> u32 {
+        self.ways.course().last_point()
+    }
+
+    fn row(&self, point: u32) -> Option<StepRow> {
+        self.ways.course().row(point)
+    }
+
+    fn end(&self) -> u32 {
+        self.ways.course().end()
+    }
+
+    fn before(&self, row: u32) -> u32 {
+        self.ways.course().before(row)
+    }
+
+    fn after(&self, row: u32) -> u32 {
+        self.ways.course().after(row)
+    }
+
+    fn moment_at(&self, point: u32) -> u32 {
+        self.ways.course().moment_at(point)
+    }
+
+    fn next_from(&self, number: u32, least: u32) -> Option<u32> {
+        self.ways.course().next_from(number, least)
+    }
+
+    fn former_from(&self, number: u32, least: u32) -> Option<u32> {
+        self.ways.previous_from(number, least)
+    }
+
+    fn falling_from(&self, number: u32, next: u32, least: u32) -> Option<u32> {
+        match self.ways.course() {
+            Course::One { .. } => { if number >= least { Some(number) } else { None } }
+            Course::Many(many) => {
+                opening::falling_from(&self.storing, many, number, next, least)
+            }
+        }
+    }
+
+    fn is_dark_between(&self, number: u32, next: u32) -> bool {
+        self.ways.course().is_dark_between(number, next)
+    }
+}
