@@ -2,6 +2,8 @@
 #![tactic(auto)]
 
 #[cfg(test)]
+mod falling;
+#[cfg(test)]
 mod runs;
 #[cfg(test)]
 mod soundness;
