@@ -12,7 +12,7 @@ ghost use Rattle.rept_mapped.specs.Naming.{found_of, in_the_end, named_at, so_fa
 ghost use Rattle.rept_mapped.specs.Views.{asked_of, mapping_of, spot_of};
 
 use crate::find::{Bounds, Mapping, Spot, bytes_at, has_all, has_some, spot_of_mapping};
-use crate::naming::{Asked, Home, ask, found_of, has_home};
+use crate::naming::{Home, Sought, ask, found_of, has_home};
 use rept_elf::{PF_W, PF_X, Symbol, half, word};
 use rept_maps::{Images, Maps};
 use std::alloc::{AllocError, Global};
@@ -102,13 +102,13 @@ impl<'a> Mapped<'a> {
     }
 
     /// The addresses with the mappings that have them, of which no function is found yet.
-    fn homes(&self, alloc: Global, addresses: &[u32]) -> Result<Vec<Asked<'a>>, AllocError>
+    fn homes(&self, alloc: Global, addresses: &[u32]) -> Result<Vec<Sought<'a>>, AllocError>
         ensures homes { IfOk result (λ asked. map (in_the_end (mappings_of self.now)) (map asked_of asked.items) ≡ map (mapped_symbol (mappings_of self.now)) addresses.now) }
         ensures found { IfOk result (λ asked. map found_of (map asked_of asked.items) ≡ map (so_far (mappings_of self.now) 0) (map asked_of asked.items)) }
     {
         let mut asked = Vec::new(alloc);
         for address in addresses {
-            asked.push(Asked {
+            asked.push(Sought {
                 home: self.home(*address),
                 found: None,
             })?;
@@ -121,8 +121,8 @@ impl<'a> Mapped<'a> {
         &self,
         alloc: Global,
         i: u32,
-        asked: Vec<Asked<'a>>,
-    ) -> Result<Vec<Asked<'a>>, AllocError>
+        asked: Vec<Sought<'a>>,
+    ) -> Result<Vec<Sought<'a>>, AllocError>
         requires { i < map_count (desc_of self.now.maps) }
         ensures { IfOk result (λ more. map asked_of more.items ≡ map (with_file (mappings_of self.now) i) (map asked_of asked.entry.items)) }
     {

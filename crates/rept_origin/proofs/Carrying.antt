@@ -80,10 +80,14 @@ module _ (f next : ℕ → Bool) (only : (n : ℕ) → f n ≡ true → next n �
   ]
 
   pub least_found : (from n : ℕ) → least ≤ from → IsLeastFrom next from (Some n) → f n ≡ true → AreNot from → IsLeastFrom f least (Some n)
-  least_found from n up (is, low, first) holds before = (holds, omega (arith, up, low), λ k lower below. elim (cases_lt k from) [
-    | inl less ↦ before k lower less
-    | inr more ↦ isnt k (first k more below)
-  ])
+  least_found from n up (is, low, first) holds before = (
+    holds,
+    omega (arith, up, low),
+    λ k lower below. elim (cases_lt k from) [
+      | inl less ↦ before k lower less
+      | inr more ↦ isnt k (first k more below)
+    ],
+  )
 
   pub least_none : (from : ℕ) → IsLeastFrom next from None → AreNot from → IsLeastFrom f least None
   least_none from none before k lower = elim (cases_lt k from) [ inl less ↦ before k lower less | inr more ↦ isnt k (none k more) ]

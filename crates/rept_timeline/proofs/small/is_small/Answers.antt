@@ -22,8 +22,7 @@ loop-thread-preserved c = record {
 pub returns : goal.returns
 returns c =
     let end : c.loop-thread.thread ≡ length c.args.run.now.threads = search rules in
-    let all = rows_all (course_of c.args.run.now) c.loop-thread.thread c.loop-thread.rows end c.loop-thread.invariant.points in
-    (
+    let all = rows_all (course_of c.args.run.now) c.loop-thread.thread c.loop-thread.rows end c.loop-thread.invariant.points in (
       λ yes. record {
         rows = omega (arith, all, c.loop-thread.invariant.few);
         threads = search rules;
