@@ -8,5 +8,8 @@ mod recorder;
 pub mod refusal;
 mod walk;
 
+pub use address::address_of;
+pub use log::first_line;
+pub use program::Program;
 pub use recorder::record;
 pub use refusal::Refusal;

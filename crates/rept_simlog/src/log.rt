@@ -28,7 +28,7 @@ fn line_length(bytes: &[u8]) -> usize
 }
 
 /// The first line, and what follows its newline.
-fn first_line(bytes: &[u8]) -> (&[u8], &[u8])
+pub fn first_line(bytes: &[u8]) -> (&[u8], &[u8])
     ensures line { IsLine bytes.now result.0.now result.1.now }
     ensures fewer { 0 < length bytes.now → length result.1.now < length bytes.now }
 {
