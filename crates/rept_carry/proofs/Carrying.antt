@@ -3,7 +3,7 @@ use Rattle.std.proofs.Common.{◌≡◌, ℕ, ◌+◌, ◌<◌, ◌≤◌, true,
 use Rattle.std.proofs.lemmas.Bool.{false≢true, cases_lt}
 use Rattle.rept_report.specs.Moments.{Moments}
 use Rattle.rept_moments.specs.Seen.{IsNextFrom}
-use Rattle.rept_carry.specs.Links.{IsLeastFrom}
+use Rattle.rept_report.specs.Timeline.{IsLeastFrom}
 
 pub least_same : (P Q : ℕ → Type 0) → ((w : ℕ) → P w → Q w) → ((w : ℕ) → Q w → P w) → (least : ℕ) (r : Option ℕ) → IsLeastFrom P least r → IsLeastFrom Q least r
 least_same P Q onward back least None its = λ w low q. its w low (back w q)

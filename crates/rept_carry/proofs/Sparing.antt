@@ -8,7 +8,7 @@ use Rattle.rept_report.specs.Moments.{Moments}
 use Rattle.rept_report.specs.Setting.{Setting}
 use Rattle.rept_report.specs.Spots.{passage}
 use Rattle.rept_report.specs.Views.{may_write, Carries}
-use Rattle.rept_carry.specs.Links.{IsLeastFrom}
+use Rattle.rept_report.specs.Timeline.{IsLeastFrom}
 use Rattle.rept_carry.proofs.Carrying.{least_same}
 use Rattle.rept_carry.specs.Passing.{Ground, Passes, AreAllWriters, AreWriters}
 

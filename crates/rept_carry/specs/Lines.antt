@@ -1,23 +1,17 @@
--- Lines: numbers one after the other, of which each is next to the one before. This project's own.
-use Rattle.std.specs.Prelude.{◌≡◌, ℕ, ◌+◌, ◌-◌, ◌<◌, ◌≤◌, true, false, List, length, Some, slice_get}
+-- The lines of the moments of a course: numbers one after the other, of which each but the last has the one after it next to it, and no other. This project's own.
+use Rattle.std.specs.Prelude.{◌≡◌, ℕ, ◌+◌, ◌<◌, ◌≤◌, List, length, Some, slice_get}
+use Rattle.rept_report.specs.declared.paths.Line.{Line}
 use Rattle.rept_report.specs.Moments.{Moments}
-use Rattle.rept_carry.specs.declared.lines.Line.{Line}
+use Rattle.rept_report.specs.Timeline.{IsJoined, IsLine}
 use Rattle.rept_carry.specs.declared.lines.Lines.{Lines}
 use Rattle.rept_carry.specs.declared.lines.Lines as lines
 
--- from the first to the last each number is next to the one before, and none follows
+-- each number from the first on is joined to the one after it, but the last isn't
 pub record IsRun (M : Moments) (first last : ℕ) : Type 0 where
   pub up : first ≤ last
   pub inside : last ≤ M.end
-  pub joined : (k : ℕ) → first ≤ k → k < last → M.next k (k + 1) ≡ true
-  pub stops : last < M.end → M.next last (last + 1) ≡ false
-
--- the line that a number is in
-pub record IsLine (M : Moments) (m : ℕ) (x : Line) : Type 0 where
-  pub run : IsRun M x.first x.last
-  pub begins : 0 < x.first → M.next (x.first - 1) x.first ≡ false
-  pub from : x.first ≤ m
-  pub to : m ≤ x.last
+  pub joined : (k : ℕ) → first ≤ k → k < last → IsJoined M k
+  pub ends : IsJoined M last → ⊥
 
 -- the list has the lines of the numbers below one
 pub record AreLinesBelow (M : Moments) (n : ℕ) (list : List Line) : Type 0 where

@@ -2,6 +2,7 @@
 use Rattle.std.specs.Prelude.{◌≡◌, ℕ, ◌<◌, ◌≤◌, ◌⊎◌, ◌↔◌, ◌==◌, nat_lt, nat_le, if◌then◌else◌, true, List, Option, Some, None}
 use Rattle.std.specs.List.{Contains}
 use Rattle.rept_report.specs.Moments.{Moments}
+use Rattle.rept_report.specs.Timeline.{IsLeastFrom}
 use Rattle.rept_carry.specs.declared.links.Link.{Link}
 
 abbrev pub link : ℕ → ℕ → Link
@@ -30,11 +31,6 @@ AddsBelow x least links = (m w : ℕ) → Contains links (link m w) ↔ (Contain
 -- and from it to all numbers
 abbrev pub AddsAll : Adds → List Link → Type 0
 AddsAll x links = (m w : ℕ) → Contains links (link m w) ↔ (Contains x.others (link m w) ⊎ ((m ≡ x.from) × (x.moments.next m w ≡ true)))
-
--- the least number from one on of which something holds, or that there is none
-abbrev pub IsLeastFrom : (ℕ → Type 0) → ℕ → Option ℕ → Type 0
-IsLeastFrom P least None = (w : ℕ) → least ≤ w → P w → ⊥
-IsLeastFrom P least (Some w) = P w × (least ≤ w) × ((v : ℕ) → least ≤ v → v < w → P v → ⊥)
 
 -- the least number from one on that is linked to a number
 abbrev pub IsLinkedFrom : List Link → ℕ → ℕ → Option ℕ → Type 0

@@ -5,7 +5,7 @@ ghost use Rattle.rept_reason.specs.Facts.{Knowledge};
 ghost use Rattle.rept_report.specs.Setting.{Setting};
 ghost use Rattle.rept_report.specs.Spots.{passage};
 ghost use Rattle.rept_report.specs.Views.{Carries};
-ghost use Rattle.rept_carry.specs.Links.{IsLeastFrom};
+ghost use Rattle.rept_report.specs.Timeline.{IsLeastFrom};
 ghost use Rattle.rept_carry.specs.Passing.{Ground, Passes, AreAllWriters, AreWriters};
 
 use rept_span::Transfer;

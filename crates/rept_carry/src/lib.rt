@@ -8,5 +8,5 @@ mod passing;
 mod ways;
 
 pub use laws::what_passes_is_carried;
-pub use lines::{Line, Lines};
+pub use lines::Lines;
 pub use ways::Ways;

@@ -1,21 +1,14 @@
-//! Lines: numbers one after the other, of which each is next to the one before.
+//! Lines: numbers one after the other, of which each but the last has the one after it next to it, and no other.
 
-ghost use Rattle.std.specs.Prelude.{◌≡◌, ◌≤◌, ◌<◌, ◌+◌, ℕ, true, IfOk, IsOk};
-ghost use Rattle.rept_report.specs.Moments.{Moments};
+ghost use Rattle.std.specs.Prelude.{◌≡◌, ◌≤◌, ◌<◌, ◌+◌, ℕ, true, false, IfOk, IsOk};
+ghost use Rattle.rept_report.specs.Moments.{Moments, AreMoments};
+ghost use Rattle.rept_report.specs.Timeline.{IsJoined, IsLine};
 ghost use Rattle.rept_moments.specs.Courses.{seen_in, is_one};
-ghost use Rattle.rept_carry.specs.Lines.{IsRun, IsLine, AreLinesBelow, AreLines, IsIn};
+ghost use Rattle.rept_carry.specs.Lines.{IsRun, AreLinesBelow, AreLines, IsIn};
 
 use rept_moments::Course;
+use rept_report::paths::Line;
 use std::alloc::{AllocError as OutOfMemory, Global};
-
-/// Numbers one after the other, of which each is next to the one before. The number before the first one isn't joined to it, nor is the one after the last.
-#[derive(Clone, Copy)]
-pub struct Line {
-    /// The first number.
-    pub first: u32,
-    /// The last number.
-    pub last: u32,
-}
 
 /// The line of each number.
 #[derive(Drop)]
@@ -32,15 +25,56 @@ pub enum Lines {
     },
 }
 
+/// Whether no number after another one is next to a number.
+fn none_after(course: &Course<'_>, number: u32, next: u32) -> bool
+    requires number { number ≤ (seen_in course.now).moments.end }
+    requires next { next ≤ (seen_in course.now).moments.end }
+    requires laws { AreMoments (seen_in course.now).legs (seen_in course.now).moments }
+    ensures yes { result ≡ true → (w : ℕ) → next < w → (seen_in course.now).moments.next number w ≡ false }
+    ensures no { result ≡ false → (w : ℕ) × (next < w) × ((seen_in course.now).moments.next number w ≡ true) }
+{
+    let end = course.end();
+    if next >= end {
+        return true;
+    }
+    match course.next_from(number, next + 1) {
+        None => true,
+        Some(_) => false,
+    }
+}
+
+/// Whether the number after one is next to it, and no other.
+fn is_joined(course: &Course<'_>, number: u32) -> bool
+    requires inside { number < (seen_in course.now).moments.end }
+    requires laws { AreMoments (seen_in course.now).legs (seen_in course.now).moments }
+    ensures yes { result ≡ true → IsJoined (seen_in course.now).moments number }
+    ensures no { result ≡ false → IsJoined (seen_in course.now).moments number → ⊥ }
+{
+    let _end = course.end();
+    match course.next_from(number, 0) {
+        None => false,
+        Some(next) => {
+            if next > number + 1 {
+                return false;
+            }
+            if next < number + 1 {
+                return false;
+            }
+            none_after(course, number, next)
+        }
+    }
+}
+
 /// The last number to which a line leads from one on.
 fn last_from(course: &Course<'_>, first: u32) -> u32
-    requires { first ≤ (seen_in course.now).moments.end }
+    requires inside { first ≤ (seen_in course.now).moments.end }
+    requires laws { AreMoments (seen_in course.now).legs (seen_in course.now).moments }
     ensures { IsRun (seen_in course.now).moments first result }
 {
     let end = course.end();
     let mut last = first;
     while last < end {
-        if !course.is_next(last, last + 1) {
+        if !is_joined(course, last) {
             return last;
         }
         last += 1;
@@ -51,6 +85,7 @@ fn last_from(course: &Course<'_>, first: u32) -> u32
 /// The line of a number, from that of the number before it.
 fn line_after(course: &Course<'_>, line: Line, number: u32) -> Line
     requires inside { number < (seen_in course.now).moments.end }
+    requires laws { AreMoments (seen_in course.now).legs (seen_in course.now).moments }
     requires line { IsLine (seen_in course.now).moments number line }
     ensures { IsLine (seen_in course.now).moments (number + 1) result }
 {
@@ -67,6 +102,7 @@ fn line_after(course: &Course<'_>, line: Line, number: u32) -> Line
 
 /// The line of each number.
 fn all_lines(alloc: Global, course: &Course<'_>) -> Result<Vec<Line>, OutOfMemory>
+    requires { AreMoments (seen_in course.now).legs (seen_in course.now).moments }
     ensures { IfOk result (λ v. AreLinesBelow (seen_in course.now).moments ((seen_in course.now).moments.end + 1) v.items) }
 {
     let mut list = Vec::new(alloc);
@@ -83,8 +119,9 @@ fn all_lines(alloc: Global, course: &Course<'_>) -> Result<Vec<Line>, OutOfMemor
 }
 
 impl Lines {
-    /// The lines of a course. Of one thread alone it takes no memory, else memory for one entry a number.
+    /// The lines of a course whose moments keep the laws of the report. Of one thread alone it takes no memory, else memory for one entry a number.
     pub fn new(alloc: Global, course: &Course<'_>) -> Result<Lines, OutOfMemory>
+        requires { AreMoments (seen_in course.now).legs (seen_in course.now).moments }
         ensures lines { IfOk result (λ l. AreLines (seen_in course.now).moments l) }
         ensures inside { IfOk result (λ l. (m : ℕ) → m ≤ (seen_in course.now).moments.end → IsIn l m) }
         ensures alone { is_one course.now ≡ true → IsOk result }

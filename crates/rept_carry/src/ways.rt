@@ -9,7 +9,8 @@ ghost use Rattle.rept_report.specs.Moments.{AreMoments, points_of};
 ghost use Rattle.rept_moments.specs.Points.{points_in};
 ghost use Rattle.rept_moments.specs.Seen.{seen, alone_by};
 ghost use Rattle.rept_moments.specs.Courses.{seen_in, threads_in, first_in, is_one, IsCourseOf};
-ghost use Rattle.rept_carry.specs.Links.{IsLeastFrom, IsPreviousFrom};
+ghost use Rattle.rept_report.specs.Timeline.{IsLeastFrom};
+ghost use Rattle.rept_carry.specs.Links.{IsPreviousFrom};
 ghost use Rattle.rept_carry.specs.Passing.{Ground, Passes, ground_of};
 ghost use Rattle.rept_carry.specs.Course.{AreWays};
 

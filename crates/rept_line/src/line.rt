@@ -1,9 +1,11 @@
 //! One path, of which each row is traced: its moments are its points.
 
-ghost use Rattle.std.specs.Prelude.{◌≡◌, ◌≤◌, length};
+ghost use Rattle.std.specs.Prelude.{◌≡◌, ◌≤◌, ◌<◌, length};
+ghost use Rattle.rept_report.specs.Timeline.{IsLeastFrom};
 
 use rept_isa::StepRow;
 use rept_report::Paths;
+use rept_report::paths::Line;
 
 /// The rows of one thread, of which each is traced, at most 65,536: the moments of its memory are its points. This project's own.
 #[derive(Clone, Copy)]
@@ -20,6 +22,14 @@ impl<'a> OnePath<'a> {
     {
         OnePath { rows }
     }
+}
+
+/// The least number below a count from two others on.
+fn below(count: u32, low: u32, least: u32) -> Option<u32>
+    ensures { IsLeastFrom (λ i. (i < count) × (low ≤ i)) least result }
+{
+    let from = if low < least { least } else { low };
+    if from < count { Some(from) } else { None }
 }
 
 impl<'a> Paths for OnePath<'a> {
@@ -54,6 +64,32 @@ impl<'a> Paths for OnePath<'a> {
         point
     }
 
+    fn next_last(&self, least: u32) -> Option<u32> {
+        let last = self.rows.len() as u32;
+        if least <= last { Some(last) } else { None }
+    }
+
+    fn row_at(&self, number: u32) -> Option<u32> {
+        let end = self.rows.len() as u32;
+        if number < end { Some(number) } else { None }
+    }
+
+    fn row_to(&self, number: u32, least: u32) -> Option<u32> {
+        let end = self.rows.len() as u32;
+        if least < number && number <= end {
+            Some(number - 1)
+        } else {
+            None
+        }
+    }
+
+    fn line_of(&self, _number: u32) -> Line {
+        Line {
+            first: 0,
+            last: self.rows.len() as u32,
+        }
+    }
+
     fn next_from(&self, number: u32, least: u32) -> Option<u32> {
         let end = self.rows.len() as u32;
         if number < end && least <= number + 1 {
@@ -77,5 +113,36 @@ impl<'a> Paths for OnePath<'a> {
 
     fn is_dark_between(&self, _number: u32, _next: u32) -> bool {
         false
+    }
+    fn open_from(&self, number: u32, least: u32) -> Option<u32> {
+        below(self.rows.len() as u32, number, least)
+    }
+
+    fn close_from(&self, row: u32, least: u32) -> Option<u32> {
+        below(self.rows.len() as u32, row, least)
+    }
+
+    fn is_past(&self, row: u32, number: u32) -> bool {
+        row < number
+    }
+
+    fn is_ahead(&self, row: u32, number: u32) -> bool {
+        number <= row
+    }
+
+    fn is_later(&self, row: u32, other: u32) -> bool {
+        other < row
+    }
+
+    fn is_dark(&self) -> bool {
+        false
+    }
+
+    fn is_dark_past(&self, _number: u32) -> bool {
+        true
+    }
+
+    fn is_dark_before(&self, _row: u32) -> bool {
+        true
     }
 }

@@ -1,8 +1,10 @@
 -- The rows of all threads by the points that they lead from, and the moments of their memory by numbers. This project's own.
-use Rattle.std.specs.Prelude.{◌≡◌, ℕ, ◌≤◌, ◌<◌, true, false, List, length, Option, Some, None}
+use Rattle.std.specs.Prelude.{◌≡◌, ◌≢◌, ℕ, ◌+◌, ◌≤◌, ◌<◌, true, false, List, length, Option, Some, None}
+use Rattle.std.specs.Option.{IsSome}
 use Rattle.rept_isa.specs.declared.row.StepRow.{StepRow}
 use Rattle.rept_span.specs.Ranges.{Legs, AreLegs, legs_of}
 use Rattle.rept_report.specs.Moments.{Moments, AreMoments, points_of}
+use Rattle.rept_report.specs.declared.paths.Line.{Line}
 
 pub record Timeline : Type 0 where
   pub legs : Legs
@@ -41,3 +43,58 @@ IsFormerFrom moments w least (Some m) = (moments.next m w ≡ true) × (least �
 abbrev pub IsFallingFrom : Timeline → ℕ → ℕ → ℕ → Option ℕ → Type 0
 IsFallingFrom t m w least None = (i : ℕ) → least ≤ i → i < t.legs.count → t.moments.falls i m w ≡ false
 IsFallingFrom t m w least (Some i) = (i < t.legs.count) × (t.moments.falls i m w ≡ true) × (least ≤ i) × ((j : ℕ) → least ≤ j → j < i → t.moments.falls j m w ≡ false)
+
+-- the least number from one on of which something holds, or that there is none
+abbrev pub IsLeastFrom : (ℕ → Type 0) → ℕ → Option ℕ → Type 0
+IsLeastFrom P least None = (w : ℕ) → least ≤ w → P w → ⊥
+IsLeastFrom P least (Some w) = P w × (least ≤ w) × ((v : ℕ) → least ≤ v → v < w → P v → ⊥)
+
+-- the least point from one on from which no row leads, or that there is none
+abbrev pub IsLastFrom : Legs → ℕ → Option ℕ → Type 0
+IsLastFrom legs least None = legs.count < least
+IsLastFrom legs least (Some p) = (least ≤ p) × (p ≤ legs.count) × (legs.row p ≡ None) × ((q : ℕ) → least ≤ q → q < p → IsSome (legs.row q))
+
+-- the one row before which a moment lies, or that it lies before none
+abbrev pub IsRowAt : Timeline → ℕ → Option ℕ → Type 0
+IsRowAt t m None = (i : ℕ) → IsSome (t.legs.row i) → t.moments.before i ≢ m
+IsRowAt t m (Some i) = IsSome (t.legs.row i) × (t.moments.before i ≡ m) × ((j : ℕ) → IsSome (t.legs.row j) → t.moments.before j ≡ m → j ≡ i)
+
+-- a row after which a moment lies
+pub record IsRowTo (t : Timeline) (m i : ℕ) : Type 0 where
+  pub row : IsSome (t.legs.row i)
+  pub after : t.moments.after i ≡ m
+
+-- a row with one moment before and another one after it
+pub record IsBetween (t : Timeline) (m w i : ℕ) : Type 0 where
+  pub row : IsSome (t.legs.row i)
+  pub before : t.moments.before i ≡ m
+  pub after : t.moments.after i ≡ w
+
+-- the one row between two moments, or that there is none
+abbrev pub IsRowBetween : Timeline → ℕ → ℕ → Option ℕ → Type 0
+IsRowBetween t m w None = (i : ℕ) → IsBetween t m w i → ⊥
+IsRowBetween t m w (Some i) = IsBetween t m w i × ((j : ℕ) → IsBetween t m w j → j ≡ i)
+
+-- a row that doesn't lie wholly before a moment
+pub record IsOpen (t : Timeline) (m i : ℕ) : Type 0 where
+  pub row : IsSome (t.legs.row i)
+  pub open_at : t.moments.past i m ≡ false
+
+-- a row than which another one isn't later
+pub record IsClose (t : Timeline) (j i : ℕ) : Type 0 where
+  pub row : IsSome (t.legs.row i)
+  pub close_to : t.moments.later j i ≡ false
+
+-- the number after this one is next to it, and no other is
+pub record IsJoined (moments : Moments) (k : ℕ) : Type 0 where
+  pub next : moments.next k (k + 1) ≡ true
+  pub only : (w : ℕ) → moments.next k w ≡ true → w ≡ k + 1
+
+-- numbers one after the other, each joined to the one after it: the first isn't joined to the one before it, nor the last to the one after it
+pub record IsLine (moments : Moments) (m : ℕ) (line : Line) : Type 0 where
+  pub from : line.first ≤ m
+  pub to : m ≤ line.last
+  pub inside : line.last ≤ moments.end
+  pub joined : (k : ℕ) → line.first ≤ k → k < line.last → IsJoined moments k
+  pub begins : (k : ℕ) → k + 1 ≡ line.first → IsJoined moments k → ⊥
+  pub ends : IsJoined moments line.last → ⊥

@@ -1,9 +1,19 @@
 //! The rows of all threads, and the moments of their memory, by numbers.
 
 ghost use Rattle.std.specs.Prelude.{◌≡◌, ◌≤◌, true, IsSome};
-ghost use Rattle.rept_report.specs.Timeline.{Timeline, IsTimeline, moment_in, IsNextFrom, IsFormerFrom, IsFallingFrom};
+ghost use Rattle.rept_report.specs.Timeline.{Timeline, IsTimeline, moment_in, IsNextFrom, IsFormerFrom, IsFallingFrom, IsLeastFrom, IsLastFrom, IsRowAt, IsRowTo, IsRowBetween, IsOpen, IsClose, IsLine};
 
 use rept_isa::StepRow;
+
+/// Numbers of moments one after the other, of which each but the last has the one after it next to it, and no other: from it a byte is carried on
+/// there alone. This project's own.
+#[derive(Clone, Copy)]
+pub struct Line {
+    /// The first number.
+    pub first: u32,
+    /// The last number.
+    pub last: u32,
+}
 
 /// The rows of all threads, by the points that they lead from: none leads from the last point of a thread. And the moments of their memory, by
 /// numbers: the end has the greatest one. `timeline` names all of it as functions.
@@ -37,6 +47,23 @@ pub trait Paths {
         requires { point ≤ (timeline self.now).legs.count }
         ensures { result ≡ moment_in (timeline self.now) point };
 
+    /// The least point from `least` on that is the last one of its thread, if there is one: no row leads from it.
+    fn next_last(&self, least: u32) -> Option<u32>
+        ensures { IsLastFrom (timeline self.now).legs least result };
+
+    /// The row before which a moment lies, if it lies before one. It lies before no other row.
+    fn row_at(&self, number: u32) -> Option<u32>
+        ensures { IsRowAt (timeline self.now) number result };
+
+    /// The least row from `least` on after which a moment lies.
+    fn row_to(&self, number: u32, least: u32) -> Option<u32>
+        ensures { IsLeastFrom (IsRowTo (timeline self.now) number) least result };
+
+    /// The numbers around one, one after the other, of which each but the last has the one after it next to it, and no other.
+    fn line_of(&self, number: u32) -> Line
+        requires { number ≤ (timeline self.now).moments.end }
+        ensures { IsLine (timeline self.now).moments number result };
+
     /// The least number from `least` on that is next to this one.
     fn next_from(&self, number: u32, least: u32) -> Option<u32>
         requires { number ≤ (timeline self.now).moments.end }
@@ -57,5 +84,52 @@ pub trait Paths {
         requires { (timeline self.now).moments.next number next ≡ true }
         ensures { result ≡ (timeline self.now).moments.dark number next };
 
+    /// The least row from `least` on that doesn't lie wholly before a moment.
+    fn open_from(&self, number: u32, least: u32) -> Option<u32>
+        requires { number ≤ (timeline self.now).moments.end }
+        ensures { IsLeastFrom (IsOpen (timeline self.now) number) least result };
+
+    /// The least row from `least` on than which this one isn't later.
+    fn close_from(&self, row: u32, least: u32) -> Option<u32>
+        requires { IsSome ((timeline self.now).legs.row row) }
+        ensures { IsLeastFrom (IsClose (timeline self.now) row) least result };
+
+    /// Whether the row lies wholly before the moment.
+    fn is_past(&self, row: u32, number: u32) -> bool
+        requires { IsSome ((timeline self.now).legs.row row) }
+        ensures { result ≡ (timeline self.now).moments.past row number };
+
+    /// Whether the row lies wholly after the moment.
+    fn is_ahead(&self, row: u32, number: u32) -> bool
+        requires { IsSome ((timeline self.now).legs.row row) }
+        ensures { result ≡ (timeline self.now).moments.ahead row number };
+
+    /// Whether the first row lies wholly after the second.
+    fn is_later(&self, row: u32, other: u32) -> bool
+        requires first { IsSome ((timeline self.now).legs.row row) }
+        requires second { IsSome ((timeline self.now).legs.row other) }
+        ensures { result ≡ (timeline self.now).moments.later row other };
+
+    /// Whether there are writers that aren't told.
+    fn is_dark(&self) -> bool
+        ensures { result ≡ (timeline self.now).moments.is_dark };
+
+    /// Whether they lie wholly before the moment.
+    fn is_dark_past(&self, number: u32) -> bool
+        ensures { result ≡ (timeline self.now).moments.dark_past number };
+
+    /// Whether they lie wholly before the row.
+    fn is_dark_before(&self, row: u32) -> bool
+        requires { IsSome ((timeline self.now).legs.row row) }
+        ensures { result ≡ (timeline self.now).moments.dark_before row };
+
     ghost lawful: { (p : Self) → IsTimeline (timeline p) };
+}
+
+/// The row that one moment lies before and another one after, if there is one. There is no second one.
+pub fn row_between<P: Paths>(paths: &P, number: u32, next: u32) -> Option<u32>
+    ensures { IsRowBetween (P.timeline paths.now) number next result }
+{
+    let row = paths.row_at(number)?;
+    if paths.after(row) == next { Some(row) } else { None }
 }

@@ -8,8 +8,11 @@ use Rattle.rept_moments.specs.Points.{points_in}
 use Rattle.rept_moments.specs.Numbers.{numbered}
 use Rattle.rept_moments.specs.Seen.{seen_many}
 use Rattle.rept_moments.proofs.Places.{leg_below}
-use Rattle.rept_carry.specs.Links.{IsLeastFrom}
-use Rattle.rept_timeline.specs.Times.{as_timeline, IsClose, IsCloseFrom}
+use Rattle.rept_report.specs.Timeline.{IsLeastFrom}
+use Rattle.rept_isa.specs.declared.row.StepRow.{StepRow}
+use Rattle.rept_span.specs.Ranges.{AreLegs}
+use Rattle.rept_report.specs.Timeline.{Timeline, IsClose, IsRowTo}
+use Rattle.rept_timeline.specs.Times.{as_timeline, IsCloseFrom}
 
 module _ (C : Course) where
   -- the least row
@@ -43,3 +46,23 @@ module _ (C : Course) where
     close_some first found its up there before is =
         let start = its.1 in
         (record { row = there; close_to = is }, omega arith, none_more first found its before)
+
+some_row : (o : Option StepRow) → IsSome o → (row : StepRow) × (o ≡ Some row)
+some_row None some = cc
+some_row (Some row) some = (row, refl)
+
+-- the least row after which a moment lies
+module _ (t : Timeline) (legs : AreLegs t.legs) (m least at : ℕ) (up : least ≤ at) (none : (i : ℕ) → least ≤ i → i < at → IsRowTo t m i → ⊥) where
+  pub row_to_none : (last : ℕ) → last ≡ t.legs.count → last ≤ at → IsLeastFrom (IsRowTo t m) least None
+  row_to_none last end past w low its =
+      elim (cases_lt w at) [
+        | inl early ↦ none w low early its
+        | inr late ↦ let row = some_row (t.legs.row w) its.row in let inside = legs.inside w row.0 row.1 in omega arith
+      ]
+
+  pub row_to_more : (IsRowTo t m at → ⊥) → (i : ℕ) → least ≤ i → i < at + 1 → IsRowTo t m i → ⊥
+  row_to_more not_here i low less its =
+      elim (cases_lt i at) [
+        | inl early ↦ none i low early its
+        | inr late ↦ let same : i ≡ at = omega arith in not_here (subst (λ (k : ℕ). IsRowTo t m k) same its)
+      ]

@@ -19,7 +19,8 @@ use Rattle.rept_moments.specs.Seen.{seen_many}
 use Rattle.rept_moments.proofs.Apart.{are_numbers}
 use Rattle.rept_moments.proofs.Falls.{own_falls, rest_falls}
 use Rattle.rept_moments.proofs.Places.{row_there, leg_below}
-use Rattle.rept_timeline.specs.Times.{as_timeline, IsOpen, IsOpenFrom}
+use Rattle.rept_report.specs.Timeline.{IsOpen}
+use Rattle.rept_timeline.specs.Times.{as_timeline, IsOpenFrom}
 use Rattle.rept_timeline.specs.Listed.{AreStoring, IsFirstFrom}
 use Rattle.rept_timeline.proofs.Fronts.{rests_past, open_stores, stores_row, ahead_tail}
 use Rattle.rept_timeline.proofs.Lists.{listed, listed_stores, unlisted_past}

@@ -12,10 +12,11 @@ use Rattle.rept_moments.specs.declared.course.Course.{Course}
 use Rattle.rept_moments.specs.declared.course.Course as courses
 use Rattle.rept_moments.specs.Courses.{seen_in, is_one, IsCourseOf}
 use Rattle.rept_moments.proofs.Places.{some_below}
-use Rattle.rept_carry.specs.Links.{IsLeastFrom}
+use Rattle.rept_report.specs.Timeline.{IsLeastFrom}
 use Rattle.rept_carry.proofs.Carrying.{least_same}
 use Rattle.rept_timeline.specs.Small.{IsSmall}
-use Rattle.rept_timeline.specs.Times.{as_timeline, time_of, IsOpen, IsOpenFrom, IsClose, IsCloseFrom}
+use Rattle.rept_report.specs.Timeline.{IsOpen, IsClose}
+use Rattle.rept_timeline.specs.Times.{as_timeline, time_of, IsOpenFrom, IsCloseFrom}
 use Rattle.rept_timeline.specs.Listed.{IsSoundIn, AreStoring, AreListed}
 use Rattle.rept_timeline.proofs.Counting.{is_timeline}
 

@@ -4,11 +4,13 @@ use Rattle.std.specs.Option.{IsSome}
 use Rattle.std.specs.List.{Contains}
 use Rattle.rept_steps.specs.Course.{Course, IsSound}
 use Rattle.rept_order.specs.Moments.{stores}
-use Rattle.rept_report.specs.Timeline.{Timeline}
+use Rattle.rept_report.specs.Moments.{Moments}
+use Rattle.rept_report.specs.Timeline.{Timeline, IsLeastFrom}
 use Rattle.rept_course.specs.Numbered.{row_on}
 use Rattle.rept_moments.specs.Points.{points_in}
 use Rattle.rept_moments.specs.declared.course.Course as courses
-use Rattle.rept_carry.specs.Links.{IsLeastFrom}
+use Rattle.rept_carry.specs.declared.lines.Lines.{Lines}
+use Rattle.rept_carry.specs.Lines.{AreLines, IsIn}
 use Rattle.rept_timeline.specs.declared.storing.Part.{Part}
 
 -- of the first so many points
@@ -44,3 +46,8 @@ pub record ArePastFirst (t : Timeline) (list : List ℕ) (part : Part) (m : ℕ)
   pub inside : part.high ≤ length list
   pub rows : (k : ℕ) → part.low ≤ k → k < part.high → IsSome (t.legs.row (slice_index_or list k 0))
   pub first : (j k : ℕ) → part.low ≤ j → j ≤ k → k < part.high → t.moments.past (slice_index_or list k 0) m ≡ true → t.moments.past (slice_index_or list j 0) m ≡ true
+
+-- these are the lines of the moments, and each number has one
+pub record AreLinesOf (M : Moments) (lines : Lines) : Type 0 where
+  pub each : AreLines M lines
+  pub inside : (m : ℕ) → m ≤ M.end → IsIn lines m

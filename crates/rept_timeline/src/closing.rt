@@ -3,7 +3,7 @@
 ghost use Rattle.std.specs.Prelude.{◌≡◌, ◌≤◌, ◌<◌, ℕ, true, false, IsSome};
 ghost use Rattle.rept_steps.specs.Course.{IsSound};
 ghost use Rattle.rept_moments.specs.Several.{seen_of};
-ghost use Rattle.rept_carry.specs.Links.{IsLeastFrom};
+ghost use Rattle.rept_report.specs.Timeline.{IsLeastFrom};
 ghost use Rattle.rept_timeline.specs.Times.{as_timeline, IsCloseFrom};
 
 use crate::opening::last_of;

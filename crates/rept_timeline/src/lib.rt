@@ -1,6 +1,7 @@
 //! The rows and moments of any sound run, as an analysis goes over them, and the rows that are in the way of a moment or of another row.
 #![tactic(auto)]
 
+mod arriving;
 mod closing;
 mod opening;
 mod run_paths;

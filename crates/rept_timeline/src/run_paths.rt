@@ -6,17 +6,18 @@ ghost use Rattle.rept_steps.specs.Runs.{course_of};
 ghost use Rattle.rept_report.specs.Timeline.{IsTimeline};
 ghost use Rattle.rept_moments.specs.Seen.{seen, alone_by};
 ghost use Rattle.rept_moments.specs.Courses.{is_one, IsCourseOf};
-ghost use Rattle.rept_carry.specs.Links.{IsLeastFrom};
+ghost use Rattle.rept_report.specs.Timeline.{IsLeastFrom};
 ghost use Rattle.rept_timeline.specs.Small.{IsSmall};
-ghost use Rattle.rept_timeline.specs.Times.{as_timeline, time_of, IsOpenFrom, IsCloseFrom};
-ghost use Rattle.rept_timeline.specs.Listed.{AreListed, IsSoundIn};
+ghost use Rattle.rept_timeline.specs.Times.{as_timeline, time_of};
+ghost use Rattle.rept_timeline.specs.Listed.{AreListed, IsSoundIn, AreLinesOf};
 
 use crate::storing::Storing;
-use crate::{closing, opening};
-use rept_carry::Ways;
+use crate::{arriving, closing, opening};
+use rept_carry::{Lines, Ways};
 use rept_isa::StepRow;
 use rept_moments::Course;
 use rept_report::Paths;
+use rept_report::paths::Line;
 use rept_steps::Run;
 use std::alloc::{AllocError as OutOfMemory, Global};
 
@@ -25,6 +26,8 @@ use std::alloc::{AllocError as OutOfMemory, Global};
 pub struct RunPaths<'a> {
     ways: Ways<'a>,
     storing: Storing,
+    lines: Lines,
+    ghost lined: { ∥ AreLinesOf (time_of ways).moments lines ∥₁ },
     ghost listed: { ∥ AreListed ways storing ∥₁ },
     ghost lawful: { ∥ IsTimeline (time_of ways) ∥₁ },
 }
@@ -41,9 +44,18 @@ fn storing_of(alloc: Global, course: &Course<'_>) -> Result<Storing, OutOfMemory
     }
 }
 
+/// The lines of the moments of a course.
+fn lines_of(alloc: Global, ways: &Ways<'_>) -> Result<Lines, OutOfMemory>
+    ensures lines { IfOk result (λ l. AreLinesOf (time_of ways.now).moments l) }
+    ensures alone { is_one ways.now ≡ true → IsOk result }
+{
+    let lines = Lines::new(alloc, ways.course())?;
+    Ok(lines)
+}
+
 impl<'a> RunPaths<'a> {
     /// The rows and moments of this run, which must be sound and have at most 65,536 rows and 1,024 threads. Of one thread in one slice, all of which is told, it takes no
-    /// memory; else memory for a few entries a point and for two a pair of numbers that are next to one another.
+    /// memory; else memory for a few entries a point, for one a number and for two a pair of numbers that are next to one another.
     pub fn new(alloc: Global, run: &'a Run) -> Result<RunPaths<'a>, OutOfMemory>
         requires sound { IsSound (course_of run.now) }
         requires small { IsSmall (course_of run.now) }
@@ -53,7 +65,12 @@ impl<'a> RunPaths<'a> {
     {
         let ways = Ways::new(alloc, run)?;
         let storing = storing_of(alloc, ways.course())?;
-        Ok(RunPaths { ways, storing })
+        let lines = lines_of(alloc, &ways)?;
+        Ok(RunPaths {
+            ways,
+            storing,
+            lines,
+        })
     }
 
     /// The course, and its moments in both directions.
@@ -61,28 +78,6 @@ impl<'a> RunPaths<'a> {
         ensures { result.now ≡ self.now.ways }
     {
         &self.ways
-    }
-
-    /// The least row from one on that doesn't lie wholly before a moment.
-    pub fn open_from(&self, number: u32, least: u32) -> Option<u32>
-        requires { number ≤ (time_of self.now.ways).moments.end }
-        ensures { IsOpenFrom (time_of self.now.ways) number least result }
-    {
-        match self.ways.course() {
-            Course::One { steps } => in_path(steps.len(), number, least),
-            Course::Many(many) => opening::open_from(&self.storing, many, number, least),
-        }
-    }
-
-    /// The least row from one on than which this one isn't later.
-    pub fn close_from(&self, row: u32, least: u32) -> Option<u32>
-        requires { IsSome ((time_of self.now.ways).legs.row row) }
-        ensures { IsCloseFrom (time_of self.now.ways) row least result }
-    {
-        match self.ways.course() {
-            Course::One { steps } => in_path(steps.len(), row, least),
-            Course::Many(many) => closing::close_from(many, row, least),
-        }
     }
 }
 
@@ -126,6 +121,22 @@ impl<'a> Paths for RunPaths<'a> {
         self.ways.course().moment_at(point)
     }
 
+    fn next_last(&self, least: u32) -> Option<u32> {
+        self.ways.course().next_last(least)
+    }
+
+    fn row_at(&self, number: u32) -> Option<u32> {
+        self.ways.course().row_at(number)
+    }
+
+    fn row_to(&self, number: u32, least: u32) -> Option<u32> {
+        arriving::row_to(self.ways.course(), number, least)
+    }
+
+    fn line_of(&self, number: u32) -> Line {
+        self.lines.line(number)
+    }
+
     fn next_from(&self, number: u32, least: u32) -> Option<u32> {
         self.ways.course().next_from(number, least)
     }
@@ -145,5 +156,42 @@ impl<'a> Paths for RunPaths<'a> {
 
     fn is_dark_between(&self, number: u32, next: u32) -> bool {
         self.ways.course().is_dark_between(number, next)
+    }
+    fn open_from(&self, number: u32, least: u32) -> Option<u32> {
+        match self.ways.course() {
+            Course::One { steps } => in_path(steps.len(), number, least),
+            Course::Many(many) => opening::open_from(&self.storing, many, number, least),
+        }
+    }
+
+    fn close_from(&self, row: u32, least: u32) -> Option<u32> {
+        match self.ways.course() {
+            Course::One { steps } => in_path(steps.len(), row, least),
+            Course::Many(many) => closing::close_from(many, row, least),
+        }
+    }
+
+    fn is_past(&self, row: u32, number: u32) -> bool {
+        self.ways.course().is_past(row, number)
+    }
+
+    fn is_ahead(&self, row: u32, number: u32) -> bool {
+        self.ways.course().is_ahead(row, number)
+    }
+
+    fn is_later(&self, row: u32, other: u32) -> bool {
+        self.ways.course().is_later(row, other)
+    }
+
+    fn is_dark(&self) -> bool {
+        self.ways.course().is_dark()
+    }
+
+    fn is_dark_past(&self, number: u32) -> bool {
+        self.ways.course().is_dark_past(number)
+    }
+
+    fn is_dark_before(&self, row: u32) -> bool {
+        self.ways.course().is_dark_before(row)
     }
 }

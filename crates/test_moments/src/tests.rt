@@ -296,10 +296,11 @@ fn lines_and_last_points(rt: HostRuntime) -> Result<(), Fail> {
     assert_eq!(rt; course.row_at(3), Some(4));
     assert_eq!(rt; course.row_at(4), None);
     assert_eq!(rt; course.row_at(7), Some(2));
-    // each number up to 6 is next to the one before, 7 isn't, and the end is
+    // of the numbers up to 3 each has the one after it next to it alone; 4 has two next to it, 6 the end and not 7
     assert!(rt; course.end() == 8);
     let lines = Lines::new(rt.alloc(), course)?;
-    assert_eq!(rt; lines.line(4).last, 6);
+    assert_eq!(rt; lines.line(3).last, 4);
+    assert_eq!(rt; lines.line(6).first, 5);
     assert_eq!(rt; lines.line(8).first, 7);
     Ok(())
 }

@@ -1,6 +1,6 @@
 use Rattle.std.proofs.Common.{◌≡◌, ◌+◌, ℕ, List, sym, subst, arith}
 use Rattle.rept_moments.specs.Courses.{seen_in}
-use Rattle.rept_carry.specs.declared.lines.Line.{Line}
+use Rattle.rept_report.specs.declared.paths.Line.{Line}
 use Rattle.rept_carry.specs.Lines.{AreLinesBelow}
 use Rattle.rept_carry.proofs.Lining.{lines_more}
 use Rattle.rept_carry.proofs.lines.all_lines.Goals as goal

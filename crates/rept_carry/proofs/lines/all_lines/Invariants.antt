@@ -1,5 +1,6 @@
 use Rattle.rept_moments.specs.Courses.{seen_in}
-use Rattle.rept_carry.specs.Lines.{IsLine, AreLinesBelow}
+use Rattle.rept_report.specs.Timeline.{IsLine}
+use Rattle.rept_carry.specs.Lines.{AreLinesBelow}
 use Rattle.rept_carry.proofs.lines.all_lines.Given as goal
 
 abbrev pub invariant-loop-number : goal.invariant-loop-number

@@ -1,4 +1,5 @@
-use Rattle.std.proofs.Common.{◌≡◌, ◌≤◌, ◌<◌, ◌+◌, ◌-◌, ℕ, true}
+use Rattle.std.proofs.Common.{◌≡◌, ◌≤◌, ◌<◌, ◌-◌, ℕ}
+use Rattle.rept_report.specs.Timeline.{IsJoined}
 use Rattle.rept_moments.specs.Courses.{seen_in}
 use Rattle.rept_carry.proofs.lines.last_from.Given as goal
 
@@ -6,7 +7,7 @@ abbrev pub invariant-loop-last : goal.invariant-loop-last
 invariant-loop-last l = record {
   up : l.first ≤ l.last;
   inside : l.last ≤ l.end;
-  joined : (k : ℕ) → l.first ≤ k → k < l.last → (seen_in l.course).moments.next k (k + 1) ≡ true;
+  joined : (k : ℕ) → l.first ≤ k → k < l.last → IsJoined (seen_in l.course).moments k;
 }
 
 abbrev pub decreases-loop-last : goal.decreases-loop-last

@@ -14,3 +14,6 @@ invariant_of-result-clause-listed c = ∣ subst (λ (d : Course). AreListed d c.
 
 pub invariant_of-result-clause-lawful : goal.invariant_of-result-clause-lawful
 invariant_of-result-clause-lawful c = ∣ timeline_in (course_of c.args.run.now) c.in_ok-ways.ways c.requires.sound c.requires.small c.in_ok-ways.ensures.ok ∣₁
+
+pub invariant_of-result-clause-lined : goal.invariant_of-result-clause-lined
+invariant_of-result-clause-lined c = ∣ c.in_ok-lines.ensures.lines ∣₁

@@ -1,10 +1,10 @@
 use Rattle.std.proofs.Common.{◌≡◌, ◌<◌, ◌≤◌, ℕ, List, length, sym, subst, ◌∙◌}
 use Rattle.rept_moments.specs.declared.course.Course.{Course}
-use Rattle.rept_carry.specs.Links.{IsLeastFrom}
+use Rattle.rept_report.specs.Timeline.{IsLeastFrom}
 use Rattle.rept_timeline.specs.Times.{time_of, IsOpenFrom, IsCloseFrom}
 use Rattle.rept_timeline.proofs.Lists.{sound_of}
 use Rattle.rept_timeline.proofs.Making.{many_storing, open_alone}
-use Rattle.rept_timeline.proofs.run_paths.RunPaths.open_from.Goals as goal
+use Rattle.rept_timeline.proofs.run_paths.RunPathsPaths.open_from.Goals as goal
 
 pub open_from-requires-clause-listed : goal.open_from-requires-clause-listed
 open_from-requires-clause-listed c = (many_storing c.args.self.now.ways c.in-Many.many c.args.self.now.storing (sym c.course.ensures.value ∙ c.in-Many.is) c.args.self.now.listed)
