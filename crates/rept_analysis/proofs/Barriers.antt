@@ -9,6 +9,8 @@ use Rattle.rept_reason.specs.declared.fact.Cell.TheVariants.{Register}
 use Rattle.rept_span.proofs.Filling.{set_here, set_elsewhere}
 use Rattle.rept_writing.specs.Hits.{AreInOrder}
 use Rattle.rept_writing.specs.declared.list.Writing.{Writing}
+use Rattle.rept_report.specs.Moments.{Moments}
+use Rattle.rept_report.specs.OneThread.{IsLine}
 use Rattle.rept_report.specs.Setting.{HasLaws}
 use Rattle.rept_report.specs.Views.{may_write}
 use Rattle.rept_report.specs.Conclusions.{HasWords}
@@ -31,7 +33,7 @@ module _ {W : Type 0} (s t : State W) (laws : HasLaws (along s.path)) (words : H
 
   pub barriers_still : (list : List Writing) → AreBarriers list s → AreBarriers list t
   barriers_still list h = record {
-    each = λ k w at. let x = h.each k w at in record { low = x.low; inside = rw setting x.inside; others = λ a small miss. spared_still w.row a small (x.others a small miss); silent = silent_still (past list k) w.row x.silent };
+    each = λ k w at. let x = h.each k w at in record { low = x.low; inside = rw setting x.inside; time = rw setting x.time; others = λ a small miss. spared_still w.row a small (x.others a small miss); silent = silent_still (past list k) w.row x.silent };
     low = rw setting h.low;
     silent = λ i a le lt small. silent_still (past list (length list)) (s.path.given.legs.count) h.silent i a le (subst (λ (P : Path W). i < P.given.legs.count) setting lt) small;
   }
@@ -68,11 +70,11 @@ module _ (list : List Writing) (k : ℕ) (w x : Writing) (found : slice_get list
         | inr ne ↦ ap row_past (set_elsewhere list k j x ne)
       ]
 
-  module _ {W : Type 0} (s : State W) (free : (a : ℕ) → a < 2 ^ 32 → call_hits x.access a ≡ false → IsSparedNow w.row a s) (h : AreBarriers list s) where
+  module _ {W : Type 0} (s : State W) (free : (a : ℕ) → a < 2 ^ 32 → call_hits x.access a ≡ false → IsSparedNow w.row a s) (time : x.at ≡ s.path.given.moments.before w.row) (h : AreBarriers list s) where
     anew_here : IsBarrier (set list k x) k x s
     anew_here =
         let old = h.each k w found in
-        record { low = rw (past_set k, row) old.low; inside = rw row old.inside; others = λ a small miss. rw row (inr (free a small miss)); silent = rw (past_set k, row) old.silent }
+        record { low = rw (past_set k, row) old.low; inside = rw row old.inside; time = rw row time; others = λ a small miss. rw row (inr (free a small miss)); silent = rw (past_set k, row) old.silent }
 
     anew_each : (j : ℕ) (y : Writing) → slice_get (set list k x) j ≡ Some y → IsBarrier (set list k x) j y s
     anew_each j y at =
@@ -80,7 +82,7 @@ module _ (list : List Writing) (k : ℕ) (w x : Writing) (found : slice_get list
           | inl e ↦ let same : x ≡ y = same_writing (sym there ∙ subst (λ (n : ℕ). slice_get (set list k x) n ≡ Some y) e at) in rw (e, ← same) anew_here
           | inr ne ↦
               let old = h.each j y (sym (set_elsewhere list k j x ne) ∙ at) in
-              record { low = rw (past_set j) old.low; inside = old.inside; others = old.others; silent = rw (past_set j) old.silent }
+              record { low = rw (past_set j) old.low; inside = old.inside; time = old.time; others = old.others; silent = rw (past_set j) old.silent }
         ]
 
     pub barriers_anew : AreBarriers (set list k x) s
@@ -92,18 +94,18 @@ module _ (list : List Writing) (k : ℕ) (w x : Writing) (found : slice_get list
 
 barriers_listed : {W : Type 0} (s : State W) (rows list : List Writing) → AreBarriers rows s → AreBarriers rows (with_writing s list)
 barriers_listed s rows list h = record {
-  each = λ k w at. let x = h.each k w at in record { low = x.low; inside = x.inside; others = x.others; silent = x.silent };
+  each = λ k w at. let x = h.each k w at in record { low = x.low; inside = x.inside; time = x.time; others = x.others; silent = x.silent };
   low = h.low;
   silent = h.silent;
 }
 
 -- a row of the list was put in it anew, with what it may write by all that is known by now
-pub put_writings : {W : Type 0} (s t : State W) (k : ℕ) (w x : Writing) → slice_get s.work.writing k ≡ Some w → x.row ≡ w.row → ((a : ℕ) → a < 2 ^ 32 → call_hits x.access a ≡ false → IsSparedNow w.row a s) → t ≡ with_writing s (set s.work.writing k x) → AreWritings s → AreWritings t
-put_writings s t k w x found row free is h = subst (λ (y : State _). AreWritings y) (sym is) (record {
+pub put_writings : {W : Type 0} (s t : State W) (k : ℕ) (w x : Writing) → slice_get s.work.writing k ≡ Some w → x.row ≡ w.row → ((a : ℕ) → a < 2 ^ 32 → call_hits x.access a ≡ false → IsSparedNow w.row a s) → x.at ≡ s.path.given.moments.before w.row → t ≡ with_writing s (set s.work.writing k x) → AreWritings s → AreWritings t
+put_writings s t k w x found row free time is h = subst (λ (y : State _). AreWritings y) (sym is) (record {
   laws = h.laws;
   words = h.words;
   fitted = h.fitted;
-  barriers = barriers_listed s (set s.work.writing k x) (set s.work.writing k x) (barriers_anew s.work.writing k w x found row s free h.barriers);
+  barriers = barriers_listed s (set s.work.writing k x) (set s.work.writing k x) (barriers_anew s.work.writing k w x found row s free time h.barriers);
 })
 
 -- only the list differs
@@ -114,27 +116,34 @@ pub put_uncut : {W : Type 0} (s t : State W) (list : List Writing) → t ≡ wit
 put_uncut s t list is u = subst (λ (y : State _). IsUncut y) (sym is) u
 
 -- a row of the list was put in it anew, and all else stayed
-module _ {W : Type 0} (s t : State W) (k : ℕ) (x : Writing) (within : k < length s.work.writing) (listed : (w : Writing) → slice_get s.work.writing k ≡ Some w → w.row ≡ x.row) (free : (a : ℕ) → a < 2 ^ 32 → call_hits x.access a ≡ false → IsSparedNow x.row a s) (is : t ≡ with_writing s (set s.work.writing k x)) where
-  abbrev before : Writing
-  before = get_or s.work.writing k x
+module _ {W : Type 0} (s t : State W) (k : ℕ) (x : Writing) (within : k < length s.work.writing) (listed : (w : Writing) → slice_get s.work.writing k ≡ Some w → w.row ≡ x.row) (free : (a : ℕ) → a < 2 ^ 32 → call_hits x.access a ≡ false → IsSparedNow x.row a s) (time : x.at ≡ s.path.given.moments.before x.row) (is : t ≡ with_writing s (set s.work.writing k x)) where
+  abbrev former : Writing
+  former = get_or s.work.writing k x
 
-  found : slice_get s.work.writing k ≡ Some before
+  found : slice_get s.work.writing k ≡ Some former
   found = slice_get-get_or s.work.writing k x within
 
   pub anew_grows : Grows s t
-  anew_grows = put_grows s t (set s.work.writing k x) is (put_writings s t k before x found (sym (listed before found)) (λ a small miss. subst (λ (i : ℕ). IsSparedNow i a s) (sym (listed before found)) (free a small miss)) is)
+  anew_grows = put_grows s t (set s.work.writing k x) is (put_writings s t k former x found (sym (listed former found)) (λ a small miss. subst (λ (i : ℕ). IsSparedNow i a s) (sym (listed former found)) (free a small miss)) (subst (λ (i : ℕ). x.at ≡ s.path.given.moments.before i) (sym (listed former found)) time) is)
+
+-- of one path a row stands at its own number
+pub stands_at : {W : Type 0} (list : List Writing) (s : State W) → IsLine s.path.given → AreBarriers list s → (k : ℕ) (w : Writing) → slice_get list k ≡ Some w → w.at ≡ w.row
+stands_at list s line h k w at = (h.each k w at).time ∙ ap (λ (t : Moments). t.before w.row) line.moments
 
 -- the rows of the list stand in the order of their numbers
-pub barriers_ordered : {W : Type 0} (list : List Writing) (s : State W) → AreBarriers list s → AreInOrder list
-barriers_ordered list s h i j d le lt = rising (j - i) j (omega (arith, le)) lt
+pub barriers_ordered : {W : Type 0} (list : List Writing) (s : State W) → IsLine s.path.given → AreBarriers list s → AreInOrder list
+barriers_ordered list s line h i j d le lt = rising (j - i) j (omega (arith, le)) lt
   where
-    rising : (m n : ℕ) → n ≡ i + m → n < length list → (get_or list i d).row ≤ (get_or list n d).row
-    rising zero n e inside = let same : i ≡ n = omega (arith, e) in subst (λ (y : ℕ). (get_or list i d).row ≤ (get_or list y d).row) same (omega arith)
+    rising : (m n : ℕ) → n ≡ i + m → n < length list → (get_or list i d).at ≤ (get_or list n d).at
+    rising zero n e inside = let same : i ≡ n = omega (arith, e) in subst (λ (y : ℕ). (get_or list i d).at ≤ (get_or list y d).at) same (omega arith)
     rising (suc m) n e inside =
         let k : ℕ = i + m in
         let same : k + 1 ≡ n = omega (arith, e) in
         let before = rising m k refl (omega (arith, inside, same)) in
         let at = slice_get-get_or list k d (omega (arith, inside, same)) in
+        let more = slice_get-get_or list (k + 1) d (omega (arith, inside, same)) in
         let next = past_at list k (get_or list k d) at in
-        let low = (h.each (k + 1) (get_or list (k + 1) d) (slice_get-get_or list (k + 1) d (omega (arith, inside, same)))).low in
-        subst (λ (y : ℕ). (get_or list i d).row ≤ (get_or list y d).row) same (omega (arith, before, next, low))
+        let low = (h.each (k + 1) (get_or list (k + 1) d) more).low in
+        let here = stands_at list s line h k (get_or list k d) at in
+        let there = stands_at list s line h (k + 1) (get_or list (k + 1) d) more in
+        subst (λ (y : ℕ). (get_or list i d).at ≤ (get_or list y d).at) same (omega (arith, before, next, low, here, there))

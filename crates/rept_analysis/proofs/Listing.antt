@@ -30,7 +30,7 @@ module _ {W : Type 0} (s t : State W) (setting : t.path ≡ s.path) (older : old
 
   pub writings_like : (n : ℕ) (list : List Writing) → AreWritingsBefore n list s → AreWritingsBefore n list t
   writings_like n list h = record {
-    each = λ k w at. let x = h.each k w at in record { low = x.low; inside = rw setting x.inside; access = λ a small. rw (setting, older) (x.access a small); silent = silent_like (past list k) w.row x.silent };
+    each = λ k w at. let x = h.each k w at in record { low = x.low; inside = rw setting x.inside; time = rw setting x.time; access = λ a small. rw (setting, older) (x.access a small); silent = silent_like (past list k) w.row x.silent };
     low = h.low;
     silent = silent_like (past list (length list)) n h.silent;
   }
@@ -71,8 +71,8 @@ past_all list w zero e = absurd (omega (arith, e))
 past_all list w (suc n) e = let same : n ≡ length list = omega (arith, e) in rw same (ap row_past (at_push list w))
 
 -- one that may
-pub listed_more : {W : Type 0} (s : State W) (i : ℕ) (list : List Writing) (w : Writing) → w.row ≡ i → i < s.path.given.legs.count → IsAccess i w.access s → AreWritingsBefore i list s → AreWritingsBefore (i + 1) (list ++ w ∷ []) s
-listed_more s i list w row inside access h =
+pub listed_more : {W : Type 0} (s : State W) (i : ℕ) (list : List Writing) (w : Writing) → w.row ≡ i → w.at ≡ s.path.given.moments.before i → i < s.path.given.legs.count → IsAccess i w.access s → AreWritingsBefore i list s → AreWritingsBefore (i + 1) (list ++ w ∷ []) s
+listed_more s i list w row time inside access h =
     let long = length_push list w in
     let end = past_all list w (length (list ++ w ∷ [])) (omega (arith, long)) in
     record {
@@ -84,7 +84,7 @@ listed_more s i list w row inside access h =
     last : IsWriting (list ++ w ∷ []) (length list) w s
     last =
         let same = past_push list w (length list) (omega arith) in
-        record { low = rw (same, row) h.low; inside = rw row inside; access = rw row access; silent = rw (same, row) h.silent }
+        record { low = rw (same, row) h.low; inside = rw row inside; time = rw row time; access = rw row access; silent = rw (same, row) h.silent }
 
     each : (k : ℕ) (x : Writing) → slice_get (list ++ w ∷ []) k ≡ Some x → IsWriting (list ++ w ∷ []) k x s
     each k x at =
@@ -92,7 +92,7 @@ listed_more s i list w row inside access h =
           | inl lt ↦
               let old = h.each k x (sym (before_push list w k lt) ∙ at) in
               let same = past_push list w k (omega (arith, lt)) in
-              record { low = rw same old.low; inside = old.inside; access = old.access; silent = rw same old.silent }
+              record { low = rw same old.low; inside = old.inside; time = old.time; access = old.access; silent = rw same old.silent }
           | inr ge ↦
               let within = slice_get_within (list ++ w ∷ []) k x at in
               let long = length_push list w in
@@ -181,7 +181,7 @@ module _ {W : Type 0} (list : List Writing) (s : State W) (line : IsLine s.path.
       let i : ℕ = k + m in
       let same : j ≡ i + 1 = omega (arith, e) in
       let before = reach_all k m i refl (omega (arith, e, le)) (λ l low high. miss l low (omega (arith, high, same))) x in
-      let there = slice_get-get_or list i (record { row = 0; access = record { first = None; second = None } }) (omega (arith, same, le)) in
+      let there = slice_get-get_or list i (record { row = 0; at = 0; access = record { first = None; second = None } }) (omega (arith, same, le)) in
       rw same (reach_over i _ there (miss i (omega arith) (omega (arith, same))) before)
 
 -- from an index of the list on, to the next row that may write the byte, or to the end
@@ -215,7 +215,7 @@ module _ {W : Type 0} (s : State W) (line : IsLine s.path.given) (h : AreWriting
 -- the list as it was made
 pub listed_barriers : {W : Type 0} (s : State W) → AreWritingsBefore (s.path.given.legs.count) s.work.writing s → AreBarriers s.work.writing s
 listed_barriers s h = record {
-  each = λ k w at. let x = h.each k w at in record { low = x.low; inside = x.inside; others = λ a small miss. inl (sym (x.access a small) ∙ miss); silent = x.silent };
+  each = λ k w at. let x = h.each k w at in record { low = x.low; inside = x.inside; time = x.time; others = λ a small miss. inl (sym (x.access a small) ∙ miss); silent = x.silent };
   low = h.low;
   silent = h.silent;
 }
@@ -241,7 +241,7 @@ along_line s line a each m w = record {
       (each m x.inside).back v (subst (λ (q : ℕ). Carries (along s.path) (told (oldest s.filled s.known.log)) (passage a m q)) x.next carries) (subst (λ (q : ℕ). Knows q (Byte a) v s) x.next h);
 }
 
-module _ {W : Type 0} (s : State W) (line : IsLine s.path.given) (a point k to : ℕ) (small : a < 2 ^ 32) (last : IsPastHit s.work.writing point a k) (stop : IsStopAt k a to s) where
+module _ {W : Type 0} (s : State W) (line : IsLine s.path.given) (a point k to : ℕ) (small : a < 2 ^ 32) (own : (j : ℕ) (w : Writing) → slice_get s.work.writing j ≡ Some w → w.at ≡ w.row) (last : IsPastHit s.work.writing point a k) (stop : IsStopAt k a to s) where
   at_stop : IsStopAt k a to s → AreExact s → (i : ℕ) → i ≡ to → i < s.path.given.legs.count → IsCarriedAt i a s
   at_stop (inl end) exact i e inside = absurd (omega (arith, end, e, inside))
   at_stop (inr x) exact i e inside = subst (λ (n : ℕ). IsCarriedAt n a s) (x.row ∙ sym e) (blocked s line x.writing.row a (exact x.index x.writing a x.found small x.hits))
@@ -260,7 +260,7 @@ module _ {W : Type 0} (s : State W) (line : IsLine s.path.given) (a point k to :
         }
         | inr (j, e, hit) ↦ record {
           first = hit.writing.row;
-          low = let lower = hit.lower in omega (arith, lower);
+          low = let lower = hit.lower in let same = own j hit.writing hit.stands in omega (arith, lower, same);
           closed = λ exact i low le inside. elim (cases_eq i hit.writing.row) [
             | inl same ↦ subst (λ (n : ℕ). IsCarriedAt n a s) (sym same) (blocked s line hit.writing.row a (exact j hit.writing a hit.stands small hit.hits))
             | inr ne ↦ elim (cases_lt i to) [
@@ -279,7 +279,7 @@ module _ {W : Type 0} (s : State W) (line : IsLine s.path.given) (a point k to :
       elim stop [
         | inl end ↦ omega (arith, early, end)
         | inr x ↦ elim (cases_lt to point) [
-          | inl lt ↦ absurd (last.none_after x.index x.from (record { writing = x.writing; stands = x.found; lower = let row = x.row in omega (arith, row, lt); hits = x.hits }))
+          | inl lt ↦ absurd (last.none_after x.index x.from (record { writing = x.writing; stands = x.found; lower = let row = x.row in let same = own x.index x.writing x.found in omega (arith, row, lt, same); hits = x.hits }))
           | inr ge ↦ ge
         ]
       ]

@@ -68,6 +68,7 @@ past list (suc k) = row_past (slice_get list k)
 pub record IsBarrier {W : Type 0} (list : List Writing) (k : ℕ) (w : Writing) (s : State W) : Type 0 where
   pub low : past list k ≤ w.row
   pub inside : w.row < s.path.given.legs.count
+  pub time : w.at ≡ s.path.given.moments.before w.row
   pub others : (a : ℕ) → a < 2 ^ 32 → call_hits w.access a ≡ false → IsSpared w.row a s
   pub silent : IsSilent (past list k) w.row s
 
@@ -349,6 +350,7 @@ AllCarried s = (a : ℕ) → IsTracked a s → IsCarriedAlong a s
 pub record IsWriting {W : Type 0} (list : List Writing) (k : ℕ) (w : Writing) (s : State W) : Type 0 where
   pub low : past list k ≤ w.row
   pub inside : w.row < s.path.given.legs.count
+  pub time : w.at ≡ s.path.given.moments.before w.row
   pub access : IsAccess w.row w.access s
   pub silent : IsSilent (past list k) w.row s
 

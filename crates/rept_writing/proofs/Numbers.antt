@@ -1,4 +1,4 @@
--- The place after the last row that may write an address, by the rows' numbers.
+-- The place after the last row that may write an address, by the numbers at which the rows stand.
 use Rattle.std.proofs.Common.{◌≡◌, ℕ, zero, suc, ◌<◌, ◌≤◌, inl, inr, true, false, List, length, get_or, Option, Some, None, refl, sym, ◌∙◌, ap, subst, arith, add-one}
 use Rattle.std.specs.Prelude.{slice_get, nat_lt}
 use Rattle.std.specs.List.Sorted.{IsPartitionPoint}
@@ -10,14 +10,14 @@ use Rattle.rept_writing.specs.declared.list.Writing.{Writing}
 use Rattle.rept_writing.specs.Hits.{hits_at, may_write, IsHitBefore, IsPastHit, IsSplitAt}
 use Rattle.rept_writing.specs.Filed.{IsPast}
 
--- the rows before index k are those of lower numbers
-pub record IsCutAt (list : List Writing) (row k : ℕ) : Type 0 where
+-- the rows before index k are those at lower numbers
+pub record IsCutAt (list : List Writing) (number k : ℕ) : Type 0 where
   pub bound : k ≤ length list
-  pub below : (j : ℕ) (d : Writing) → j < k → (get_or list j d).row < row
-  pub above : (j : ℕ) (d : Writing) → k ≤ j → j < length list → row ≤ (get_or list j d).row
+  pub below : (j : ℕ) (d : Writing) → j < k → (get_or list j d).at < number
+  pub above : (j : ℕ) (d : Writing) → k ≤ j → j < length list → number ≤ (get_or list j d).at
 
-pub cut_at : (list : List Writing) (row k : ℕ) → k ≤ length list → IsPartitionPoint (λ w. nat_lt w.row row ≡ true) (λ w. nat_lt w.row row ≡ false) list k → IsCutAt list row k
-cut_at list row k bound parts = record {
+pub cut_at : (list : List Writing) (number k : ℕ) → k ≤ length list → IsPartitionPoint (λ w. nat_lt w.at number ≡ true) (λ w. nat_lt w.at number ≡ false) list k → IsCutAt list number k
+cut_at list number k bound parts = record {
   bound = bound;
   below = λ j d lt. let e = parts.0 j d (omega arith) lt in grind (arith, nat_tests, e);
   above = λ j d low high. let e = parts.1 j d low high in grind (arith, nat_tests, e);
@@ -30,30 +30,30 @@ stands (Some x) a h = (x, refl, h)
 read : (list : List Writing) (j : ℕ) (w : Writing) → slice_get list j ≡ Some w → get_or list j w ≡ w
 read list j w is = let e = slice_get-get_or list j w (slice_get_within list j w is) in cc
 
-pub split_at : (list : List Writing) (row k : ℕ) → IsCutAt list row k → IsSplitAt list row k
-split_at list row k cut = record {
+pub split_at : (list : List Writing) (number k : ℕ) → IsCutAt list number k → IsSplitAt list number k
+split_at list number k cut = record {
   bound = cut.bound;
-  below = λ j w is lt. subst (λ (x : Writing). x.row < row) (read list j w is) (cut.below j w lt);
-  above = λ j w is le. subst (λ (x : Writing). row ≤ x.row) (read list j w is) (cut.above j w le (slice_get_within list j w is));
+  below = λ j w is lt. subst (λ (x : Writing). x.at < number) (read list j w is) (cut.below j w lt);
+  above = λ j w is le. subst (λ (x : Writing). number ≤ x.at) (read list j w is) (cut.above j w le (slice_get_within list j w is));
 }
 
-hit_before : (list : List Writing) (row k a j : ℕ) → IsCutAt list row k → j < k → hits_at list j a ≡ true → IsHitBefore list row a j
-hit_before list row k a j cut lt h =
+hit_before : (list : List Writing) (number k a j : ℕ) → IsCutAt list number k → j < k → hits_at list j a ≡ true → IsHitBefore list number a j
+hit_before list number k a j cut lt h =
     let (w, is, hits) = stands (slice_get list j) a h in
-    record { writing = w; stands = is; lower = subst (λ (x : Writing). x.row < row) (read list j w is) (cut.below j w lt); hits = hits }
+    record { writing = w; stands = is; lower = subst (λ (x : Writing). x.at < number) (read list j w is) (cut.below j w lt); hits = hits }
 
-before_cut : (list : List Writing) (row k a j : ℕ) → IsCutAt list row k → IsHitBefore list row a j → (j < k) × (hits_at list j a ≡ true)
-before_cut list row k a j cut h = (
+before_cut : (list : List Writing) (number k a j : ℕ) → IsCutAt list number k → IsHitBefore list number a j → (j < k) × (hits_at list j a ≡ true)
+before_cut list number k a j cut h = (
   elim (cases_lt j k) [
     | inl lt ↦ lt
-    | inr le ↦ absurd (omega (arith, subst (λ (x : Writing). row ≤ x.row) (read list j h.writing h.stands) (cut.above j h.writing le (slice_get_within list j h.writing h.stands)), h.lower))
+    | inr le ↦ absurd (omega (arith, subst (λ (x : Writing). number ≤ x.at) (read list j h.writing h.stands) (cut.above j h.writing le (slice_get_within list j h.writing h.stands)), h.lower))
   ],
   ap (λ w. may_write w a) h.stands ∙ h.hits,
 )
 
-pub past_row : (list : List Writing) (row k a r : ℕ) → IsCutAt list row k → IsPast (λ j. hits_at list j a ≡ true) k r → IsPastHit list row a r
-past_row list row k a zero cut none = record { before = inl refl; none_after = λ j low h. let b = before_cut list row k a j cut h in none j b.0 b.1 }
-past_row list row k a (suc h) cut (below, holds, none) = record {
-  before = inr (h, sym (add-one h), hit_before list row k a h cut below holds);
-  none_after = λ j low hit. let b = before_cut list row k a j cut hit in none j (omega (arith, low)) b.0 b.1;
+pub past_row : (list : List Writing) (number k a r : ℕ) → IsCutAt list number k → IsPast (λ j. hits_at list j a ≡ true) k r → IsPastHit list number a r
+past_row list number k a zero cut none = record { before = inl refl; none_after = λ j low h. let b = before_cut list number k a j cut h in none j b.0 b.1 }
+past_row list number k a (suc h) cut (below, holds, none) = record {
+  before = inr (h, sym (add-one h), hit_before list number k a h cut below holds);
+  none_after = λ j low hit. let b = before_cut list number k a j cut hit in none j (omega (arith, low)) b.0 b.1;
 }

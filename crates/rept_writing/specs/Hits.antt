@@ -29,24 +29,24 @@ abbrev pub IsNextHit : List Writing → ℕ → ℕ → Option ℕ → Type 0
 IsNextHit list k a None = (j : ℕ) → k ≤ j → hits_at list j a ≡ false
 IsNextHit list k a (Some h) = IsFirstHit list k a h
 
--- the rows stand in the order of their numbers
+-- the rows stand in the order of time
 abbrev pub AreInOrder : List Writing → Type 0
-AreInOrder list = IsNonDecreasingBy (λ w. w.row) list
+AreInOrder list = IsNonDecreasingBy (λ w. w.at) list
 
--- the rows before index k are those of lower numbers than the given one
-pub record IsSplitAt (list : List Writing) (row k : ℕ) : Type 0 where
+-- the rows before index k are those at lower numbers than the given one
+pub record IsSplitAt (list : List Writing) (number k : ℕ) : Type 0 where
   pub bound : k ≤ length list
-  pub below : (j : ℕ) (w : Writing) → slice_get list j ≡ Some w → j < k → w.row < row
-  pub above : (j : ℕ) (w : Writing) → slice_get list j ≡ Some w → k ≤ j → row ≤ w.row
+  pub below : (j : ℕ) (w : Writing) → slice_get list j ≡ Some w → j < k → w.at < number
+  pub above : (j : ℕ) (w : Writing) → slice_get list j ≡ Some w → k ≤ j → number ≤ w.at
 
--- the row at index j has a lower number than the given one, and may write the address
-pub record IsHitBefore (list : List Writing) (row a j : ℕ) : Type 0 where
+-- the row at index j stands at a lower number than the given one, and may write the address
+pub record IsHitBefore (list : List Writing) (number a j : ℕ) : Type 0 where
   pub writing : Writing
   pub stands : slice_get list j ≡ Some writing
-  pub lower : writing.row < row
+  pub lower : writing.at < number
   pub hits : call_hits writing.access a ≡ true
 
 -- the index after the last such row; 0 where there is none
-pub record IsPastHit (list : List Writing) (row a past : ℕ) : Type 0 where
-  pub before : (past ≡ 0) ⊎ ((j : ℕ) × (past ≡ j + 1) × IsHitBefore list row a j)
-  pub none_after : (j : ℕ) → past ≤ j → IsHitBefore list row a j → ⊥
+pub record IsPastHit (list : List Writing) (number a past : ℕ) : Type 0 where
+  pub before : (past ≡ 0) ⊎ ((j : ℕ) × (past ≡ j + 1) × IsHitBefore list number a j)
+  pub none_after : (j : ℕ) → past ≤ j → IsHitBefore list number a j → ⊥

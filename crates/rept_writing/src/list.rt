@@ -17,17 +17,19 @@ const WORN: usize = 64;
 /// And one in so many rows.
 const SHARE: usize = 32;
 
-/// A row that may write, and the bytes that it may write.
+/// A row that may write, where it stands in time, and the bytes that it may write.
 #[derive(Clone, Copy, PartialEq, Eq, Debug)]
 pub struct Writing {
     /// the row's number
     pub row: u32,
+    /// the number of the moment before it
+    pub at: u32,
     /// the bytes
     pub access: CallAccess,
 }
 
 /// Rows that may write, in the order in which they were added, with room for so many as were asked for. The next row that may
-/// write an address, and the last one before a row, are found fast once `index` was called, and by a search through the list before.
+/// write an address, and the last one before a moment, are found fast once `index` was called, and by a search through the list before.
 #[derive(Drop)]
 pub struct Writings {
     list: Vec<Writing>,
@@ -84,14 +86,15 @@ impl Writings {
     }
 
     /// Adds a row.
-    pub fn add(&mut self, row: u32, access: CallAccess)
+    pub fn add(&mut self, writing: Writing)
         requires { length self.old.list < self.old.room }
-        ensures list { self.new.list ≡ self.old.list ++ record { row = row; access = access } ∷ [] }
+        ensures list { self.new.list ≡ self.old.list ++ writing ∷ [] }
         ensures room { self.new.room ≡ self.old.room }
     {
         let index = self.list.len();
+        let access = writing.access;
         file(&mut self.narrow, &mut self.wide, index, &access);
-        self.list.push_reserved(Writing { row, access });
+        self.list.push_reserved(writing);
         self.is_indexed = false;
     }
 
@@ -159,24 +162,24 @@ impl Writings {
         }
     }
 
-    /// How many rows have a lower number. The rows must stand in the order of their numbers; where they don't, it is some index, up
-    /// to the number of rows.
-    pub fn before(&self, row: u32) -> usize
+    /// How many rows stand at lower numbers. The rows must stand in the order of these; where they don't, it is some index, up to the
+    /// number of rows.
+    pub fn before(&self, number: u32) -> usize
         ensures bound { result ≤ length self.now.list }
-        ensures split { AreInOrder self.now.list → IsSplitAt self.now.list row result }
+        ensures split { AreInOrder self.now.list → IsSplitAt self.now.list number result }
     {
         let list = self.list.as_slice();
-        list.partition_point(|w| w.row < row)
+        list.partition_point(|w| w.at < number)
     }
 
-    /// The index after the last row with a lower number that may write the address, or 0 where there is none. The rows must stand
-    /// in the order of their numbers; where they don't, it is some index, up to the number of rows.
-    pub fn past_hit(&self, row: u32, a: u32) -> usize
+    /// The index after the last row at a lower number that may write the address, or 0 where there is none. The rows must stand in the
+    /// order of these; where they don't, it is some index, up to the number of rows.
+    pub fn past_hit(&self, number: u32, a: u32) -> usize
         ensures bound { result ≤ length self.now.list }
-        ensures past { AreInOrder self.now.list → IsPastHit self.now.list row a result }
+        ensures past { AreInOrder self.now.list → IsPastHit self.now.list number a result }
     {
         let list = self.list.as_slice();
-        let k = list.partition_point(|w| w.row < row);
+        let k = list.partition_point(|w| w.at < number);
         if self.is_indexed {
             let narrow = past_narrow(self.narrow.as_slice(), k, a);
             let wide = past_wide(list, self.wide.as_slice(), k, a);

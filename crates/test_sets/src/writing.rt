@@ -34,15 +34,17 @@ fn part(ends: Option<(u32, u32)>) -> Option<Access> {
     }
 }
 
-/// The rows of the table, with numbers from 10 on and room for so many bytes.
+/// The rows of the table, at numbers from 10 on, and themselves with other numbers, with room for so many bytes.
 fn listed(alloc: Global, bytes: usize) -> Result<Writings, OutOfMemory> {
     let mut writings = Writings::new(alloc, 6, bytes)?;
-    let mut row = 10;
+    let mut at = 10;
     for (first, second) in ROWS {
         let first = part(first);
         let second = part(second);
-        writings.add(row, CallAccess { first, second });
-        row += 1;
+        let access = CallAccess { first, second };
+        let row = 40_u32.wrapping_sub(at);
+        writings.add(Writing { row, at, access });
+        at += 1;
     }
     Ok(writings)
 }
@@ -80,7 +82,7 @@ fn look(rt: &impl Abort, writings: &Writings) {
     }
 }
 
-/// Looks up the place after the last row with a lower number that may write an address, and how many rows have lower ones.
+/// Looks up the place after the last row at a lower number that may write an address, and how many rows stand at lower ones.
 const PAST: [(u32, u32, usize); 11] = [
     (10, 100, 0),
     (11, 100, 1),
@@ -96,11 +98,11 @@ const PAST: [(u32, u32, usize); 11] = [
 ];
 
 fn look_back(rt: &impl Abort, writings: &Writings) {
-    for (row, a, expected) in PAST {
-        assert_eq!(rt; writings.past_hit(row, a), expected);
+    for (number, a, expected) in PAST {
+        assert_eq!(rt; writings.past_hit(number, a), expected);
     }
-    for (row, expected) in [(0, 0), (10, 0), (11, 1), (13, 3), (15, 5), (16, 6), (99, 6)] {
-        assert_eq!(rt; writings.before(row), expected);
+    for (number, expected) in [(0, 0), (10, 0), (11, 1), (13, 3), (15, 5), (16, 6), (99, 6)] {
+        assert_eq!(rt; writings.before(number), expected);
     }
 }
 
@@ -116,8 +118,8 @@ fn look_past(rt: &impl Abort, writings: &Writings) {
     ] {
         assert_eq!(rt; writings.next_hit(k, a), expected);
     }
-    for (row, a, expected) in [(13, 100, 1), (16, 98, 3), (99, 99, 0)] {
-        assert_eq!(rt; writings.past_hit(row, a), expected);
+    for (number, a, expected) in [(13, 100, 1), (16, 98, 3), (99, 99, 0)] {
+        assert_eq!(rt; writings.past_hit(number, a), expected);
     }
 }
 
@@ -129,7 +131,9 @@ fn shorten(rt: &impl Abort, writings: &mut Writings, times: usize) {
     };
     for _ in 0..times {
         if 2 < writings.len() {
-            assert_eq!(rt; writings.replace(2, Writing { row: 12, access }), true);
+            let row = 28;
+            let at = 12;
+            assert_eq!(rt; writings.replace(2, Writing { row, at, access }), true);
         }
     }
 }
@@ -141,7 +145,9 @@ fn renew(rt: &impl Abort, writings: &mut Writings, expected: bool) {
         second: None,
     };
     if 0 < writings.len() {
-        assert_eq!(rt; writings.replace(0, Writing { row: 10, access }), expected);
+        let row = 30;
+        let at = 10;
+        assert_eq!(rt; writings.replace(0, Writing { row, at, access }), expected);
     }
 }
 

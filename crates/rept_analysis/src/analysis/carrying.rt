@@ -4,7 +4,7 @@ ghost use Rattle.std.specs.Prelude.{◌≡◌, ◌↔◌, ◌∷◌, ◌++◌, [
 ghost use Rattle.rept_alias.specs.Accesses.{call_hits};
 ghost use Rattle.rept_reason.specs.declared.fact.Cell.TheVariants.{Byte};
 ghost use Rattle.rept_versions.specs.Facts.{Nexts};
-ghost use Rattle.rept_analysis.specs.State.{state_of, with_writing};
+ghost use Rattle.rept_analysis.specs.State.{setting_of, state_of, with_writing};
 ghost use Rattle.rept_analysis.specs.Drawing.{Knows, IsTracked, past, Grows, Drew, IsHalt, IsFitted, IsAccess, AreWritings, AreWritingsBefore, AreExact, IsUncut, IsSparedBetween, IsStopAt, IsSpreadTo, IsCarriedFrom, IsCarriedBeside, IsCarriedAlong, AllCarried};
 ghost use Rattle.rept_analysis.specs.Told.{Sends};
 ghost use Rattle.rept_isa.specs.declared.row.StepRow.{StepRow};
@@ -145,7 +145,7 @@ impl<'a, B: ByteFacts, W: Transfer, R: RowRules> Analysis<'a, B, W, R> {
         self.writing.at(k)
     }
 
-    /// The index in that list after the last row before a point that may write the byte.
+    /// The index in that list after the last row before a moment that may write the byte.
     fn past_hit(&self, point: u32, a: u32) -> usize
         ensures bound { result ≤ length self.now.work.writing }
         ensures past { AreInOrder self.now.work.writing → IsPastHit self.now.work.writing point a result }
@@ -160,11 +160,11 @@ impl<'a, B: ByteFacts, W: Transfer, R: RowRules> Analysis<'a, B, W, R> {
         self.writing.len()
     }
 
-    /// How many rows of that list stand before row i.
-    fn listed_before(&self, i: u32) -> usize
+    /// How many rows of that list stand at lower numbers.
+    fn listed_before(&self, number: u32) -> usize
         ensures { result ≤ length self.now.work.writing }
     {
-        self.writing.before(i)
+        self.writing.before(number)
     }
 
     /// Puts a row in the place of the one at an index of that list, if by the list that one may write many addresses.
@@ -232,7 +232,8 @@ impl<'a, B: ByteFacts, W: Transfer, R: RowRules> Analysis<'a, B, W, R> {
         ensures uncut { IsUncut (state_of W.sets W.moves R.rules B.store self.old) → IsUncut (state_of W.sets W.moves R.rules B.store self.new) }
     {
         let access = self.access_now(i, row);
-        let put = self.put_writing(k, Writing { row: i, access });
+        let at = self.moment_before(i);
+        let put = self.put_writing(k, Writing { row: i, at, access });
         if put {
             self.note_put();
             self.renew_index();
@@ -248,7 +249,7 @@ impl<'a, B: ByteFacts, W: Transfer, R: RowRules> Analysis<'a, B, W, R> {
         ensures grows { Grows (state_of W.sets W.moves R.rules B.store self.old) (state_of W.sets W.moves R.rules B.store self.new) }
         ensures uncut { IsUncut (state_of W.sets W.moves R.rules B.store self.old) → IsUncut (state_of W.sets W.moves R.rules B.store self.new) }
     {
-        let k = self.listed_before(i);
+        let k = self.listed_before(self.moment_before(i));
         if !is_store(&row.instr) || self.is_first_round() || k >= self.writing_count() {
             return;
         }
@@ -423,12 +424,19 @@ impl<'a, B: ByteFacts, W: Transfer, R: RowRules> Analysis<'a, B, W, R> {
     }
 
     /// Adds a row to it.
-    fn add_writing(&mut self, row: u32, access: CallAccess)
+    fn add_writing(&mut self, writing: Writing)
         requires open { self.old.complete ≡ false }
         requires room { length self.old.work.writing < length self.old.rows }
-        ensures { (state_of W.sets W.moves R.rules B.store self.new) ≡ with_writing (state_of W.sets W.moves R.rules B.store self.old) (self.old.work.writing ++ record { row = row; access = access } ∷ []) }
+        ensures { (state_of W.sets W.moves R.rules B.store self.new) ≡ with_writing (state_of W.sets W.moves R.rules B.store self.old) (self.old.work.writing ++ writing ∷ []) }
     {
-        self.writing.add(row, access);
+        self.writing.add(writing);
+    }
+
+    /// The number of the moment before a row.
+    fn moment_before(&self, row: u32) -> u32
+        ensures { result ≡ (setting_of W.sets W.moves R.rules self.now).moments.before row }
+    {
+        row
     }
 
     /// Makes the rows of the list found by the byte that they may write.
@@ -452,8 +460,9 @@ impl<'a, B: ByteFacts, W: Transfer, R: RowRules> Analysis<'a, B, W, R> {
     {
         let row = self.row(i);
         let access = self.access(i, &row);
+        let at = self.moment_before(i);
         if !is_none(&access) {
-            self.add_writing(i, access);
+            self.add_writing(Writing { row: i, at, access });
         }
     }
 

@@ -9,7 +9,7 @@ pub returns-then-not-is_none-clause-listed : goal.returns-then-not-is_none-claus
 returns-then-not-is_none-clause-listed g c =
     let s = state_of g.W.Partial.sets g.W.Transfer.moves g.R.RowRules.rules g.B.ByteFacts.store c.args.self.now in
     let list = ap (λ (x : State g.row.W.Denot). x.work.writing) c.add_writing.ensures in
-    subst (λ (xs : List Writing). AreWritingsBefore (c.args.i + 1) xs s) (sym list) (listed_more s c.args.i c.args.self.now.work.writing (record { row = c.args.i; access = c.access-access.result }) refl c.requires.inside c.access-access.ensures c.requires.before)
+    subst (λ (xs : List Writing). AreWritingsBefore (c.args.i + 1) xs s) (sym list) (listed_more s c.args.i c.args.self.now.work.writing (record { row = c.args.i; at = c.moment_before-at.result; access = c.access-access.result }) refl c.moment_before-at.ensures c.requires.inside c.access-access.ensures c.requires.before)
 
 pub returns-else-not-is_none-clause-listed : goal.returns-else-not-is_none-clause-listed
 returns-else-not-is_none-clause-listed g c =

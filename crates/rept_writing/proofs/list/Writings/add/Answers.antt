@@ -7,8 +7,8 @@ use Rattle.rept_writing.proofs.list.Writings.add.Goals as goal
 pub invariant_of-self : goal.invariant_of-self
 invariant_of-self c = let len : vec_len c.self.inside.list ≡ length c.self.inside.list.items = c.self.inside.list.ok.0 in record {
   filed = rw (c.push_reserved.ensures.items) (elim c.file.ensures.filed [
-    | inl (kept, same) ↦ rw same (filed_narrow c.self.inside.list.items c.self.inside.narrow.items c.file.new.narrow.items c.self.inside.wide.items (record { row = c.args.row; access = c.args.access }) c.self.invariant.filed (subst (λ (j : ℕ). IsKeptByAddress c.args.access j c.self.inside.narrow.items c.file.new.narrow.items) (c.len-index.ensures ∙ len) kept))
-    | inr (same, wide) ↦ rw (same, wide, c.len-index.ensures, len) (filed_wide c.self.inside.list.items c.self.inside.narrow.items c.self.inside.wide.items (record { row = c.args.row; access = c.args.access }) c.self.invariant.filed)
+    | inl (kept, same) ↦ rw same (filed_narrow c.self.inside.list.items c.self.inside.narrow.items c.file.new.narrow.items c.self.inside.wide.items c.args.writing c.self.invariant.filed (subst (λ (j : ℕ). IsKeptByAddress c.args.writing.access j c.self.inside.narrow.items c.file.new.narrow.items) (c.len-index.ensures ∙ len) kept))
+    | inr (same, wide) ↦ rw (same, wide, c.len-index.ensures, len) (filed_wide c.self.inside.list.items c.self.inside.narrow.items c.self.inside.wide.items c.args.writing c.self.invariant.filed)
   ]);
   sorted = λ e. absurd (cc);
   room = let a = c.self.invariant.room in omega (arith, a, c.file.ensures.capacity, c.push_reserved.ensures.capacity);

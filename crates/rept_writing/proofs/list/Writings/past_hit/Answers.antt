@@ -14,22 +14,22 @@ returns-then-self-clause-past c =
     let small : c.args.a < 2 ^ 32 = omega arith in
     let list = c.self.inside.list.items in
     let k = c.partition_point-k.result in
-    let cut : AreInOrder c.as_slice-list.result.now → IsCutAt c.as_slice-list.result.now c.args.row k = λ up.
-    let parts = IsPartitionPoint-from_clause (λ (w : Writing). nat_lt w.row c.args.row) c.as_slice-list.result.now k c.partition_point-k.ensures.partitioned (IsPartitionedBy-ltb (λ (w : Writing). w.row) c.as_slice-list.result.now c.args.row up) (λ a r f h. search rules) in
-    cut_at c.as_slice-list.result.now c.args.row k c.partition_point-k.ensures.bound parts in
-    let cuts = subst (λ (xs : List Writing). AreInOrder xs → IsCutAt xs c.args.row k) c.as_slice-list.ensures.value cut in
+    let cut : AreInOrder c.as_slice-list.result.now → IsCutAt c.as_slice-list.result.now c.args.number k = λ up.
+    let parts = IsPartitionPoint-from_clause (λ (w : Writing). nat_lt w.at c.args.number) c.as_slice-list.result.now k c.partition_point-k.ensures.partitioned (IsPartitionedBy-ltb (λ (w : Writing). w.at) c.as_slice-list.result.now c.args.number up) (λ a r f h. search rules) in
+    cut_at c.as_slice-list.result.now c.args.number k c.partition_point-k.ensures.bound parts in
+    let cuts = subst (λ (xs : List Writing). AreInOrder xs → IsCutAt xs c.args.number k) c.as_slice-list.ensures.value cut in
     let narrow = subst (λ (xs : List Hit). IsPast (λ j. Contains xs (hit c.args.a j)) k c.past_narrow-narrow.result) c.as_slice.ensures.value c.past_narrow-narrow.ensures in
     let rows = subst (λ (xs : List Writing). IsPast (λ j. Contains c.as_slice-then-self.result.now j × (hits_at xs j c.args.a ≡ true)) k c.past_wide-wide.result) c.as_slice-list.ensures.value c.past_wide-wide.ensures in
     let wide = subst (λ (xs : List ℕ). IsPast (λ j. Contains xs j × (hits_at list j c.args.a ≡ true)) k c.past_wide-wide.result) c.as_slice-then-self.ensures.value rows in
-    rw (c.max.ensures, ← c.self.view_is) (λ up. past_row list c.args.row k c.args.a _ (cuts up) (past_filed list c.self.inside.narrow.items c.self.inside.wide.items k c.args.a _ _ c.self.invariant.filed small narrow wide))
+    rw (c.max.ensures, ← c.self.view_is) (λ up. past_row list c.args.number k c.args.a _ (cuts up) (past_filed list c.self.inside.narrow.items c.self.inside.wide.items k c.args.a _ _ c.self.invariant.filed small narrow wide))
 
 pub returns-else-self-clause-past : goal.returns-else-self-clause-past
 returns-else-self-clause-past c =
     let list = c.self.inside.list.items in
     let k = c.partition_point-k.result in
-    let cut : AreInOrder c.as_slice-list.result.now → IsCutAt c.as_slice-list.result.now c.args.row k = λ up.
-    let parts = IsPartitionPoint-from_clause (λ (w : Writing). nat_lt w.row c.args.row) c.as_slice-list.result.now k c.partition_point-k.ensures.partitioned (IsPartitionedBy-ltb (λ (w : Writing). w.row) c.as_slice-list.result.now c.args.row up) (λ a r f h. search rules) in
-    cut_at c.as_slice-list.result.now c.args.row k c.partition_point-k.ensures.bound parts in
-    let cuts = subst (λ (xs : List Writing). AreInOrder xs → IsCutAt xs c.args.row k) c.as_slice-list.ensures.value cut in
+    let cut : AreInOrder c.as_slice-list.result.now → IsCutAt c.as_slice-list.result.now c.args.number k = λ up.
+    let parts = IsPartitionPoint-from_clause (λ (w : Writing). nat_lt w.at c.args.number) c.as_slice-list.result.now k c.partition_point-k.ensures.partitioned (IsPartitionedBy-ltb (λ (w : Writing). w.at) c.as_slice-list.result.now c.args.number up) (λ a r f h. search rules) in
+    cut_at c.as_slice-list.result.now c.args.number k c.partition_point-k.ensures.bound parts in
+    let cuts = subst (λ (xs : List Writing). AreInOrder xs → IsCutAt xs c.args.number k) c.as_slice-list.ensures.value cut in
     let back = subst (λ (xs : List Writing). IsPast (λ j. hits_at xs j c.args.a ≡ true) k c.scan_back.result) c.as_slice-list.ensures.value c.scan_back.ensures in
-    rw (← c.self.view_is) (λ up. past_row list c.args.row k c.args.a _ (cuts up) back)
+    rw (← c.self.view_is) (λ up. past_row list c.args.number k c.args.a _ (cuts up) back)
