@@ -1,0 +1,83 @@
+//! The bytes that a row's rules look at, as they stand in a prefix of a log.
+
+ghost use Rattle.std.specs.Prelude.{◌≡◌, ◌<◌, ◌≤◌, min, length, IfOk, Some, slice_get};
+ghost use Rattle.rept_reason.specs.Facts.{told, register_known};
+ghost use Rattle.rept_isa.specs.Operands.{first_read};
+ghost use Rattle.rept_log.specs.Fronts.{front_of, seen_in};
+ghost use Rattle.rept_log.specs.RowBytes.{row_byte, bytes_from, bytes_at, base_seen, row_bytes};
+
+use super::Front;
+use crate::row_bytes::RowByte;
+use rept_isa::number::plus;
+use rept_isa::{Instr, StepRow, reads};
+use rept_partial::Flat;
+use rept_span::Transfer;
+use rept_versions::ByteFacts;
+use rept_view::{RowRules, offset_of};
+use smallvec::SmallVec;
+use std::alloc::{AllocError as OutOfMemory, Global};
+
+impl<'k, 'd, B: ByteFacts, W: Transfer, R: RowRules> Front<'k, 'd, B, W, R> {
+    /// A byte before and after row i.
+    fn row_byte(&self, i: u32, a: u32) -> RowByte
+        requires { i < length self.now.rows }
+        ensures { result ≡ row_byte (seen_in (front_of W.sets W.moves R.rules self.now) i) a }
+    {
+        let _count = self.count();
+        RowByte {
+            address: a,
+            before: self.byte(i, a),
+            after: self.byte(i + 1, a),
+        }
+    }
+
+    /// So many bytes from a base on.
+    fn bytes_from(
+        &self,
+        alloc: Global,
+        i: u32,
+        base: u32,
+        count: u32,
+    ) -> Result<SmallVec<RowByte, 4>, OutOfMemory>
+        requires { i < length self.now.rows }
+        ensures { IfOk result (λ v. v.items ≡ bytes_from (seen_in (front_of W.sets W.moves R.rules self.now) i) base count) }
+    {
+        let mut bytes = SmallVec::new(alloc);
+        for k in 0..count {
+            bytes.push(self.row_byte(i, base.wrapping_add(k)))?;
+        }
+        Ok(bytes)
+    }
+
+    /// What is known before row i of the register in the place of rs1.
+    fn base(&self, i: u32, instr: &Instr) -> Option<u32>
+        requires { i < length self.now.rows }
+        ensures { result ≡ base_seen (first_read instr.now) (seen_in (front_of W.sets W.moves R.rules self.now) i) }
+    {
+        let register = reads(instr).0?;
+        match self.known(i, register) {
+            Flat::Unknown => None,
+            Flat::Known(base) => Some(base),
+        }
+    }
+
+    /// The bytes that row i's rules look at. `OutOfMemory` says that their room can't be had.
+    pub(super) fn row_bytes(
+        &self,
+        alloc: Global,
+        i: u32,
+        row: &StepRow,
+    ) -> Result<SmallVec<RowByte, 4>, OutOfMemory>
+        requires { i < length self.now.rows }
+        ensures { IfOk result (λ v. v.items ≡ row_bytes R.rules row.now (seen_in (front_of W.sets W.moves R.rules self.now) i)) }
+    {
+        match self.base(i, &row.instr) {
+            None => Ok(SmallVec::new(alloc)),
+            Some(base) => {
+                let first = plus(base, offset_of(&row.instr));
+                let count = R::places(row).min(4);
+                self.bytes_from(alloc, i, first, count)
+            }
+        }
+    }
+}
