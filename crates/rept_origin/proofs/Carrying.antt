@@ -1,11 +1,11 @@
 -- Over which next moments a byte is carried, row by row.
 use Rattle.std.proofs.Common.{◌≡◌, ℕ, zero, suc, ◌+◌, ◌<◌, ◌≤◌, Bool, true, false, not, ◌&&◌, ◌||◌, inl, inr, Option, Some, None, refl, sym, subst, ◌∙◌, arith}
-use Rattle.std.proofs.lemmas.Bool.{cases_Bool, cases_eq, cases_lt, and_from, or_parts, true≢false}
+use Rattle.std.proofs.lemmas.Bool.{cases_Bool, cases_eq, cases_lt, and_from, true≢false}
 use Rattle.rept_report.specs.Moments.{Moments}
 use Rattle.rept_report.specs.Spots.{Passage, passage}
-use Rattle.rept_report.specs.Timeline.{Timeline, IsNextFrom, IsFormerFrom, IsFallingFrom}
+use Rattle.rept_report.specs.Timeline.{Timeline, IsFallingFrom}
 use Rattle.rept_report.proofs.Search.{spares}
-use Rattle.rept_origin.specs.Bridges.{ByteAlong, carries_over, carried_next, IsLeastFrom}
+use Rattle.rept_origin.specs.Bridges.{ByteAlong, IsLeastFrom}
 
 neither : (b c : Bool) → (b ≡ true → c ≡ false) → not (b && c) ≡ true
 neither true c h = rw (h refl) refl

@@ -1,5 +1,5 @@
 -- The way to the nearest number that has a value, by its first step.
-use Rattle.std.proofs.Common.{◌≡◌, ℕ, zero, suc, ◌+◌, ◌<◌, ◌≤◌, ◌⊎◌, true, false, nat_lt, inl, inr, Option, Some, None, refl, sym, subst, ◌∙◌, arith}
+use Rattle.std.proofs.Common.{◌≡◌, ℕ, zero, suc, ◌+◌, ◌<◌, ◌⊎◌, true, false, inl, inr, Option, Some, None, refl, sym, subst, ◌∙◌, arith}
 use Rattle.std.proofs.lemmas.Bool.{cases_eq, cases_lt, lt-ltb, ltb-true, true≢false}
 use Rattle.rept_nearest.specs.declared.found.Found.{Found}
 use Rattle.rept_nearest.specs.Nets.{Links, IsWithin, IsNearest, IsNextLinked}

@@ -1,5 +1,5 @@
 -- In a log the numbers linked so are the moments between which a byte is carried, and links are uses of the rules that carry it.
-use Rattle.std.proofs.Common.{◌≡◌, ℕ, zero, suc, ◌+◌, ◌<◌, ◌≤◌, ◌⊎◌, Bool, true, false, ◌||◌, cond, eqb, inl, inr, List, Option, Some, None, refl, sym, subst, ◌∙◌, arith}
+use Rattle.std.proofs.Common.{◌≡◌, ℕ, zero, suc, ◌+◌, ◌<◌, ◌≤◌, Bool, true, false, ◌||◌, cond, eqb, inl, inr, List, Option, Some, None, refl, sym, subst, ◌∙◌, arith}
 use Rattle.std.proofs.lemmas.Bool.{cases_eq, cases_lt, cond-true, cond-false, eq-eqb, ne_eqb}
 use Rattle.rept_nearest.specs.declared.found.Found.{Found}
 use Rattle.rept_nearest.specs.Nets.{Links, IsWithin, IsNearest}

@@ -1,4 +1,4 @@
-use Rattle.std.proofs.Common.{sym, ◌∙◌, subst, arith, ℕ}
+use Rattle.std.proofs.Common.{sym, ◌∙◌, arith}
 use Rattle.rept_origin.specs.Bridges.{links_over, linked_inside}
 use Rattle.rept_origin.proofs.Links.{below_least, is_beside, not_nearer_first, not_nearer_more, one_is_nearer}
 use Rattle.rept_origin.proofs.origin.nearer.Goals as goal

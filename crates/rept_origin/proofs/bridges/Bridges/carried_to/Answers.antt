@@ -1,4 +1,4 @@
-use Rattle.std.proofs.Common.{sym, ◌∙◌, subst, arith, ℕ}
+use Rattle.std.proofs.Common.{sym, ◌∙◌, arith}
 use Rattle.rept_origin.specs.Bridges.{carries_over, carried_next}
 use Rattle.rept_origin.proofs.Carrying.{not_first, not_more, least_found, least_none, least_past}
 use Rattle.rept_origin.proofs.bridges.Bridges.carried_to.Goals as goal
