@@ -1,5 +1,5 @@
 -- Pairs of numbers of which the second is next to the first. This project's own.
-use Rattle.std.specs.Prelude.{◌≡◌, ℕ, ◌<◌, ◌≤◌, ◌⊎◌, ◌↔◌, ◌==◌, nat_lt, nat_le, if◌then◌else◌, true, List, Option, Some, None}
+use Rattle.std.specs.Prelude.{◌≡◌, ℕ, ◌<◌, ◌⊎◌, ◌↔◌, ◌==◌, nat_lt, nat_le, if◌then◌else◌, true, List, Option, Some, None}
 use Rattle.std.specs.List.{Contains}
 use Rattle.rept_report.specs.Moments.{Moments}
 use Rattle.rept_report.specs.Timeline.{IsLeastFrom}

@@ -114,6 +114,7 @@ impl<'a> Paths for OnePath<'a> {
     fn is_dark_between(&self, _number: u32, _next: u32) -> bool {
         false
     }
+
     fn open_from(&self, number: u32, least: u32) -> Option<u32> {
         below(self.rows.len() as u32, number, least)
     }

@@ -131,5 +131,9 @@ pub fn row_between<P: Paths>(paths: &P, number: u32, next: u32) -> Option<u32>
     ensures { IsRowBetween (P.timeline paths.now) number next result }
 {
     let row = paths.row_at(number)?;
-    if paths.after(row) == next { Some(row) } else { None }
+    if paths.after(row) == next {
+        Some(row)
+    } else {
+        None
+    }
 }

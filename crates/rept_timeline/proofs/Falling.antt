@@ -1,18 +1,15 @@
 -- Which rows fall between two numbers, by those that don't lie wholly before the first one.
 use mathlib.Core.Logic.{∥∥₁_elim}
 use Rattle.std.proofs.Props.{props}
-use Rattle.std.proofs.Common.{◌≡◌, ℕ, ◌+◌, ◌-◌, ◌<◌, ◌≤◌, ◌&&◌, not, eqb, Bool, true, false, List, Option, Some, None, inl, inr, refl, sym, ap, ◌∙◌, subst, arith}
+use Rattle.std.proofs.Common.{◌≡◌, ℕ, ◌<◌, ◌≤◌, ◌&&◌, not, eqb, Bool, true, false, List, Some, None, inl, inr, refl, sym, ap, ◌∙◌, subst, arith}
 use Rattle.std.specs.Option.{IsSome}
-use Rattle.std.specs.List.{Contains}
 use Rattle.std.proofs.lemmas.Bool.{false≢true, cases_lt, and_parts, eq-eqb, ne_eqb, eqb-true}
 use Rattle.rept_steps.specs.Course.{Course, IsSound}
 use Rattle.rept_order.specs.Moments.{stores}
 use Rattle.rept_order.specs.Legs.{leg_row}
-use Rattle.rept_report.specs.Moments.{AreMoments}
 use Rattle.rept_report.specs.Timeline.{IsFallingFrom}
-use Rattle.rept_course.specs.Numbered.{legs_on, row_on}
+use Rattle.rept_course.specs.Numbered.{row_on}
 use Rattle.rept_course.proofs.Naming.{are_moments}
-use Rattle.rept_moments.specs.Points.{points_in}
 use Rattle.rept_moments.specs.Numbers.{numbers_of, numbered}
 use Rattle.rept_moments.specs.Between.{IsOwn, IsBetween}
 use Rattle.rept_moments.specs.Seen.{seen_many}
@@ -22,7 +19,7 @@ use Rattle.rept_moments.proofs.Places.{row_there, leg_below}
 use Rattle.rept_report.specs.Timeline.{IsOpen}
 use Rattle.rept_timeline.specs.Times.{as_timeline, IsOpenFrom}
 use Rattle.rept_timeline.specs.Listed.{AreStoring, IsFirstFrom}
-use Rattle.rept_timeline.proofs.Fronts.{rests_past, open_stores, stores_row, ahead_tail}
+use Rattle.rept_timeline.proofs.Fronts.{open_stores, stores_row, ahead_tail}
 use Rattle.rept_timeline.proofs.Lists.{listed, listed_stores, unlisted_past}
 
 not_so : (b : Bool) → (b ≡ true → ⊥) → b ≡ false

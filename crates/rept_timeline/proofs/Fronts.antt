@@ -1,17 +1,16 @@
 -- In a thread the rows that lie wholly before a moment come first, and those wholly after it last.
-use Rattle.std.proofs.Common.{◌≡◌, ℕ, zero, suc, ◌+◌, ◌-◌, ◌<◌, ◌≤◌, ◌||◌, not, Bool, true, false, length, Option, Some, None, inl, inr, refl, sym, ap, ◌∙◌, subst, arith}
-use Rattle.std.specs.Option.{is_some, IsSome}
+use Rattle.std.proofs.Common.{◌≡◌, ℕ, zero, suc, ◌+◌, ◌-◌, ◌<◌, ◌≤◌, ◌||◌, not, Bool, true, false, Option, Some, None, inl, inr, refl, sym, ap, ◌∙◌, subst, arith}
+use Rattle.std.specs.Option.{IsSome}
 use Rattle.std.proofs.lemmas.Bool.{false≢true, cases_lt, or_right}
 use Rattle.rept_isa.specs.declared.row.StepRow.{StepRow}
-use Rattle.rept_steps.specs.Course.{Course, Row, row_of, IsRow, IsSound, row_at}
-use Rattle.rept_order.specs.Moments.{Moment, IsMoment, NotLater, stores, is_writing}
-use Rattle.rept_order.specs.Moments.Moment.{before, after, at_end}
+use Rattle.rept_steps.specs.Course.{Course, Row, row_of, IsSound}
+use Rattle.rept_order.specs.Moments.{Moment, IsMoment, stores, is_writing}
+use Rattle.rept_order.specs.Moments.Moment.{before, after}
 use Rattle.rept_order.specs.Moments.Act.{row}
-use Rattle.rept_order.specs.Times.{not_later, wholly_before, wholly_after}
+use Rattle.rept_order.specs.Times.{not_later, wholly_before}
 use Rattle.rept_order.specs.Legs.{leg_row}
 use Rattle.rept_order.proofs.Decide.{not_later_true, not_later_from}
 use Rattle.rept_order.proofs.Sequence.{not_later_trans}
-use Rattle.rept_course.specs.Names.{AreNames}
 use Rattle.rept_course.specs.Numbered.{row_on}
 use Rattle.rept_moments.specs.Numbers.{numbers_of, numbered}
 use Rattle.rept_moments.proofs.Apart.{are_numbers}

@@ -3,7 +3,7 @@ use mathlib.Core.Logic.{∥∥₁_elim, ∥∥₁_prop}
 use Rattle.std.proofs.Props.{props}
 use Rattle.std.proofs.Common.{◌≡◌, ℕ, zero, suc, ◌<◌, ◌≤◌, ◌⊎◌, Bool, true, false, inl, inr, refl, sym, ap, ◌∙◌, subst, arith}
 use Rattle.std.proofs.lemmas.Bool.{false≢true, cases_lt}
-use Rattle.rept_span.specs.Ranges.{Legs, AreLegs}
+use Rattle.rept_span.specs.Ranges.{Legs}
 use Rattle.rept_report.specs.Moments.{Moments, HasNext, AreMoments}
 use Rattle.rept_report.specs.Timeline.{Timeline, IsTimeline}
 

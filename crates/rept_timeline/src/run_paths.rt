@@ -157,6 +157,7 @@ impl<'a> Paths for RunPaths<'a> {
     fn is_dark_between(&self, number: u32, next: u32) -> bool {
         self.ways.course().is_dark_between(number, next)
     }
+
     fn open_from(&self, number: u32, least: u32) -> Option<u32> {
         match self.ways.course() {
             Course::One { steps } => in_path(steps.len(), number, least),

@@ -1,4 +1,4 @@
-use Rattle.std.proofs.Common.{◌+◌, ◌<◌, ◌≤◌, arith}
+use Rattle.std.proofs.Common.{arith}
 use Rattle.rept_moments.specs.Courses.{seen_in}
 use Rattle.rept_carry.proofs.Lining.{run_longer}
 use Rattle.rept_carry.proofs.lines.last_from.Goals as goal

@@ -1,4 +1,4 @@
-use Rattle.std.proofs.Common.{◌≡◌, ◌≤◌, ◌<◌, ◌-◌, ℕ}
+use Rattle.std.proofs.Common.{◌≤◌, ◌<◌, ◌-◌, ℕ}
 use Rattle.rept_report.specs.Timeline.{IsJoined}
 use Rattle.rept_moments.specs.Courses.{seen_in}
 use Rattle.rept_carry.proofs.lines.last_from.Given as goal

@@ -1,7 +1,6 @@
-use Rattle.std.proofs.Common.{◌≡◌, ◌∙◌, ◌≤◌, refl, sym, arith, false}
-use Rattle.std.proofs.lemmas.Bool.{false≢true}
+use Rattle.std.proofs.Common.{arith}
 use Rattle.rept_timeline.specs.Times.{time_of}
-use Rattle.rept_timeline.proofs.Earliest.{row_to_none, row_to_more}
+use Rattle.rept_timeline.proofs.Earliest.{row_to_none}
 use Rattle.rept_timeline.proofs.arriving.row_to.Goals as goal
 
 pub returns : goal.returns

@@ -1,7 +1,5 @@
-use Rattle.std.proofs.Common.{◌≡◌, ◌+◌, ◌-◌, ◌<◌, ◌≤◌, ◌/◌, ℕ, not, Bool, true, false, List, length, get_or, Option, Some, None, refl, sym, ap, ◌∙◌, subst, arith}
-use Rattle.std.specs.Option.{IsSome}
+use Rattle.std.proofs.Common.{sym, ◌∙◌, arith}
 use Rattle.rept_timeline.proofs.Fronts.{stores_row}
-use Rattle.std.proofs.lemmas.Bool.{false≢true}
 use Rattle.rept_timeline.proofs.Lists.{listed_stores}
 use Rattle.rept_timeline.proofs.Falling.{open_none, open_some, past_more}
 use Rattle.rept_timeline.proofs.opening.open_from.Goals as goal

@@ -1,4 +1,4 @@
-use Rattle.std.proofs.Common.{◌≡◌, ◌≤◌, ◌<◌, ◌+◌, ◌-◌, ℕ, true}
+use Rattle.std.proofs.Common.{◌≡◌, ◌≤◌, ◌<◌, ◌-◌, ℕ, true}
 use Rattle.rept_moments.specs.Several.{seen_of}
 use Rattle.rept_timeline.proofs.opening.open_from.Given as goal
 

@@ -1,4 +1,4 @@
-use Rattle.std.proofs.Common.{◌≡◌, ◌+◌, ◌-◌, ◌<◌, ◌≤◌, ◌/◌, ℕ, Bool, true, false, List, length, get_or, Option, Some, None, refl, sym, ap, ◌∙◌, subst, arith}
+use Rattle.std.proofs.Common.{◌<◌, ℕ, sym, subst, arith}
 use Rattle.rept_timeline.proofs.Lists.{BeginsAt, up_list, below_at, past_first, past_all, reached_up}
 use Rattle.rept_timeline.proofs.opening.past_end.Goals as goal
 

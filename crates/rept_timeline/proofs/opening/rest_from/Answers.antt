@@ -1,5 +1,4 @@
-use Rattle.std.proofs.Common.{◌≡◌, ◌+◌, ◌-◌, ◌<◌, ◌≤◌, ◌/◌, ℕ, not, Bool, true, false, List, length, get_or, Option, Some, None, refl, sym, ap, ◌∙◌, subst, arith}
-use Rattle.std.proofs.lemmas.Bool.{false≢true}
+use Rattle.std.proofs.Common.{sym, ◌∙◌, arith}
 use Rattle.rept_timeline.proofs.Lists.{sound_of}
 use Rattle.rept_timeline.proofs.Falling.{from_inside, falling_none, falling_some, clear_more}
 use Rattle.rept_timeline.proofs.opening.rest_from.Goals as goal

@@ -1,4 +1,4 @@
-use Rattle.std.proofs.Common.{◌≡◌, ◌+◌, ◌<◌, ◌≤◌, length, refl, arith, rules}
+use Rattle.std.proofs.Common.{◌≡◌, ◌+◌, ◌<◌, length, refl, arith, rules}
 use Rattle.rept_steps.specs.Runs.{course_of}
 use Rattle.rept_timeline.proofs.Counting.{rows_next, rows_least, rows_all}
 use Rattle.rept_timeline.proofs.small.is_small.Goals as goal

@@ -1,4 +1,4 @@
-use Rattle.std.proofs.Common.{◌≡◌, ◌<◌, ◌≤◌, ℕ, List, length, sym, subst, ◌∙◌}
+use Rattle.std.proofs.Common.{subst}
 use Rattle.rept_moments.specs.declared.course.Course.{Course}
 use Rattle.rept_steps.specs.Runs.{course_of}
 use Rattle.rept_timeline.specs.Listed.{AreListed}

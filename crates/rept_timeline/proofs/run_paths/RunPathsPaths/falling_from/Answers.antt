@@ -1,4 +1,4 @@
-use Rattle.std.proofs.Common.{◌≡◌, ◌<◌, ◌≤◌, ℕ, List, length, sym, subst, ◌∙◌}
+use Rattle.std.proofs.Common.{sym, subst, ◌∙◌}
 use Rattle.rept_moments.specs.declared.course.Course.{Course}
 use Rattle.rept_report.specs.Timeline.{IsFallingFrom}
 use Rattle.rept_timeline.specs.Times.{time_of}

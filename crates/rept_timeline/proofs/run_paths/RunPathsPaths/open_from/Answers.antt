@@ -1,8 +1,7 @@
-use Rattle.std.proofs.Common.{◌≡◌, ◌<◌, ◌≤◌, ℕ, List, length, sym, subst, ◌∙◌}
+use Rattle.std.proofs.Common.{◌<◌, ◌≤◌, ℕ, length, sym, subst, ◌∙◌}
 use Rattle.rept_moments.specs.declared.course.Course.{Course}
 use Rattle.rept_report.specs.Timeline.{IsLeastFrom}
-use Rattle.rept_timeline.specs.Times.{time_of, IsOpenFrom, IsCloseFrom}
-use Rattle.rept_timeline.proofs.Lists.{sound_of}
+use Rattle.rept_timeline.specs.Times.{time_of, IsOpenFrom}
 use Rattle.rept_timeline.proofs.Making.{many_storing, open_alone}
 use Rattle.rept_timeline.proofs.run_paths.RunPathsPaths.open_from.Goals as goal
 

@@ -1,4 +1,4 @@
-use Rattle.std.proofs.Common.{◌≡◌, ◌+◌, ◌-◌, ◌<◌, ◌≤◌, ◌/◌, ℕ, Bool, true, false, List, length, get_or, Option, Some, None, refl, sym, ap, ◌∙◌, subst, arith}
+use Rattle.std.proofs.Common.{arith}
 use Rattle.rept_timeline.proofs.Lists.{BeginsAt, first_some, first_none}
 use Rattle.rept_timeline.proofs.storing.Storing.first_from.Goals as goal
 
