@@ -1,4 +1,5 @@
 pub mod Commands
+pub mod LastWriters
 pub mod Registers
 pub mod Session
 pub mod SessionLaws

@@ -1,8 +1,9 @@
 //! What a session asks of an analysis.
 
-ghost use Rattle.std.specs.Prelude.{◌≡◌, ◌≢◌, ◌<◌, ◌≤◌, ◌+◌, length, map, Some, IfOk, IfNone, IfSome};
+ghost use Rattle.std.specs.Prelude.{◌≡◌, ◌≢◌, ℕ, ◌<◌, ◌≤◌, ◌+◌, length, map, Some, IfOk, IfNone, IfSome};
 ghost use Rattle.std.specs.Option.{option_map};
 ghost use Rattle.rept_elf.specs.Symbols.{symbol_of};
+ghost use Rattle.rept_session.specs.LastWriters.{AreLastWriters};
 ghost use Rattle.rept_session.specs.Shown.{IsAt, SameReasons, Shown, explained, known_value, moment_at, number, places_of};
 ghost use Rattle.rept_session.specs.Texts.{pc_at};
 ghost use Rattle.rept_reason.specs.declared.fact.Fact.{Fact};
@@ -95,10 +96,11 @@ pub trait Findings {
         ensures { result ≡ (shown self.now).byte moment address };
 
     /// What is known of the step that last wrote the byte at an address before a moment. A step has the number of the point that it
-    /// leads from.
+    /// leads from. A step that is named at a point of a thread came before it, and is named at each point of the thread since it came.
     fn writer(&self, moment: u32, address: u32) -> Writer
         requires { moment < (shown self.now).moments }
-        ensures { result ≡ (shown self.now).writer moment address };
+        ensures value { result ≡ (shown self.now).writer moment address }
+        ensures last { (thread : ℕ) → AreLastWriters (shown self.now) thread address };
 
     /// How much was found, of all threads together.
     fn counts(&self) -> Counts
