@@ -1,4 +1,5 @@
 pub mod Bytes
+mod Forward
 pub mod Listed
 pub mod Ranges
 pub mod Stands

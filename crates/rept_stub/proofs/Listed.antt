@@ -1,12 +1,12 @@
 -- The rows that write a byte, from the newest one on.
-use Rattle.std.proofs.Common.{◌≡◌, ℕ, suc, ◌+◌, ◌-◌, ◌<◌, ◌≤◌, List, [], ◌∷◌, ◌++◌, Option, None, Some, arith, refl, sym, ◌∙◌, ap}
+use Rattle.std.proofs.Common.{◌≡◌, ℕ, suc, ◌+◌, ◌-◌, ◌<◌, ◌≤◌, List, [], ◌++◌, None, Some, arith, refl, sym, ◌∙◌, ap}
 use Rattle.std.proofs.lemmas.List.{append-nil, append_assoc}
 use Rattle.std.specs.List.{flat_map}
 use Rattle.rept_report.specs.declared.writer.Writer.{Writer}
 use Rattle.rept_session.specs.Shown.{Shown}
 use Rattle.rept_session.specs.Texts.{at, writer_line}
 use Rattle.rept_session.specs.declared.place.ThreadPoint.{ThreadPoint}
-use Rattle.rept_stub.specs.Halts.{writer_at}
+use Rattle.rept_session.specs.LastWriters.{writer_at}
 use Rattle.rept_stub.specs.Monitoring.{listed, row_before, writers_from}
 
 module _ (s : Shown) (a : ℕ) where

@@ -1,11 +1,12 @@
 -- Where a thread is led to by a move, and why it stops there. The point p of a thread lies before its row p, and after its row p - 1. A move leads along
 -- the rows of one thread, and the cursors of the others stay. This project's own; the reasons are those of GDB's manual, appendix Remote Serial
 -- Protocol, section Stop Reply Packets.
-use Rattle.std.specs.Prelude.{ℕ, zero, suc, ◌+◌, ◌-◌, List, length, Bool, true, false, not, ◌||◌, ◌==◌, nat_lt, Option, None, Some, is_some, fold, if◌then◌else◌}
+use Rattle.std.specs.Prelude.{ℕ, zero, suc, ◌+◌, ◌-◌, List, length, Bool, true, false, not, ◌||◌, ◌==◌, nat_lt, Option, None, Some, fold, if◌then◌else◌}
 use Rattle.std.specs.List.{find, list_any, range_with_len}
 use Rattle.rept_report.specs.declared.writer.Writer.{Writer}
 use Rattle.rept_report.specs.declared.writer.Writer.TheVariants as writer
-use Rattle.rept_session.specs.Shown.{Shown, moment_at}
+use Rattle.rept_session.specs.LastWriters.{named_row, writer_at}
+use Rattle.rept_session.specs.Shown.{Shown}
 use Rattle.rept_session.specs.Texts.{at, pc_at}
 use Rattle.rept_session.specs.declared.place.ThreadPoint.{ThreadPoint}
 use Rattle.rept_stub.specs.declared.halt.Stop.{Stop}
@@ -15,17 +16,6 @@ use Rattle.rept_stub.specs.declared.halt.Written.{Written}
 
 abbrev pub halt : ℕ → Stop → Halt
 halt point why = record { point = point; stop = why }
-
--- what a report tells, at a point of a thread, of the last writer of a byte
-abbrev pub writer_at : Shown → ThreadPoint → ℕ → Writer
-writer_at s c address = s.writer (moment_at s c) address
-
--- the row that a report names as the last one that writes a byte, or may
-abbrev pub named_row : Writer → Option ℕ
-named_row (writer.Writes row) = Some row
-named_row (writer.MayWrite row) = Some row
-named_row writer.Several = None
-named_row writer.None = None
 
 abbrev pub is_row : Option ℕ → ℕ → Bool
 is_row None row = false
@@ -84,9 +74,22 @@ is_open _ = false
 abbrev pub has_open : Shown → ThreadPoint → List ℕ → Bool
 has_open s c addresses = list_any (λ address. is_open (writer_at s c address)) addresses
 
+-- a byte was written since the point before, or may have been
+abbrev pub is_touched : Shown → ThreadPoint → ℕ → Bool
+is_touched s c address = is_written s c address || is_open (writer_at s c address)
+
 -- a breakpoint stands at the point; or since the point before, a watched byte was written, or may have been
 abbrev pub is_stop : Shown → Wanted → ThreadPoint → Bool
-is_stop s w c = is_break s w.breaks c || (is_some (written s c w.addresses) || has_open s c w.addresses)
+is_stop s w c = is_break s w.breaks c || list_any (is_touched s c) w.addresses
+
+-- a row is named that isn't named at a point
+abbrev pub is_new : Shown → ThreadPoint → ℕ → Option ℕ → Bool
+is_new s c address None = false
+is_new s c address (Some row) = not (names s c address row)
+
+-- at a later point of the thread a row is named that isn't named at this one, or none of several is known to be the last
+abbrev pub has_changed : Shown → ThreadPoint → ℕ → Writer → Bool
+has_changed s c address later = is_new s c address (named_row later) || is_open later
 
 abbrev pub halt_at : Shown → Wanted → ℕ → Option ℕ → Halt
 halt_at s w thread None = halt (length (s.rows thread)) stop.End

@@ -8,7 +8,8 @@ use Rattle.rept_report.specs.declared.writer.Writer.{Writer}
 use Rattle.rept_session.specs.Shown.{Shown}
 use Rattle.rept_session.specs.Texts.{at, writer_line}
 use Rattle.rept_session.specs.declared.place.ThreadPoint.{ThreadPoint}
-use Rattle.rept_stub.specs.Halts.{before, named_row, writer_at}
+use Rattle.rept_session.specs.LastWriters.{named_row, writer_at}
+use Rattle.rept_stub.specs.Halts.{before}
 use Rattle.rept_stub.specs.declared.monitoring.Asked.{Asked}
 use Rattle.rept_stub.specs.declared.monitoring.Asked.TheVariants as asked
 

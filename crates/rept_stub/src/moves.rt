@@ -1,10 +1,12 @@
 //! Moves along the rows of a thread.
 
-ghost use Rattle.std.specs.Prelude.{◌≡◌, ◌≤◌, ◌<◌, ◌==◌, ℕ, length, not, IfSome, Some};
-ghost use Rattle.std.specs.List.{list_any};
+ghost use Rattle.std.specs.Prelude.{◌≡◌, ◌≤◌, ◌<◌, ◌+◌, ◌-◌, ◌==◌, ◌||◌, ℕ, Bool, true, length, not, IfSome, Some};
+ghost use Rattle.std.specs.List.{find, list_any, range_with_len};
+ghost use Rattle.std.specs.Option.{option_or};
+ghost use Rattle.rept_session.specs.LastWriters.{AreLastWriters, named_row, writer_at};
 ghost use Rattle.rept_session.specs.Shown.{IsAt};
 ghost use Rattle.rept_session.specs.Texts.{at};
-ghost use Rattle.rept_stub.specs.Halts.{before, break_before, came, continued, continued_back, halt, has_open, is_break, is_open, is_stop, is_written, last_below, last_write, later, latest, named_row, names, point_before, stepped, stepped_back, stop_by, wanted, write_before, writer_at, written};
+ghost use Rattle.rept_stub.specs.Halts.{before, break_before, came, continued, continued_back, halt, has_changed, has_open, is_break, is_open, is_stop, is_touched, is_written, last_below, last_write, later, latest, names, point_before, stepped, stepped_back, stop_by, wanted, write_before, written};
 
 use crate::halt::{Halt, Stop, Written};
 use rept_report::Writer;
@@ -33,7 +35,8 @@ pub fn point_at(here: ThreadPoint, point: u32) -> ThreadPoint
 /// What a report tells, at a point of a thread, of the last writer of a byte.
 pub fn writer_at<F: Findings>(findings: &F, at: ThreadPoint, address: u32) -> Writer
     requires { IsAt (F.shown findings.now) at }
-    ensures { result ≡ writer_at (F.shown findings.now) at address }
+    ensures value { result ≡ writer_at (F.shown findings.now) at address }
+    ensures last { AreLastWriters (F.shown findings.now) at.thread address }
 {
     findings.writer(moment_of(findings, at), address)
 }
@@ -181,19 +184,139 @@ fn has_open<F: Findings>(findings: &F, at: ThreadPoint, addresses: &[u32]) -> bo
     false
 }
 
-/// Whether a move forward stops at a point.
-fn is_stop<F: Findings>(findings: &F, breaks: &[u32], addresses: &[u32], at: ThreadPoint) -> bool
-    requires some { 0 < at.point }
-    requires at { IsAt (F.shown findings.now) at }
-    ensures { result ≡ is_stop (F.shown findings.now) (wanted breaks.now addresses.now) at }
+/// The first point after this one at which a breakpoint stands.
+fn break_after<F: Findings>(findings: &F, breaks: &[u32], here: ThreadPoint) -> Option<u32>
+    requires { IsAt (F.shown findings.now) here }
+    ensures value { result ≡ find (λ point. is_break (F.shown findings.now) breaks.now (at here.thread point)) (range_with_len (here.point + 1) (length ((F.shown findings.now).rows here.thread) - here.point)) }
+    ensures within { IfSome result (λ found. (here.point < found) × (found ≤ length ((F.shown findings.now).rows here.thread))) }
 {
-    if is_break(findings, breaks, at) {
-        return true;
+    let last = last_point(findings, here.thread);
+    for next in here.point + 1..last + 1 {
+        if is_break(findings, breaks, point_at(here, next)) {
+            return Some(next);
+        }
     }
-    if written(findings, at, addresses).is_some() {
-        return true;
+    None
+}
+
+/// Whether the last writer of a byte at a later point of the thread isn't the row that is named at this one.
+fn has_changed<F: Findings>(findings: &F, at: ThreadPoint, address: u32, later: Writer) -> bool
+    requires { IsAt (F.shown findings.now) at }
+    ensures { result ≡ has_changed (F.shown findings.now) at address later }
+{
+    match later {
+        Writer::Writes(row) | Writer::MayWrite(row) => !names(findings, at, address, row),
+        Writer::Several => true,
+        Writer::None => false,
     }
-    has_open(findings, at, addresses)
+}
+
+/// Whether a byte was written between two points of a thread, or may have been.
+fn is_changed<F: Findings>(findings: &F, here: ThreadPoint, point: u32, address: u32) -> bool
+    requires here { IsAt (F.shown findings.now) here }
+    requires later { IsAt (F.shown findings.now) (at here.thread point) }
+    ensures value { result ≡ has_changed (F.shown findings.now) here address (writer_at (F.shown findings.now) (at here.thread point) address) }
+    ensures last { AreLastWriters (F.shown findings.now) here.thread address }
+{
+    let later = writer_at(findings, point_at(here, point), address);
+    has_changed(findings, here, address, later)
+}
+
+/// The first point after this one, up to a bound, since whose point before a byte was written, or may have been. It is sought by halves:
+/// the last writers at two points tell whether it lies between them.
+fn first_write<F: Findings>(
+    findings: &F,
+    here: ThreadPoint,
+    bound: u32,
+    address: u32,
+) -> Option<u32>
+    requires here { IsAt (F.shown findings.now) here }
+    requires order { here.point ≤ bound }
+    requires bound { IsAt (F.shown findings.now) (at here.thread bound) }
+    ensures value { result ≡ find (λ point. is_touched (F.shown findings.now) (at here.thread point) address) (range_with_len (here.point + 1) (bound - here.point)) }
+    ensures within { IfSome result (λ found. (here.point < found) × (found ≤ bound)) }
+{
+    if here.point == bound {
+        return None;
+    }
+    if !is_changed(findings, here, bound, address) {
+        return None;
+    }
+    Some(first_change(findings, here, bound, address))
+}
+
+/// That point, where there is one.
+fn first_change<F: Findings>(findings: &F, here: ThreadPoint, bound: u32, address: u32) -> u32
+    requires here { IsAt (F.shown findings.now) here }
+    requires order { here.point < bound }
+    requires bound { IsAt (F.shown findings.now) (at here.thread bound) }
+    requires changed { has_changed (F.shown findings.now) here address (writer_at (F.shown findings.now) (at here.thread bound) address) ≡ true }
+    requires last { AreLastWriters (F.shown findings.now) here.thread address }
+    ensures value { Some result ≡ find (λ point. is_touched (F.shown findings.now) (at here.thread point) address) (range_with_len (here.point + 1) (bound - here.point)) }
+    ensures within { (here.point < result) × (result ≤ bound) }
+{
+    let mut low = here.point;
+    let mut high = bound;
+    while high - low > 1 {
+        let middle = low + (high - low) / 2;
+        if is_changed(findings, here, middle, address) {
+            high = middle;
+        } else {
+            low = middle;
+        }
+    }
+    high
+}
+
+/// The first stop after a point, where the writes of one byte more count: `first` is the first stop without them.
+fn earlier<F: Findings>(
+    findings: &F,
+    here: ThreadPoint,
+    first: Option<u32>,
+    address: u32,
+) -> Option<u32>
+    requires here { IsAt (F.shown findings.now) here }
+    requires within { IfSome first (λ found. (here.point < found) × (found ≤ length ((F.shown findings.now).rows here.thread))) }
+    ensures value { (test : ℕ → Bool) → first ≡ find test (range_with_len (here.point + 1) (length ((F.shown findings.now).rows here.thread) - here.point)) → result ≡ find (λ point. test point || is_touched (F.shown findings.now) (at here.thread point) address) (range_with_len (here.point + 1) (length ((F.shown findings.now).rows here.thread) - here.point)) }
+    ensures within { IfSome result (λ found. (here.point < found) × (found ≤ length ((F.shown findings.now).rows here.thread))) }
+{
+    match first {
+        Some(stop) => {
+            let write = first_write(findings, here, stop - 1, address);
+            Some(sooner(write, stop))
+        }
+        None => {
+            let last = last_point(findings, here.thread);
+            first_write(findings, here, last, address)
+        }
+    }
+}
+
+fn sooner(write: Option<u32>, stop: u32) -> u32
+    ensures { Some result ≡ option_or write (Some stop) }
+{
+    match write {
+        Some(point) => point,
+        None => stop,
+    }
+}
+
+/// The first point after this one at which a breakpoint stands, or since whose point before a watched byte was written, or may have been.
+fn first_stop<F: Findings>(
+    findings: &F,
+    breaks: &[u32],
+    addresses: &[u32],
+    here: ThreadPoint,
+) -> Option<u32>
+    requires { IsAt (F.shown findings.now) here }
+    ensures value { result ≡ find (λ point. is_stop (F.shown findings.now) (wanted breaks.now addresses.now) (at here.thread point)) (range_with_len (here.point + 1) (length ((F.shown findings.now).rows here.thread) - here.point)) }
+    ensures within { IfSome result (λ found. (here.point < found) × (found ≤ length ((F.shown findings.now).rows here.thread))) }
+{
+    let mut first = break_after(findings, breaks, here);
+    for address in addresses {
+        first = earlier(findings, here, first, *address);
+    }
+    first
 }
 
 /// Forward to the first stop, or to the last point.
@@ -207,18 +330,24 @@ pub fn continued<F: Findings>(
     ensures value { result ≡ continued (F.shown findings.now) (wanted breaks.now addresses.now) at }
     ensures within { result.point ≤ length ((F.shown findings.now).rows at.thread) }
 {
-    let last = last_point(findings, at.thread);
-    for next in at.point + 1..last + 1 {
-        if is_stop(findings, breaks, addresses, point_at(at, next)) {
-            return Halt {
-                point: next,
-                stop: stop_by(written(findings, point_at(at, next), addresses)),
-            };
-        }
+    match first_stop(findings, breaks, addresses, at) {
+        Some(next) => stop_at(findings, addresses, point_at(at, next)),
+        None => Halt {
+            point: last_point(findings, at.thread),
+            stop: Stop::End,
+        },
     }
+}
+
+/// A stop at a point.
+fn stop_at<F: Findings>(findings: &F, addresses: &[u32], at: ThreadPoint) -> Halt
+    requires some { 0 < at.point }
+    requires at { IsAt (F.shown findings.now) at }
+    ensures { result ≡ halt at.point (stop_by (written (F.shown findings.now) at addresses.now)) }
+{
     Halt {
-        point: last,
-        stop: Stop::End,
+        point: at.point,
+        stop: stop_by(written(findings, at, addresses)),
     }
 }
 
