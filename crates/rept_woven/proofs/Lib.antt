@@ -1,1 +1,9 @@
 mod Telling
+mod Origins
+mod Zipped
+mod Sliced
+mod Ways
+mod Unskipped
+mod Threaded
+mod Whole
+mod Example

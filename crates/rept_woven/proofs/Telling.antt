@@ -32,7 +32,7 @@ told_on s k inside p later h =
     ap (λ (b : Bool). cond b (t ∷ told_from s (suc k) (running_after p inside) later) (told_from s (suc k) (running_after p inside) later)) h
 
 -- Reports begin no slice.
-told_past : (s k : ℕ) (inside : Option ℕ) (rs rest : List Packet) → AreReports rs → told_from s k inside (rs ++ rest) ≡ told_from s (k + length rs) inside rest
+pub told_past : (s k : ℕ) (inside : Option ℕ) (rs rest : List Packet) → AreReports rs → told_from s k inside (rs ++ rest) ≡ told_from s (k + length rs) inside rest
 told_past s k inside [] rest h = ap (λ (n : ℕ). told_from s n inside rest) (let e : k ≡ k + 0 = omega arith in e)
 told_past s k inside (r ∷ rs) rest h =
     let i = report_inner r h.0 in
@@ -43,12 +43,12 @@ told_past s k inside (r ∷ rs) rest h =
     ∙ ap (λ (m : ℕ). told_from s m inside rest) n
 
 -- They end none.
-end_past : (rs rest : List Packet) → AreReports rs → from_end (rs ++ ended ∷ rest) ≡ ended ∷ rest
+pub end_past : (rs rest : List Packet) → AreReports rs → from_end (rs ++ ended ∷ rest) ≡ ended ∷ rest
 end_past [] rest h = end_here ended rest refl
 end_past (r ∷ rs) rest h = end_on r (rs ++ ended ∷ rest) (report_inner r h.0).closes ∙ end_past rs rest h.1
 
 -- They are of one stretch with what stands before them.
-stretch_past : (rs rest : List Packet) → AreReports rs → same_stretch false (rs ++ rest) ≡ rs ++ same_stretch false rest
+pub stretch_past : (rs rest : List Packet) → AreReports rs → same_stretch false (rs ++ rest) ≡ rs ++ same_stretch false rest
 stretch_past [] rest h = refl
 stretch_past (r ∷ rs) rest h =
     let i = report_inner r h.0 in
@@ -56,13 +56,13 @@ stretch_past (r ∷ rs) rest h =
 
 module _ (halves : Bool) where
   -- the packets of a stretch, and those after it
-  layout : (x : Stretch) (front later : List Packet) (i : IsSent halves x front) → front ++ later ≡ start_of x i.first ∷ (i.reports ++ (ended ∷ end_of x ∷ later))
+  pub layout : (x : Stretch) (front later : List Packet) (i : IsSent halves x front) → front ++ later ≡ start_of x i.first ∷ (i.reports ++ (ended ∷ end_of x ∷ later))
   layout x front later i =
       ap (λ (ps : List Packet). ps ++ later) i.order
       ∙ ap (λ (ps : List Packet). start_of x i.first ∷ ps) (append_assoc i.reports (ended ∷ end_of x ∷ []) later)
 
   -- Where the trace waits, the next stretch begins a walk of its own.
-  new_stretch : (xs : List Stretch) (packets : List Packet) → AreSent halves xs packets → same_stretch true packets ≡ []
+  pub new_stretch : (xs : List Stretch) (packets : List Packet) → AreSent halves xs packets → same_stretch true packets ≡ []
   new_stretch [] packets h = ap (same_stretch true) h
   new_stretch (x ∷ xs) packets (front, later, cut, i, others) = ap (same_stretch true) (cut ∙ layout x front later i)
 
@@ -143,7 +143,7 @@ calm_at time v earlier p e le calm = λ u h.
     ∙ ap (λ (b : Bool). b || list_any (λ q. is_past u (time_of q)) earlier) (not_past u v h)
     ∙ calm u (omega (arith, h, le))
 
-report_timeless : (p : Packet) → IsReport p → time_of p ≡ None
+pub report_timeless : (p : Packet) → IsReport p → time_of p ≡ None
 report_timeless (Start branch privilege a time context) h = absurd h
 report_timeless (Context privilege time context) h = absurd h
 report_timeless (Support enabled status) h = absurd h

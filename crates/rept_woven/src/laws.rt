@@ -1,13 +1,21 @@
-//! What the stream of a hart tells.
+//! What the streams of harts tell.
 
-ghost use Rattle.std.specs.Prelude.{◌≡◌, ℕ, Bool, List, [], ◌∷◌, None, Some};
+ghost use Rattle.std.specs.Prelude.{◌≡◌, ℕ, Bool, false, List, [], ◌∷◌, None, Some};
 ghost use Rattle.rept_trace.specs.declared.packet.Packet.{Packet};
 ghost use Rattle.rept_weave.specs.declared.stretch.Stretch.{Stretch};
 ghost use Rattle.rept_weave.specs.Woven.{AreSent};
 ghost use Rattle.rept_slices.specs.Parts.{told_from};
 ghost use Rattle.rept_slices.specs.Skipping.{window_of};
 ghost use Rattle.rept_slices.specs.Checks.{back_from};
+ghost use Rattle.rept_dump.specs.Memory.{Contents};
+ghost use Rattle.rept_trace.specs.Streams.{StreamFile};
+ghost use Rattle.rept_encode.specs.Encoded.{coded};
+ghost use Rattle.rept_weave.specs.Woven.{AreStreamsOf};
+ghost use Rattle.rept_slices.specs.Joins.{Note};
+ghost use Rattle.rept_slices.specs.Raw.{IsRunOf};
 ghost use Rattle.rept_woven.specs.Told.{AreSlicesOf, AreInTime};
+ghost use Rattle.rept_woven.specs.Ordered.{run_of, AreOrdered, Carries};
+ghost use Rattle.rept_woven.specs.Worked as worked;
 
 /// The slices of a stream that was written of the stretches of a hart are these stretches, one by one: of their threads, and with their begins and ends.
 pub fn slices_are_stretches()
@@ -22,4 +30,17 @@ pub fn windows_are_whole()
 /// Where each stretch ends not before its begin, and the next one begins not before that, no time of the stream goes back.
 pub fn times_rise()
     ensures { (halves : Bool) (stretches : List Stretch) (packets : List Packet) (k : ℕ) → AreSent halves stretches packets → AreInTime 0 stretches → back_from k [] packets ≡ None }
+{}
+
+/// A file each stream of which was written of the stretches of a hart tells the run of all harts: the rows and the slices of each thread, until when nothing is told, and that no packet is skipped. The code has
+/// the instructions of the stretches, and stretches and the notes of the threads are in order.
+pub fn runs_are_whole()
+    ensures { (contents : Contents) (file : StreamFile) (notes : List Note) (harts : List (List Stretch)) → AreStreamsOf file.halves harts file.streams → Carries (coded file.halves contents) harts → AreOrdered harts notes → IsRunOf (record { contents = contents; file = file; notes = notes; from = 0 }) (run_of harts notes) }
+{}
+
+/// An example of harts and notes that are in order: two threads that go from one hart to another. The code has their instructions, and this is the run.
+pub fn worked_example()
+    ensures ordered { AreOrdered worked.harts worked.notes }
+    ensures carries { Carries (coded false worked.code) worked.harts }
+    ensures run { run_of worked.harts worked.notes ≡ worked.run }
 {}

@@ -1,4 +1,5 @@
-//! Laws of the traces that `rept_weave` writes: what their streams tell.
+//! What is rebuilt of the traces that `rept_weave` writes.
 #![tactic(auto)]
 
 pub mod laws;
+pub mod reading;

@@ -1,6 +1,6 @@
 //! A trace that is written and rebuilt.
 
-ghost use Rattle.std.specs.Prelude.{◌<◌, ◌^◌, length, IfOk, IfSome};
+ghost use Rattle.std.specs.Prelude.{IfOk, IfSome};
 ghost use Rattle.std.specs.List.{All};
 ghost use Rattle.rept_encode.specs.Walkable.{IsWalkable};
 
@@ -10,10 +10,9 @@ use rept_encode::{Site, push_step};
 use rept_isa::decode;
 use rept_path::PathFault;
 use rept_steps::{Run, Slice, Steps};
-use rept_threads::rebuilding::rebuild_many;
-use rept_trace::Streams;
 use rept_weave::{Hart, Harts, Stretch, WeaveFault, weave};
 use rept_word::Text;
+use rept_woven::reading::rebuild_trace;
 use std::alloc::{AllocError, Global};
 use std::test::Fail;
 use test_files::{core_file, executable};
@@ -109,16 +108,6 @@ fn core_of(alloc: Global, notes: &[(u32, u32)]) -> Result<Vec<u8>, AllocError> {
     Ok(file)
 }
 
-/// The run that the bytes of a file tell.
-fn rebuilt(alloc: Global, bytes: &[u8], dump: &Dump<'_>) -> Result<Run, PathFault>
-    requires { length bytes.now < 2 ^ 32 }
-{
-    match Streams::open(bytes) {
-        Ok(streams) => rebuild_many(alloc, streams, dump, 0),
-        Err(fault) => Err(PathFault::Packet(fault)),
-    }
-}
-
 /// The run that a trace tells of the code at 0x10000, whose threads ended so.
 fn run_of(
     alloc: Global,
@@ -135,7 +124,7 @@ fn run_of(
     if bytes.len() >= 1000 {
         return Ok(Err(PathFault::OutOfMemory));
     }
-    Ok(rebuilt(alloc, bytes, &dump))
+    Ok(rebuild_trace(alloc, bytes, &dump))
 }
 
 /// A slice of so many rows from its first one on.
