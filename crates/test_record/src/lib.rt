@@ -1,8 +1,10 @@
-//! Rows, and the traces that are written of them: of a path, of a made crash and of a log. There are tests alone.
+//! Rows, and the traces that are written of them: of a path, of a made crash and of logs. There are tests alone.
 #![tactic(auto)]
 
 #[cfg(test)]
 mod encode;
+#[cfg(test)]
+mod hartlog;
 #[cfg(test)]
 mod make;
 #[cfg(test)]

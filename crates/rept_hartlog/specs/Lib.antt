@@ -1,0 +1,4 @@
+pub mod Log
+pub mod Recorded
+pub mod Steps
+pub mod Stretches

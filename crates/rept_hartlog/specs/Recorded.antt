@@ -1,0 +1,102 @@
+-- What is recorded of a log of several harts, and why it isn't.
+use Rattle.std.specs.Prelude.{◌≡◌, ℕ, ◌<◌, List, [], ◌∷◌, length, None, Some}
+use Rattle.rept_elf.specs.Checks.{checks, first_failure}
+use Rattle.rept_elf.specs.declared.fault.Want.TheVariants.{Exec}
+use Rattle.rept_path.specs.Code.{Code}
+use Rattle.rept_simlog.specs.Program.{built}
+use Rattle.rept_weave.specs.declared.stretch.Stretch.{Stretch}
+use Rattle.rept_weave.specs.Woven.{IsWoven}
+use Rattle.rept_hartlog.specs.declared.log.Entry.{Entry}
+use Rattle.rept_hartlog.specs.declared.refusal.Refusal.{Refusal}
+use Rattle.rept_hartlog.specs.declared.refusal.Refusal.TheVariants.{Executable, NoNumbers, NoInstruction, NoStep, JumpEnds, NoSteps, TooLong, OutOfMemory}
+use Rattle.rept_hartlog.specs.Log.{AreEntries, IsNoNumbers, last_entries}
+use Rattle.rept_hartlog.specs.Steps.{HasNoInstruction, HasNoStep, LacksInstruction, LacksStep, AreLogged}
+use Rattle.rept_hartlog.specs.Stretches.{AreStretchesOf, IsJumpEndOf}
+
+-- why the lines aren't read
+abbrev pub IsLogFault : List ℕ → Refusal → Type 0
+IsLogFault log (NoNumbers k) = IsNoNumbers log k
+IsLogFault log OutOfMemory = Unit {0}
+IsLogFault log (Executable fault) = ⊥
+IsLogFault log (NoInstruction k fault) = ⊥
+IsLogFault log (NoStep k) = ⊥
+IsLogFault log (JumpEnds k) = ⊥
+IsLogFault log NoSteps = ⊥
+IsLogFault log TooLong = ⊥
+
+-- why an entry has no step to an address
+abbrev pub IsStepRefused : Code → Entry → ℕ → Refusal → Type 0
+IsStepRefused code from to (NoInstruction k fault) = (from.line ≡ k) × HasNoInstruction code from fault
+IsStepRefused code from to (NoStep k) = (from.line ≡ k) × HasNoStep code from to
+IsStepRefused code from to OutOfMemory = Unit {0}
+IsStepRefused code from to (JumpEnds k) = ⊥
+IsStepRefused code from to NoSteps = ⊥
+IsStepRefused code from to TooLong = ⊥
+IsStepRefused code from to (NoNumbers k) = ⊥
+IsStepRefused code from to (Executable fault) = ⊥
+
+-- why entries have no stretches
+abbrev pub IsStepsFault : Code → List Entry → Refusal → Type 0
+IsStepsFault code entries (NoInstruction k fault) = LacksInstruction code entries k fault
+IsStepsFault code entries (NoStep k) = LacksStep code entries k
+IsStepsFault code entries OutOfMemory = Unit {0}
+IsStepsFault code entries (JumpEnds k) = ⊥
+IsStepsFault code entries NoSteps = ⊥
+IsStepsFault code entries TooLong = ⊥
+IsStepsFault code entries (NoNumbers k) = ⊥
+IsStepsFault code entries (Executable fault) = ⊥
+
+-- why stretches aren't written
+abbrev pub IsTraceFault : List Stretch → Refusal → Type 0
+IsTraceFault stretches (JumpEnds k) = IsJumpEndOf stretches k
+IsTraceFault stretches TooLong = Unit {0}
+IsTraceFault stretches OutOfMemory = Unit {0}
+IsTraceFault stretches (NoInstruction k fault) = ⊥
+IsTraceFault stretches (NoStep k) = ⊥
+IsTraceFault stretches NoSteps = ⊥
+IsTraceFault stretches (NoNumbers k) = ⊥
+IsTraceFault stretches (Executable fault) = ⊥
+
+-- The trace has one stream, which has the steps of these entries.
+pub record Records (code : Code) (entries : List Entry) (trace : List ℕ) : Type 0 where
+  pub stretches : List Stretch
+  pub steps : AreStretchesOf code entries stretches
+  pub some : 0 < length stretches
+  pub woven : IsWoven code.halves (stretches ∷ []) trace
+
+-- the steps of these entries make stretches of which this is so
+abbrev pub HaveStretches : Code → List Entry → (List Stretch → Type 0) → Type 0
+HaveStretches code entries P = (stretches : List Stretch) × AreStretchesOf code entries stretches × P stretches
+
+-- why entries aren't recorded
+abbrev pub IsNotRecorded : Code → List Entry → Refusal → Type 0
+IsNotRecorded code entries (NoInstruction k fault) = LacksInstruction code entries k fault
+IsNotRecorded code entries (NoStep k) = LacksStep code entries k
+IsNotRecorded code entries (JumpEnds k) = HaveStretches code entries (λ stretches. IsJumpEndOf stretches k)
+IsNotRecorded code entries NoSteps = AreLogged code entries []
+IsNotRecorded code entries TooLong = HaveStretches code entries (λ stretches. 0 < length stretches)
+IsNotRecorded code entries OutOfMemory = Unit {0}
+IsNotRecorded code entries (NoNumbers k) = ⊥
+IsNotRecorded code entries (Executable fault) = ⊥
+
+-- The trace tells the last steps of a log over an executable.
+pub record IsRecorded (exe log trace : List ℕ) : Type 0 where
+  pub read : first_failure (checks Exec exe) ≡ None
+  pub entries : List Entry
+  pub lines : AreEntries log entries
+  pub records : Records (built exe) (last_entries entries) trace
+
+-- The lines are read, and the last steps of the log over the executable aren't recorded, for this.
+abbrev pub IsStopped : List ℕ → List ℕ → Refusal → Type 0
+IsStopped exe log refusal = (entries : List Entry) × AreEntries log entries × IsNotRecorded (built exe) (last_entries entries) refusal
+
+-- why there is no trace
+abbrev pub IsRefused : List ℕ → List ℕ → Refusal → Type 0
+IsRefused exe log (Executable fault) = first_failure (checks Exec exe) ≡ Some fault
+IsRefused exe log (NoNumbers k) = IsNoNumbers log k
+IsRefused exe log (NoInstruction k fault) = IsStopped exe log (NoInstruction k fault)
+IsRefused exe log (NoStep k) = IsStopped exe log (NoStep k)
+IsRefused exe log (JumpEnds k) = IsStopped exe log (JumpEnds k)
+IsRefused exe log NoSteps = IsStopped exe log NoSteps
+IsRefused exe log TooLong = IsStopped exe log TooLong
+IsRefused exe log OutOfMemory = Unit {0}

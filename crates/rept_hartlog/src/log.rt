@@ -1,0 +1,113 @@
+//! The lines of a log of several harts: a hart, a thread and an address each.
+
+ghost use Rattle.std.specs.Prelude.{◌≡◌, ◌<◌, ◌^◌, ℕ, List, length, true, IfOk, IfErr, IfSome, IfNone};
+ghost use Rattle.rept_hartlog.specs.declared.log.Entry.{Entry};
+ghost use Rattle.rept_hartlog.specs.Log.{IsFirstSpace, IsWord, AreNumbers, Gives, NamesHarts, AreEntries, AreLines};
+ghost use Rattle.rept_hartlog.specs.Recorded.{IsLogFault};
+
+use crate::refusal::Refusal;
+use rept_simlog::{address_of, first_line};
+use std::alloc::Global;
+
+/// A line of a log: its number, from 1 on, and what it gives.
+#[derive(Clone, Copy)]
+pub struct Entry {
+    pub line: u32,
+    pub hart: u32,
+    /// The number of the thread's process.
+    pub thread: u32,
+    pub address: u32,
+}
+
+/// Whether the log is one of several harts: its first line has a space.
+pub fn names_harts(log: &[u8]) -> bool
+    ensures yes { result ≡ true → NamesHarts log.now }
+    ensures no { NamesHarts log.now → result ≡ true }
+{
+    for i in 0..log.len() {
+        if log[i] == b' ' {
+            return true;
+        }
+        if log[i] == b'\n' {
+            return false;
+        }
+    }
+    false
+}
+
+/// The length of what stands before the first space.
+fn word_length(text: &[u8]) -> Option<usize>
+    ensures some { IfSome result (λ size. IsFirstSpace text.now size) }
+    ensures none { IfNone result ((size : ℕ) → IsFirstSpace text.now size → ⊥) }
+{
+    for i in 0..text.len() {
+        if text[i] == b' ' {
+            return Some(i);
+        }
+    }
+    None
+}
+
+/// What stands before the first space, and what after it.
+fn cut_word(text: &[u8]) -> Option<(&[u8], &[u8])>
+    ensures some { IfSome result (λ parts. IsWord text.now parts.0.now parts.1.now) }
+    ensures none { IfNone result ((word rest : List ℕ) → IsWord text.now word rest → ⊥) }
+{
+    match word_length(text) {
+        Some(size) => Some((&text[..size], &text[size + 1..])),
+        None => None,
+    }
+}
+
+/// The entry of three numbers.
+fn entry_by(hart: &[u8], thread: &[u8], address: &[u8], line: u32) -> Option<Entry>
+    ensures some { IfSome result (λ entry. AreNumbers hart.now thread.now address.now entry) }
+    ensures line { IfSome result (λ entry. entry.line ≡ line) }
+    ensures none { IfNone result ((entry : Entry) → AreNumbers hart.now thread.now address.now entry → ⊥) }
+{
+    Some(Entry {
+        line,
+        hart: address_of(hart)?,
+        thread: address_of(thread)?,
+        address: address_of(address)?,
+    })
+}
+
+/// What the line of this number gives.
+fn entry_of(text: &[u8], line: u32) -> Option<Entry>
+    ensures some { IfSome result (λ entry. Gives text.now entry) }
+    ensures line { IfSome result (λ entry. entry.line ≡ line) }
+    ensures none { IfNone result ((entry : Entry) → Gives text.now entry → ⊥) }
+{
+    let Some((hart, rest)) = cut_word(text) else {
+        return None;
+    };
+    let Some((thread, address)) = cut_word(rest) else {
+        return None;
+    };
+    entry_by(hart, thread, address, line)
+}
+
+/// The entries of a log, of which there are fewer than 2^32 bytes.
+pub fn entries_of(alloc: Global, log: &[u8]) -> Result<Vec<Entry>, Refusal>
+    requires { length log.now < 2 ^ 32 }
+    ensures ok { IfOk result (λ entries. AreEntries log.now entries.items) }
+    ensures lines { IfOk result (λ entries. AreLines entries.items) }
+    ensures err { IfErr result (λ refusal. IsLogFault log.now refusal) }
+{
+    let mut entries = Vec::new(alloc);
+    let mut rest = log;
+    let mut number = 0u32;
+    while rest.len() > 0 {
+        let (line, after) = first_line(rest);
+        number += 1;
+        let Some(entry) = entry_of(line, number) else {
+            return Err(Refusal::NoNumbers(number));
+        };
+        if let Err(_) = entries.push(entry) {
+            return Err(Refusal::OutOfMemory);
+        }
+        rest = after;
+    }
+    Ok(entries)
+}

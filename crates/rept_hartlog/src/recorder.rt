@@ -1,0 +1,107 @@
+//! The trace of a log.
+
+ghost use Rattle.std.specs.Prelude.{◌≡◌, ◌<◌, ◌≤◌, ◌+◌, ◌-◌, ◌^◌, ◌∷◌, [], length, IfOk, IfErr};
+ghost use Rattle.std.specs.List.{All};
+ghost use Rattle.rept_encode.specs.Walkable.{IsWalkable, IsFirstJumpEnd, AreStraight};
+ghost use Rattle.rept_weave.specs.Woven.{IsAt, IsWoven};
+ghost use Rattle.rept_simlog.specs.Program.{program_of};
+ghost use Rattle.rept_hartlog.specs.Log.{last_entries, AreLines};
+ghost use Rattle.rept_hartlog.specs.Recorded.{IsTraceFault, Records, IsNotRecorded, IsRecorded, IsRefused};
+ghost use Rattle.rept_hartlog.specs.Stretches.{IsJumpEndAt};
+
+use crate::log::{Entry, entries_of};
+use crate::refusal::Refusal;
+use crate::threads::stretches_of;
+use rept_elf::{Image, Want};
+use rept_simlog::Program;
+use rept_weave::{Hart, Harts, Place, WeaveFault, weave};
+use rept_word::Text;
+use std::alloc::Global;
+
+/// The most entries that are recorded: one more than the steps of the longest run.
+const MOST: usize = 65537;
+
+/// The last entries, as many as are recorded.
+fn last_entries(entries: &[Entry]) -> &[Entry]
+    requires { AreLines entries.now }
+    ensures last { result.now ≡ last_entries entries.now }
+    ensures few { length result.now ≤ 65537 }
+    ensures lines { AreLines result.now }
+{
+    if entries.len() > MOST {
+        return &entries[entries.len() - MOST..];
+    }
+    entries
+}
+
+/// The line of the step that ends a jump.
+fn line_of(harts: &Harts, place: Place) -> u32
+    requires there { IsAt harts.now place IsFirstJumpEnd }
+    requires short { All (All (λ s. s.begin + length s.steps ≤ 2 ^ 32)) harts.now }
+    ensures { IsJumpEndAt harts.now place result }
+{
+    let all = harts.all();
+    let stretches = all[place.hart].all();
+    let begin = stretches[place.stretch].begin;
+    (begin + place.step as u64) as u32
+}
+
+/// The trace of one stream of these stretches.
+fn trace_of(alloc: Global, halves: bool, stretches: Hart) -> Result<Text, Refusal>
+    requires walkable { All (λ s. IsWalkable halves s.steps) stretches }
+    requires straight { All (λ s. AreStraight s.steps (length s.steps - 1)) stretches }
+    requires short { All (λ s. s.begin + length s.steps ≤ 2 ^ 32) stretches }
+    ensures ok { IfOk result (λ trace. IsWoven halves (stretches ∷ []) trace) }
+    ensures err { IfErr result (λ refusal. IsTraceFault stretches refusal) }
+{
+    let mut harts = Harts::new(alloc);
+    if let Err(_) = harts.push(stretches) {
+        return Err(Refusal::OutOfMemory);
+    }
+    match weave(alloc, halves, &harts) {
+        Ok(trace) => Ok(trace),
+        Err(fault) => match fault {
+            WeaveFault::JumpEnds(place) => Err(Refusal::JumpEnds(line_of(&harts, place))),
+            WeaveFault::TooLong(_) => Err(Refusal::TooLong),
+            WeaveFault::OutOfMemory => Err(Refusal::OutOfMemory),
+            WeaveFault::InnerCall(_) => unreachable!(),
+            WeaveFault::HartCount => unreachable!(),
+        },
+    }
+}
+
+/// The trace of the steps of entries.
+fn record_entries(alloc: Global, program: &Program<'_>, entries: &[Entry]) -> Result<Text, Refusal>
+    requires few { length entries.now ≤ 65537 }
+    requires lines { AreLines entries.now }
+    ensures ok { IfOk result (λ trace. Records (program_of program.now) entries.now trace) }
+    ensures err { IfErr result (λ refusal. IsNotRecorded (program_of program.now) entries.now refusal) }
+{
+    let stretches = match stretches_of(alloc, program, entries) {
+        Ok(stretches) => stretches,
+        Err(refusal) => return Err(refusal),
+    };
+    if stretches.all().is_empty() {
+        return Err(Refusal::NoSteps);
+    }
+    trace_of(alloc, program.halves, stretches)
+}
+
+/// The trace of the last 65,537 lines of a log over an executable. A line gives a hart, the number of a thread's process, and the address that was executed; lines stand in the order of
+/// execution, and the last one of each thread is where it stopped. All lines go into one stream, since the log has them in one order: a slice has the steps of lines that follow one another and are
+/// of one hart and one thread, up to a call, and its times are the numbers of its first and its last line. Code may be compressed where bit 0 of the executable's `e_flags` says so
+/// (`EF_RISCV_RVC`). A refusal names the first line that isn't three numbers, at which no instruction can have run, or from which the code can't go on; or a line that is a call after an uninferable jump; or
+/// no thread has two lines, or the packets take 2^32 bytes; or it is a want of memory.
+pub fn record(alloc: Global, exe: &[u8], log: &[u8]) -> Result<Text, Refusal>
+    requires { length log.now < 2 ^ 32 }
+    ensures ok { IfOk result (λ trace. IsRecorded exe.now log.now trace) }
+    ensures err { IfErr result (λ refusal. IsRefused exe.now log.now refusal) }
+{
+    let image = match Image::read(exe, Want::Exec) {
+        Ok(image) => image,
+        Err(fault) => return Err(Refusal::Executable(fault)),
+    };
+    let entries = entries_of(alloc, log)?;
+    let program = Program::new(&image);
+    record_entries(alloc, &program, last_entries(entries.as_slice()))
+}

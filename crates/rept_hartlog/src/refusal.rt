@@ -1,0 +1,34 @@
+//! Why a log of several harts isn't recorded.
+
+use rept_elf::ElfFault;
+use rept_path::PathFault;
+use thiserror::Error;
+
+/// Why a log of several harts isn't recorded. Lines are numbered from 1.
+#[derive(Clone, Copy, Debug, PartialEq, Eq, Error)]
+pub enum Refusal {
+    /// The executable is refused.
+    #[error("executable: {0}")]
+    Executable(ElfFault),
+    /// The line of this number isn't three numbers below 2^32 with one space between each two: a hart, a thread and an address.
+    #[error("line {0}: no hart, thread and address")]
+    NoNumbers(u32),
+    /// No instruction can have run at the address of the line of this number.
+    #[error("line {0}: {1}")]
+    NoInstruction(u32, PathFault),
+    /// The thread of the line of this number can't have gone on from its address to that of its next line.
+    #[error("line {0}: the code can't go on from here")]
+    NoStep(u32),
+    /// The line of this number is a call that directly follows an uninferable jump.
+    #[error("line {0}: a call directly follows an uninferable jump")]
+    JumpEnds(u32),
+    /// No thread has two lines.
+    #[error("no step is logged")]
+    NoSteps,
+    /// The packets of the trace take 2^32 bytes or more.
+    #[error("the trace is too long")]
+    TooLong,
+    /// No memory was left.
+    #[error("out of memory")]
+    OutOfMemory,
+}
