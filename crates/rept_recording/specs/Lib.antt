@@ -1,2 +1,3 @@
+pub mod Logs
 pub mod Process
 pub mod Worked

@@ -4,7 +4,9 @@ use Rattle.rept_ports.specs.Port.{Port, Move}
 use Rattle.rept_ports.specs.Shelves.{Loads}
 use Rattle.rept_ports.specs.declared.arguments.Unreadable.{Unreadable}
 use Rattle.rept_ports.specs.declared.arguments.Unreadable.TheVariants as unreadable
-use Rattle.rept_simlog.specs.declared.refusal.Refusal.TheVariants as refusal
+use Rattle.rept_simlog.specs.declared.refusal.Refusal.TheVariants as one
+use Rattle.rept_hartlog.specs.declared.refusal.Refusal.TheVariants as several
+use Rattle.rept_recording.specs.declared.logs.LogRefusal.TheVariants.{OneHart, SeveralHarts}
 use Rattle.rept_recording.specs.Worked.{Inputs, Writes, Ends}
 use Rattle.rept_recording.specs.declared.stop.Stop.{Stop}
 use Rattle.rept_recording.specs.declared.stop.Stop.TheVariants as stop
@@ -24,7 +26,8 @@ pub record Records {T : Type 0} (from : Inputs) (out : Move Port) (result : Resu
   pub loads : Loads from.shelf.before from.shelf.after result
 
 abbrev pub number_of_stop : Stop → ℕ
-number_of_stop (stop.Refused refusal.OutOfMemory) = 11
+number_of_stop (stop.Refused (OneHart one.OutOfMemory)) = 11
+number_of_stop (stop.Refused (SeveralHarts several.OutOfMemory)) = 11
 number_of_stop (stop.Refused other) = 1
 number_of_stop stop.Usage = 2
 number_of_stop stop.LoadFault = 3

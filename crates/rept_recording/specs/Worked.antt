@@ -5,7 +5,7 @@ use Rattle.rept_ports.specs.Causes.{OneFault, AppendsPrefix}
 use Rattle.rept_ports.specs.Port.{Port, Move}
 use Rattle.rept_ports.specs.Shelves.{Shelved, Files, LoadFails}
 use Rattle.rept_ports.specs.declared.traits.LoadFault.TheVariants as load
-use Rattle.rept_simlog.specs.Recorded.{IsRecorded, IsRefused}
+use Rattle.rept_recording.specs.Logs.{IsRecorded, IsRefused}
 use Rattle.rept_recording.specs.declared.work.InputStop.{InputStop}
 use Rattle.rept_recording.specs.declared.work.InputStop.TheVariants as input
 use Rattle.rept_recording.specs.declared.stop.Stop.{Stop}

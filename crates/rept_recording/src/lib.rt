@@ -1,10 +1,12 @@
 //! The program that writes the trace of a log of executed addresses, apart from its `main`.
 #![tactic(auto)]
 
+mod logs;
 mod process;
 mod stop;
 mod work;
 
+pub use logs::LogRefusal;
 pub use process::{answer, record_input};
 pub use stop::Stop;
 pub use work::run;

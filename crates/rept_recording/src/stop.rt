@@ -3,7 +3,7 @@
 ghost use Rattle.std.specs.Prelude.{◌≡◌};
 ghost use Rattle.rept_recording.specs.Process.{number_of_stop};
 
-use rept_simlog::Refusal;
+use crate::logs::LogRefusal;
 use thiserror::Error;
 
 /// Why no trace was written, or only a part of it.
@@ -29,7 +29,7 @@ pub enum Stop {
     TooMuchInput,
     /// The log isn't that of a run of the executable, or no memory was left for its trace.
     #[error("{0}")]
-    Refused(Refusal),
+    Refused(LogRefusal),
     /// Standard output failed.
     #[error("the trace can't be written")]
     OutputFault,
@@ -44,7 +44,9 @@ impl Stop {
         ensures { result ≡ number_of_stop self }
     {
         match self {
-            Stop::Refused(Refusal::OutOfMemory) | Stop::OutOfMemory => 11,
+            Stop::Refused(LogRefusal::OneHart(rept_simlog::Refusal::OutOfMemory))
+            | Stop::Refused(LogRefusal::SeveralHarts(rept_hartlog::Refusal::OutOfMemory))
+            | Stop::OutOfMemory => 11,
             Stop::Refused(_) => 1,
             Stop::Usage => 2,
             Stop::LoadFault => 3,

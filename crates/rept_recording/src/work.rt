@@ -6,9 +6,9 @@ ghost use Rattle.rept_ports.specs.Port.{move};
 ghost use Rattle.rept_ports.specs.Shelves.{Loads};
 ghost use Rattle.rept_recording.specs.Worked.{Ends, Makes, ReadStops, Stops, Writes, inputs_of};
 
+use crate::logs::record;
 use crate::stop::Stop;
 use rept_ports::{LoadFault, Shelf, Sink, Source, write_all};
-use rept_simlog::record;
 use rept_word::Text;
 use std::alloc::Global;
 

@@ -1,8 +1,7 @@
 //! Each refusal of the program.
 
 use rept_ports::{CalmShelf, CalmSource, MemSink, MemSource};
-use rept_recording::{Stop, run};
-use rept_simlog::Refusal;
+use rept_recording::{LogRefusal, Stop, run};
 use std::test::Fail;
 
 /// An executable of one instruction that does nothing at 0x10000, by the ELF specification.
@@ -14,19 +13,28 @@ const LOG: &[u8] = b"0x10000\n0x10004\n";
 
 const TRACE: &[u8] = b"RTR1\x01\0\0\0\x03\x13\0\x20";
 
+/// The same step of thread 1 on hart 0.
+const HARTS: &[u8] = b"0 1 0x10000\n0 1 0x10004\n";
+
+/// A stream of a start packet, the end of the trace and a context packet, packed by hand from the field tables of Efficient Trace for RISC-V 2.0.
+const STREAMS: &[u8] =
+    b"RTR2\x01\0\0\0\x1c\0\0\0\x0f\x93\0\0\0\0\0\0\0\x80\0\0\0\0\0\x20\x01\x4f\x09\x4b\0\0\0\0\0\0\0\x40";
+
 #[test]
 fn traces_are_written(rt: HostRuntime) -> Result<(), Fail> {
     let alloc = rt.alloc();
-    let mut shelf = CalmShelf::new(alloc);
-    shelf.put("e", EXE)?;
-    let mut sink = MemSink::new(alloc, 100, &[])?;
-    let outcome = run(alloc, "e", &mut shelf, &mut CalmSource::new(LOG), &mut sink);
-    assert_eq!(rt; outcome, Ok(()));
-    assert_eq!(rt; sink.bytes(), TRACE);
+    for (log, trace) in [(LOG, TRACE), (HARTS, STREAMS)] {
+        let mut shelf = CalmShelf::new(alloc);
+        shelf.put("e", EXE)?;
+        let mut sink = MemSink::new(alloc, 100, &[])?;
+        let outcome = run(alloc, "e", &mut shelf, &mut CalmSource::new(log), &mut sink);
+        assert_eq!(rt; outcome, Ok(()));
+        assert_eq!(rt; sink.bytes(), trace);
+    }
     Ok(())
 }
 
-// A missing executable, a line that is no number, a read and a write that fail.
+// A missing executable, a line that is no number, one that is no three numbers, a read and a write that fail.
 #[test]
 fn nothing_else_is_written(rt: HostRuntime) -> Result<(), Fail> {
     let alloc = rt.alloc();
@@ -38,7 +46,14 @@ fn nothing_else_is_written(rt: HostRuntime) -> Result<(), Fail> {
             b"one\n".as_slice(),
             none,
             none,
-            Stop::Refused(Refusal::NoNumber(1)),
+            Stop::Refused(LogRefusal::OneHart(rept_simlog::Refusal::NoNumber(1))),
+        ),
+        (
+            "e",
+            b"0 1\n".as_slice(),
+            none,
+            none,
+            Stop::Refused(LogRefusal::SeveralHarts(rept_hartlog::Refusal::NoNumbers(1))),
         ),
         ("e", LOG, [1].as_slice(), none, Stop::InputFault),
         ("e", LOG, [2].as_slice(), none, Stop::InputFault),

@@ -1,5 +1,5 @@
 use Rattle.std.proofs.Common.{ℕ, List, subst}
-use Rattle.rept_simlog.specs.Recorded.{IsRecorded, IsRefused}
+use Rattle.rept_recording.specs.Logs.{IsRecorded, IsRefused}
 use Rattle.rept_recording.proofs.Working.{told, there}
 use Rattle.rept_recording.proofs.work.trace_of.Goals as goal
 

@@ -1,0 +1,17 @@
+-- What is recorded of a log of one hart or of several, and why it isn't. The first line says which of the two it is. This project's own.
+use Rattle.std.specs.Prelude.{ℕ, List}
+use Rattle.rept_simlog.specs.Recorded as one
+use Rattle.rept_hartlog.specs.Log.{NamesHarts}
+use Rattle.rept_hartlog.specs.Recorded as several
+use Rattle.rept_recording.specs.declared.logs.LogRefusal.{LogRefusal}
+use Rattle.rept_recording.specs.declared.logs.LogRefusal.TheVariants.{OneHart, SeveralHarts}
+
+-- The trace tells the last steps of the log over the executable: of several harts where its first line has a space, else of one.
+pub record IsRecorded (exe log trace : List ℕ) : Type 0 where
+  pub several_harts : NamesHarts log → several.IsRecorded exe log trace
+  pub one_hart : (NamesHarts log → ⊥) → one.IsRecorded exe log trace
+
+-- why there is none
+abbrev pub IsRefused : List ℕ → List ℕ → LogRefusal → Type 0
+IsRefused exe log (SeveralHarts refusal) = NamesHarts log × several.IsRefused exe log refusal
+IsRefused exe log (OneHart refusal) = (NamesHarts log → ⊥) × one.IsRefused exe log refusal
