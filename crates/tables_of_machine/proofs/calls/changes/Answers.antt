@@ -2,8 +2,8 @@ use Rattle.std.proofs.Common.{◌+◌, List, [], ◌∷◌, sym, ap, ◌∙◌, 
 use Rattle.rept_partial.specs.declared.range.Range.{Range}
 use Rattle.rept_partial.specs.declared.flat.Flat.TheVariants.{Known}
 use Rattle.rept_havoc.specs.Havoc.{argument, IsExact}
-use Rattle.test_machine.proofs.Arguments.{all_exact, six}
-use Rattle.test_machine.proofs.tables.calls.changes.Goals as goal
+use Rattle.tables_of_machine.proofs.Arguments.{all_exact, six}
+use Rattle.tables_of_machine.proofs.calls.changes.Goals as goal
 
 pub returns : goal.returns
 returns c = λ register number each.

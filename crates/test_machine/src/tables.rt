@@ -1,4 +1,0 @@
-//! Tables worked out apart from the code.
-
-mod calls;
-mod instructions;
