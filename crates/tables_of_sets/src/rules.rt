@@ -1,0 +1,176 @@
+//! What the rules of RV32IMA say of rows, and what that rests on.
+
+use crate::sample::Sample;
+use crate::shown::{Value, flat, yes};
+use rept_amo::Atomic;
+use rept_isa::{Instr, StepRow};
+use rept_partial::Partial;
+use rept_reason::Cell;
+use rept_rules::{Drawn, Need, RowRules, Side, When, forward, solve};
+use std::alloc::{AllocError, Global};
+use std::fmt;
+use test_lines::Numbers;
+
+/// A register or a byte before or after a row.
+#[derive(Clone, Copy)]
+struct Place {
+    when: When,
+    cell: Cell,
+}
+
+impl fmt::Display for Place {
+    fn fmt<W: fmt::Write>(&self, f: &mut fmt::Formatter<W>) -> fmt::Result {
+        match self.cell {
+            Cell::Register(r) => write!(f, "{:?} x{}", self.when, r.number()),
+            Cell::Byte(a) => write!(f, "{:?} {a:#x}", self.when),
+        }
+    }
+}
+
+/// What is known of x5 and x6 before a row, of x7 after it, and of the word at 0x20000 before and after it.
+fn view_of(n: &Numbers) -> Sample {
+    Sample {
+        first: n.known(3),
+        second: n.known(4),
+        outcome: n.known(5),
+        before: n.known(6),
+        after: n.known(7),
+    }
+}
+
+pub fn answer(
+    alloc: Global,
+    asked: &str,
+    n: &Numbers,
+    row: &StepRow,
+) -> Result<String, AllocError> {
+    match asked {
+        "result" => result(alloc, &row.instr, n),
+        "operand" => operands(alloc, &row.instr, n),
+        "drawn" => drawn(alloc, row, &view_of(n)),
+        "rules" => by_rules(alloc, row, &view_of(n)),
+        "needs" => needs(alloc, row, &view_of(n), n.known(8)),
+        "writes" => writes(alloc, row, &view_of(n), n.word(8)),
+        "tells" => tells(alloc, row),
+        _ => String::from_str(alloc, "no case"),
+    }
+}
+
+/// The result of an instruction at 0x10000.
+fn result(alloc: Global, instr: &Instr, n: &Numbers) -> Result<String, AllocError> {
+    let made = forward(instr, 0x1_0000, flat(n.known(3)), flat(n.known(4)));
+    format!(in alloc; "{}", Value(made.as_exact()))
+}
+
+/// The first and the second operand of an instruction that has this result, where the other one is known or not.
+fn operands(alloc: Global, instr: &Instr, n: &Numbers) -> Result<String, AllocError> {
+    let first = solve(instr, Side::First, n.word(3), flat(n.known(4)));
+    let second = solve(instr, Side::Second, n.word(3), flat(n.known(4)));
+    format!(in alloc;
+        "{} and {}",
+        Value(first.as_exact()),
+        Value(second.as_exact())
+    )
+}
+
+/// What is concluded of a row: a rule, a place, its value, and of a byte which of the row's places for bytes it takes.
+fn drawn(alloc: Global, row: &StepRow, view: &Sample) -> Result<String, AllocError> {
+    let mut rules = Atomic::new();
+    let drawn = rules.draw(alloc, row, view);
+    let mut text = format!(in alloc; "{}", drawn.as_slice().len())?;
+    for d in drawn.as_slice() {
+        let place = Place {
+            when: d.when,
+            cell: d.cell,
+        };
+        text.push_str(format!(in alloc;
+            "; by {} {place} is {:#x} ({})",
+            d.rule, d.value, d.slot
+        )?.as_str())?;
+    }
+    Ok(text)
+}
+
+/// The value that a rule gives a register, or the word that its four bytes at 0x20000 make.
+fn value_by(drawn: &[Drawn], rule: u8) -> Value {
+    let mut value = 0;
+    let mut found = None;
+    for d in drawn {
+        if d.rule == rule {
+            match d.cell {
+                Cell::Register(_) => {
+                    value = d.value;
+                }
+                Cell::Byte(a) => {
+                    value |= d.value << (8 * (a % 4));
+                }
+            }
+            found = Some(value);
+        }
+    }
+    Value(found)
+}
+
+/// What the rules 19 to 24 give, if anything is concluded.
+fn by_rules(alloc: Global, row: &StepRow, view: &Sample) -> Result<String, AllocError> {
+    let mut rules = Atomic::new();
+    let drawn = rules.draw(alloc, row, view);
+    let mut text = String::new(alloc);
+    if !drawn.as_slice().is_empty() {
+        for rule in 19..25u8 {
+            let value = value_by(drawn.as_slice(), rule);
+            text.push_str(format!(in alloc; " {value}")?.as_str())?;
+        }
+    }
+    Ok(text)
+}
+
+/// What the first conclusion by a rule, or by any, rests on.
+fn needs(
+    alloc: Global,
+    row: &StepRow,
+    view: &Sample,
+    rule: Option<u32>,
+) -> Result<String, AllocError> {
+    let mut rules = Atomic::new();
+    let drawn = rules.draw(alloc, row, view);
+    for d in drawn.as_slice() {
+        if rule.is_none() || rule == Some(u32::from(d.rule)) {
+            return needed(alloc, Atomic::needs(alloc, row, view, d).as_slice());
+        }
+    }
+    String::from_str(alloc, "no conclusion")
+}
+
+fn needed(alloc: Global, needs: &[Need]) -> Result<String, AllocError> {
+    let mut text = format!(in alloc; "{}", needs.len())?;
+    for need in needs {
+        let place = Place {
+            when: need.when,
+            cell: need.cell,
+        };
+        text.push_str(format!(in alloc; "; {place}")?.as_str())?;
+    }
+    Ok(text)
+}
+
+/// Whether the row may write the byte, whether it is sure, and how many places it has.
+fn writes(alloc: Global, row: &StepRow, view: &Sample, a: u32) -> Result<String, AllocError> {
+    let hit = yes(Atomic::touched(row, view, 0x3_0000).may_hit(a));
+    let sure = yes(Atomic::sure(row, view));
+    format!(in alloc; "{hit}, sure {sure}, places {}", Atomic::places(row))
+}
+
+/// The registers that tell what a row writes.
+fn tells(alloc: Global, row: &StepRow) -> Result<String, AllocError> {
+    let tells = Atomic::tells(alloc, row);
+    let mut text = format!(in alloc; "{}", tells.as_slice().len())?;
+    for told in tells.as_slice() {
+        let place = Place {
+            when: told.when,
+            cell: Cell::Register(told.register),
+        };
+        text.push_str(format!(in alloc; "; {place}")?.as_str())?;
+    }
+    Ok(text)
+}
