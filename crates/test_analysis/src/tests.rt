@@ -1,4 +1,4 @@
-//! Small runs, worked out by hand from the rules. Bytes in a list and bytes in spans give the same answers.
+//! Small runs, worked out by hand from the rules. Bytes in a list, bytes in spans, and a list that refuses every other fact give the same answers.
 
 ghost use Rattle.std.specs.Prelude.{◌≡◌, ◌<◌, length, true};
 ghost use Rattle.rept_dump.specs.Dump.{registers_of};
@@ -9,7 +9,9 @@ ghost use Rattle.rept_steps.specs.Linked.{EndBefore};
 mod atomics;
 mod calls;
 mod reasons;
+mod refusing;
 
+use refusing::{Refusing, finish};
 use rept_amo::Atomic;
 use rept_analysis::Analysis;
 use rept_dump::Dump;
@@ -191,7 +193,8 @@ fn check_bytes<B: ByteFacts>(rt: &impl Abort, analysis: &Analysis<B, Range, Atom
     }
 }
 
-fn check<B: ByteFacts>(rt: &impl Abort, alloc: Global, run: &Run) -> Result<(), Fail> {
+/// Checks a run over a store of bytes, and tells how often memory ran out.
+fn check<B: ByteFacts>(rt: &impl Abort, alloc: Global, run: &Run) -> Result<u32, Fail> {
     let steps = steps_of(rt, alloc, run.steps)?;
     assert!(rt; steps.len() > 0);
     let exe = executable(alloc, 0x10000, &CODE)?;
@@ -206,7 +209,7 @@ fn check_files<B: ByteFacts>(
     exe: &[u8],
     core: &[u8],
     run: &Run,
-) -> Result<(), Fail>
+) -> Result<u32, Fail>
     requires { 0 < length steps.now }
 {
     let exe_image = Image::read(exe, Want::Exec)?;
@@ -221,7 +224,7 @@ fn check_dump<B: ByteFacts>(
     steps: &Steps,
     dump: &Dump<'_>,
     run: &Run,
-) -> Result<(), Fail>
+) -> Result<u32, Fail>
     requires { 0 < length steps.now }
 {
     assert!(rt; ends_in(steps, dump));
@@ -231,14 +234,14 @@ fn check_dump<B: ByteFacts>(
         dump,
         Atomic::new(),
     )?;
-    assert_eq!(rt; analysis.refine().is_ok(), run.can_be);
+    let pauses = finish(rt, &mut analysis, run);
     check_registers(rt, &analysis, run);
     check_bytes(rt, &analysis, run);
     if run.can_be {
         assert_eq!(rt; analysis.counts(), run.counts);
     }
     assert_eq!(rt; analysis.refine().is_ok(), run.can_be);
-    Ok(())
+    Ok(pauses)
 }
 
 #[test]
@@ -376,9 +379,12 @@ fn runs_by_hand(rt: HostRuntime) -> Result<(), Fail> {
             },
         },
     ];
+    let mut pauses = 0u32;
     for run in &runs {
-        check::<PlainFacts>(&rt, rt.alloc(), run)?;
-        check::<SpanFacts>(&rt, rt.alloc(), run)?;
+        assert_eq!(rt; check::<PlainFacts>(&rt, rt.alloc(), run)?, 0);
+        assert_eq!(rt; check::<SpanFacts>(&rt, rt.alloc(), run)?, 0);
+        pauses = pauses.saturating_add(check::<Refusing>(&rt, rt.alloc(), run)?);
     }
+    assert!(rt; pauses > 0);
     Ok(())
 }

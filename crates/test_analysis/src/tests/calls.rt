@@ -1,6 +1,7 @@
 //! Paths that end with a system call, by the table of calls of the manual pages of Linux.
 
 use super::{Run, check};
+use rept_partial::Flat;
 use rept_report::{Counts, Writer};
 use rept_versions::{PlainFacts, SpanFacts};
 use std::test::Fail;
@@ -100,6 +101,39 @@ const CALLS: &[CallCase] = &[
     },
 ];
 
+// `ecall`, `addi x17, x0, 1`: nothing tells which call it was.
+const UNTOLD: Run<'static> = Run {
+    steps: &[(0x10000, ECALL, 0x10004), (0x10004, 0x0010_0893, 0x10008)],
+    last: &[(17, 1)],
+    can_be: true,
+    regs: &[
+        (0, 17, Flat::Unknown),
+        (1, 17, Flat::Unknown),
+        (0, 10, Flat::Unknown),
+        (1, 10, Flat::Known(0)),
+        (0, 11, Flat::Known(0)),
+    ],
+    ranges: &[],
+    bytes: &[
+        (0, 0x20000, None),
+        (1, 0x20000, Some(7)),
+        (0, 0x20007, None),
+        (2, 0x20007, Some(8)),
+    ],
+    writers: &[
+        (0, 0x20000, Writer::None),
+        (1, 0x20000, Writer::MayWrite(0)),
+        (2, 0x20007, Writer::MayWrite(0)),
+    ],
+    counts: Counts {
+        steps: 2,
+        calls: 1,
+        registers: 90,
+        exact: 0,
+        inexact: 0,
+    },
+};
+
 #[test]
 fn calls_by_hand(rt: HostRuntime) -> Result<(), Fail> {
     let alloc = rt.alloc();
@@ -151,5 +185,7 @@ fn calls_by_hand(rt: HostRuntime) -> Result<(), Fail> {
         check::<PlainFacts>(&rt, alloc, &run)?;
         check::<SpanFacts>(&rt, alloc, &run)?;
     }
+    check::<PlainFacts>(&rt, alloc, &UNTOLD)?;
+    check::<SpanFacts>(&rt, alloc, &UNTOLD)?;
     Ok(())
 }

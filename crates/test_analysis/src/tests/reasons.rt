@@ -56,6 +56,33 @@ const CALLED: [(u32, u32, u32); 4] = [
     (0x1000c, 0x0000_0073, 0x10010),
 ];
 
+// The byte at 0x20004 is 9 from `sb x6` (point 2) on and up to `lbu x8` (point 9) at least; what x9 is, so that the stores to its address between
+// spare the byte, is told by both of these through x13 and x15: x18 = x17 - x13 - x15, and x9 = x18.
+const ENCLOSED: [(u32, u32, u32); 19] = [
+    // `lui x5, 0x20`, `sb x6, 4(x5)`, `lbu x13, 4(x5)`, `addi x9, x18, 0`, `sb x10, 0(x9)`
+    (0x10000, 0x0002_02b7, 0x10004),
+    (0x10004, 0x0062_8223, 0x10008),
+    (0x10008, 0x0042_c683, 0x1000c),
+    (0x1000c, 0x0009_0493, 0x10010),
+    (0x10010, 0x00a4_8023, 0x10014),
+    // `addi x0, x0, 0` thrice, `sb x10, 0(x9)`, `lbu x8, 4(x5)`, `lbu x15, 4(x5)`
+    (0x10014, 0x0000_0013, 0x10018),
+    (0x10018, 0x0000_0013, 0x1001c),
+    (0x1001c, 0x0000_0013, 0x10020),
+    (0x10020, 0x00a4_8023, 0x10024),
+    (0x10024, 0x0042_c403, 0x10028),
+    (0x10028, 0x0042_c783, 0x1002c),
+    // `add x16, x18, x15`, `add x17, x16, x13`, then 0 to x13, x15, x16, x18 and x9, and `sb x7, 4(x5)`
+    (0x1002c, 0x00f9_0833, 0x10030),
+    (0x10030, 0x00d8_08b3, 0x10034),
+    (0x10034, 0x0000_0693, 0x10038),
+    (0x10038, 0x0000_0793, 0x1003c),
+    (0x1003c, 0x0000_0813, 0x10040),
+    (0x10040, 0x0000_0913, 0x10044),
+    (0x10044, 0x0000_0493, 0x10048),
+    (0x10048, 0x0072_8223, 0x1004c),
+];
+
 /// A register or a byte.
 #[derive(Clone, Copy)]
 pub enum At {
@@ -190,6 +217,22 @@ const OF_CALLED: [Told<'static>; 1] = [Told {
         (4, 10, 0, 0xffff_ffff),
     ],
 }];
+
+// The nearer of the two moments at which a row tells the byte: point 2 is three steps from point 5, and point 9 four; of point 6 it is the other way.
+const OF_ENCLOSED: [Told<'static>; 2] = [
+    Told {
+        fact: (5, At::M(0x20004), 9),
+        rule: 5,
+        premises: &[(4, At::M(0x20004), 9)],
+        ranges: &[(4, 9, 0x20000, 0x20000)],
+    },
+    Told {
+        fact: (6, At::M(0x20004), 9),
+        rule: 6,
+        premises: &[(7, At::M(0x20004), 9)],
+        ranges: &[],
+    },
+];
 
 fn fact_of(rt: &impl Abort, given: (u32, At, u32)) -> Fact {
     let cell = match given.1 {
@@ -348,5 +391,11 @@ fn reasons_of_bytes_by_hand(rt: HostRuntime) -> Result<(), Fail> {
         &[(10, 4), (11, 0x20000), (12, 4), (17, 63)],
         &OF_CALLED,
     )?;
-    Ok(())
+    check_both(
+        &rt,
+        rt.alloc(),
+        &ENCLOSED,
+        &[(5, 0x20000), (6, 9), (7, 5), (8, 9), (10, 7), (17, 0x20012)],
+        &OF_ENCLOSED,
+    )
 }
