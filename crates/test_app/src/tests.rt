@@ -541,6 +541,17 @@ const SESSIONS: &[SessionCase] = &[
         output: "0x00010000: 93 02 70 00 13 83\n0x00020000: ??\nnone\n",
         status: Status::Ok,
     },
+    // both sides of each limit, and what each fact at the first point rests on
+    SessionCase {
+        input: "mem 0 0\nmem 0x10000 1\nmem 0 257\nlist 0 0\nlist 3 256\nlist 0 257\nlist 4 1\nlist 2 1\nback 4294967296\nback 4294967295\nthread 1\n",
+        output: "? 5\n0x00010000: 93\n? 5\n? 5\n? 5\n? 5\n2 0x00010008 add x7,x5,x6\n? 2\npoint 0 of 3 pc 0x00010000\n? 5\n",
+        status: Status::Ok,
+    },
+    SessionCase {
+        input: "goto 0\nwhy s1\nwhy zero\nwhy t0\nwhy 0x10000\nwhy 0x20000\nwhy 4294967296\nwhy x32\n",
+        output: "point 0 of 3 pc 0x00010000\nrule 4\n  point 1 x9 0x00000000\nconstant\nunknown\nrule 6\n  point 1 0x00010000 93\nunknown\n? 2\n? 4\n",
+        status: Status::Ok,
+    },
     SessionCase {
         input: "summary\nquit\nwhere\n",
         output: "steps 3 calls 0 skipped 0\nregisters 118 of 124\nstores 0 exact 0 inexact\n",

@@ -3,6 +3,8 @@
 use super::{THREE, word_list};
 use rept_app::{Status, rept};
 use rept_ports::{CalmShelf, CalmSource, MemSink};
+use std::alloc::Global;
+use std::process::Abort;
 use std::test::Fail;
 use test_files::{core_file, executable};
 
@@ -21,23 +23,31 @@ const BELOW_ZERO: &[u32] = &[0x00000313, 0x0062e463, 0x00000013, 0x00a00313, 0x0
 /// `bne x8, x9, 8`, which was taken, though both are 0
 const EQUAL: &[u32] = &[0x00941463, 0x00000013, 0x00000013];
 
-/// A trace file over a program, the packet to begin from, and what must come of it with the input `goto 0`.
+/// `addi x17, x0, 1000`, `ecall`, `addi x17, x0, 0`: a call that isn't listed
+const UNLISTED: &[u32] = &[0x3e800893, 0x00000073, 0x00000893];
+
+/// The same of `getpid`, whose number is 172
+const GETPID: &[u32] = &[0x0ac00893, 0x00000073, 0x00000893];
+
+/// A trace file over a program, the packet to begin from, an input, and what must come of it.
 struct TraceCase {
     code: &'static [u32],
     trace: &'static [u8],
     from: &'static str,
     pc: u32,
+    input: &'static str,
     output: &'static str,
     status: Status,
 }
 
 macro_rules! traces {
-    ($($code:ident, $trace:literal, $from:literal, $pc:literal, $output:literal, $status:ident;)+) => {
+    ($input:literal; $($code:ident, $trace:literal, $from:literal, $pc:literal, $output:literal, $status:ident;)+) => {
         &[$(TraceCase {
             code: $code,
             trace: $trace,
             from: $from,
             pc: $pc,
+            input: $input,
             output: $output,
             status: Status::$status,
         }),+]
@@ -46,7 +56,7 @@ macro_rules! traces {
 
 // The packets were packed by hand from the field tables of Efficient Trace for RISC-V 2.0: a start packet for 0x10000 is
 // 13 00 20, an address packet of one instruction 06, a map of 31 taken branches 01, and a support packet that ends the trace 4f.
-const TRACES: &[TraceCase] = traces![
+const TRACES: &[TraceCase] = traces!["goto 0\n";
     THREE, b"RTR1\x01\0\0\0\x03\x13\0\x20\x03\x93\0\x20\x01\x06\x01\x4f", "0", 0x1000c, "point 0 of 3 pc 0x00010000\n", Ok;
     THREE, b"RTR1\x01\0\0\0\x03\x13\0\x20\x03\x93\0\x20\x01\x06\x01\x4f", "01", 0x1000c, "point 0 of 2 pc 0x00010004\n", Ok;
     THREE, b"RTR1\x01\0\0\0\x03\x13\0\x20\x03\x93\0\x20\x01\x06\x01\x4f", "2", 0x1000c, "path 1 4\n", Trace;
@@ -72,23 +82,39 @@ const TRACES: &[TraceCase] = traces![
     EQUAL, b"RTR1\x01\0\0\0\x03\x03\0\x20\x01\x4f", "0", 0x10008, "inconsistent wrong-turn 0\n", Inconsistent;
 ];
 
-// Paths from a packet on, and each reason why there is none.
-#[test]
-fn traces_are_told(rt: HostRuntime) -> Result<(), Fail> {
-    let alloc = rt.alloc();
-    for case in TRACES {
+// What the core file has at 0x10000 in the end is known before a call that writes nothing, and isn't before one that may write each byte. The
+// reason lists what tells the bytes of a call: its number, its six arguments, and its answer.
+const CALLS: &[TraceCase] =
+    traces!["goto 2\nmem 0x10000 1\nwriter 0x10000\nback 1\nmem 0x10000 1\nwriter 0x10000\nwhy 0x10000\n";
+    UNLISTED, b"RTR1\x01\0\0\0\x03\x13\0\x20\x01\x06\x01\x4f\x03\x13\x01\x20\x01\x4f", "0", 0x1000c, "point 2 of 3 pc 0x00010008\n0x00010000: 93\nmay write 1\npoint 1 of 3 pc 0x00010004\n0x00010000: ??\nnone\nunknown\n", Ok;
+    GETPID, b"RTR1\x01\0\0\0\x03\x13\0\x20\x01\x06\x01\x4f\x03\x13\x01\x20\x01\x4f", "0", 0x1000c, "point 2 of 3 pc 0x00010008\n0x00010000: 93\nnone\npoint 1 of 3 pc 0x00010004\n0x00010000: 93\nnone\nrule 6\n  point 2 0x00010000 93\n  range 1 x17 0x000000ac..0x000000ac\n  range 1 x10 0x00000000..0xffffffff\n  range 1 x11 0x00000000..0xffffffff\n  range 1 x12 0x00000000..0xffffffff\n  range 1 x13 0x00000000..0xffffffff\n  range 1 x14 0x00000000..0xffffffff\n  range 1 x15 0x00000000..0xffffffff\n  range 2 x10 0x00000000..0xffffffff\n", Ok;
+];
+
+fn check_traces(rt: &impl Abort, alloc: Global, cases: &[TraceCase]) -> Result<(), Fail> {
+    for case in cases {
         let mut shelf = CalmShelf::new(alloc);
         shelf.put("e", executable(alloc, 0x10000, case.code)?.as_slice())?;
         shelf.put("c", core_file(alloc, case.pc, [7, 10, 17])?.as_slice())?;
         shelf.put("t", case.trace)?;
         let words = word_list(alloc, &["open", "e", "c", "t", case.from])?;
-        let mut source = CalmSource::new(b"goto 0\n");
-        let mut sink = MemSink::new(alloc, 100, &[])?;
+        let mut source = CalmSource::new(case.input.as_bytes());
+        let mut sink = MemSink::new(alloc, 1000, &[])?;
         let status = rept(alloc, words.as_slice(), &mut shelf, &mut source, &mut sink);
         assert_eq!(rt; sink.bytes(), case.output.as_bytes());
         assert_eq!(rt; status, case.status);
     }
     Ok(())
+}
+
+// Paths from a packet on, and each reason why there is none.
+#[test]
+fn traces_are_told(rt: HostRuntime) -> Result<(), Fail> {
+    check_traces(&rt, rt.alloc(), TRACES)
+}
+
+#[test]
+fn calls_are_told(rt: HostRuntime) -> Result<(), Fail> {
+    check_traces(&rt, rt.alloc(), CALLS)
 }
 
 // `addi x5, x5, -1`, `bne x5, x0, -4`, 32,768 times, of which the last branch isn't taken: the longest path. 1,057 maps of 31 branches that
