@@ -8,17 +8,17 @@ use Rattle.rept_turns.specs.declared.turn.Turn.{Turn}
 use Rattle.rept_turns.specs.Turns.{rows_in, turn_at, slice_by, slices_from, HasTurns, AreSome, AreInOrder, AreApart}
 use Rattle.rept_turns.proofs.Places.{place_in, rows_own, rows_other, place_here, place_past, place_other, turn_here, turn_past, past, same_turn, none_turn}
 
-same_slice : {a b : Slice} → Some a ≡ Some b → a ≡ b
+pub same_slice : {a b : Slice} → Some a ≡ Some b → a ≡ b
 same_slice e = cc
 
-none_slice : {a : Slice} → None ≡ Some a → ⊥
+pub none_slice : {a : Slice} → None ≡ Some a → ⊥
 none_slice e = cc
 
 module _ (t first : ℕ) (h : Turn) (turns : List Turn) where
-  slices_own : h.thread ≡ t → slices_from t first (h ∷ turns) ≡ slice_by first h ∷ slices_from t (first + h.count) turns
+  pub slices_own : h.thread ≡ t → slices_from t first (h ∷ turns) ≡ slice_by first h ∷ slices_from t (first + h.count) turns
   slices_own same = rw (eq-eqb h.thread t same) refl
 
-  slices_other : (h.thread ≡ t → ⊥) → slices_from t first (h ∷ turns) ≡ slices_from t first turns
+  pub slices_other : (h.thread ≡ t → ⊥) → slices_from t first (h ∷ turns) ≡ slices_from t first turns
   slices_other other = rw (ne_eqb h.thread t other) refl
 
 -- they take the thread's rows

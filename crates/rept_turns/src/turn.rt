@@ -2,6 +2,7 @@
 
 /// Steps of one thread that one hart runs one after the other, and the times between which they happen. All times of a run are of one clock. In a list of turns
 /// each happens before the next one.
+#[derive(Clone, Copy)]
 pub struct Turn {
     /// The thread.
     pub thread: u32,

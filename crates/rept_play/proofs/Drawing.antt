@@ -1,0 +1,174 @@
+-- What is drawn can be played.
+use Rattle.std.proofs.Common.{◌≡◌, ℕ, zero, suc, ◌+◌, ◌-◌, ◌*◌, ◌/◌, ◌%◌, ◌<◌, ◌≤◌, ◌==◌, cond, Bool, true, false, List, [], ◌∷◌, ◌++◌, length, get_or, All, refl, sym, ap, ◌∙◌, subst, arith, inl, inr, mod-lt, append-nil, ◌^◌}
+use Rattle.std.proofs.lemmas.Bool.{false≢true, cases_eq, cases_lt, eq-eqb, ne_eqb, le-leb, lt-leb}
+use Rattle.std.proofs.lemmas.List.Elements.{All-nil, All-push}
+use Rattle.rept_isa.specs.declared.instr.Instr.{Instr}
+use Rattle.rept_steps.specs.declared.slice.Slice.{Slice}
+use Rattle.rept_steps.specs.Course.{is_call}
+use Rattle.rept_turns.specs.declared.turn.Turn.{Turn}
+use Rattle.rept_turns.specs.Turns.{all_rows, rows_in, slice_by, slices_from, AreSome, AreInOrder, AreApart}
+use Rattle.rept_turns.proofs.Places.{rows_own, rows_other}
+use Rattle.rept_turns.proofs.Slices.{slices_own, slices_other}
+use Rattle.rept_play.specs.declared.draw.Slot.{Slot}
+use Rattle.rept_play.specs.declared.score.Sizes.{Sizes}
+use Rattle.rept_play.specs.Code.{drawn_in, instr_in, IsCode, CallsLast, IsPlayable}
+use Rattle.rept_play.specs.Drawn.{draw, slot_of, instr_of, made_instr, thread_end, last_begin, to_call, drawn_thread, next_turn, drawn_turns}
+use Rattle.rept_play.proofs.Finishing.{jump_in, other_in}
+
+pub draw_below : (seed number below : ℕ) → 0 < below → draw seed number below < below
+unfolding draw
+draw_below seed number below some = mod-lt (((seed + number * 2654435761) * 1664525 + 1013904223) % 2 ^ 32 / 65536) some
+
+get_end : {X : Type 0} (xs : List X) (x d : X) → get_or (xs ++ x ∷ []) (length xs) d ≡ x
+get_end [] x d = refl
+get_end (y ∷ xs) x d = get_end xs x d
+
+get_early : {X : Type 0} (xs ys : List X) (k : ℕ) (d : X) → k < length xs → get_or (xs ++ ys) k d ≡ get_or xs k d
+get_early [] ys k d less = absurd (omega arith)
+get_early (x ∷ xs) ys zero d less = refl
+get_early (x ∷ xs) ys (suc k) d less = get_early xs ys k d (omega arith)
+
+-- what holds of each element by its number holds of one more
+pub all_more : {X : Type 0} (P : ℕ → X → Type 0) (old new : List X) (k : ℕ) (x d : X) → new ≡ old ++ x ∷ [] → length old ≡ k → ((j : ℕ) → j < k → P j (get_or old j d)) → P k x → (j : ℕ) → j < k + 1 → P j (get_or new j d)
+all_more P old new k x d is size before own j less =
+    elim (cases_eq j k) [
+      | inl same ↦
+          let here : get_or new j d ≡ x = ap (λ xs. get_or xs j d) is ∙ ap (λ (i : ℕ). get_or (old ++ x ∷ []) i d) (same ∙ sym size) ∙ get_end old x d in
+          subst (P j) (sym here) (subst (λ (i : ℕ). P i x) (sym same) own)
+      | inr other ↦
+          let here : get_or new j d ≡ get_or old j d = ap (λ xs. get_or xs j d) is ∙ get_early old (x ∷ []) j d (omega arith) in
+          subst (P j) (sym here) (before j (omega arith))
+    ]
+
+-- one turn more
+pub rows_more : (turns : List Turn) (b : Turn) → all_rows (turns ++ b ∷ []) ≡ all_rows turns + b.count
+rows_more [] b = omega arith
+rows_more (h ∷ turns) b = let rest = rows_more turns b in omega arith
+
+order_more : (turns : List Turn) (b : Turn) → AreInOrder turns → b.begin ≤ b.end → last_begin turns ≤ b.end → AreInOrder (turns ++ b ∷ [])
+order_more [] b order own late = (own, All-nil (λ (later : Turn). b.begin ≤ later.end), tt)
+order_more (h ∷ turns) b order own late =
+    (order.0, All-push (λ (later : Turn). h.begin ≤ later.end) turns b order.1 (omega arith), order_more turns b order.2 own (omega arith))
+
+end_later : (t : ℕ) (h : Turn) (turns : List Turn) → h.thread ≡ t → h.end ≤ thread_end t (h ∷ turns)
+end_later t h turns same = rw (eq-eqb h.thread t same) (omega arith)
+
+end_rest : (t : ℕ) (h : Turn) (turns : List Turn) → thread_end t turns ≤ thread_end t (h ∷ turns)
+end_rest t h turns = omega arith
+
+apart_more : (turns : List Turn) (b : Turn) → AreApart turns → thread_end b.thread turns ≤ b.begin → AreApart (turns ++ b ∷ [])
+apart_more [] b apart early = (All-nil (λ (later : Turn). later.thread ≡ b.thread → b.end ≤ later.begin), tt)
+apart_more (h ∷ turns) b apart early =
+    let rest = end_rest b.thread h turns in
+    (All-push (λ (later : Turn). later.thread ≡ h.thread → h.end ≤ later.begin) turns b apart.0 (λ same. let own = end_later b.thread h turns (sym same) in omega arith), apart_more turns b apart.1 (omega arith))
+
+slices_more : (t first : ℕ) (turns : List Turn) (b : Turn) → slices_from t first (turns ++ b ∷ []) ≡ slices_from t first turns ++ slices_from t (first + rows_in t turns) (b ∷ [])
+slices_more t first [] b = ap (λ (n : ℕ). slices_from t n (b ∷ [])) (omega arith)
+slices_more t first (h ∷ turns) b =
+    elim (cases_eq h.thread t) [
+      | inl same ↦
+          let rest = slices_more t (first + h.count) turns b in
+          let rows : first + h.count + rows_in t turns ≡ first + rows_in t (h ∷ turns) = let own = rows_own t h turns same in omega arith in
+          slices_own t first h (turns ++ b ∷ []) same ∙ ap (λ (ss : List Slice). slice_by first h ∷ ss) rest
+          ∙ ap (λ (n : ℕ). slice_by first h ∷ (slices_from t (first + h.count) turns ++ slices_from t n (b ∷ []))) rows
+          ∙ ap (λ (ss : List Slice). ss ++ slices_from t (first + rows_in t (h ∷ turns)) (b ∷ [])) (sym (slices_own t first h turns same))
+      | inr other ↦
+          let rest = slices_more t first turns b in
+          let rows : first + rows_in t turns ≡ first + rows_in t (h ∷ turns) = let own = rows_other t h turns other in omega arith in
+          slices_other t first h (turns ++ b ∷ []) other ∙ rest
+          ∙ ap (λ (n : ℕ). slices_from t first turns ++ slices_from t n (b ∷ [])) rows
+          ∙ ap (λ (ss : List Slice). ss ++ slices_from t (first + rows_in t (h ∷ turns)) (b ∷ [])) (sym (slices_other t first h turns other))
+    ]
+
+calls_more : (t : ℕ) (turns : List Turn) (b : Turn) (P : Slice → Type 0) → All P (slices_from t 0 turns) → (b.thread ≡ t → P (slice_by (rows_in t turns) b)) → All P (slices_from t 0 (turns ++ b ∷ []))
+calls_more t turns b P all own =
+    subst (λ (ss : List Slice). All P ss) (sym (slices_more t 0 turns b))
+    (elim (cases_eq b.thread t) [
+      | inl same ↦ subst (λ (ss : List Slice). All P (slices_from t 0 turns ++ ss)) (sym (slices_own t (0 + rows_in t turns) b [] same))
+          (All-push P (slices_from t 0 turns) (slice_by (0 + rows_in t turns) b) all (subst (λ (n : ℕ). P (slice_by n b)) (omega arith) (own same)))
+      | inr other ↦ subst (λ (ss : List Slice). All P (slices_from t 0 turns ++ ss)) (sym (slices_other t (0 + rows_in t turns) b [] other)) (subst (λ (ss : List Slice). All P ss) (sym (append-nil (slices_from t 0 turns))) all)
+    ])
+
+-- a call stands in slot 7 alone
+plain : (b : Bool) (i j : Instr) → is_call i ≡ false → is_call j ≡ false → is_call (cond b i j) ≡ false
+plain true i j one other = one
+plain false i j one other = other
+
+slot_plain : (s : Slot) → is_call (instr_of s) ≡ false
+slot_plain s = plain (s.kind == 0) _ _ refl (plain (s.kind == 1) _ _ refl (plain (s.kind == 2) _ _ refl (plain (s.kind == 3) _ _ refl (plain (s.kind == 4) _ _ refl refl))))
+
+only_call : (code : List Instr) (seed t s : ℕ) → ((t s : ℕ) → t < 4 → s < 15 → drawn_in code t s ≡ made_instr seed t s) → t < 4 → s < 16 → is_call (instr_in code t s) ≡ true → s ≡ 7
+only_call code seed t s drawn few small call =
+    elim (cases_eq s 7) [
+      | inl same ↦ same
+      | inr other ↦
+          elim (cases_eq s 15) [
+            | inl last ↦ absurd (false≢true (sym (ap is_call (jump_in code t s last)) ∙ call))
+            | inr there ↦
+                let own : is_call (drawn_in code t s) ≡ false = ap is_call (drawn t s few (omega arith)) ∙ ap (λ (b : Bool). is_call (cond b (made_instr seed t 7) (instr_of (slot_of seed t s)))) (ne_eqb s 7 other) ∙ slot_plain (slot_of seed t s) in
+                absurd (false≢true (sym (ap is_call (other_in code t s there) ∙ own) ∙ call))
+          ]
+    ]
+
+near_call : (place : ℕ) → place ≤ 7 → to_call place ≡ 8 - place
+near_call place near = rw (le-leb place 7 near) refl
+
+far_call : (place : ℕ) → 7 < place → to_call place ≡ 24 - place
+far_call place far = rw (lt-leb place 7 far) refl
+
+call_last : (first count i : ℕ) → count ≤ to_call (first % 16) → first ≤ i → i < first + count → i % 16 ≡ 7 → first + count ≡ suc i
+call_last first count i most least less is =
+    elim (cases_lt 7 (first % 16)) [
+      | inl far ↦ let to = far_call (first % 16) far in omega arith
+      | inr near ↦ let to = near_call (first % 16) near in omega arith
+    ]
+
+some_call : (place : ℕ) → place < 16 → 0 < to_call place
+some_call place small =
+    elim (cases_lt 7 place) [
+      | inl far ↦ let to = far_call place far in omega arith
+      | inr near ↦ let to = near_call place near in omega arith
+    ]
+
+record Good (code : List Instr) (turns : List Turn) (n : ℕ) : Type 0 where
+  pub threads : All (λ (turn : Turn). turn.thread < 4) turns
+  pub some : AreSome turns
+  pub order : AreInOrder turns
+  pub apart : AreApart turns
+  pub calls : (t : ℕ) → All (CallsLast code t) (slices_from t 0 turns)
+  pub few : all_rows turns ≤ 8 * n
+
+module _ (code : List Instr) (seed : ℕ) (drawn : (t s : ℕ) → t < 4 → s < 15 → drawn_in code t s ≡ made_instr seed t s) (sizes : Sizes) (least : 1 ≤ sizes.threads) (most : sizes.threads ≤ 4) where
+  good_more : (n : ℕ) (turns : List Turn) → Good code turns n → Good code (turns ++ next_turn sizes seed n turns ∷ []) (suc n)
+  good_more n turns good =
+      let b : Turn = next_turn sizes seed n turns in
+      let thread = draw_below seed (240 + 5 * n) sizes.threads least in
+      let rows = draw_below seed (242 + 5 * n) 8 (omega arith) in
+      let some = some_call (rows_in (drawn_thread sizes seed n) turns % 16) (omega arith) in
+      let few = good.few in
+      let more = rows_more turns (next_turn sizes seed n turns) in
+      record {
+        threads = All-push (λ (turn : Turn). turn.thread < 4) turns (next_turn sizes seed n turns) good.threads (omega arith);
+        some = All-push (λ (turn : Turn). 0 < turn.count) turns (next_turn sizes seed n turns) good.some (omega arith);
+        order = order_more turns (next_turn sizes seed n turns) good.order (omega arith) (omega arith);
+        apart = apart_more turns (next_turn sizes seed n turns) good.apart (omega arith);
+        calls = λ t. calls_more t turns (next_turn sizes seed n turns) (CallsLast code t) (good.calls t) (λ same i from less call.
+            call_last (rows_in t turns) (next_turn sizes seed n turns).count i (subst (λ (u : ℕ). (next_turn sizes seed n turns).count ≤ to_call (rows_in u turns % 16)) same (omega arith)) from less
+            (only_call code seed t (i % 16) drawn (let its : drawn_thread sizes seed n ≡ t = same in omega arith) (omega arith) call));
+        few = omega arith;
+      }
+
+  good : (n : ℕ) → Good code (drawn_turns sizes seed n) n
+  good zero = record { threads = All-nil (λ (turn : Turn). turn.thread < 4); some = All-nil (λ (turn : Turn). 0 < turn.count); order = tt; apart = tt; calls = λ t. All-nil (CallsLast code t); few = omega arith }
+  good (suc n) = good_more n (drawn_turns sizes seed n) (good n)
+
+  pub drawn_playable : (n : ℕ) → n ≤ 64 → IsCode code → IsPlayable code (drawn_turns sizes seed n)
+  drawn_playable n small slots = let g = good n in let few = g.few in record { slots = slots; threads = g.threads; some = g.some; order = g.order; apart = g.apart; calls = g.calls; few = omega arith }
+
+pub turns_few : (sizes : Sizes) (seed n : ℕ) → all_rows (drawn_turns sizes seed n) ≤ 8 * n
+turns_few sizes seed zero = omega arith
+turns_few sizes seed (suc n) =
+    let rows = draw_below seed (242 + 5 * n) 8 (omega arith) in
+    let more = rows_more (drawn_turns sizes seed n) (next_turn sizes seed n (drawn_turns sizes seed n)) in
+    let rest = turns_few sizes seed n in
+    omega arith

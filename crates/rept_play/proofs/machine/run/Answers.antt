@@ -1,0 +1,27 @@
+use Rattle.std.proofs.Common.{◌≡◌, ℕ, subst, arith}
+use Rattle.rept_turns.specs.Turns.{all_rows}
+use Rattle.rept_play.specs.Ran.{Ran}
+use Rattle.rept_play.proofs.Running.{ran_first}
+use Rattle.rept_play.proofs.machine.run.Goals as goal
+
+pub loop-k-init : goal.loop-k-init
+loop-k-init c = λ code turns playable words.
+    let m = c.new-machine.ensures in
+    ran_first code turns c.new-machine.result c.args.words.now words m.code m.base m.pc m.state
+
+pub step-requires : goal.step-requires
+step-requires c =
+    let r = c.requires in
+    let size = r.3.size in
+    (r.0, r.1, c.loop-k.k, r.2, omega (arith, c.loop-k-test.true, c.loop-k.auto.k-end), c.loop-k.invariant r.0 r.1 r.2 r.3)
+
+pub loop-k-preserved : goal.loop-k-preserved
+loop-k-preserved c = λ code turns playable words.
+    let size = words.size in
+    c.in_ok-step.ensures code turns c.loop-k.k playable (omega (arith, c.loop-k-test.true, c.loop-k.auto.k-end)) (c.loop-k.invariant code turns playable words)
+
+pub returns : goal.returns
+returns c = λ code turns playable words.
+    let size = words.size in
+    let end : c.loop-k.k ≡ all_rows turns = omega (arith, c.loop-k-test.false, c.loop-k.auto.k-end) in
+    subst (λ (k : ℕ). Ran code turns k c.loop-k.machine) end (c.loop-k.invariant code turns playable words)

@@ -1,0 +1,15 @@
+//! Runs of several threads that are played on one machine, turn after turn.
+#![tactic(auto)]
+
+mod code;
+mod count;
+mod draw;
+mod machine;
+mod made;
+mod playing;
+mod score;
+mod threads;
+
+pub use made::{Made, make_play};
+pub use playing::{Played, play};
+pub use score::Sizes;
