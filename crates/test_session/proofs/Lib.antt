@@ -1,0 +1,2 @@
+mod FixedWriters
+mod ThreadWriters
