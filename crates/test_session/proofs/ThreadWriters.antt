@@ -78,9 +78,9 @@ end_unnamed step (inr (inl five, row)) = absurd (omega (arith, five))
 end_unnamed step (inr (inr six, row)) = absurd (omega (arith, six))
 
 is_place : (first : Bool) (p a step : ℕ) → p ≤ cond first 4 2 → named_row (two_writers (moment_of (cond first 0 5 + p)) a) ≡ Some step → IsPlace first p step
-is_place true p a step h e = in_first p (moment_of (0 + p)) step h (moment_is (0 + p) (λ end. absurd (omega (arith, h, end))) ∙ omega arith) (named_at (moment_of (0 + p)) a step e)
+is_place true p a step h e = in_first p (moment_of (0 + p)) step h (moment_is (0 + p) (λ last. absurd (omega (arith, h, last))) ∙ omega arith) (named_at (moment_of (0 + p)) a step e)
 is_place false p a step h e = elim (cases_eq (5 + p) 7) as (λ _. IsPlace false p step) [
-  | inl end ↦ let there : moment_of (5 + p) ≡ 4 = ap (λ b. cond b 4 (5 + p)) (eq-eqb (5 + p) 7 end) in end_unnamed step (named_at 4 a step (sym (ap (λ m. named_row (two_writers m a)) there) ∙ e))
+  | inl last ↦ let there : moment_of (5 + p) ≡ 4 = ap (λ b. cond b 4 (5 + p)) (eq-eqb (5 + p) 7 last) in end_unnamed step (named_at 4 a step (sym (ap (λ m. named_row (two_writers m a)) there) ∙ e))
   | inr other ↦ in_second p (moment_of (5 + p)) step h (moment_is (5 + p) other) (named_at (moment_of (5 + p)) a step e)
 ]
 

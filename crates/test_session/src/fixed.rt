@@ -1,8 +1,9 @@
 //! Findings of a path of two steps that are what they are made of.
 
-ghost use Rattle.std.specs.Prelude.{◌≡◌, ◌<◌, ◌==◌, ◌∷◌, [], IfOk, None, Some, length, map, if◌then◌else◌};
+ghost use Rattle.std.specs.Prelude.{◌≡◌, ◌<◌, ◌==◌, ◌∷◌, [], IfOk, None, Some, length, map, nat_lt, if◌then◌else◌};
 ghost use Rattle.std.specs.Option.{option_map};
 ghost use Rattle.rept_elf.specs.Symbols.{symbol_of};
+ghost use Rattle.rept_report.specs.declared.writer.Writer.TheVariants as writers;
 
 use rept_elf::Symbol;
 use rept_isa::{ImmOp, Instr, Reg, StepRow};
@@ -95,11 +96,7 @@ impl Findings for Fixed {
     }
 
     fn writer(&self, moment: u32, _address: u32) -> Writer {
-        if moment < 2 {
-            Writer::None
-        } else {
-            Writer::MayWrite(1)
-        }
+        last_writer(moment)
     }
 
     fn counts(&self) -> Counts {
@@ -132,6 +129,17 @@ impl Findings for Fixed {
             return Err(AllocError);
         }
         Ok(Some(reason))
+    }
+}
+
+/// The second step, after it.
+fn last_writer(moment: u32) -> Writer
+    ensures { result ≡ (if nat_lt moment 2 then writers.None else writers.MayWrite 1) }
+{
+    if moment < 2 {
+        Writer::None
+    } else {
+        Writer::MayWrite(1)
     }
 }
 

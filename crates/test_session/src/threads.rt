@@ -1,6 +1,6 @@
 //! A session over two threads that both write one byte.
 
-ghost use Rattle.std.specs.Prelude.{◌≡◌, ◌<◌, ◌==◌, if◌then◌else◌};
+ghost use Rattle.std.specs.Prelude.{◌≡◌, ◌<◌, ◌==◌, length, if◌then◌else◌};
 ghost use Rattle.rept_report.specs.declared.writer.Writer.TheVariants as writers;
 
 use crate::fixed::{unnamed, x};
@@ -136,8 +136,7 @@ impl Findings for TwoThreads {
     }
 
     fn writer(&self, moment: u32, address: u32) -> Writer {
-        let _four: &[StepRow] = &self.first;
-        let _two: &[StepRow] = &self.second;
+        lengths(&self.first, &self.second);
         last_writer(moment, address)
     }
 
@@ -178,6 +177,15 @@ impl Findings for TwoThreads {
         }
         Ok(Some(reason))
     }
+}
+
+/// How many steps the threads have.
+fn lengths(first: &[StepRow; 4], second: &[StepRow; 2])
+    ensures four { length first.now ≡ 4 }
+    ensures two { length second.now ≡ 2 }
+{
+    let _four: &[StepRow] = first;
+    let _two: &[StepRow] = second;
 }
 
 /// The other thread's store, where it is the last one that may come before a moment.

@@ -5,7 +5,7 @@ use Rattle.test_session.proofs.threads.TwoThreadsFindings.writer.Goals as goal
 
 pub returns-clause-last : goal.returns-clause-last
 returns-clause-last c = λ thread.
-    let points : (p : ℕ) → p ≤ length (cond (thread == 0) c.args.self.now.first c.args.self.now.second) → p ≤ cond (thread == 0) 4 2 = λ p h. few (thread == 0) c.args.self.now.first c.args.self.now.second p ? ? h in
+    let points : (p : ℕ) → p ≤ length (cond (thread == 0) c.args.self.now.first c.args.self.now.second) → p ≤ cond (thread == 0) 4 2 = λ p h. few (thread == 0) c.args.self.now.first c.args.self.now.second p c.lengths.ensures.four c.lengths.ensures.two h in
     record {
       before = λ step p h own e. own_unnamed thread p c.args.address step (points p h.1) own e;
       since = λ step q p h own e low high. own_unnamed thread p c.args.address step (points p h.1) own e;
