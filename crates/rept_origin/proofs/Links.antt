@@ -1,11 +1,14 @@
 -- The way to the nearest number that has a value, by its first step.
-use Rattle.std.proofs.Common.{◌≡◌, ℕ, zero, suc, ◌+◌, ◌<◌, ◌⊎◌, true, false, inl, inr, Option, Some, None, refl, sym, subst, ◌∙◌, arith}
-use Rattle.std.proofs.lemmas.Bool.{cases_eq, cases_lt, lt-ltb, ltb-true, true≢false}
+use Rattle.std.proofs.Common.{◌≡◌, ℕ, zero, suc, ◌+◌, ◌<◌, ◌≤◌, ◌⊎◌, Bool, true, false, ◌||◌, nat_lt, inl, inr, Option, Some, None, IsSome, refl, sym, subst, ◌∙◌, arith}
+use Rattle.std.proofs.lemmas.Bool.{cases_eq, cases_lt, lt-ltb, ltb-true, or_cases, true≢false}
 use Rattle.rept_nearest.specs.declared.found.Found.{Found}
-use Rattle.rept_nearest.specs.Nets.{Links, IsWithin, IsNearest, IsNextLinked}
+use Rattle.rept_nearest.specs.Nets.{Links, IsWithin, IsNearest}
 use Rattle.rept_nearest.specs.Nets.IsWithin.{here, onward}
 use Rattle.rept_report.proofs.Told.{none_some}
-use Rattle.rept_origin.specs.Bridges.{is_nearer, IsBeside}
+use Rattle.rept_report.specs.Timeline.{Timeline, IsTimeline}
+use Rattle.rept_origin.specs.declared.step.Way.{Way}
+use Rattle.rept_origin.specs.declared.step.Way.TheVariants.{Onward, Back}
+use Rattle.rept_origin.specs.Bridges.{ByteAlong, carries_over, carries_by, links_over, linked_inside, is_nearer, IsBeside, IsLeastFrom, IsNearerAmong}
 
 module _ (L : Links) where
   -- one link before
@@ -32,9 +35,31 @@ module _ (L : Links) where
     | inr step ↦ inr (record { beside = step.beside; linked = step.linked; within = onward k m w step.within link })
   ]
 
-  -- where none is linked from a number on, all are below it
-  pub below_least : (n least : ℕ) → IsNextLinked L n least None → (w : ℕ) → L.linked n w ≡ true → w < least
-  below_least n least none w link = elim (cases_lt w least) [ inl less ↦ less | inr more ↦ absurd (true≢false (sym link ∙ none w more)) ]
+  -- none of the numbers below one of which something holds is fewer links away from a value
+  abbrev pub AreNotNearer : (ℕ → Bool) → ℕ → ℕ → Type 0
+  AreNotNearer f links least = (w : ℕ) → w < least → f w ≡ true → (there : Option Found) × IsNearest L w there × (is_nearer there links ≡ false)
+
+  pub not_nearer_first : (f : ℕ → Bool) (links : ℕ) → AreNotNearer f links 0
+  not_nearer_first f links w below holds = absurd (omega (arith, below))
+
+  pub not_nearer_more : (f : ℕ → Bool) (links least w : ℕ) (there : Option Found) → IsLeastFrom f least (Some w) → IsNearest L w there → is_nearer there links ≡ false → AreNotNearer f links least → AreNotNearer f links (w + 1)
+  not_nearer_more f links least w there (it, low, first) near out before x below holds = elim (cases_lt x least) [
+    | inl less ↦ before x less holds
+    | inr more ↦ elim (cases_eq x w) [
+      | inl same ↦ (there, subst (λ (y : ℕ). IsNearest L y there) (sym same) near, out)
+      | inr ne ↦ absurd (true≢false (sym holds ∙ first x more (omega (arith, below, ne))))
+    ]
+  ]
+
+  -- nor is any, where there are none from the number on
+  pub none_nearer : (f : ℕ → Bool) (links least : ℕ) → IsLeastFrom f least None → AreNotNearer f links least → IsNearerAmong f L links None
+  none_nearer f links least none before w holds = elim (cases_lt w least) [
+    | inl less ↦ before w less holds
+    | inr more ↦ absurd (true≢false (sym holds ∙ none w more))
+  ]
+
+  pub none_nearer_past : (f : ℕ → Bool) (links least last : ℕ) → ((w : ℕ) → f w ≡ true → w ≤ last) → last < least → AreNotNearer f links least → IsNearerAmong f L links None
+  none_nearer_past f links least last inside past before w holds = let early = inside w holds in before w (omega (arith, early, past)) holds
 
   module _ (number : ℕ) (found : Found) (nearest : IsNearest L number (Some found)) (far : 0 < found.links) where
     -- one with a value isn't fewer links away
@@ -55,22 +80,6 @@ module _ (L : Links) where
           | inr long ↦ let low = less in omega (arith, low, long)
         ]
 
-    -- none of the numbers beside it that lie below one is one link nearer
-    abbrev pub AreNotNearer : ℕ → Type 0
-    AreNotNearer least = (w : ℕ) → w < least → L.linked number w ≡ true → (there : Option Found) × IsNearest L w there × (is_nearer there found.links ≡ false)
-
-    pub not_nearer_first : AreNotNearer 0
-    not_nearer_first w below link = absurd (omega (arith, below))
-
-    pub not_nearer_more : (least w : ℕ) (there : Option Found) → IsNextLinked L number least (Some w) → IsNearest L w there → is_nearer there found.links ≡ false → AreNotNearer least → AreNotNearer (w + 1)
-    not_nearer_more least w there (link, low, first) near out before x below linked = elim (cases_lt x least) [
-      | inl less ↦ before x less linked
-      | inr more ↦ elim (cases_eq x w) [
-        | inl same ↦ (there, subst (λ (y : ℕ). IsNearest L y there) (sym same) near, out)
-        | inr ne ↦ absurd (true≢false (sym linked ∙ first x more (omega (arith, below, ne))))
-      ]
-    ]
-
     -- one of them is
     some_nearer : (w k v : ℕ) (there : Option Found) → IsNearest L w there → IsWithin L w k found.number → L.value found.number ≡ Some v → k < found.links → is_nearer there found.links ≡ false → ⊥
     some_nearer w k v None near within value less out = none_some (sym (near k found.number within) ∙ value)
@@ -79,14 +88,41 @@ module _ (L : Links) where
       | inr long ↦ true≢false (sym (lt-ltb there.links found.links (omega (arith, long, less))) ∙ out)
     ]
 
-    pub one_is_nearer : (least : ℕ) → ((w : ℕ) → L.linked number w ≡ true → w < least) → AreNotNearer least → ⊥
-    one_is_nearer least all before = go found.links refl
+    pub one_is_nearer : ((w : ℕ) → L.linked number w ≡ true → (there : Option Found) × IsNearest L w there × (is_nearer there found.links ≡ false)) → ⊥
+    one_is_nearer before = go found.links refl
       where
         go : (j : ℕ) → found.links ≡ j → ⊥
         go zero e = omega (arith, far, e)
         go (suc k) e = elim (first_step number found.links found.number nearest.1 k e) [
           | inl less ↦ not_less k found.number found.value (omega (arith, e)) less nearest.0
           | inr step ↦
-              let out = before step.beside (all step.beside step.linked) step.linked in
+              let out = before step.beside step.linked in
               some_nearer step.beside k found.value out.0 out.1 step.within nearest.0 (omega (arith, e)) out.2
         ]
+
+way_linked : (t : Timeline) (b : ByteAlong) (m : ℕ) (way : Way) (w : ℕ) → carries_by t b m (record { from = w; way = way }) ≡ true → (links_over t b).linked m w ≡ true
+way_linked t b m Onward w e = rw e refl
+way_linked t b m Back w e = second (carries_over t b w m) (carries_over t b m w) e
+  where
+    second : (c d : Bool) → d ≡ true → (c || d) ≡ true
+    second true d e = refl
+    second false d e = e
+
+pub way_inside : (t : Timeline) (b : ByteAlong) → IsTimeline t → (m : ℕ) (way : Way) (w : ℕ) → carries_by t b m (record { from = w; way = way }) ≡ true → w ≤ (links_over t b).last
+way_inside t b laws m way w e = linked_inside t laws b m w (way_linked t b m way w e)
+
+-- the steps by which a byte is carried to a moment, both ways
+module _ (t : Timeline) (b : ByteAlong) (m : ℕ) (found : Found) (near : IsNearest (links_over t b) m (Some found)) (far : 0 < found.links) where
+  abbrev by : Way → ℕ → Bool
+  by way w = carries_by t b m (record { from = w; way = way })
+
+  pub step_is_beside : (way : Way) (from : ℕ) → IsNearerAmong (by way) (links_over t b) found.links (Some from) → IsBeside (links_over t b) m found.links from
+  step_is_beside way from (holds, (there, at, fewer)) = is_beside (links_over t b) m found near far from there (way_linked t b m way from holds) at fewer
+
+  -- where none is nearer from which the byte is carried back, one is from which it is carried on
+  pub one_onward : (earlier : Option ℕ) → IsNearerAmong (by Back) (links_over t b) found.links None → IsNearerAmong (by Onward) (links_over t b) found.links earlier → IsSome earlier
+  one_onward (Some w) back on = refl
+  one_onward None back on = absurd (one_is_nearer (links_over t b) m found near far (λ w link. elim (or_cases (carries_over t b w m) (carries_over t b m w) link) [
+    | inl ahead ↦ on w ahead
+    | inr other ↦ back w other
+  ]))

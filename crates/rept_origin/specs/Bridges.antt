@@ -7,6 +7,9 @@ use Rattle.rept_nearest.specs.Nets.{Links, IsNearest}
 use Rattle.rept_report.specs.Spots.{passage}
 use Rattle.rept_report.specs.Timeline.{Timeline, IsTimeline}
 use Rattle.rept_report.proofs.Search.{spares}
+use Rattle.rept_origin.specs.declared.step.Way.{Way}
+use Rattle.rept_origin.specs.declared.step.Way.TheVariants.{Onward, Back}
+use Rattle.rept_origin.specs.declared.step.Step.{Step}
 
 -- a byte of the memory
 pub record ByteAlong : Type 0 where
@@ -20,6 +23,15 @@ pub record ByteAlong : Type 0 where
 -- whether it is carried from a moment to a next one: nothing that falls between may write it
 abbrev pub carries_over : Timeline → ByteAlong → ℕ → ℕ → Bool
 carries_over t b m w = t.moments.next m w && (not (t.moments.dark m w) && spares t.moments b.may (passage b.address m w) t.legs.count)
+
+-- by the way the one or the other
+abbrev pub by_way : Way → Bool → Bool → Bool
+by_way Onward on back = on
+by_way Back on back = back
+
+-- whether it is carried to a moment by a step
+abbrev pub carries_by : Timeline → ByteAlong → ℕ → Step → Bool
+carries_by t b m s = by_way s.way (carries_over t b s.from m) (carries_over t b m s.from)
 
 -- moments are linked where it is carried from one to the other
 abbrev pub links_over : Timeline → ByteAlong → Links
@@ -42,9 +54,10 @@ abbrev pub is_nearer : Option Found → ℕ → Bool
 is_nearer None links = false
 is_nearer (Some found) links = nat_lt found.links links
 
-abbrev pub IsStepNearer : Links → ℕ → ℕ → Option ℕ → Type 0
-IsStepNearer L number links None = ⊥
-IsStepNearer L number links (Some w) = IsBeside L number links w
+-- of the numbers of which something holds one that is fewer links away from a value, or that none is
+abbrev pub IsNearerAmong : (ℕ → Bool) → Links → ℕ → Option ℕ → Type 0
+IsNearerAmong f L links None = (w : ℕ) → f w ≡ true → (there : Option Found) × IsNearest L w there × (is_nearer there links ≡ false)
+IsNearerAmong f L links (Some w) = (f w ≡ true) × ((there : Option Found) × IsNearest L w there × (is_nearer there links ≡ true))
 
 pub carried_next : (t : Timeline) (b : ByteAlong) (m w : ℕ) → carries_over t b m w ≡ true → t.moments.next m w ≡ true
 carried_next t b m w e = (and_parts (t.moments.next m w) (not (t.moments.dark m w) && spares t.moments b.may (passage b.address m w) t.legs.count) e).0

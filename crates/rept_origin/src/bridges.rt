@@ -3,10 +3,11 @@
 ghost use Rattle.std.specs.Prelude.{◌≡◌, ◌<◌, ◌≤◌, true};
 ghost use Rattle.rept_report.specs.Spots.{passage};
 ghost use Rattle.rept_report.proofs.Search.{spares};
-ghost use Rattle.rept_origin.specs.Bridges.{carries_over, IsLeastFrom};
+ghost use Rattle.rept_origin.specs.Bridges.{carries_over, carries_by, IsLeastFrom};
 
 use crate::lesser::lesser;
 use crate::sources::Sources;
+use crate::step::Way;
 use rept_nearest::Net;
 use rept_report::Paths;
 
@@ -87,6 +88,17 @@ impl<'f, P: Paths, S: Sources> Bridges<'f, P, S> {
             from = former + 1;
         }
         None
+    }
+
+    /// The least number from `least` on from which the byte is carried this way to this one, if there is one.
+    pub fn beside_from(&self, way: Way, number: u32, least: u32) -> Option<u32>
+        requires { number ≤ (P.timeline self.now.paths.now).moments.end }
+        ensures { IsLeastFrom (λ w. carries_by (P.timeline self.now.paths.now) (S.byte self.now.sources.now) number (record { from = w; way = way })) least result }
+    {
+        match way {
+            Way::Onward => self.carried_to(number, least),
+            Way::Back => self.carried_from(number, least),
+        }
     }
 }
 

@@ -6,7 +6,9 @@ pub mod laws;
 mod lesser;
 pub mod origin;
 pub mod sources;
+pub mod step;
 
 pub use laws::steps_are_uses;
 pub use origin::{nearer, nearest_origin};
 pub use sources::Sources;
+pub use step::{Step, Way};

@@ -1,11 +1,12 @@
 //! The nearest moment from which a byte is carried to another one, and the way there.
 
-ghost use Rattle.std.specs.Prelude.{◌≡◌, ◌<◌, ◌≤◌, Some, IfOk};
+ghost use Rattle.std.specs.Prelude.{◌≡◌, ◌<◌, ◌≤◌, true, Some, IfOk};
 ghost use Rattle.rept_nearest.specs.Nets.{IsNearest};
-ghost use Rattle.rept_origin.specs.Bridges.{links_over, is_nearer, IsStepNearer};
+ghost use Rattle.rept_origin.specs.Bridges.{links_over, carries_by, is_nearer, IsBeside, IsNearerAmong};
 
 use crate::bridges::Bridges;
 use crate::sources::Sources;
+use crate::step::{Step, Way};
 use rept_nearest::{Found, Net, nearest};
 use rept_report::Paths;
 use std::alloc::{AllocError as OutOfMemory, Global};
@@ -35,32 +36,61 @@ fn is_nearer(found: Option<Found>, links: u32) -> bool
     }
 }
 
-/// The least number beside this one that is one step nearer to such a moment, where the nearest is so many steps away, and not none.
+/// The least number from which the byte is carried this way to this one and which is fewer links away from such a moment, if there is one.
+fn nearer_by<P: Paths, S: Sources>(
+    alloc: Global,
+    bridges: &Bridges<'_, P, S>,
+    number: u32,
+    links: u32,
+    way: Way,
+) -> Result<Option<u32>, OutOfMemory>
+    requires { number ≤ (P.timeline bridges.now.paths.now).moments.end }
+    ensures { IfOk result (λ from. IsNearerAmong (λ w. carries_by (P.timeline bridges.now.paths.now) (S.byte bridges.now.sources.now) number (record { from = w; way = way })) (links_over (P.timeline bridges.now.paths.now) (S.byte bridges.now.sources.now)) links from) }
+{
+    let end = bridges.last();
+    let mut least = 0;
+    while least <= end {
+        let Some(from) = bridges.beside_from(way, number, least) else {
+            return Ok(None);
+        };
+        let there = nearest(alloc, bridges, from)?;
+        if is_nearer(there, links) {
+            return Ok(Some(from));
+        }
+        least = from + 1;
+    }
+    Ok(None)
+}
+
+/// The step by which the byte is carried to this moment from one that is one step nearer to such a moment, where the nearest is so many steps away, and
+/// not none: from the least later one back, or where none is nearer, from the least earlier one on.
 pub fn nearer<P: Paths, S: Sources>(
     alloc: Global,
     paths: &P,
     sources: &S,
     number: u32,
     found: Found,
-) -> Result<Option<u32>, OutOfMemory>
+) -> Result<Step, OutOfMemory>
     requires told { (P.timeline paths.now).legs.count ≤ (S.byte sources.now).rows }
     requires inside { number ≤ (P.timeline paths.now).moments.end }
     requires nearest { IsNearest (links_over (P.timeline paths.now) (S.byte sources.now)) number (Some found) }
     requires far { 0 < found.links }
-    ensures { IfOk result (λ beside. IsStepNearer (links_over (P.timeline paths.now) (S.byte sources.now)) number found.links beside) }
+    ensures carries { IfOk result (λ step. carries_by (P.timeline paths.now) (S.byte sources.now) number step ≡ true) }
+    ensures nearer { IfOk result (λ step. IsBeside (links_over (P.timeline paths.now) (S.byte sources.now)) number found.links step.from) }
 {
     let bridges = Bridges { paths, sources };
-    let end = paths.end();
-    let mut least = 0;
-    while least <= end {
-        let Some(beside) = bridges.next_linked(number, least) else {
-            return Ok(None);
-        };
-        let there = nearest(alloc, &bridges, beside)?;
-        if is_nearer(there, found.links) {
-            return Ok(Some(beside));
+    let later = nearer_by(alloc, &bridges, number, found.links, Way::Back)?;
+    match later {
+        Some(from) => Ok(Step {
+            from,
+            way: Way::Back,
+        }),
+        None => {
+            let earlier = nearer_by(alloc, &bridges, number, found.links, Way::Onward)?;
+            Ok(Step {
+                from: earlier.unwrap(),
+                way: Way::Onward,
+            })
         }
-        least = beside + 1;
     }
-    Ok(None)
 }

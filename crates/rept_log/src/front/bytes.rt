@@ -1,34 +1,46 @@
 //! The bytes that a row's rules look at, as they stand in a prefix of a log.
 
-ghost use Rattle.std.specs.Prelude.{◌≡◌, ◌<◌, ◌≤◌, min, length, IfOk, Some, slice_get};
+ghost use Rattle.std.specs.Prelude.{◌≡◌, ◌<◌, ◌≤◌, min, IsSome, IfOk, Some};
 ghost use Rattle.rept_reason.specs.Facts.{told, register_known};
 ghost use Rattle.rept_isa.specs.Operands.{first_read};
-ghost use Rattle.rept_log.specs.Fronts.{front_of, seen_in};
+ghost use Rattle.rept_log.specs.Fronts.{basis_of, front_of, seen_in};
 ghost use Rattle.rept_log.specs.RowBytes.{row_byte, bytes_from, bytes_at, base_seen, row_bytes};
 
 use super::Front;
+use crate::last::LastValues;
 use crate::row_bytes::RowByte;
 use rept_isa::number::plus;
 use rept_isa::{Instr, StepRow, reads};
 use rept_partial::Flat;
+use rept_report::Paths;
 use rept_span::Transfer;
 use rept_versions::ByteFacts;
-use rept_view::{RowRules, offset_of};
+use rept_view::{RowRules, When, offset_of};
 use smallvec::SmallVec;
 use std::alloc::{AllocError as OutOfMemory, Global};
 
-impl<'k, 'd, B: ByteFacts, W: Transfer, R: RowRules> Front<'k, 'd, B, W, R> {
+impl<'k, 'd, P: Paths, L: LastValues, B: ByteFacts, W: Transfer, R: RowRules> Front<
+    'k,
+    'd,
+    P,
+    L,
+    B,
+    W,
+    R,
+> {
     /// A byte before and after row i.
-    fn row_byte(&self, i: u32, a: u32) -> RowByte
-        requires { i < length self.now.rows }
-        ensures { result ≡ row_byte (seen_in (front_of W.sets W.moves R.rules self.now) i) a }
+    fn row_byte(&self, alloc: Global, i: u32, a: u32) -> Result<RowByte, OutOfMemory>
+        requires { IsSome ((P.timeline self.now.paths).legs.row i) }
+        ensures { IfOk result (λ b. b ≡ row_byte (seen_in (front_of W.sets W.moves R.rules (basis_of P.timeline L.values self.now)) i) a) }
     {
-        let _count = self.count();
-        RowByte {
+        let byte = self.logged(alloc, a)?;
+        let before = self.standing(alloc, &byte, self.moment(i, When::Before))?;
+        let after = self.standing(alloc, &byte, self.moment(i, When::After))?;
+        Ok(RowByte {
             address: a,
-            before: self.byte(i, a),
-            after: self.byte(i + 1, a),
-        }
+            before,
+            after,
+        })
     }
 
     /// So many bytes from a base on.
@@ -39,21 +51,23 @@ impl<'k, 'd, B: ByteFacts, W: Transfer, R: RowRules> Front<'k, 'd, B, W, R> {
         base: u32,
         count: u32,
     ) -> Result<SmallVec<RowByte, 4>, OutOfMemory>
-        requires { i < length self.now.rows }
-        ensures { IfOk result (λ v. v.items ≡ bytes_from (seen_in (front_of W.sets W.moves R.rules self.now) i) base count) }
+        requires { IsSome ((P.timeline self.now.paths).legs.row i) }
+        ensures { IfOk result (λ v. v.items ≡ bytes_from (seen_in (front_of W.sets W.moves R.rules (basis_of P.timeline L.values self.now)) i) base count) }
     {
         let mut bytes = SmallVec::new(alloc);
         for k in 0..count {
-            bytes.push(self.row_byte(i, base.wrapping_add(k)))?;
+            let byte = self.row_byte(alloc, i, base.wrapping_add(k))?;
+            bytes.push(byte)?;
         }
         Ok(bytes)
     }
 
     /// What is known before row i of the register in the place of rs1.
     fn base(&self, i: u32, instr: &Instr) -> Option<u32>
-        requires { i < length self.now.rows }
-        ensures { result ≡ base_seen (first_read instr.now) (seen_in (front_of W.sets W.moves R.rules self.now) i) }
+        requires { IsSome ((P.timeline self.now.paths).legs.row i) }
+        ensures { result ≡ base_seen (first_read instr.now) (seen_in (front_of W.sets W.moves R.rules (basis_of P.timeline L.values self.now)) i) }
     {
+        let _count = self.count();
         let register = reads(instr).0?;
         match self.known(i, register) {
             Flat::Unknown => None,
@@ -68,8 +82,8 @@ impl<'k, 'd, B: ByteFacts, W: Transfer, R: RowRules> Front<'k, 'd, B, W, R> {
         i: u32,
         row: &StepRow,
     ) -> Result<SmallVec<RowByte, 4>, OutOfMemory>
-        requires { i < length self.now.rows }
-        ensures { IfOk result (λ v. v.items ≡ row_bytes R.rules row.now (seen_in (front_of W.sets W.moves R.rules self.now) i)) }
+        requires { IsSome ((P.timeline self.now.paths).legs.row i) }
+        ensures { IfOk result (λ v. v.items ≡ row_bytes R.rules row.now (seen_in (front_of W.sets W.moves R.rules (basis_of P.timeline L.values self.now)) i)) }
     {
         match self.base(i, &row.instr) {
             None => Ok(SmallVec::new(alloc)),

@@ -1,25 +1,25 @@
-use Rattle.std.proofs.Common.{sym, ◌∙◌, arith}
-use Rattle.rept_origin.specs.Bridges.{links_over, linked_inside}
-use Rattle.rept_origin.proofs.Links.{below_least, is_beside, not_nearer_first, not_nearer_more, one_is_nearer}
+use Rattle.std.proofs.Common.{◌≡◌, true, Option, None, Some, ℕ, subst, sym, ◌∙◌}
+use Rattle.rept_origin.specs.declared.step.Way.{Way}
+use Rattle.rept_origin.specs.declared.step.Way.TheVariants.{Onward, Back}
+use Rattle.rept_origin.specs.Bridges.{links_over, carries_by, IsNearerAmong}
+use Rattle.rept_origin.proofs.Links.{step_is_beside, one_onward}
 use Rattle.rept_origin.proofs.origin.nearer.Goals as goal
 
-pub loop-least-init : goal.loop-least-init
-loop-least-init g c = record { before = not_nearer_first (links_over (g.P.Paths.timeline c.args.paths.now) (g.S.Sources.byte c.args.sources.now)) c.args.number c.args.found c.requires.nearest c.requires.far; end = c.end-end.ensures }
+pub unwrap-requires : goal.unwrap-requires
+unwrap-requires g c =
+    let t = g.P.Paths.timeline c.args.paths.now in
+    let b = g.S.Sources.byte c.args.sources.now in
+    let back = subst (IsNearerAmong (λ w. carries_by t b c.args.number (record { from = w; way = Back })) (links_over t b) c.args.found.links) c.in-None.is c.in_ok-later.ensures in
+    one_onward t b c.args.number c.args.found c.requires.nearest c.requires.far c.in_ok-earlier-in-None.earlier back c.in_ok-earlier-in-None.ensures
 
-pub loop-least-preserved : goal.loop-least-preserved
-loop-least-preserved g c = record {
-  before = not_nearer_more (links_over (g.P.Paths.timeline c.args.paths.now) (g.S.Sources.byte c.args.sources.now)) c.args.number c.args.found c.requires.nearest c.requires.far c.loop-least.least c.in-Some.beside c.in_ok-there.there c.in-Some.ensures c.in_ok-there.ensures (sym c.is_nearer.ensures ∙ c.if-is_nearer.false) c.loop-least.invariant.before;
-  end = c.loop-least.invariant.end;
-}
+pub returns-in-Some-clause-nearer : goal.returns-in-Some-clause-nearer
+returns-in-Some-clause-nearer g c =
+    let t = g.P.Paths.timeline c.args.paths.now in
+    let b = g.S.Sources.byte c.args.sources.now in
+    step_is_beside t b c.args.number c.args.found c.requires.nearest c.requires.far Back c.in-Some.from (subst (IsNearerAmong (λ w. carries_by t b c.args.number (record { from = w; way = Back })) (links_over t b) c.args.found.links) c.in-Some.is c.in_ok-later.ensures)
 
-pub returns-in_default : goal.returns-in_default
-returns-in_default g c = one_is_nearer (links_over (g.P.Paths.timeline c.args.paths.now) (g.S.Sources.byte c.args.sources.now)) c.args.number c.args.found c.requires.nearest c.requires.far c.loop-least.least (below_least (links_over (g.P.Paths.timeline c.args.paths.now) (g.S.Sources.byte c.args.sources.now)) c.args.number c.loop-least.least c.in_default.ensures) c.loop-least.invariant.before
-
-pub returns-then-is_nearer : goal.returns-then-is_nearer
-returns-then-is_nearer g c = is_beside (links_over (g.P.Paths.timeline c.args.paths.now) (g.S.Sources.byte c.args.sources.now)) c.args.number c.args.found c.requires.nearest c.requires.far c.in-Some.beside c.in_ok-there.there c.in-Some.ensures.0 c.in_ok-there.ensures (sym c.is_nearer.ensures ∙ c.if-is_nearer.true)
-
-pub returns : goal.returns
-returns g c =
-    let end = c.loop-least.invariant.end in
-    let test = c.loop-least-test.false in
-    one_is_nearer (links_over (g.P.Paths.timeline c.args.paths.now) (g.S.Sources.byte c.args.sources.now)) c.args.number c.args.found c.requires.nearest c.requires.far c.loop-least.least (λ w e. let early = linked_inside (g.P.Paths.timeline c.args.paths.now) (g.met.P.Paths.lawful c.args.paths.now) (g.S.Sources.byte c.args.sources.now) c.args.number w e in omega (arith, early, end, test)) c.loop-least.invariant.before
+pub returns-in_ok-earlier-in-None-clause-nearer : goal.returns-in_ok-earlier-in-None-clause-nearer
+returns-in_ok-earlier-in-None-clause-nearer g c =
+    let t = g.P.Paths.timeline c.args.paths.now in
+    let b = g.S.Sources.byte c.args.sources.now in
+    step_is_beside t b c.args.number c.args.found c.requires.nearest c.requires.far Onward c.unwrap.result (subst (IsNearerAmong (λ w. carries_by t b c.args.number (record { from = w; way = Onward })) (links_over t b) c.args.found.links) c.unwrap.ensures c.in_ok-earlier-in-None.ensures)

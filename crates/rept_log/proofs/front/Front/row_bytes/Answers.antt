@@ -3,13 +3,13 @@ use Rattle.std.proofs.lemmas.Int.{to_z-of_z}
 use Rattle.std.proofs.lemmas.Result.{IfOk-weaker}
 use Rattle.rept_isa.specs.Numbers.{plus}
 use Rattle.rept_view.specs.Rules.{offset_of}
-use Rattle.rept_log.specs.Fronts.{front_of, seen_in}
+use Rattle.rept_log.specs.Fronts.{basis_of, front_of, seen_in}
 use Rattle.rept_log.specs.RowBytes.{bytes_from, bytes_at}
 use Rattle.rept_log.proofs.front.Front.row_bytes.Goals as goal
 
 pub returns-in-Some : goal.returns-in-Some
 returns-in-Some g c =
-    let s = seen_in (front_of g.W.Partial.sets g.W.Transfer.moves g.R.RowRules.rules c.args.self.now) c.args.i in
+    let s = seen_in (front_of g.W.Partial.sets g.W.Transfer.moves g.R.RowRules.rules (basis_of g.P.Paths.timeline g.L.LastValues.values c.args.self.now)) c.args.i in
     let fits : FitsSigned w32 c.offset_of.result = record { sfits = c.offset_of.type_inv } in
     let first : c.plus-first.result ≡ plus c.in-Some.base c.offset_of.result = rw (to_z-of_z w32 c.offset_of.result fits) at c.plus-first.ensures in
     let at = first ∙ ap (plus c.in-Some.base) c.offset_of.ensures in

@@ -1,0 +1,249 @@
+//! Reasons by what rows let one draw in a prefix of a log.
+
+ghost use Rattle.std.specs.Prelude.{◌≡◌, ◌-◌, ◌<◌, map, Some, IsSome, IfOk, IfSome, IfNone, Contains};
+ghost use Rattle.rept_reason.specs.declared.fact.Cell.TheVariants.{Register, Byte};
+ghost use Rattle.rept_view.specs.declared.drawn.Drawn.{Drawn};
+ghost use Rattle.rept_view.specs.Seen.{seen_cell};
+ghost use Rattle.rept_report.specs.Why.{premise_of, IsDrawnBecause};
+ghost use Rattle.rept_log.specs.Fronts.{basis_of, front_of, stands, told_by, IsNotDrawn, IsNotDrawnBy, AreNotDrawnBefore, AreNotDrawnAfter, Gives, setting_in};
+
+use super::Front;
+use super::views::Standing;
+use crate::last::LastValues;
+use rept_isa::{Reg, StepRow};
+use rept_partial::Flat;
+use rept_reason::{Cell, Fact, Reason};
+use rept_report::Paths;
+use rept_span::Transfer;
+use rept_versions::ByteFacts;
+use rept_view::{Drawn, Need, RowRules, RowView, When};
+use smallvec::SmallVec;
+use std::alloc::{AllocError as OutOfMemory, Global};
+
+/// What is seen of a cell before or after a row.
+fn seen_by<V: RowView>(view: &V, when: When, cell: &Cell) -> Option<u32>
+    ensures { result ≡ seen_cell (V.seen view.now) when cell.now }
+{
+    match cell {
+        Cell::Register(r) => match view.reg(when, *r) {
+            Flat::Known(v) => Some(v),
+            Flat::Unknown => None,
+        },
+        Cell::Byte(a) => match view.byte(when, *a) {
+            Some(v) => Some(u32::from(v)),
+            None => None,
+        },
+    }
+}
+
+impl<'k, 'd, P: Paths, L: LastValues, B: ByteFacts, W: Transfer, R: RowRules> Front<
+    'k,
+    'd,
+    P,
+    L,
+    B,
+    W,
+    R,
+> {
+    /// Of conclusions of row i the first one that says what the fact says.
+    fn matching(&self, list: &[Drawn], i: u32, fact: &Fact) -> Option<Drawn>
+        requires { IsSome ((P.timeline self.now.paths).legs.row i) }
+        ensures found { IfSome result (λ d. Contains list.now d × Gives (P.timeline self.now.paths).moments i d fact.now) }
+        ensures none { IfNone result ((d : Drawn) → Contains list.now d → Gives (P.timeline self.now.paths).moments i d fact.now → ⊥) }
+    {
+        for drawn in list {
+            if fact.point == self.instant(i, drawn.when, &drawn.cell)
+                && fact.cell == drawn.cell
+                && fact.value == drawn.value
+            {
+                return Some(*drawn);
+            }
+        }
+        None
+    }
+
+    /// What a conclusion of row i rests on, as a fact.
+    fn premise<V: RowView>(&self, view: &V, i: u32, need: &Need) -> Fact
+        requires { IsSome ((P.timeline self.now.paths).legs.row i) }
+        ensures { result ≡ premise_of (P.timeline self.now.paths).moments (V.seen view.now) i need.now }
+    {
+        let cell = need.cell;
+        let value = match seen_by(view, need.when, &cell) {
+            Some(value) => value,
+            None => 0,
+        };
+        Fact {
+            point: self.instant(i, need.when, &cell),
+            cell,
+            value,
+        }
+    }
+
+    /// What conclusions of row i rest on, as facts.
+    fn premises<V: RowView>(
+        &self,
+        alloc: Global,
+        view: &V,
+        i: u32,
+        needs: &[Need],
+    ) -> Result<SmallVec<Fact, 10>, OutOfMemory>
+        requires { IsSome ((P.timeline self.now.paths).legs.row i) }
+        ensures { IfOk result (λ v. v.items ≡ map (premise_of (P.timeline self.now.paths).moments (V.seen view.now) i) needs.now) }
+    {
+        let mut premises = SmallVec::new(alloc);
+        for need in needs {
+            let premise = self.premise(view, i, need);
+            premises.push(premise)?;
+        }
+        Ok(premises)
+    }
+
+    /// The reason by what row i lets one draw.
+    fn drawn_by(
+        &self,
+        rules: &mut R,
+        alloc: Global,
+        i: u32,
+        row: &StepRow,
+        fact: &Fact,
+    ) -> Result<Option<Reason>, OutOfMemory>
+        requires { (P.timeline self.now.paths).legs.row i ≡ Some row.now }
+        ensures found { IfOk result (λ found. IfSome found (λ reason. IsDrawnBecause (setting_in (front_of W.sets W.moves R.rules (basis_of P.timeline L.values self.now))) (stands (front_of W.sets W.moves R.rules (basis_of P.timeline L.values self.now))) fact.now (told_by reason))) }
+        ensures none { IfOk result (λ found. IfNone found (IsNotDrawnBy (front_of W.sets W.moves R.rules (basis_of P.timeline L.values self.now)) i fact.now)) }
+    {
+        let _count = self.count();
+        let bytes = self.row_bytes(alloc, i, row)?;
+        let view = Standing {
+            front: self,
+            row: i,
+            bytes: bytes.as_slice(),
+        };
+        let list = rules.draw(alloc, row, &view);
+        match self.matching(list.as_slice(), i, fact) {
+            None => Ok(None),
+            Some(drawn) => {
+                let needs = R::needs(alloc, row, &view, &drawn);
+                let premises = self.premises(alloc, &view, i, needs.as_slice())?;
+                Ok(Some(Reason {
+                    rule: drawn.rule,
+                    premises,
+                    ranges: SmallVec::new(alloc),
+                }))
+            }
+        }
+    }
+
+    /// The reason by what row i lets one draw, if there is such a row.
+    fn drawn_at(
+        &self,
+        rules: &mut R,
+        alloc: Global,
+        i: u32,
+        fact: &Fact,
+    ) -> Result<Option<Reason>, OutOfMemory>
+        ensures found { IfOk result (λ found. IfSome found (λ reason. IsDrawnBecause (setting_in (front_of W.sets W.moves R.rules (basis_of P.timeline L.values self.now))) (stands (front_of W.sets W.moves R.rules (basis_of P.timeline L.values self.now))) fact.now (told_by reason))) }
+        ensures none { IfOk result (λ found. IfNone found (IsNotDrawnBy (front_of W.sets W.moves R.rules (basis_of P.timeline L.values self.now)) i fact.now)) }
+    {
+        match self.row(i) {
+            None => Ok(None),
+            Some(row) => self.drawn_by(rules, alloc, i, &row, fact),
+        }
+    }
+
+    /// The reason by what the row that leads to the fact's point lets one draw.
+    fn drawn_to(
+        &self,
+        rules: &mut R,
+        alloc: Global,
+        fact: &Fact,
+    ) -> Result<Option<Reason>, OutOfMemory>
+        ensures found { IfOk result (λ found. IfSome found (λ reason. IsDrawnBecause (setting_in (front_of W.sets W.moves R.rules (basis_of P.timeline L.values self.now))) (stands (front_of W.sets W.moves R.rules (basis_of P.timeline L.values self.now))) fact.now (told_by reason))) }
+        ensures none { IfOk result (λ found. IfNone found (0 < fact.now.point → IsNotDrawnBy (front_of W.sets W.moves R.rules (basis_of P.timeline L.values self.now)) (fact.now.point - 1) fact.now)) }
+    {
+        if fact.point == 0 {
+            return Ok(None);
+        }
+        self.drawn_at(rules, alloc, fact.point - 1, fact)
+    }
+
+    /// The reason of a register's fact by what a row beside its point lets one draw, the one that leads there first.
+    pub(super) fn drawn_register(
+        &self,
+        rules: &mut R,
+        alloc: Global,
+        fact: &Fact,
+        r: Reg,
+    ) -> Result<Option<Reason>, OutOfMemory>
+        requires { fact.now.cell ≡ Register r }
+        ensures found { IfOk result (λ found. IfSome found (λ reason. IsDrawnBecause (setting_in (front_of W.sets W.moves R.rules (basis_of P.timeline L.values self.now))) (stands (front_of W.sets W.moves R.rules (basis_of P.timeline L.values self.now))) fact.now (told_by reason))) }
+        ensures none { IfOk result (λ found. IfNone found (IsNotDrawn (front_of W.sets W.moves R.rules (basis_of P.timeline L.values self.now)) fact.now)) }
+    {
+        let found = self.drawn_to(rules, alloc, fact)?;
+        if found.is_some() {
+            return Ok(found);
+        }
+        self.drawn_at(rules, alloc, fact.point, fact)
+    }
+
+    /// The reason of a byte's fact by what a row after which its moment lies lets one draw.
+    fn drawn_before(
+        &self,
+        rules: &mut R,
+        alloc: Global,
+        fact: &Fact,
+    ) -> Result<Option<Reason>, OutOfMemory>
+        ensures found { IfOk result (λ found. IfSome found (λ reason. IsDrawnBecause (setting_in (front_of W.sets W.moves R.rules (basis_of P.timeline L.values self.now))) (stands (front_of W.sets W.moves R.rules (basis_of P.timeline L.values self.now))) fact.now (told_by reason))) }
+        ensures none { IfOk result (λ found. IfNone found (AreNotDrawnBefore (front_of W.sets W.moves R.rules (basis_of P.timeline L.values self.now)) (P.timeline self.now.paths).legs.count fact.now)) }
+    {
+        let count = self.count();
+        let mut least = 0;
+        while least < count {
+            let Some(i) = self.row_to(fact.point, least) else {
+                return Ok(None);
+            };
+            let found = self.drawn_at(rules, alloc, i, fact)?;
+            if found.is_some() {
+                return Ok(found);
+            }
+            least = i + 1;
+        }
+        Ok(None)
+    }
+
+    /// The reason of a byte's fact by what the row before which its moment lies lets one draw.
+    fn drawn_after(
+        &self,
+        rules: &mut R,
+        alloc: Global,
+        fact: &Fact,
+    ) -> Result<Option<Reason>, OutOfMemory>
+        ensures found { IfOk result (λ found. IfSome found (λ reason. IsDrawnBecause (setting_in (front_of W.sets W.moves R.rules (basis_of P.timeline L.values self.now))) (stands (front_of W.sets W.moves R.rules (basis_of P.timeline L.values self.now))) fact.now (told_by reason))) }
+        ensures none { IfOk result (λ found. IfNone found (AreNotDrawnAfter (front_of W.sets W.moves R.rules (basis_of P.timeline L.values self.now)) fact.now)) }
+    {
+        match self.row_at(fact.point) {
+            None => Ok(None),
+            Some(i) => self.drawn_at(rules, alloc, i, fact),
+        }
+    }
+
+    /// The reason of a byte's fact by what a row beside its moment lets one draw, one after which it lies first. `OutOfMemory` says that its
+    /// room can't be had.
+    pub fn of_drawn_byte(
+        &self,
+        rules: &mut R,
+        alloc: Global,
+        fact: &Fact,
+        a: u32,
+    ) -> Result<Option<Reason>, OutOfMemory>
+        requires { fact.now.cell ≡ Byte a }
+        ensures found { IfOk result (λ found. IfSome found (λ reason. IsDrawnBecause (setting_in (front_of W.sets W.moves R.rules (basis_of P.timeline L.values self.now))) (stands (front_of W.sets W.moves R.rules (basis_of P.timeline L.values self.now))) fact.now (told_by reason))) }
+        ensures none { IfOk result (λ found. IfNone found (IsNotDrawn (front_of W.sets W.moves R.rules (basis_of P.timeline L.values self.now)) fact.now)) }
+    {
+        let _count = self.count();
+        let found = self.drawn_before(rules, alloc, fact)?;
+        if found.is_some() {
+            return Ok(found);
+        }
+        self.drawn_after(rules, alloc, fact)
+    }
+}
