@@ -2,18 +2,19 @@
 use Rattle.std.proofs.Common.{◌≡◌, ℕ, ◌≤◌, Bool, List, Some, sym, ap, subst, ◌∙◌}
 use Rattle.rept_reason.specs.declared.fact.Fact.{Fact}
 use Rattle.rept_reason.specs.declared.fact.Cell.TheVariants.{Byte}
-use Rattle.rept_reason.specs.Facts.{Knowledge}
+use Rattle.rept_reason.specs.Facts.{Knowledge, told}
 use Rattle.rept_report.specs.Setting.{HasLaws}
 use Rattle.rept_report.specs.Conflicts.{IsQuiet}
 use Rattle.rept_report.specs.Log.{oldest}
 use Rattle.rept_report.specs.Reasons.{StandsIn, IsStanding}
 use Rattle.rept_report.specs.Implied.{with_implied, IsClosed, HasEnded, known_at_end}
 use Rattle.rept_report.specs.Why.{Because, fact_of, IsReason}
-use Rattle.rept_report.proofs.Line.{end_is}
 use Rattle.rept_report.proofs.Explained.{reason_exists}
-use Rattle.rept_report.proofs.Standing.{stands_up, stands_single, front_early}
+use Rattle.rept_report.specs.Reasons.StandsIn.{listed}
+use Rattle.rept_report.proofs.Search.{standing}
+use Rattle.rept_report.proofs.Told.{told_in}
+use Rattle.rept_report.proofs.Standing.{stands_up, stands_single, front_early, front_standing}
 use Rattle.rept_log.specs.Fronts.{FrontView, stands}
-use Rattle.rept_log.proofs.Found.{front_standing}
 use Rattle.rept_analysis.specs.State.{State, along}
 use Rattle.rept_analysis.specs.Kept.{is_among, answers, IsFinished, IsKept}
 use Rattle.rept_analysis.proofs.Learning.{trace_known}
@@ -49,15 +50,17 @@ module _ {W : Type 0} (s : State W) (laws : HasLaws (along s.path)) (kept : IsKe
 
   -- what the log's look-up finds in a prefix is what stands there
   pub front_finds : (t : ℕ) → IsStanding (along s.path) (oldest t s.known.log) (stands (front_at t))
-  front_finds t = front_standing (front_at t) kept.line single (λ p a v h. subst (λ (n : ℕ). p ≤ n) (end_is s.path.sets s.path.moves s.path.rules s.path.given kept.line) (early p a v h))
-    where
-      single : (p a v w : ℕ) → StandsIn (along s.path) (oldest t s.known.log) (fact_of p (Byte a) v) → StandsIn (along s.path) (oldest t s.known.log) (fact_of p (Byte a) w) → v ≡ w
-      single p a v w h k =
-          let log = sym kept.traced.logged in
-          stands_single (along s.path) laws kept.traced.entries has_ended.trace has_ended.quiet tracked has_ended.closed t t p v w (Byte a) (subst (λ (fs : List Fact). StandsIn (along s.path) (oldest t fs) (fact_of p (Byte a) v)) log h) (subst (λ (fs : List Fact). StandsIn (along s.path) (oldest t fs) (fact_of p (Byte a) w)) log k)
+  front_finds t = subst (λ (fs : List Fact). IsStanding (along s.path) (oldest t fs) (standing (along s.path) (oldest t fs))) kept.traced.logged (front_standing (along s.path) laws kept.traced.entries has_ended.trace has_ended.quiet tracked has_ended.closed t)
 
-      early : (p a v : ℕ) → StandsIn (along s.path) (oldest t s.known.log) (fact_of p (Byte a) v) → p ≤ s.path.given.moments.end
-      early p a v h = front_early (along s.path) laws kept.traced.entries has_ended.trace has_ended.quiet t (fact_of p (Byte a) v) (subst (λ (fs : List Fact). StandsIn (along s.path) (oldest t fs) (fact_of p (Byte a) v)) (sym kept.traced.logged) h)
+  -- one value of a byte stands in a prefix at a moment
+  pub one_stands : (t p a v w : ℕ) → StandsIn (along s.path) (oldest t s.known.log) (fact_of p (Byte a) v) → StandsIn (along s.path) (oldest t s.known.log) (fact_of p (Byte a) w) → v ≡ w
+  one_stands t p a v w h k =
+      let log = sym kept.traced.logged in
+      stands_single (along s.path) laws kept.traced.entries has_ended.trace has_ended.quiet tracked has_ended.closed t t p v w (Byte a) (subst (λ (fs : List Fact). StandsIn (along s.path) (oldest t fs) (fact_of p (Byte a) v)) log h) (subst (λ (fs : List Fact). StandsIn (along s.path) (oldest t fs) (fact_of p (Byte a) w)) log k)
+
+  -- and the facts on bytes are at moments
+  pub bytes_early : (t m a v : ℕ) → told (oldest t s.known.log) m (Byte a) ≡ Some v → m ≤ s.path.given.moments.end
+  bytes_early t m a v e = front_early (along s.path) laws kept.traced.entries has_ended.trace has_ended.quiet t (fact_of m (Byte a) v) (subst (λ (fs : List Fact). StandsIn (along s.path) (oldest t fs) (fact_of m (Byte a) v)) (sym kept.traced.logged) (listed (fact_of m (Byte a) v) (told_in (oldest t s.known.log) m (Byte a) v e)))
 
   -- and then in each longer prefix
   pub front_more : (t u : ℕ) (f : Fact) → t ≤ u → StandsIn (along s.path) (oldest t s.known.log) f → StandsIn (along s.path) (oldest u s.known.log) f

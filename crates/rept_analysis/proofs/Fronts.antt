@@ -7,8 +7,12 @@ use Rattle.rept_reason.specs.declared.fact.Cell.{Cell}
 use Rattle.rept_reason.specs.declared.fact.Cell.TheVariants.{Register, Byte}
 use Rattle.rept_reason.specs.Facts.{Knowledge, IsCell, told, speaks}
 use Rattle.rept_span.specs.declared.spans.EmptyAt.{EmptyAt}
-use Rattle.rept_span.specs.Ranges.{IsEmptyFirst}
+use Rattle.rept_span.specs.Ranges.{IsEmptyFirst, legs_of}
 use Rattle.rept_span.specs.Filled.{View}
+use Rattle.rept_elf.specs.Segments.{ElfSegment}
+use Rattle.rept_dump.specs.Program.{Program}
+use Rattle.rept_report.specs.Moments.{points_of}
+use Rattle.rept_report.specs.Timeline.{Timeline, time_alone}
 use Rattle.rept_report.specs.Setting.{Setting, HasLaws, way_of}
 use Rattle.rept_report.specs.Conflicts.{IsQuiet}
 use Rattle.rept_report.specs.Log.{oldest, logged_of, entry, place_of}
@@ -20,9 +24,7 @@ use Rattle.rept_report.proofs.Standing.{front_quiet}
 use Rattle.rept_report.proofs.Explained.{known_by, drawn_by, carried_by}
 use Rattle.rept_report.proofs.Implied.{known_stands}
 use Rattle.rept_isa.specs.declared.row.StepRow.{StepRow}
-use Rattle.rept_elf.specs.Segments.{ElfSegment}
-use Rattle.rept_dump.specs.Program.{Program}
-use Rattle.rept_log.specs.Fronts.{Basis, IsFront, stands}
+use Rattle.rept_log.specs.Fronts.{Basis, Stored, basis_of, IsFront, stands}
 use Rattle.rept_analysis.specs.State.{State, with_draws, along}
 use Rattle.rept_analysis.specs.Drawing.{IsRowDrawn, IsSettled}
 use Rattle.rept_analysis.specs.Kept.{is_among, answers, IsFinished, IsKept}
@@ -30,7 +32,7 @@ use Rattle.rept_analysis.specs.Reasoned.{AreSetsOf, IsNotLast}
 use Rattle.rept_analysis.proofs.Passing.{passes_more}
 use Rattle.rept_analysis.proofs.Learning.{known_words}
 use Rattle.rept_analysis.proofs.Answering.{answers_early}
-use Rattle.rept_analysis.proofs.Explaining.{has_ended, ends_with, front_at, front_finds}
+use Rattle.rept_analysis.proofs.Explaining.{has_ended, ends_with, front_at, front_finds, one_stands, bytes_early}
 
 fact_is : (f g : Fact) → f.point ≡ g.point → f.cell ≡ g.cell → f.value ≡ g.value → f ≡ g
 fact_is f g p c v =
@@ -92,20 +94,20 @@ pub filled_ok : {W : Type 0} (S : Setting W) (K : Knowledge) → IsQuiet S K →
 filled_ok S K quiet (Ok x) h = refl
 filled_ok S K quiet (Err e) h = absurd (quiet.full e.point e.reg h.early h.in_file h.empty)
 
--- the prefix of a log, with the sets that are filled from it
-pub front_is : {W : Type 0} (s : State W) → IsKept s → (t : ℕ) (spans : View W) → AreSetsOf (along s.path) (oldest t s.known.log) spans → IsFront (record { sets = s.path.sets; moves = s.path.moves; rules = s.path.rules; given = s.path.given; facts = oldest t s.known.log }) s.known.last spans
-front_is s kept t spans sets = record {
-  few = kept.few;
-  registers = kept.registers;
-  last_is = kept.last_is;
-  sized = sets.sized;
-  words = λ p r v e. known_words s kept p r v (oldest_less t s.known.log kept.once p (Register r) v e);
-  filled = sets.filled;
-}
-
 module _ {W : Type 0} (s : State W) (laws : HasLaws (along s.path)) (kept : IsKept s) (finished : IsFinished s) where
   abbrev Log : List Fact
   Log = s.known.log
+
+  -- the prefix of a log, with the sets that are filled from it
+  pub front_is : (t : ℕ) (spans : View W) → AreSetsOf (along s.path) (oldest t s.known.log) spans → IsFront (front_at s laws kept finished t) s.known.last spans
+  front_is t spans sets = record {
+    last_is = kept.last_is;
+    sized = sets.sized;
+    words = λ p r v e. known_words s kept p r v (oldest_less t s.known.log kept.once p (Register r) v e);
+    filled = sets.filled;
+    early = bytes_early s laws kept finished t;
+    single = one_stands s laws kept finished t;
+  }
 
   abbrev IsAnswered : Fact → Type 0
   IsAnswered f = answers s f.point f.cell ≡ Some f.value
@@ -198,8 +200,12 @@ pub some_after : {A : Type 0} (P Q : A → Type 0) (found : Option A) → ((x : 
 some_after P Q None f h = tt
 some_after P Q (Some x) f h = f x h
 
-pub basis_is : (b : Basis) (rows : List StepRow) (last : List ℕ) (exe : Program) (core : List ElfSegment) (facts : List Fact) → b.rows ≡ rows → b.last ≡ last → (b.exe ≡ exe) × (b.core ≡ core) → b.facts ≡ facts → b ≡ record { rows = rows; last = last; exe = exe; core = core; facts = facts }
-basis_is b rows last exe core facts r l m f = rw (← r, ← l, ← m.0, ← m.1, ← f) refl
+-- what is read of one thread, by what tells its rows and last values
+pub basis_same : {P L : Type 0} (paths : P) (last : L) (timeline : P → Timeline) (values : L → ℕ → List ℕ) (b : Stored P L) (exe : Program) (core : List ElfSegment) (facts : List Fact) (rows : List StepRow) (ends : List ℕ) → b ≡ record { paths = paths; last = last; exe = exe; core = core; facts = facts } → timeline paths ≡ time_alone rows → values last ≡ (λ p. ends) → basis_of timeline values b ≡ record { legs = legs_of rows; moments = points_of (length rows); last = λ p. ends; exe = exe; core = core; facts = facts }
+basis_same {P} {L} paths last timeline values b exe core facts rows ends e t v =
+    ap (λ (x : Stored P L). basis_of timeline values x) e
+    ∙ ap (λ (x : Timeline). record { legs = x.legs; moments = x.moments; last = values last; exe = exe; core = core; facts = facts }) t
+    ∙ ap (λ (x : ℕ → List ℕ). record { legs = legs_of rows; moments = points_of (length rows); last = x; exe = exe; core = core; facts = facts }) v
 
 -- an analysis stays what it is, however often rules were drawn
 module _ {W : Type 0} (s : State W) (kept : IsKept s) (n : ℕ) where

@@ -20,11 +20,10 @@ use Rattle.rept_report.proofs.Told.{told_in, none_some}
 use Rattle.rept_report.proofs.Places.{oldest_more, oldest_less, oldest_new}
 use Rattle.rept_report.proofs.ViewLaws.{known_fact}
 use Rattle.rept_report.proofs.Monotony.{quiet_less}
-use Rattle.rept_report.proofs.Line.{end_is}
 use Rattle.rept_report.proofs.Traces.{derived_below, least_conflict, clash_closure, front_closure, next_derivation}
 use Rattle.rept_analysis.specs.State.{State, all_known, along}
 use Rattle.rept_analysis.specs.Drawing.{IsClash, IsSettled, IsRowDrawn}
-use Rattle.rept_log.specs.Nearest.{source}
+use Rattle.rept_report.proofs.Search.{source}
 use Rattle.rept_analysis.specs.Answers.{byte_answer}
 use Rattle.rept_analysis.specs.Kept.{register_answer, IsKept}
 use Rattle.rept_analysis.specs.Refined.{clash_kind}
@@ -80,16 +79,12 @@ module _ {W : Type 0} (s : State W) (laws : HasLaws (along s.path)) (kept : IsKe
             (facts_of d.0, d.1, logged_in d.0 _ (rw (d.2, kept.traced.logged) at))
       ]
 
-  -- the end of a line is its last point
-  end_at : s.path.given.moments.end ≡ s.path.given.legs.count
-  end_at = end_is s.path.sets s.path.moves s.path.rules s.path.given kept.line
-
   -- a byte of the dump is of the closure, where no conflict needs no fact
-  dump_derived : 0 < s.shown → (a v : ℕ) → a < 2 ^ 32 → s.path.given.dump a ≡ Some v → InClosure (along s.path) (fact_of s.path.given.legs.count (Byte a) v)
+  dump_derived : 0 < s.shown → (a v : ℕ) → a < 2 ^ 32 → s.path.given.dump a ≡ Some v → InClosure (along s.path) (fact_of s.path.given.moments.end (Byte a) v)
   dump_derived some a v small e =
-      let f = fact_of s.path.given.legs.count (Byte a) v in
+      let f = fact_of s.path.given.moments.end (Byte a) v in
       let quiet : IsQuiet (along s.path) (told []) = subst (λ (fs : List Fact). IsQuiet (along s.path) (told fs)) (oldest_zero s.known.log) (kept.calm 0 some) in
-      (f ∷ [], next_derivation (along s.path) laws [] tt quiet f (record { early = let end = end_at in omega (arith, end); cell = small; word = tt; by = carried (last_byte a (sym end_at) refl e) }), inl refl)
+      (f ∷ [], next_derivation (along s.path) laws [] tt quiet f (record { early = omega arith; cell = small; word = tt; by = carried (last_byte a refl refl e) }), inl refl)
 
   -- so is what is answered of bytes
   pub byte_answered : (p a v : ℕ) → a < 2 ^ 32 → byte_answer s p a ≡ Some v → InClosure (along s.path) (fact_of p (Byte a) v)
@@ -99,11 +94,11 @@ module _ {W : Type 0} (s : State W) (laws : HasLaws (along s.path)) (kept : IsKe
         | inr ne ↦ of (omega (arith, ne)) (told (oldest s.shown s.known.log) p (Byte a)) refl (sym (cond-false (eqb s.shown 0) None (source (along s.path) (oldest s.shown s.known.log) a p) (ne_eqb s.shown 0 ne)) ∙ e)
       ]
     where
-      at_end : 0 < s.shown → cond (eqb p s.path.given.legs.count) (s.path.given.dump a) None ≡ Some v → InClosure (along s.path) (fact_of p (Byte a) v)
+      at_end : 0 < s.shown → cond (eqb p s.path.given.moments.end) (s.path.given.dump a) None ≡ Some v → InClosure (along s.path) (fact_of p (Byte a) v)
       at_end some h =
-          elim (cases_eq p s.path.given.legs.count) [
-            | inl is ↦ rw is (dump_derived some a v small (sym (cond-true (eqb p s.path.given.legs.count) (s.path.given.dump a) None (eq-eqb p s.path.given.legs.count is)) ∙ h))
-            | inr ne ↦ absurd (none_some (sym (cond-false (eqb p s.path.given.legs.count) (s.path.given.dump a) None (ne_eqb p s.path.given.legs.count ne)) ∙ h))
+          elim (cases_eq p s.path.given.moments.end) [
+            | inl is ↦ rw is (dump_derived some a v small (sym (cond-true (eqb p s.path.given.moments.end) (s.path.given.dump a) None (eq-eqb p s.path.given.moments.end is)) ∙ h))
+            | inr ne ↦ absurd (none_some (sym (cond-false (eqb p s.path.given.moments.end) (s.path.given.dump a) None (ne_eqb p s.path.given.moments.end ne)) ∙ h))
           ]
 
       of : 0 < s.shown → (x : Option ℕ) → told (oldest s.shown s.known.log) p (Byte a) ≡ x → source (along s.path) (oldest s.shown s.known.log) a p ≡ Some v → InClosure (along s.path) (fact_of p (Byte a) v)

@@ -7,7 +7,7 @@ use Rattle.rept_report.specs.Views.{may_write}
 use Rattle.rept_report.specs.declared.writer.Writer.{Writer}
 use Rattle.rept_report.specs.declared.writer.Writer as writers
 use Rattle.rept_report.specs.Log.{oldest}
-use Rattle.rept_log.specs.Nearest.{source}
+use Rattle.rept_report.proofs.Search.{source}
 use Rattle.rept_analysis.specs.State.{State, along}
 
 -- the byte that is told at a point by the facts that are answered; at the last point also the dump's, once any fact is answered

@@ -1,8 +1,10 @@
 -- How an analysis looks for reasons. This project's own.
-use Rattle.std.specs.Prelude.{◌≡◌, ℕ, ◌+◌, List, Some}
+use Rattle.std.specs.Prelude.{◌≡◌, ℕ, ◌+◌, List, length, Some}
 use Rattle.rept_reason.specs.declared.fact.Fact.{Fact}
 use Rattle.rept_reason.specs.Facts.{told}
+use Rattle.rept_span.specs.Ranges.{legs_of}
 use Rattle.rept_span.specs.Filled.{View, IsFilled}
+use Rattle.rept_report.specs.Moments.{points_of}
 use Rattle.rept_report.specs.Setting.{Setting, way_of}
 use Rattle.rept_report.specs.Log.{oldest, entry}
 use Rattle.rept_log.specs.Fronts.{Basis}
@@ -10,7 +12,7 @@ use Rattle.rept_analysis.specs.State.{Whole, State}
 
 -- the facts at places below t, on the same path
 abbrev pub basis_at : {B W R : Type 0} → Whole B W R → ℕ → Basis
-basis_at a t = record { rows = a.rows; last = a.last; exe = a.exe; core = a.core; facts = oldest t a.known.log }
+basis_at a t = record { legs = legs_of a.rows; moments = points_of (length a.rows); last = λ p. a.last; exe = a.exe; core = a.core; facts = oldest t a.known.log }
 
 -- sets that are filled from these facts
 pub record AreSetsOf {W : Type 0} (S : Setting W) (facts : List Fact) (spans : View W) : Type 0 where

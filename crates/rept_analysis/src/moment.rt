@@ -26,7 +26,7 @@ pub struct Moment<'k, B: ByteFacts, W: Transfer> {
     /// the row's number
     pub row: u32,
     ghost inside: { row < facts.now.last },
-    ghost near: { facts.now.last ≤ 65536 },
+    ghost near: { facts.now.last ≤ 66560 },
     ghost sized: { spans.now.points ≡ facts.now.last + 1 },
     ghost words: { (p r v : ℕ) → told (oldest limit facts.now.log) p (Register r) ≡ Some v → v < 2 ^ 32 },
 }

@@ -22,6 +22,7 @@ use crate::halt::Halt;
 use crate::offset::address;
 use crate::pass::Pass;
 use rept_isa::{Instr, Reg, StepRow, reads, writes};
+use rept_line::OnePath;
 use rept_log::Around;
 use rept_log::views::point_at;
 use rept_partial::Flat;
@@ -195,8 +196,10 @@ impl<'a, B: ByteFacts, W: Transfer, R: RowRules> Analysis<'a, B, W, R> {
     {
         let _len = self.known.len();
         let _count = self.rows.len();
+        let paths = OnePath::new(self.rows);
         let view = Around {
             facts: &self.known,
+            paths: &paths,
             row: i,
         };
         self.rules.draw(self.alloc, row, &view)

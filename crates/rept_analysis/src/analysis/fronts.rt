@@ -10,7 +10,8 @@ ghost use Rattle.rept_analysis.specs.Reasoned.{basis_at, AreSetsOf, KeepsAll};
 
 use super::Analysis;
 use rept_isa::Reg;
-use rept_log::{Below, Front};
+use rept_line::OnePath;
+use rept_log::{Below, Front, OneEnd};
 use rept_reason::{Fact, Reason};
 use rept_span::{Spans, Transfer};
 use rept_versions::ByteFacts;
@@ -45,23 +46,32 @@ impl<'a, B: ByteFacts, W: Transfer, R: RowRules> Analysis<'a, B, W, R> {
         Ok(spans)
     }
 
-    /// The byte that stands in the prefix of the log below a limit.
-    pub(super) fn byte_below(&self, spans: &Spans<W>, limit: u32, point: u32, a: u32) -> Option<u8>
+    /// The byte that stands in the prefix of the log below a limit. `OutOfMemory` says that the room for the search can't be had.
+    pub(super) fn byte_below(
+        &self,
+        spans: &Spans<W>,
+        limit: u32,
+        point: u32,
+        a: u32,
+    ) -> Result<Option<u8>, OutOfMemory>
         requires within { limit ≤ length self.now.known.log }
         requires sets { AreSetsOf (setting_of W.sets W.moves R.rules self.now) (oldest limit self.now.known.log) spans.now }
         requires point { point ≤ length self.now.rows }
-        ensures { result ≡ stands (front_of W.sets W.moves R.rules (basis_at self.now limit)) point (Byte a) }
+        requires complete { self.now.complete ≡ true }
+        ensures { IfOk result (λ byte. byte ≡ stands (front_of W.sets W.moves R.rules (basis_at self.now limit)) point (Byte a)) }
     {
         let _len = self.known.len();
-        let front: Front<'_, '_, B, W, R> = Front::new(
+        let paths = OnePath::new(self.rows);
+        let last = OneEnd::new(self.last.as_slice());
+        let front: Front<'_, '_, OnePath<'_>, OneEnd<'_>, B, W, R> = Front::new(
             &self.known,
             limit,
-            self.rows,
-            self.last.as_slice(),
+            &paths,
+            &last,
             &self.dump,
             spans,
         );
-        front.byte(point, a)
+        front.byte(self.alloc, point, a)
     }
 
     /// The reason of a register's value by what stands in the front.
@@ -78,47 +88,40 @@ impl<'a, B: ByteFacts, W: Transfer, R: RowRules> Analysis<'a, B, W, R> {
         requires point { fact.now.point ≤ length self.old.rows }
         requires cell { fact.now.cell ≡ Register r }
         requires named { 0 < r }
+        requires complete { self.old.complete ≡ true }
         ensures found { IfOk result (λ found. IfSome found (λ reason. IsKnownBecause (setting_in (front_of W.sets W.moves R.rules (basis_at self.old limit))) (stands (front_of W.sets W.moves R.rules (basis_at self.old limit))) fact.now (told_by reason))) }
         ensures none { IfOk result (λ found. IfNone found ((why : Because) → IsKnownBecause (setting_in (front_of W.sets W.moves R.rules (basis_at self.old limit))) (stands (front_of W.sets W.moves R.rules (basis_at self.old limit))) fact.now why → ⊥)) }
         ensures same { KeepsAll (state_of W.sets W.moves R.rules B.store self.old) (state_of W.sets W.moves R.rules B.store self.new) }
     {
         let _len = self.known.len();
-        let front = Front::new(
-            &self.known,
-            limit,
-            self.rows,
-            self.last.as_slice(),
-            &self.dump,
-            spans,
-        );
+        let paths = OnePath::new(self.rows);
+        let last = OneEnd::new(self.last.as_slice());
+        let front = Front::new(&self.known, limit, &paths, &last, &self.dump, spans);
         front.of_register(&mut self.rules, alloc, fact, r)
     }
 
-    /// The reason of a fact by what a row lets one draw from what stands in the front.
+    /// The reason of a byte's fact by what a row lets one draw from what stands in the front.
     pub(super) fn drawn_below(
         &mut self,
         alloc: Global,
         spans: &Spans<W>,
         limit: u32,
         fact: &Fact,
+        a: u32,
     ) -> Result<Option<Reason>, OutOfMemory>
         requires within { limit ≤ length self.old.known.log }
         requires sets { AreSetsOf (setting_of W.sets W.moves R.rules self.old) (oldest limit self.old.known.log) spans.now }
-        requires point { fact.now.point ≤ length self.old.rows }
+        requires cell { fact.now.cell ≡ Byte a }
+        requires complete { self.old.complete ≡ true }
         ensures found { IfOk result (λ found. IfSome found (λ reason. IsDrawnBecause (setting_in (front_of W.sets W.moves R.rules (basis_at self.old limit))) (stands (front_of W.sets W.moves R.rules (basis_at self.old limit))) fact.now (told_by reason))) }
         ensures none { IfOk result (λ found. IfNone found ((why : Because) → IsDrawnBecause (setting_in (front_of W.sets W.moves R.rules (basis_at self.old limit))) (stands (front_of W.sets W.moves R.rules (basis_at self.old limit))) fact.now why → ⊥)) }
         ensures same { KeepsAll (state_of W.sets W.moves R.rules B.store self.old) (state_of W.sets W.moves R.rules B.store self.new) }
     {
         let _len = self.known.len();
-        let front = Front::new(
-            &self.known,
-            limit,
-            self.rows,
-            self.last.as_slice(),
-            &self.dump,
-            spans,
-        );
-        front.drawn(&mut self.rules, alloc, fact)
+        let paths = OnePath::new(self.rows);
+        let last = OneEnd::new(self.last.as_slice());
+        let front = Front::new(&self.known, limit, &paths, &last, &self.dump, spans);
+        front.of_drawn_byte(&mut self.rules, alloc, fact, a)
     }
 
     /// The reason by which a byte is carried in the front.
@@ -134,15 +137,18 @@ impl<'a, B: ByteFacts, W: Transfer, R: RowRules> Analysis<'a, B, W, R> {
         requires sets { AreSetsOf (setting_of W.sets W.moves R.rules self.now) (oldest limit self.now.known.log) spans.now }
         requires point { fact.now.point ≤ length self.now.rows }
         requires cell { fact.now.cell ≡ Byte a }
+        requires complete { self.now.complete ≡ true }
         ensures found { IfOk result (λ found. IfSome found (λ reason. IsCarriedBecause (setting_in (front_of W.sets W.moves R.rules (basis_at self.now limit))) (front_of W.sets W.moves R.rules (basis_at self.now limit)).facts fact.now (told_by reason))) }
         ensures none { IfOk result (λ found. IfNone found ((why : Because) → IsCarriedBecause (setting_in (front_of W.sets W.moves R.rules (basis_at self.now limit))) (front_of W.sets W.moves R.rules (basis_at self.now limit)).facts fact.now why → ⊥)) }
     {
         let _len = self.known.len();
-        let front: Front<'_, '_, B, W, R> = Front::new(
+        let paths = OnePath::new(self.rows);
+        let last = OneEnd::new(self.last.as_slice());
+        let front: Front<'_, '_, OnePath<'_>, OneEnd<'_>, B, W, R> = Front::new(
             &self.known,
             limit,
-            self.rows,
-            self.last.as_slice(),
+            &paths,
+            &last,
             &self.dump,
             spans,
         );

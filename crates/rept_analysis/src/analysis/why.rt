@@ -83,31 +83,39 @@ impl<'a, B: ByteFacts, W: Transfer, R: RowRules> Analysis<'a, B, W, R> {
         }
     }
 
-    /// Whether a byte's fact stands in the prefix of the log below a limit.
-    fn stands_below(&self, spans: &Spans<W>, limit: u32, fact: &Fact, a: u32) -> bool
+    /// Whether a byte's fact stands in the prefix of the log below a limit. `OutOfMemory` says that the room for the search can't be had.
+    fn stands_below(
+        &self,
+        spans: &Spans<W>,
+        limit: u32,
+        fact: &Fact,
+        a: u32,
+    ) -> Result<bool, OutOfMemory>
         requires within { limit ≤ length self.now.known.log }
         requires sets { AreSetsOf (setting_of W.sets W.moves R.rules self.now) (oldest limit self.now.known.log) spans.now }
         requires point { fact.now.point ≤ length self.now.rows }
         requires cell { fact.now.cell ≡ Byte a }
         requires complete { self.now.complete ≡ true }
-        ensures { IsTrue result ↔ StandsIn (setting_of W.sets W.moves R.rules self.now) (oldest limit self.now.known.log) fact.now }
+        ensures { IfOk result (λ stands. IsTrue stands ↔ StandsIn (setting_of W.sets W.moves R.rules self.now) (oldest limit self.now.known.log) fact.now) }
     {
         self.held();
-        match self.byte_below(spans, limit, fact.point, a) {
-            Some(byte) => u32::from(byte) == fact.value,
-            None => false,
+        let found = self.byte_below(spans, limit, fact.point, a)?;
+        match found {
+            Some(byte) => Ok(u32::from(byte) == fact.value),
+            None => Ok(false),
         }
     }
 
-    /// How many facts in the log, from the oldest on, are enough for a byte's fact to stand in them.
-    fn least_front(&self, spans: &mut Spans<W>, fact: &Fact, a: u32) -> u32
+    /// How many facts in the log, from the oldest on, are enough for a byte's fact to stand in them. `OutOfMemory` says that the room for a search
+    /// can't be had.
+    fn least_front(&self, spans: &mut Spans<W>, fact: &Fact, a: u32) -> Result<u32, OutOfMemory>
         requires sized { spans.old.points ≡ length self.now.rows + 1 }
         requires point { fact.now.point ≤ length self.now.rows }
         requires cell { fact.now.cell ≡ Byte a }
         requires complete { self.now.complete ≡ true }
         requires known { answers (state_of W.sets W.moves R.rules B.store self.now) fact.now.point fact.now.cell ≡ Some fact.now.value }
-        ensures least { IsLeastFront (setting_of W.sets W.moves R.rules self.now) self.now.known.log fact.now result }
-        ensures within { result ≤ length self.now.known.log }
+        ensures least { IfOk result (λ t. IsLeastFront (setting_of W.sets W.moves R.rules self.now) self.now.known.log fact.now t) }
+        ensures within { IfOk result (λ t. t ≤ length self.now.known.log) }
         ensures sized { spans.new.points ≡ length self.now.rows + 1 }
     {
         self.held();
@@ -116,13 +124,14 @@ impl<'a, B: ByteFacts, W: Transfer, R: RowRules> Analysis<'a, B, W, R> {
         while low < high {
             let middle = low + (high - low) / 2;
             self.fill_sets(spans, middle);
-            if self.stands_below(spans, middle, fact, a) {
+            let stands = self.stands_below(spans, middle, fact, a)?;
+            if stands {
                 high = middle;
             } else {
                 low = middle + 1;
             }
         }
-        low
+        Ok(low)
     }
 
     /// The reason of a byte's fact that is the last one of its least front.
@@ -146,7 +155,7 @@ impl<'a, B: ByteFacts, W: Transfer, R: RowRules> Analysis<'a, B, W, R> {
     {
         self.held();
         self.fill_sets(spans, place);
-        self.drawn_below(alloc, spans, place, fact)
+        self.drawn_below(alloc, spans, place, fact, a)
     }
 
     /// The reason of any other byte's fact.
@@ -213,7 +222,7 @@ impl<'a, B: ByteFacts, W: Transfer, R: RowRules> Analysis<'a, B, W, R> {
             return Ok(None);
         }
         let mut spans = self.sets_below(0)?;
-        let limit = self.least_front(&mut spans, fact, a);
+        let limit = self.least_front(&mut spans, fact, a)?;
         if self.is_last(limit, fact) {
             return self.why_drawn(alloc, &mut spans, limit - 1, fact, a);
         }

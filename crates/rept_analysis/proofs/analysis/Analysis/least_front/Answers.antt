@@ -1,4 +1,4 @@
-use Rattle.std.proofs.Common.{◌+◌, ◌-◌, ◌/◌, ℕ, sym, subst, refl, arith}
+use Rattle.std.proofs.Common.{◌+◌, ◌-◌, ◌/◌, ℕ, sym, subst, ◌∙◌, arith}
 use Rattle.std.proofs.lemmas.Bool.{false≢true}
 use Rattle.rept_report.specs.Log.{oldest}
 use Rattle.rept_report.specs.Reasons.{StandsIn}
@@ -19,8 +19,8 @@ loop-low-init g c =
       below = λ u less. absurd (omega (arith, less));
     }
 
-pub loop-low-preserved-then-stands_below : goal.loop-low-preserved-then-stands_below
-loop-low-preserved-then-stands_below g c =
+pub loop-low-preserved-then-stands : goal.loop-low-preserved-then-stands
+loop-low-preserved-then-stands g c =
     let i = c.loop-low.invariant in
     let less = c.loop-low-test.true in
     let high = i.high in
@@ -28,7 +28,7 @@ loop-low-preserved-then-stands_below g c =
       low = omega (arith, less);
       high = omega (arith, less, high);
       sized = c.fill_sets.ensures.sized;
-      stands = c.if-stands_below.ensures.0 refl;
+      stands = c.in_ok-stands.ensures.0 c.if-stands.true;
       below = i.below;
     }
 
@@ -42,5 +42,5 @@ loop-low-preserved g c =
       high = i.high;
       sized = c.fill_sets.ensures.sized;
       stands = i.stands;
-      below = λ u here h. false≢true (c.if-stands_below.ensures.1 (front_more (state_of g.W.Partial.sets g.W.Transfer.moves g.R.RowRules.rules g.B.ByteFacts.store c.args.self.now) (record { sets = g.met.W.Partial.lawful; moves = g.met.W.Transfer.covers; rules = g.met.R.RowRules.lawful; legs = rows_within _; moments = are_points _ }) c.held.ensures (c.held.ensures.finished c.requires.complete) u middle c.args.fact.now (omega (arith, here)) h));
+      below = λ u here h. false≢true (sym c.if-stands.false ∙ c.in_ok-stands.ensures.1 (front_more (state_of g.W.Partial.sets g.W.Transfer.moves g.R.RowRules.rules g.B.ByteFacts.store c.args.self.now) (record { sets = g.met.W.Partial.lawful; moves = g.met.W.Transfer.covers; rules = g.met.R.RowRules.lawful; legs = rows_within _; moments = are_points _ }) c.held.ensures (c.held.ensures.finished c.requires.complete) u middle c.args.fact.now (omega (arith, here)) h));
     }
