@@ -8,8 +8,5 @@ mod names;
 
 pub use bounds::bounds_hold;
 pub use images::images_of;
-pub use load::{LoadStop, load_names};
+pub use load::{LoadStop, load_names, load_within};
 pub use names::asked_names;
-
-#[cfg(test)]
-mod tests;

@@ -121,8 +121,8 @@ pub fn load_names<H: Shelf>(
     load_within(alloc, shelf, names, MOST_IN_ALL)
 }
 
-/// The same with room for so many bytes in all.
-pub(crate) fn load_within<H: Shelf>(
+/// What [`load_names`] keeps with room for so many bytes in all; its stops are the same.
+pub fn load_within<H: Shelf>(
     alloc: Global,
     shelf: &mut H,
     names: &[&str],

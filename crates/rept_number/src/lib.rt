@@ -2,7 +2,5 @@
 #![tactic(auto)]
 
 pub mod digits;
-#[cfg(test)]
-mod tests;
 
 pub use digits::{decimal, number_in};

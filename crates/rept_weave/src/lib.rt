@@ -9,6 +9,3 @@ mod writer;
 pub use fault::{Place, WeaveFault};
 pub use stretch::{Hart, Harts, Stretch};
 pub use writer::weave;
-
-#[cfg(test)]
-mod tests;

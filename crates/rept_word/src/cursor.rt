@@ -117,29 +117,3 @@ fn ones(count: u32) -> u64
 {
     ((1u128 << count) - 1) as u64
 }
-
-#[cfg(test)]
-mod tests {
-    use super::*;
-
-    // Worked by hand from the bits of the bytes.
-    #[test]
-    fn takes_bits(rt: HostRuntime) {
-        let mut start = BitCursor::new(&[0x13, 0x00, 0x20]);
-        assert_eq!(rt; start.take(2), 3);
-        assert_eq!(rt; start.take(2), 0);
-        assert_eq!(rt; start.take(1), 1);
-        assert_eq!(rt; start.take(0), 0);
-        assert_eq!(rt; start.take(2), 0);
-        assert_eq!(rt; start.take(30), 0x4000);
-        assert_eq!(rt; start.take(64), 0);
-        let mut ones = BitCursor::new(&[0x8f]);
-        assert_eq!(rt; ones.take(64), 0xffff_ffff_ffff_ff8f);
-        assert_eq!(rt; ones.take(64), 0xffff_ffff_ffff_ffff);
-        assert_eq!(rt; ones.take(1), 1);
-        let mut across = BitCursor::new(&[0x80, 0x55, 0x01]);
-        assert_eq!(rt; across.take(7), 0);
-        assert_eq!(rt; across.take(10), 0x2ab);
-        assert_eq!(rt; across.take(64), 0);
-    }
-}

@@ -67,33 +67,3 @@ fn digit_at(n: u32, bit: u32) -> u8
         b'a' + (digit - 10)
     }
 }
-
-#[cfg(test)]
-mod tests {
-    use super::*;
-    use std::alloc::AllocError;
-
-    #[test]
-    fn writes_numbers(rt: HostRuntime) -> Result<(), AllocError> {
-        let mut text = Text::new(rt.alloc());
-        assert_eq!(rt; text.bytes(), b"".as_slice());
-        text.push_decimal(0)?;
-        text.push(b" ")?;
-        text.push_decimal(4_294_967_295)?;
-        text.push(b" ")?;
-        text.push_word(0x10ab_cdef)?;
-        text.push(b" ")?;
-        text.push_word(9)?;
-        text.push(b" ")?;
-        text.push_byte(0xaf)?;
-        text.push_byte(0x07)?;
-        text.push(b" ")?;
-        text.push_count(18_446_744_073_709_551_615)?;
-        text.push(b"")?;
-        assert_eq!(rt;
-            text.bytes(),
-            b"0 4294967295 0x10abcdef 0x00000009 af07 18446744073709551615".as_slice()
-        );
-        Ok(())
-    }
-}

@@ -6,6 +6,8 @@ mod dump;
 #[cfg(test)]
 mod elf;
 #[cfg(test)]
+mod mapfiles;
+#[cfg(test)]
 mod mapped;
 #[cfg(test)]
 mod maps;

@@ -1,5 +1,9 @@
-//! Tests of `rept_weave`, on its public calls.
+//! Traces of several harts: those that `rept_weave` writes, and what is rebuilt of them. There are tests alone.
 #![tactic(auto)]
 
 #[cfg(test)]
+mod harts;
+#[cfg(test)]
 mod tests;
+#[cfg(test)]
+mod writing;

@@ -1,5 +1,7 @@
-//! Words of a command line with what they mean. There are tests alone.
+//! Words of a command line with what they mean, numbers and printed forms. There are tests alone.
 #![tactic(auto)]
 
+#[cfg(test)]
+mod bits;
 #[cfg(test)]
 mod tests;

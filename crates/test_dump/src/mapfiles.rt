@@ -1,8 +1,7 @@
 //! Names of a list, and what is kept of their files.
 
-use crate::load::load_within;
-use crate::{asked_names, load_names};
 use rept_elf::{Image, Want};
+use rept_mapfiles::{asked_names, load_names, load_within};
 use rept_maps::Maps;
 use rept_ports::CalmShelf;
 use std::alloc::{AllocError, Global};

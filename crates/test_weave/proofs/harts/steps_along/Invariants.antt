@@ -1,7 +1,7 @@
 use Rattle.std.specs.List.{All}
 use Rattle.rept_steps.specs.Linked.{EndBefore}
 use Rattle.rept_encode.specs.Walkable.{IsStepped}
-use Rattle.test_weave.proofs.tests.steps_along.Given as goal
+use Rattle.test_weave.proofs.harts.steps_along.Given as goal
 
 abbrev pub invariant-loop-next : goal.invariant-loop-next
 invariant-loop-next l = record {
