@@ -537,6 +537,18 @@ module _ (C : Course) (D : Ending) (x : Playing) (has : HasTurns C x.turns) (pla
       ∙ ap (λ (p : ℕ). registers u p) (last_point u (steps_before u turns count) (steps_all u turns) ∙ steps_all u turns)
       ∙ ap (λ (k : ℕ). (world k).register u) (place_end u turns)
 
+  first_registers : (u s : ℕ) → (h.world 0).register u s ≡ (world 0).register u s
+  first_registers u s =
+      let there = steps_there u turns 0 (omega arith) in
+      let mono = steps_mono u turns 0 (place_in u turns 0) (omega arith) in
+      let none : steps_before u turns 0 ≡ 0 = omega arith in
+      ap (λ (w : World). w.register u s) (world_is 0 0 0 (omega arith) (omega arith))
+      ∙ ap (λ (n : ℕ). registers u (held u n) s) none
+      ∙ quiet u 0 (place_in u turns 0) (omega arith) (place_most u turns 0) (omega arith) s
+
+  first_memory : (h.world 0).memory ≡ (world 0).memory
+  first_memory = ap (λ (w : World). w.memory) (world_is 0 0 0 (omega arith) (omega arith))
+
   last_memory : (h.world h.ticks).memory ≡ (world count).memory
   last_memory = ap (λ (w : World). w.memory) (world_is (4 * count) count 0 (omega arith) (omega arith))
 
@@ -626,5 +638,6 @@ module _ (C : Course) (D : Ending) (x : Playing) (has : HasTurns C x.turns) (pla
     play_executed = record {
       history = h;
       execution = execution;
+      first = record { registers = first_registers; memory = λ a. ap (λ (f : ℕ → ℕ). f a) first_memory };
       last = record { registers = λ t s. ap (λ (f : ℕ → ℕ). f s) (last_registers t); memory = λ a. ap (λ (f : ℕ → ℕ). f a) last_memory };
     }

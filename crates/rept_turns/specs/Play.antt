@@ -29,8 +29,9 @@ pub record IsPlay (C : Course) (D : Ending) (x : Playing) : Type 0 where
   pub registers_end : (t s v : ℕ) → 0 < s → slice_get (D.registers t) s ≡ Some v → (last_world x).register t s ≡ v
   pub bytes_end : (a v : ℕ) → D.dump a ≡ Some v → (last_world x).memory a ≡ v
 
--- there is an execution of the course that ends in the play's last world
+-- there is an execution of the course that begins in the play's first world and ends in its last one
 pub record IsExecuted (C : Course) (D : Ending) (x : Playing) : Type 0 where
   pub history : History
   pub execution : IsExecution C D history
+  pub first : Stays (record { old = x.world 0; new = history.world 0 })
   pub last : Stays (record { old = last_world x; new = history.world history.ticks })

@@ -53,6 +53,24 @@ abbrev pub AreApart : List Turn → Type 0
 AreApart [] = Unit {0}
 AreApart (turn ∷ turns) = All (λ later. later.thread ≡ turn.thread → turn.end ≤ later.begin) turns × AreApart turns
 
+-- nor do those of one stream
+abbrev pub AreApartByStream : List Turn → Type 0
+AreApartByStream [] = Unit {0}
+AreApartByStream (turn ∷ turns) = All (λ later. later.stream ≡ turn.stream → turn.end ≤ later.begin) turns × AreApartByStream turns
+
+-- each takes some time
+abbrev pub TakeTime : List Turn → Type 0
+TakeTime turns = All (λ turn. turn.begin < turn.end) turns
+
+-- the first turn of a stream
+abbrev pub first_on : ℕ → List Turn → Option Turn
+first_on s [] = None
+first_on s (turn ∷ turns) = if turn.stream == s then Some turn else first_on s turns
+
+-- the streams begin together, at time 0
+abbrev pub BeginTogether : List Turn → Type 0
+BeginTogether turns = (s : ℕ) (turn : Turn) → first_on s turns ≡ Some turn → turn.begin ≡ 0
+
 -- the same rows, in a time that may begin earlier and end later
 pub record IsWider (turn wide : Turn) : Type 0 where
   pub thread : wide.thread ≡ turn.thread

@@ -13,7 +13,7 @@ pub fn turns_are_sound()
 {}
 
 /// A play whose turns have rows and keep the order of time is an execution of its course, if each call is the last row of its slice.
-/// It ends in the play's last world.
+/// It begins in the play's first world and ends in its last one.
 pub fn plays_are_executions()
     ensures { (C : Course) (D : Ending) (x : Playing) → HasTurns C x.turns → IsPlay C D x → AreSome x.turns → AreInOrder x.turns → CallsEnd C → IsExecuted C D x }
 {}
