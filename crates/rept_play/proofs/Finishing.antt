@@ -15,9 +15,8 @@ use Rattle.rept_machine.specs.declared.machine.Machine.{Machine}
 use Rattle.rept_machine.specs.Machine.{state_of}
 use Rattle.rept_steps.specs.declared.slice.Slice.{Slice}
 use Rattle.rept_steps.specs.declared.threads.ThreadRows.{ThreadRows}
-use Rattle.rept_steps.specs.Course.{Course, Row, row_of, rows_of, no_thread, row_at, is_call, is_call_row, calls, CallsEnd, slice_of}
-use Rattle.rept_steps.specs.Runs.{course_of}
-use Rattle.rept_order.specs.History.{seen_by, OthersKeep, Executes, Ending}
+use Rattle.rept_steps.specs.Course.{Course, Row, row_of, rows_of, no_thread, row_at, is_call, is_call_row, calls, CallsEnd, IsSound, slice_of}
+use Rattle.rept_order.specs.History.{World, seen_by, OthersKeep, Stays, Executes, Ending}
 use Rattle.rept_turns.specs.declared.turn.Turn.{Turn}
 use Rattle.rept_turns.specs.Turns.{slice_by, all_rows, rows_in, steps_before, turn_at, HasTurns, slices_from}
 use Rattle.rept_turns.specs.Play.{Playing, IsPlay}
@@ -26,8 +25,8 @@ use Rattle.rept_turns.proofs.Slices.{turns_sound, slices_own, slices_other, same
 use Rattle.rept_turns.proofs.Playing.{play_executed}
 use Rattle.rept_play.specs.Shares.{world_of, Owns, sees}
 use Rattle.rept_play.specs.Code.{drawn_in, instr_in, row_in, played_in, CallsLast, IsPlayable, IsThread, AreThreads}
-use Rattle.rept_play.specs.Ran.{Ran, GoesBy}
-use Rattle.rept_play.specs.Played.{IsLeft, IsPlayed}
+use Rattle.rept_play.specs.Ran.{Ran, GoesBy, IsStart}
+use Rattle.rept_play.specs.Played.{IsLeft, IsFirst, IsExecutedFrom, IsPlayed, course_until}
 use Rattle.rept_play.specs.declared.playing.Played.{Played}
 use Rattle.rept_play.proofs.Sharing.{shared, others_stay, jumps, jumps_alone, share_state, who_sees}
 use Rattle.rept_play.proofs.Turning.{thread_below, no_slices, no_rows}
@@ -63,12 +62,12 @@ in_slice t first (h ∷ turns) i s P all least found =
           in_slice t first turns i s P (subst (λ (ss : List Slice). All P ss) not_own all) least (subst (λ (ss : List Slice). slice_of ss i ≡ Some s) not_own found)
     ]
 
-module _ (code : List Instr) (turns : List Turn) (played : Played) (playable : IsPlayable code turns) (are : AreThreads code turns played.run.threads) where
+module _ (code : List Instr) (turns : List Turn) (played : Played) (playable : IsPlayable code turns) (are : AreThreads code turns played.run.threads) (dark : Option ℕ) where
   abbrev threads : List ThreadRows
   threads = played.run.threads
 
   abbrev C : Course
-  C = course_of played.run
+  C = course_until dark played.run
 
   record Has (t : ℕ) : Type 0 where
     pub thread : ThreadRows
@@ -88,7 +87,7 @@ module _ (code : List Instr) (turns : List Turn) (played : Played) (playable : I
   thread_is : (t : ℕ) (own : Has t) → unwrap_or (slice_get threads t) no_thread ≡ own.thread
   thread_is t own = ap (λ (o : Option ThreadRows). unwrap_or o no_thread) own.at
 
-  has : HasTurns C turns
+  pub has : HasTurns C turns
   has = record {
     slices = λ t. elim (cases_lt t 4) [
       | inl few ↦ let own = has_thread t few in ap (λ (x : ThreadRows). x.slices) (thread_is t own) ∙ own.is.slices
@@ -100,7 +99,7 @@ module _ (code : List Instr) (turns : List Turn) (played : Played) (playable : I
     ];
   }
 
-  row_is : (t i : ℕ) → i < rows_in t turns → row_at C (row_of t i) ≡ Some (row_in code t i)
+  pub row_is : (t i : ℕ) → i < rows_in t turns → row_at C (row_of t i) ≡ Some (row_in code t i)
   row_is t i less =
       elim (cases_lt t 4) [
         | inl few ↦ let own = has_thread t few in ap (λ (x : ThreadRows). slice_get x.steps i) (thread_is t own) ∙ own.is.listed i less
@@ -176,6 +175,10 @@ module _ (code : List Instr) (turns : List Turn) (played : Played) (playable : I
     seen_small t s few (inl own) = let a = own.1 in omega arith
     seen_small t s few (inr number) = omega arith
 
+    seen_some : (t s : ℕ) → Owns t s ⊎ (s ≡ 17) → s ≡ 0 → ⊥
+    seen_some t s (inl own) none = let a = own.0 in absurd (omega arith)
+    seen_some t s (inr number) none = absurd (omega arith)
+
     last_share : (t s v : ℕ) (b : Bool) → t < 4 → sees t s ≡ b → cond b (slice_index played.registers s) 0 ≡ v → cond b ((ran.states (all_rows turns)).register s) 0 ≡ v
     last_share t s v true few own left = ap (λ (u : State). u.register s) ran.now ∙ sym (saved s (seen_small t s few (who_sees t s own))) ∙ left
     last_share t s v false few other left = left
@@ -195,12 +198,21 @@ module _ (code : List Instr) (turns : List Turn) (played : Played) (playable : I
       bytes_end = λ a v dumped. last_byte D left a v dumped;
     }
 
-    pub is_played : played.run.dark ≡ None → played.run.skipped ≡ 0 → IsPlayed code turns played
-    is_played told none = record {
-      played_turns = has;
-      rows = row_is;
-      told = told;
-      none_skipped = none;
-      sound = turns_sound C turns has playable.order playable.apart ends;
-      execution = λ D left. let done = play_executed C D x has (plays D left) playable.some playable.order ends in (done.history, done.execution);
+    -- the first world
+    first_share : (from : List ℕ) → IsStart from (ran.states 0) → (t s : ℕ) (b : Bool) → sees t s ≡ b → cond b ((ran.states 0).register s) 0 ≡ cond b (slice_index from s) 0
+    first_share from start t s true own = start.registers s ∙ ap (λ (b : Bool). cond b 0 (slice_index from s)) (ne_eqb s 0 (seen_some t s (who_sees t s own)))
+    first_share from start t s false other = refl
+
+    is_first : (from : List ℕ) → IsStart from (ran.states 0) → (w : World) → Stays (record { old = x.world 0; new = w }) → IsFirst from w
+    is_first from start w stays = record {
+      registers = λ t s. stays.registers t s ∙ first_share from start t s (sees t s) refl;
+      memory = λ a. stays.memory a ∙ start.memory a;
     }
+
+    pub executed : (from : List ℕ) → IsStart from (ran.states 0) → (D : Ending) → IsLeft D played → IsExecutedFrom from C D
+    executed from start D left =
+        let done = play_executed C D x has (plays D left) playable.some playable.order ends in
+        record { history = done.history; execution = done.execution; first = is_first from start (done.history.world 0) done.first }
+
+  pub run_sound : IsSound C
+  run_sound = turns_sound C turns has playable.order playable.apart ends

@@ -97,16 +97,20 @@ longer_before k states new j most = rw (le-leb j k most) refl
 longer_last : (k : ℕ) (states : ℕ → State) (new : State) (j : ℕ) → k < j → longer k states new j ≡ new
 longer_last k states new j more = rw (lt-leb j k more) refl
 
-pub ran_first : (code : List Instr) (turns : List Turn) (machine : Machine) (words : List ℕ) → AreWords code turns words → code_of machine ≡ words → base_of machine ≡ 65536 → pc_of machine ≡ 65536 → IsState (state_of machine) → Ran code turns 0 machine
-ran_first code turns machine words are is base pc state = record {
-  words = subst (λ (ws : List ℕ). AreWords code turns ws) (sym is) are;
-  base = base;
-  pc = pc;
-  states = λ j. state_of machine;
-  now = refl;
-  are = λ j most. state;
-  goes = λ j turn less at. absurd (omega arith);
-}
+pub ran_first : (code : List Instr) (turns : List Turn) (machine : Machine) (words : List ℕ) → AreWords code turns words → code_of machine ≡ words → base_of machine ≡ 65536 → pc_of machine ≡ 65536 → IsState (state_of machine)
+    → (ran : Ran code turns 0 machine) × (ran.states 0 ≡ state_of machine)
+ran_first code turns machine words are is base pc state = (
+  record {
+    words = subst (λ (ws : List ℕ). AreWords code turns ws) (sym is) are;
+    base = base;
+    pc = pc;
+    states = λ j. state_of machine;
+    now = refl;
+    are = λ j most. state;
+    goes = λ j turn less at. absurd (omega arith);
+  },
+  refl,
+)
 
 module _ (code : List Instr) (turns : List Turn) (k : ℕ) (old : Machine) (playable : IsPlayable code turns) (below : k < all_rows turns) (ran : Ran code turns k old) where
   here : (turn : Turn) × (turn_at turns k ≡ Some turn)
@@ -178,13 +182,17 @@ module _ (code : List Instr) (turns : List Turn) (k : ℕ) (old : Machine) (play
           | inr early ↦ subst IsState (sym (longer_before k ran.states (state_of new) j early)) (ran.are j early)
         ]
 
-    pub ran_on : Ran code turns (k + 1) new
-    ran_on = record {
-      words = subst (λ (ws : List ℕ). AreWords code turns ws) (sym kept) ran.words;
-      base = base ∙ ran.base;
-      pc = let few = playable.few in let pc = ran.pc in let to = leads in omega arith;
-      states = states;
-      now = longer_last k ran.states (state_of new) (k + 1) (omega arith);
-      are = are;
-      goes = goes;
-    }
+    -- one step more, of a machine that began as before
+    pub ran_on : (next : Ran code turns (k + 1) new) × (next.states 0 ≡ ran.states 0)
+    ran_on = (
+      record {
+        words = subst (λ (ws : List ℕ). AreWords code turns ws) (sym kept) ran.words;
+        base = base ∙ ran.base;
+        pc = let few = playable.few in let pc = ran.pc in let to = leads in omega arith;
+        states = states;
+        now = longer_last k ran.states (state_of new) (k + 1) (omega arith);
+        are = are;
+        goes = goes;
+      },
+      longer_before k ran.states (state_of new) 0 (omega arith),
+    )

@@ -1,14 +1,20 @@
 -- What a made run of several threads is. This project's own.
-use Rattle.std.specs.Prelude.{◌≡◌, ℕ, ◌<◌, length}
+use Rattle.std.specs.Prelude.{◌≡◌, ℕ, ◌<◌, length, All}
+use Rattle.rept_turns.specs.Turns.{AreApartByStream, TakeTime, BeginTogether}
 use Rattle.rept_play.specs.declared.made.Made.{Made}
 use Rattle.rept_play.specs.declared.score.Sizes.{Sizes}
-use Rattle.rept_play.specs.Code.{drawn_in}
-use Rattle.rept_play.specs.Drawn.{made_instr, drawn_turns}
+use Rattle.rept_play.specs.Code.{drawn_in, IsPlayable}
+use Rattle.rept_play.specs.Drawn.{made_instr, drawn_turns, start_registers}
 use Rattle.rept_play.specs.Played.{IsPlayed}
 
--- the code and turns of the seed, and their play
+-- the code and turns of the seed, which streams can tell from time 0 on, and their play
 pub record IsMade (seed : ℕ) (sizes : Sizes) (made : Made) : Type 0 where
   pub size : length made.code.items ≡ 60
   pub code_drawn : (t s : ℕ) → t < 4 → s < 15 → drawn_in made.code.items t s ≡ made_instr seed t s
   pub turns_drawn : made.turns.items ≡ drawn_turns sizes seed sizes.turns
-  pub is_played : IsPlayed made.code.items made.turns.items made.played
+  pub playable : IsPlayable made.code.items made.turns.items
+  pub streams : All (λ turn. turn.stream < sizes.streams) made.turns.items
+  pub apart : AreApartByStream made.turns.items
+  pub long : TakeTime made.turns.items
+  pub together : BeginTogether made.turns.items
+  pub is_played : IsPlayed made.code.items made.turns.items (start_registers seed) made.played

@@ -1,5 +1,5 @@
 -- A machine that has made the first steps of a play. It stands in private contracts alone.
-use Rattle.std.specs.Prelude.{◌≡◌, ℕ, suc, ◌+◌, ◌*◌, ◌<◌, ◌≤◌, List, Some}
+use Rattle.std.specs.Prelude.{◌≡◌, ℕ, suc, ◌+◌, ◌*◌, ◌<◌, ◌≤◌, ◌==◌, if◌then◌else◌, List, Some, slice_index}
 use Rattle.rept_isa.specs.declared.instr.Instr.{Instr}
 use Rattle.rept_isa.specs.Rows.{of_word}
 use Rattle.rept_machine.specs.State.{State, IsState}
@@ -26,3 +26,8 @@ pub record Ran (code : List Instr) (turns : List Turn) (k : ℕ) (machine : Mach
   pub now : states k ≡ state_of machine
   pub are : (j : ℕ) → j ≤ k → IsState (states j)
   pub goes : (j : ℕ) (turn : Turn) → j < k → turn_at turns j ≡ Some turn → GoesBy (played_at code turns turn j) (states j) (states (suc j))
+
+-- a machine that hasn't run yet: these registers, and a memory of zeros
+pub record IsStart (from : List ℕ) (s : State) : Type 0 where
+  pub registers : (r : ℕ) → s.register r ≡ (if r == 0 then 0 else slice_index from r)
+  pub memory : (a : ℕ) → s.memory a ≡ 0

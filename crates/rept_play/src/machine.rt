@@ -6,7 +6,7 @@ ghost use Rattle.rept_machine.specs.Machine.{state_of};
 ghost use Rattle.rept_turns.specs.declared.turn.Turn.{Turn};
 ghost use Rattle.rept_turns.specs.Turns.{all_rows};
 ghost use Rattle.rept_play.specs.Code.{IsPlayable, AreWords};
-ghost use Rattle.rept_play.specs.Ran.{Ran};
+ghost use Rattle.rept_play.specs.Ran.{Ran, IsStart};
 
 use crate::code::word_in;
 use crate::count::{all_rows, steps_before, thread_at};
@@ -32,7 +32,7 @@ pub fn program(alloc: Global, code: &[Instr], turns: &[Turn]) -> Result<Vec<u32>
 /// Makes one step more. The code never halts, so nothing but memory can be wanting.
 fn step(machine: &mut Machine<'_>) -> Result<(), AllocError>
     requires { (code : List Instr) × (turns : List Turn) × (k : ℕ) × IsPlayable code turns × (k < all_rows turns) × Ran code turns k machine.old }
-    ensures { OnOk result ((code : List Instr) (turns : List Turn) (k : ℕ) → IsPlayable code turns → k < all_rows turns → Ran code turns k machine.old → Ran code turns (k + 1) machine.new) }
+    ensures { OnOk result ((code : List Instr) (turns : List Turn) (k : ℕ) → IsPlayable code turns → k < all_rows turns → (ran : Ran code turns k machine.old) → (next : Ran code turns (k + 1) machine.new) × (next.states 0 ≡ ran.states 0)) }
 {
     match machine.step() {
         Ok(_) => Ok(()),
@@ -50,7 +50,7 @@ pub fn run<'a>(
     registers: [u32; 32],
 ) -> Result<Machine<'a>, AllocError>
     requires { (code : List Instr) × (turns : List Turn) × IsPlayable code turns × AreWords code turns words.now }
-    ensures { IfOk result (λ machine. (code : List Instr) (turns : List Turn) → IsPlayable code turns → AreWords code turns words.now → Ran code turns (all_rows turns) machine) }
+    ensures { IfOk result (λ machine. (code : List Instr) (turns : List Turn) → IsPlayable code turns → AreWords code turns words.now → (ran : Ran code turns (all_rows turns) machine) × IsStart registers (ran.states 0)) }
 {
     let mut machine = Machine::new(alloc, words, 0x1_0000, 0x1_0000, registers);
     for k in 0..words.len() {

@@ -1,6 +1,7 @@
 //! Made runs of several threads.
 
-ghost use Rattle.std.specs.Prelude.{◌≤◌, IfOk};
+ghost use Rattle.std.specs.Prelude.{◌≡◌, ◌≤◌, IfOk};
+ghost use Rattle.rept_play.specs.Drawn.{start_registers};
 ghost use Rattle.rept_play.specs.Made.{IsMade};
 
 use crate::draw::draw;
@@ -22,7 +23,9 @@ pub struct Made {
 }
 
 /// The registers at the start: the number of getpid (172) in x17, 0x20000 in the first register of each thread, and drawn numbers in the others.
-fn start_registers(seed: u32) -> [u32; 32] {
+fn start_registers(seed: u32) -> [u32; 32]
+    ensures { result ≡ start_registers seed }
+{
     let a = draw(seed, 600, 0x1_0000);
     let b = draw(seed, 601, 0x1_0000);
     let c = draw(seed, 602, 0x1_0000);
@@ -33,12 +36,13 @@ fn start_registers(seed: u32) -> [u32; 32] {
     ]
 }
 
-/// The made run of a seed: code and turns that are drawn from it, and their play. There is an execution of the run, which is sound. An `Err` is a want of
-/// memory alone.
+/// The made run of a seed: code and turns that are drawn from it, and their play. There is an execution of the run, which is sound. No turn of a stream overlaps
+/// another one of it, and all streams begin at time 0. An `Err` is a want of memory alone.
 pub fn make_play(alloc: Global, seed: u32, sizes: Sizes) -> Result<Made, OutOfMemory>
     requires some { 1 ≤ sizes.threads }
     requires threads { sizes.threads ≤ 4 }
     requires streams { 1 ≤ sizes.streams }
+    requires fewer { sizes.streams ≤ sizes.threads }
     requires turns { sizes.turns ≤ 64 }
     ensures { IfOk result (λ made. IsMade seed sizes made) }
 {

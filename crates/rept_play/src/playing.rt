@@ -32,7 +32,7 @@ pub fn play(
     registers: [u32; 32],
 ) -> Result<Played, OutOfMemory>
     requires { IsPlayable code.now turns.now }
-    ensures { IfOk result (λ played. IsPlayed code.now turns.now played) }
+    ensures { IfOk result (λ played. IsPlayed code.now turns.now registers played) }
 {
     let words = program(alloc, code, turns)?;
     let machine = run(alloc, words.as_slice(), registers)?;

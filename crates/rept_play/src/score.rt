@@ -4,7 +4,7 @@ ghost use Rattle.std.specs.Prelude.{◌≡◌, ◌<◌, ◌≤◌, ◌/◌, ◌%
 ghost use Rattle.rept_isa.specs.declared.instr.Instr.{Instr};
 ghost use Rattle.rept_turns.specs.Turns.{rows_in, all_rows};
 ghost use Rattle.rept_play.specs.Code.{IsCode, IsPlayable, drawn_in};
-ghost use Rattle.rept_play.specs.Drawn.{thread_end, stream_end, last_begin, to_call, next_turn, drawn_turns, made_instr};
+ghost use Rattle.rept_play.specs.Drawn.{thread_end, stream_end, last_end, last_begin, to_call, drawn_thread, drawn_stream, drawn_early, begin_of, next_turn, drawn_turns, made_instr};
 
 use crate::count::rows_in;
 use crate::draw::{draw, made_instr};
@@ -17,7 +17,7 @@ use std::alloc::{AllocError as OutOfMemory, Global};
 pub struct Sizes {
     /// Of how many threads turns are drawn, from 1 to 4.
     pub threads: u32,
-    /// By how many streams they are told, 1 at least.
+    /// By how many streams they are told, 1 at least and no more than threads.
     pub streams: u32,
     /// How many turns there are, at most 64.
     pub turns: u32,
@@ -68,24 +68,65 @@ fn to_call(place: u32) -> u32
     if place <= 7 { 8 - place } else { 24 - place }
 }
 
+/// The thread of the turn of this number.
+fn drawn_thread(seed: u32, sizes: Sizes, number: u32) -> u32
+    requires threads { 1 ≤ sizes.threads }
+    requires number { number < 64 }
+    ensures { result ≡ drawn_thread sizes seed number }
+{
+    if number < sizes.streams {
+        return number;
+    }
+    draw(seed, 240 + 5 * number, sizes.threads)
+}
+
+/// The stream of the turn of this number.
+fn drawn_stream(seed: u32, sizes: Sizes, number: u32) -> u32
+    requires streams { 1 ≤ sizes.streams }
+    requires number { number < 64 }
+    ensures { result ≡ drawn_stream sizes seed number }
+{
+    if number < sizes.streams {
+        return number;
+    }
+    draw(seed, 241 + 5 * number, sizes.streams)
+}
+
+/// From when on the turn of this number may begin.
+fn drawn_early(seed: u32, sizes: Sizes, number: u32) -> u64
+    requires number { number < 64 }
+    ensures { result ≡ drawn_early sizes seed number }
+{
+    if number < sizes.streams {
+        return 0;
+    }
+    (8 * u64::from(number)).saturating_sub(u64::from(draw(seed, 243 + 5 * number, 16)))
+}
+
+/// When a turn begins that may begin from `early` on, after these.
+fn begin_of(early: u64, thread: u32, stream: u32, turns: &[Turn]) -> u64
+    ensures { result ≡ begin_of early thread stream turns.now }
+{
+    early.max(thread_end(thread, turns).max(stream_end(stream, turns)))
+}
+
 /// The turn of this number, after these.
 fn next_turn(seed: u32, sizes: Sizes, number: u32, turns: &[Turn]) -> Turn
     requires threads { 1 ≤ sizes.threads }
     requires streams { 1 ≤ sizes.streams }
     requires number { number < 64 }
     requires few { all_rows turns.now ≤ 65536 }
+    requires soon { last_end turns.now ≤ 65536 }
     ensures { result ≡ next_turn sizes seed number turns.now }
 {
-    let first = 240 + 5 * number;
-    let thread = draw(seed, first, sizes.threads);
-    let stream = draw(seed, first + 1, sizes.streams);
-    let rows = 1 + draw(seed, first + 2, 8);
+    let thread = drawn_thread(seed, sizes, number);
+    let stream = drawn_stream(seed, sizes, number);
+    let rows = 1 + draw(seed, 242 + 5 * number, 8);
     let place = rows_in(thread, turns) % 16;
-    let time = 8 * u64::from(number);
-    let early = time.saturating_sub(u64::from(draw(seed, first + 3, 16)));
-    let late = time + u64::from(draw(seed, first + 4, 16));
-    let begin = early.max(thread_end(thread, turns).max(stream_end(stream, turns)));
-    let end = late.max(begin.max(last_begin(turns)));
+    let early = drawn_early(seed, sizes, number);
+    let late = 8 * u64::from(number) + u64::from(draw(seed, 244 + 5 * number, 16));
+    let begin = begin_of(early, thread, stream, turns);
+    let end = late.max((begin + 1).max(last_begin(turns)));
     Turn {
         thread,
         stream,
