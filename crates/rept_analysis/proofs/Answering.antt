@@ -14,7 +14,7 @@ use Rattle.rept_report.specs.declared.writer.Writer.{Writer}
 use Rattle.rept_report.specs.declared.writer.Writer as writers
 use Rattle.rept_report.specs.Setting.{Setting, HasLaws, IsInstant, way_of}
 use Rattle.rept_report.specs.Knowing.{SameRegisters}
-use Rattle.rept_report.specs.Views.{may_write, is_sure, Carries}
+use Rattle.rept_report.specs.Views.{may_write, is_sure, touched_by, sure_by, registers_at, Carries}
 use Rattle.rept_report.specs.Closure.{Derivation, InClosure}
 use Rattle.rept_report.specs.Log.{oldest}
 use Rattle.rept_report.specs.Implied.{all_past, implied}
@@ -52,6 +52,13 @@ closure_early S f h = derived_early S h.0 h.1 f h.2
 -- whether a row is sure, by sets that are those of some of the facts
 pub sure_is : {W : Type 0} (s : State W) (i : ℕ) → i < s.path.given.legs.count → IsFitted s → (row : StepRow) → s.path.given.legs.row i ≡ Some row → s.path.rules.sure row (moment s.path.sets (oldest s.filled s.known.log) s.spans i) ≡ is_sure (along s.path) (told (oldest s.filled s.known.log)) i
 sure_is s i inside fitted row found = rw found (ap (λ (v : Seen). s.path.rules.sure row v) (moment_is s i inside fitted))
+
+-- where no row leads from a point, nothing is written
+pub none_sure : {W : Type 0} (S : Setting W) (K : Knowledge) (i : ℕ) → S.legs.row i ≡ None → is_sure S K i ≡ false
+none_sure S K i none = ap (λ (o : Option StepRow). sure_by S o (registers_at S K i)) none
+
+pub none_may : {W : Type 0} (S : Setting W) (K : Knowledge) (i a : ℕ) → S.legs.row i ≡ None → may_write S K i a ≡ false
+none_may S K i a none = ap (λ (o : Option StepRow). touched_by S o (registers_at S K i) a) none
 
 -- what is said of a writer looks at registers alone
 module _ {W : Type 0} (S : Setting W) (K L : Knowledge) (same : SameRegisters K L) (p a : ℕ) where

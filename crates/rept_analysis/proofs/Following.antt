@@ -1,7 +1,8 @@
 -- What a row lets follow.
 use Rattle.std.proofs.Common.{◌≡◌, ◌≢◌, ℕ, ◌+◌, ◌<◌, ◌≤◌, ◌^◌, eqb, ltb, false, min, List, length, Option, Some, None, inl, inr, refl, sym, ap, subst, ◌∙◌, arith, Contains, slice_get, get_or}
+use Rattle.std.specs.Option.{IsSome}
 use Rattle.std.proofs.lemmas.Option.{slice_get-get_or, same_Some}
-use Rattle.std.proofs.lemmas.Bool.{cases_Bool, cond-true, cond-false, ne_eqb, cases_lt, lt-ltb, le-ltb, false≢true}
+use Rattle.std.proofs.lemmas.Bool.{cases_Bool, cond-true, cond-false, ne_eqb, cases_lt, cases_order, lt-ltb, le-ltb, false≢true}
 use mathlib.Core.Path.{fun_ext}
 use Rattle.rept_isa.specs.Numbers.{plus}
 use Rattle.rept_isa.specs.declared.row.StepRow.{StepRow}
@@ -16,7 +17,7 @@ use Rattle.rept_reason.specs.declared.fact.Fact.{Fact}
 use Rattle.rept_reason.specs.declared.fact.Cell.{Cell}
 use Rattle.rept_reason.specs.declared.fact.Cell.TheVariants.{Register, Byte}
 use Rattle.rept_reason.specs.Facts.{told, flat, register_known}
-use Rattle.rept_span.specs.Ranges.{range}
+use Rattle.rept_span.specs.Ranges.{Legs, range}
 use Rattle.rept_span.specs.Filled.{entry_at}
 use Rattle.rept_view.specs.declared.drawn.When.{When}
 use Rattle.rept_view.specs.declared.drawn.When.TheVariants.{Before, After}
@@ -26,6 +27,7 @@ use Rattle.rept_view.specs.Rules.{offset_of, IsRowByte, IsRowCell, Rules}
 use Rattle.rept_log.specs.Around.{around, around_lawful}
 use Rattle.rept_report.specs.Setting.{HasLaws, IsLast, IsInstant, way_of}
 use Rattle.rept_report.specs.OneThread.{IsLine}
+use Rattle.rept_report.specs.Timeline.{IsLastFrom}
 use Rattle.rept_report.specs.Moments.{Moments}
 use Rattle.rept_report.specs.Spots.{passage}
 use Rattle.rept_report.specs.Views.{point_of, instant_of, all_words, bounds, register_range, known_or, seen_at, registers_at, may_write, Carries}
@@ -45,8 +47,8 @@ use Rattle.rept_analysis.specs.Moments.{filled_range, moment, moment_lawful}
 use Rattle.rept_analysis.specs.Room.{IsDrawable, own_at, IsOwnByte}
 use Rattle.rept_analysis.proofs.Reserve.{drawable_more, own_byte_more}
 use Rattle.rept_report.specs.Why.{fact_of}
-use Rattle.rept_analysis.specs.Drawing.{Knows, IsTracked, Grows, IsFollowing, IsBrought, IsLearntAt, IsKeptAt, LastKnown, IsFitted, IsAccess, IsCarriedAt, AreTrackedFrom, IsRowTracked, IsConclusion, IsBroughtTo, KeptBelow, DrawnKnown, IsRowDrawn, IsRowClosed, LastByteKnown, SingleKnown, AreRowAddresses}
-use Rattle.rept_analysis.proofs.Along.{last_at, carried_over}
+use Rattle.rept_analysis.specs.Drawing.{Knows, IsTracked, Grows, IsFollowing, IsBrought, IsLearntAt, IsKeptAt, LastKnownAt, LastPointKnown, LastKnownBelow, IsFitted, IsAccess, IsCarriedAt, AreTrackedFrom, IsRowTracked, IsConclusion, IsBroughtTo, KeptBelow, DrawnKnown, IsRowDrawn, IsRowClosed, LastByteKnown, SingleKnown, AreRowAddresses}
+use Rattle.rept_analysis.proofs.Along.{carried_over}
 
 pub flat_known : (x : Option ℕ) (v : ℕ) → flat x ≡ Known v → x ≡ Some v
 flat_known None v e = cc
@@ -96,11 +98,37 @@ last_follows s p r v w at found is named in_file small quiet = record { early = 
     same_flat : {x y : ℕ} → Known x ≡ Known y → x ≡ y
     same_flat e = cc
 
--- of one path there is one last point
-pub last_known : {W : Type 0} (s : State W) → IsLine s.path.given → (p r w : ℕ) → p ≡ s.path.given.legs.count → slice_get (s.path.given.last p) r ≡ Some w → IsLearntAt p r (Known w) s → LastKnown r s
-last_known s line p r w at found learnt q v last named is =
-    let same : p ≡ q = at ∙ sym (last_at s.path line q last) in
-    subst (λ (n : ℕ). Knows n (Register r) v s) same (learnt v (ap Known (same_some (sym found ∙ rw same is))) named)
+pub last_known_at : {W : Type 0} (s : State W) (p r w : ℕ) → slice_get (s.path.given.last p) r ≡ Some w → IsLearntAt p r (Known w) s → LastKnownAt p r s
+last_known_at s p r w found learnt v named is = learnt v (ap Known (same_some (sym found ∙ is))) named
+
+-- of the last points below one
+abbrev pub LastsBelow : {W : Type 0} → ℕ → State W → Type 0
+LastsBelow n s = (p : ℕ) → p < n → IsLast (along s.path) p → LastPointKnown 32 p s
+
+-- after the last one there is none
+pub lasts_all : {W : Type 0} (s : State W) (least : ℕ) → IsLastFrom s.path.given.legs least None → LastsBelow least s → LastKnownBelow 32 s
+lasts_all s least past below r inside p v last = below p (omega (arith, past, last.0)) last r inside v
+
+-- where none is found there is none
+pub last_none : (legs : Legs) (least : ℕ) (o : Option ℕ) → ((p : ℕ) → o ≡ Some p → ⊥) → IsLastFrom legs least o → IsLastFrom legs least None
+last_none legs least None never its = its
+last_none legs least (Some p) never its = absurd (never p refl)
+
+-- the next one
+pub lasts_more : {W : Type 0} (s : State W) (least point : ℕ) → IsLastFrom s.path.given.legs least (Some point) → LastsBelow least s → LastPointKnown 32 point s → LastsBelow (point + 1) s
+lasts_more s least point next below here p less last =
+    elim (cases_order p point) [
+      | inl same ↦ subst (λ (q : ℕ). LastPointKnown 32 q s) (sym same) here
+      | inr (inl under) ↦ elim (cases_lt p least) [
+        | inl early ↦ below p early last
+        | inr late ↦ absurd (not_some (s.path.given.legs.row p) last.1 (next.3 p late under))
+      ]
+      | inr (inr over) ↦ absurd (omega (arith, less, over))
+    ]
+  where
+    not_some : (o : Option StepRow) → o ≡ None → IsSome o → ⊥
+    not_some None e some = cc
+    not_some (Some x) e some = cc
 
 -- what followed still follows
 pub follows_more : {W : Type 0} (s t : State W) → HasLaws (along s.path) → Grows s t → HasWords (all_known t) → (f : Fact) → IsFollowing s f → IsFollowing t f
@@ -248,6 +276,13 @@ row_closed s i row found registers tracked drawn_ row' found' =
   where
     same_row : {x y : StepRow} → Some x ≡ Some y → x ≡ y
     same_row e = cc
+
+-- where no row leads from a point, nothing is to be concluded
+pub none_closed : {W : Type 0} (s : State W) (i : ℕ) → s.path.given.legs.row i ≡ None → IsRowClosed i s
+none_closed s i none row found = absurd (no_row (sym none ∙ found))
+  where
+    no_row : {x : StepRow} → None ≡ Some x → ⊥
+    no_row e = cc
 
 pub last_byte_brought : {W : Type 0} (s : State W) (p a v : ℕ) → p ≡ s.path.given.moments.end → s.path.given.dump a ≡ Some v → IsBrought s (fact_of p (Byte a) v)
 last_byte_brought s p a v at found quiet = last_byte a at refl found

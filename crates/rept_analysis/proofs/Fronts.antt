@@ -7,12 +7,8 @@ use Rattle.rept_reason.specs.declared.fact.Cell.{Cell}
 use Rattle.rept_reason.specs.declared.fact.Cell.TheVariants.{Register, Byte}
 use Rattle.rept_reason.specs.Facts.{Knowledge, IsCell, told, speaks}
 use Rattle.rept_span.specs.declared.spans.EmptyAt.{EmptyAt}
-use Rattle.rept_span.specs.Ranges.{IsEmptyFirst, legs_of}
+use Rattle.rept_span.specs.Ranges.{IsEmptyFirst}
 use Rattle.rept_span.specs.Filled.{View}
-use Rattle.rept_elf.specs.Segments.{ElfSegment}
-use Rattle.rept_dump.specs.Program.{Program}
-use Rattle.rept_report.specs.Moments.{points_of}
-use Rattle.rept_report.specs.Timeline.{Timeline, time_alone}
 use Rattle.rept_report.specs.Setting.{Setting, HasLaws, way_of}
 use Rattle.rept_report.specs.Conflicts.{IsQuiet}
 use Rattle.rept_report.specs.Log.{oldest, logged_of, entry, place_of}
@@ -24,11 +20,18 @@ use Rattle.rept_report.proofs.Standing.{front_quiet}
 use Rattle.rept_report.proofs.Explained.{known_by, drawn_by, carried_by}
 use Rattle.rept_report.proofs.Implied.{known_stands}
 use Rattle.rept_isa.specs.declared.row.StepRow.{StepRow}
-use Rattle.rept_log.specs.Fronts.{Basis, Stored, basis_of, IsFront, stands}
-use Rattle.rept_analysis.specs.State.{State, with_draws, along}
+use Rattle.rept_dump.specs.Memory.{byte_at}
+use Rattle.rept_dump.specs.Program.{contents}
+use Rattle.rept_partial.specs.Sets.{Sets}
+use Rattle.rept_span.specs.Moves.{Moves}
+use Rattle.rept_view.specs.Rules.{Rules}
+use Rattle.rept_versions.specs.Facts.{Store}
+use Rattle.rept_report.specs.Timeline.{Timeline}
+use Rattle.rept_log.specs.Fronts.{FrontView, Stored, IsFront, basis_of, front_of, stands}
+use Rattle.rept_analysis.specs.State.{State, Whole, setting_of, state_of, with_draws, along}
 use Rattle.rept_analysis.specs.Drawing.{IsRowDrawn, IsSettled}
 use Rattle.rept_analysis.specs.Kept.{is_among, answers, IsFinished, IsKept}
-use Rattle.rept_analysis.specs.Reasoned.{AreSetsOf, IsNotLast}
+use Rattle.rept_analysis.specs.Reasoned.{front_below, AreSetsOf, IsNotLast}
 use Rattle.rept_analysis.proofs.Passing.{passes_more}
 use Rattle.rept_analysis.proofs.Learning.{known_words}
 use Rattle.rept_analysis.proofs.Answering.{answers_early}
@@ -200,12 +203,20 @@ pub some_after : {A : Type 0} (P Q : A → Type 0) (found : Option A) → ((x : 
 some_after P Q None f h = tt
 some_after P Q (Some x) f h = f x h
 
--- what is read of one thread, by what tells its rows and last values
-pub basis_same : {P L : Type 0} (paths : P) (last : L) (timeline : P → Timeline) (values : L → ℕ → List ℕ) (b : Stored P L) (exe : Program) (core : List ElfSegment) (facts : List Fact) (rows : List StepRow) (ends : List ℕ) → b ≡ record { paths = paths; last = last; exe = exe; core = core; facts = facts } → timeline paths ≡ time_alone rows → values last ≡ (λ p. ends) → basis_of timeline values b ≡ record { legs = legs_of rows; moments = points_of (length rows); last = λ p. ends; exe = exe; core = core; facts = facts }
-basis_same {P} {L} paths last timeline values b exe core facts rows ends e t v =
-    ap (λ (x : Stored P L). basis_of timeline values x) e
-    ∙ ap (λ (x : Timeline). record { legs = x.legs; moments = x.moments; last = values last; exe = exe; core = core; facts = facts }) t
-    ∙ ap (λ (x : ℕ → List ℕ). record { legs = legs_of rows; moments = points_of (length rows); last = x; exe = exe; core = core; facts = facts }) v
+-- a prefix by what tells the last values is that of what is given
+pub front_same : {P L B W R : Type 0} (timeline : P → Timeline) (values : L → ℕ → List ℕ) (sets : Sets W) (moves : Moves W) (rules : Rules) (a : Whole P B W R) (t : ℕ) (last : L) (b : Stored P L) → b ≡ record { paths = a.paths; last = last; exe = a.exe; core = a.core; facts = oldest t a.known.log } → values last ≡ (λ p. a.last) → front_of sets moves rules (basis_of timeline values b) ≡ front_below timeline sets moves rules a t
+front_same {P} {L} timeline values sets moves rules a t last b is same =
+    ap (λ (x : Stored P L). front_of sets moves rules (basis_of timeline values x)) is
+    ∙ ap (λ (x : ℕ → List ℕ). record {
+      sets = sets;
+      moves = moves;
+      rules = rules;
+      given = record { legs = (timeline a.paths).legs; moments = (timeline a.paths).moments; last = x; dump = byte_at (contents a.exe) a.core; image_end = (contents a.exe).end };
+      facts = oldest t a.known.log;
+    }) same
+
+pub front_by : {P L B W R : Type 0} (timeline : P → Timeline) (values : L → ℕ → List ℕ) (sets : Sets W) (moves : Moves W) (rules : Rules) (store : B → Store) (a : Whole P B W R) (t : ℕ) (last : L) (spans : View W) → values last ≡ (λ p. a.last) → HasLaws (setting_of timeline sets moves rules a) → IsKept (state_of timeline sets moves rules store a) → IsFinished (state_of timeline sets moves rules store a) → AreSetsOf (setting_of timeline sets moves rules a) (oldest t a.known.log) spans → IsFront (front_of sets moves rules (basis_of timeline values (record { paths = a.paths; last = last; exe = a.exe; core = a.core; facts = oldest t a.known.log }))) a.known.last spans
+front_by {W = W} timeline values sets moves rules store a t last spans same laws kept finished its = subst (λ (f : FrontView W). IsFront f a.known.last spans) (sym (front_same timeline values sets moves rules a t last _ refl same)) (front_is (state_of timeline sets moves rules store a) laws kept finished t spans its)
 
 -- an analysis stays what it is, however often rules were drawn
 module _ {W : Type 0} (s : State W) (kept : IsKept s) (n : ℕ) where

@@ -6,7 +6,6 @@ pub mod Cells
 pub mod Counting
 pub mod Drawn
 pub mod Ending
-pub mod Ends
 pub mod Following
 pub mod Learning
 pub mod Listing

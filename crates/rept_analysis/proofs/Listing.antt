@@ -12,7 +12,8 @@ use Rattle.rept_reason.specs.declared.fact.Cell.TheVariants.{Byte}
 use Rattle.rept_reason.specs.Facts.{told}
 use Rattle.rept_report.specs.OneThread.{IsLine}
 use Rattle.rept_report.specs.Spots.{passage}
-use Rattle.rept_report.specs.Views.{may_write, Carries}
+use Rattle.rept_isa.specs.declared.row.StepRow.{StepRow}
+use Rattle.rept_report.specs.Views.{may_write, touched_by, registers_at, Carries}
 use Rattle.rept_report.proofs.Told.{same_some, none_some}
 use Rattle.rept_report.specs.Log.{oldest}
 use Rattle.rept_writing.specs.declared.list.Writing.{Writing}
@@ -48,6 +49,10 @@ listed_less s i list none h = record {
 
 pub none_spared : {W : Type 0} (s : State W) (i : ℕ) (access : CallAccess) → IsAccess i access s → ((a : ℕ) → call_hits access a ≡ false) → (a : ℕ) → a < 2 ^ 32 → IsSparedAt i a s
 none_spared s i access is none a small = sym (is a small) ∙ none a
+
+-- where no row leads from a point, nothing is written
+pub none_there : {W : Type 0} (s : State W) (i : ℕ) → s.path.given.legs.row i ≡ None → (a : ℕ) → a < 2 ^ 32 → IsSparedAt i a s
+none_there s i none a small = ap (λ (o : Option StepRow). touched_by (along s.path) o (registers_at (along s.path) (told (oldest s.filled s.known.log)) i) a) none
 
 same_writing : {x y : Writing} → Some x ≡ Some y → x ≡ y
 same_writing e = cc

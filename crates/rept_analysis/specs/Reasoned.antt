@@ -1,18 +1,26 @@
 -- How an analysis looks for reasons. This project's own.
-use Rattle.std.specs.Prelude.{◌≡◌, ℕ, ◌+◌, List, length, Some}
+use Rattle.std.specs.Prelude.{◌≡◌, ℕ, ◌+◌, List, Some}
 use Rattle.rept_reason.specs.declared.fact.Fact.{Fact}
 use Rattle.rept_reason.specs.Facts.{told}
-use Rattle.rept_span.specs.Ranges.{legs_of}
 use Rattle.rept_span.specs.Filled.{View, IsFilled}
-use Rattle.rept_report.specs.Moments.{points_of}
 use Rattle.rept_report.specs.Setting.{Setting, way_of}
 use Rattle.rept_report.specs.Log.{oldest, entry}
-use Rattle.rept_log.specs.Fronts.{Basis}
-use Rattle.rept_analysis.specs.State.{Whole, State}
+use Rattle.rept_partial.specs.Sets.{Sets}
+use Rattle.rept_span.specs.Moves.{Moves}
+use Rattle.rept_view.specs.Rules.{Rules}
+use Rattle.rept_report.specs.Timeline.{Timeline}
+use Rattle.rept_log.specs.Fronts.{FrontView}
+use Rattle.rept_analysis.specs.State.{Whole, State, given_of}
 
--- the facts at places below t, on the same path
-abbrev pub basis_at : {B W R : Type 0} → Whole B W R → ℕ → Basis
-basis_at a t = record { legs = legs_of a.rows; moments = points_of (length a.rows); last = λ p. a.last; exe = a.exe; core = a.core; facts = oldest t a.known.log }
+-- the facts at places below t, of what is given
+abbrev pub front_below : {P B W R : Type 0} → (P → Timeline) → Sets W → Moves W → Rules → Whole P B W R → ℕ → FrontView W
+front_below timeline sets moves rules a t = record {
+  sets = sets;
+  moves = moves;
+  rules = rules;
+  given = given_of timeline a;
+  facts = oldest t a.known.log;
+}
 
 -- sets that are filled from these facts
 pub record AreSetsOf {W : Type 0} (S : Setting W) (facts : List Fact) (spans : View W) : Type 0 where

@@ -1,5 +1,5 @@
 -- An analysis, as its callers see it, and what definitions speak of in it. This project's own.
-use Rattle.std.specs.Prelude.{◌≡◌, ℕ, Bool, List, Option}
+use Rattle.std.specs.Prelude.{◌≡◌, ℕ, Bool, List, [], Option}
 use Rattle.rept_isa.specs.declared.row.StepRow.{StepRow}
 use Rattle.rept_elf.specs.Segments.{ElfSegment}
 use Rattle.rept_dump.specs.declared.status.Status.{Status}
@@ -15,17 +15,19 @@ use Rattle.rept_log.specs.Known.{Held, Known, known_of, knows}
 use Rattle.rept_report.specs.declared.conflict.ConflictKind.{ConflictKind}
 use Rattle.rept_report.specs.Setting.{Setting}
 use Rattle.rept_report.specs.Given.{Given, setting_by}
-use Rattle.rept_report.specs.OneThread.{Alone, given_alone}
+use Rattle.rept_report.specs.OneThread.{IsLine}
+use Rattle.rept_report.specs.Timeline.{Timeline, time_alone}
+use Rattle.rept_report.proofs.Line.{is_line}
 use Rattle.rept_reason.specs.Facts.{Knowledge}
 use Rattle.rept_writing.specs.declared.list.Writing.{Writing}
 use Rattle.rept_analysis.specs.declared.pass.Pass.{Pass}
 use Rattle.rept_analysis.specs.Work.{Work}
 
--- The rows and the last register values of one thread; the files of the program, and the segments of the core file; the facts that were learnt; the
+-- The rows and moments, and the last register values of one thread; the files of the program, and the segments of the core file; the facts that were learnt; the
 -- sets of values that were filled last, and of how many facts in the log; the rules; how many facts in the log, from the oldest on,
 -- are answered; whether all is learnt, and the conflict that was answered; and its work.
-pub record Whole (B W R : Type 0) : Type 0 where
-  pub rows : List StepRow
+pub record Whole (P B W R : Type 0) : Type 0 where
+  pub paths : P
   pub last : List ℕ
   pub exe : Program
   pub core : List ElfSegment
@@ -45,6 +47,15 @@ pub record Path (W : Type 0) : Type 0 where
   pub rules : Rules
   pub given : Given
 
+-- these rows and moments are those of one path of which each row is traced, whatever its end
+abbrev pub IsOneLine : Timeline → Type 0
+IsOneLine t = (last : ℕ → List ℕ) (dump : ℕ → Option ℕ) (image_end : ℕ) → IsLine (record { legs = t.legs; moments = t.moments; last = last; dump = dump; image_end = image_end })
+
+pub alone_is : (rows : List StepRow) → IsOneLine (time_alone rows)
+alone_is rows last dump image_end =
+    let line = is_line (record { rows = rows; last = []; dump = dump; image_end = image_end }) in
+    record { rows = line.rows; inside = line.inside; moments = line.moments }
+
 -- the setting of which a report speaks
 abbrev pub along : {W : Type 0} → Path W → Setting W
 along p = setting_by p.sets p.moves p.rules p.given
@@ -60,24 +71,30 @@ pub record State (W : Type 0) : Type 0 where
   pub conflict : Option ConflictKind
   pub work : Work
 
--- the thread
-abbrev pub alone_of : {B W R : Type 0} → Whole B W R → Alone
-alone_of a = record { rows = a.rows; last = a.last; dump = byte_at (contents a.exe) a.core; image_end = (contents a.exe).end }
+-- what is given: the rows and moments, the last values of registers and the dump
+abbrev pub given_of : {P B W R : Type 0} → (P → Timeline) → Whole P B W R → Given
+given_of timeline a = record {
+  legs = (timeline a.paths).legs;
+  moments = (timeline a.paths).moments;
+  last = λ p. a.last;
+  dump = byte_at (contents a.exe) a.core;
+  image_end = (contents a.exe).end;
+}
 
-abbrev pub path_of : {B W R : Type 0} → Sets W → Moves W → Rules → Whole B W R → Path W
-path_of sets moves rules a = record {
+abbrev pub path_of : {P B W R : Type 0} → (P → Timeline) → Sets W → Moves W → Rules → Whole P B W R → Path W
+path_of timeline sets moves rules a = record {
   sets = sets;
   moves = moves;
   rules = rules;
-  given = given_alone (alone_of a);
+  given = given_of timeline a;
 }
 
-abbrev pub setting_of : {B W R : Type 0} → Sets W → Moves W → Rules → Whole B W R → Setting W
-setting_of sets moves rules a = along (path_of sets moves rules a)
+abbrev pub setting_of : {P B W R : Type 0} → (P → Timeline) → Sets W → Moves W → Rules → Whole P B W R → Setting W
+setting_of timeline sets moves rules a = along (path_of timeline sets moves rules a)
 
-abbrev pub state_of : {B W R : Type 0} → Sets W → Moves W → Rules → (B → Store) → Whole B W R → State W
-state_of sets moves rules store a = record {
-  path = path_of sets moves rules a;
+abbrev pub state_of : {P B W R : Type 0} → (P → Timeline) → Sets W → Moves W → Rules → (B → Store) → Whole P B W R → State W
+state_of timeline sets moves rules store a = record {
+  path = path_of timeline sets moves rules a;
   known = known_of store a.known;
   spans = a.spans;
   filled = a.filled;

@@ -1,18 +1,16 @@
 //! What follows from a path and the dump in which it ends, learnt step by step.
 
-ghost use Rattle.std.specs.Prelude.{◌≡◌, ◌+◌, ◌*◌, ◌<◌, ◌≤◌, ℕ, length, true, false, IsOk, IfOk, OnOk, Some, None, Ok, Err, slice_get};
+ghost use Rattle.std.specs.Prelude.{◌≡◌, ◌+◌, ◌*◌, ◌<◌, ◌≤◌, ℕ, length, true, false, IsOk, IfOk, IfSome, IsSome, OnOk, Some, None, Ok, Err, slice_get};
 ghost use Rattle.rept_isa.specs.declared.row.StepRow.{StepRow};
 ghost use Rattle.rept_dump.specs.Dump.{exe_of, core_of, registers_of};
-ghost use Rattle.rept_dump.specs.Status.{IsStatus};
-ghost use Rattle.rept_dump.specs.declared.status.Status.{Status};
-ghost use Rattle.rept_steps.specs.Linked.{EndBefore};
 ghost use Rattle.rept_reason.specs.declared.fact.Cell.TheVariants.{Register};
 ghost use Rattle.rept_reason.specs.Facts.{told, flat, register_known};
 ghost use Rattle.rept_span.specs.Filled.{entry_at};
 ghost use Rattle.rept_dump.specs.Memory.{byte_at};
 ghost use Rattle.rept_dump.specs.Program.{contents};
 ghost use Rattle.rept_report.specs.declared.conflict.ConflictKind.{ConflictKind};
-ghost use Rattle.rept_analysis.specs.State.{HasRegisters, path_of, setting_of, state_of};
+ghost use Rattle.rept_analysis.specs.State.{HasRegisters, IsOneLine, given_of, path_of, setting_of, state_of};
+ghost use Rattle.rept_report.specs.Views.{moment_of};
 ghost use Rattle.rept_report.specs.Why.{fact_of};
 ghost use Rattle.rept_analysis.specs.Kept.{IsKept, register_answer, answers};
 ghost use Rattle.rept_analysis.specs.Refined.{KeepsAnswers, KeepsKnown, ShowsTo};
@@ -42,20 +40,19 @@ use rept_dump::Dump;
 use rept_isa::{Reg, StepRow};
 use rept_log::FactLog;
 use rept_partial::Flat;
-use rept_report::ConflictKind;
+use rept_report::{ConflictKind, Paths};
 use rept_span::{Spans, Transfer};
-use rept_steps::Steps;
 use rept_versions::ByteFacts;
-use rept_view::RowRules;
+use rept_view::{RowRules, When};
 use rept_writing::Writings;
 use std::alloc::{AllocError as OutOfMemory, Global};
 use std::marker::Model;
 
 /// What follows from a path and the dump in which it ends.
 #[derive(Drop)]
-pub struct Analysis<'a, B: ByteFacts, W: Transfer, R: RowRules> {
+pub struct Analysis<'a, P: Paths + Drop, B: ByteFacts, W: Transfer, R: RowRules> {
     alloc: Global,
-    rows: &'a [StepRow],
+    paths: P,
     last: Vec<u32>,
     dump: Dump<'a>,
     known: FactLog<B>,
@@ -74,17 +71,18 @@ pub struct Analysis<'a, B: ByteFacts, W: Transfer, R: RowRules> {
     fresh: Fresh,
 }
 
-impl<'a, B: ByteFacts, W: Transfer, R: RowRules> Model for Analysis<'a, B, W, R> {
+impl<'a, P: Paths + Drop, B: ByteFacts, W: Transfer, R: RowRules> Model
+    for Analysis<'a, P, B, W, R> {
     ghost use Rattle.rept_dump.specs.Dump.{exe_of, core_of};
     ghost use Rattle.rept_analysis.specs.State.{Whole, state_of};
     ghost use Rattle.rept_analysis.specs.Kept.{IsKept};
     ghost use Rattle.rept_analysis.specs.Work.{work_of};
 
-    ghost Value = { Whole B W R };
+    ghost Value = { Whole P B W R };
 
-    ghost view = { λ a. record { rows = a.rows.now; last = a.last.items; exe = exe_of a.dump; core = core_of a.dump; known = a.known; spans = a.spans; filled = a.filled; rules = a.rules; shown = a.shown; complete = a.complete; conflict = a.conflict; work = work_of B.JOINS (R.draws a.rules) a.writing a.drawn } };
+    ghost view = { λ a. record { paths = a.paths; last = a.last.items; exe = exe_of a.dump; core = core_of a.dump; known = a.known; spans = a.spans; filled = a.filled; rules = a.rules; shown = a.shown; complete = a.complete; conflict = a.conflict; work = work_of B.JOINS (R.draws a.rules) a.writing a.drawn } };
 
-    ghost invariant = { λ a. IsKept (state_of W.sets W.moves R.rules B.store (record { rows = a.rows.now; last = a.last.items; exe = exe_of a.dump; core = core_of a.dump; known = a.known; spans = a.spans; filled = a.filled; rules = a.rules; shown = a.shown; complete = a.complete; conflict = a.conflict; work = work_of B.JOINS (R.draws a.rules) a.writing a.drawn })) };
+    ghost invariant = { λ a. IsKept (state_of P.timeline W.sets W.moves R.rules B.store (record { paths = a.paths; last = a.last.items; exe = exe_of a.dump; core = core_of a.dump; known = a.known; spans = a.spans; filled = a.filled; rules = a.rules; shown = a.shown; complete = a.complete; conflict = a.conflict; work = work_of B.JOINS (R.draws a.rules) a.writing a.drawn })) };
 }
 
 /// The register of a number below 32.
@@ -95,42 +93,55 @@ fn register(number: u8) -> Reg
     Reg::new(number).unwrap()
 }
 
+/// How many bytes the row that leads from a point, if one does, lets one conclude at most.
+fn row_places<P: Paths, R: RowRules>(paths: &P, point: u32) -> u32
+    ensures value { result ≡ places_of R.rules ((P.timeline paths.now).legs.row point) }
+    ensures few { result ≤ 8 }
+{
+    match paths.row(point) {
+        None => 0,
+        Some(row) => R::places(&row),
+    }
+}
+
 /// So many bytes do the rows let one conclude at most.
-fn access_bytes<R: RowRules>(rows: &[StepRow]) -> u32
-    requires { length rows.now ≤ 65536 }
+fn access_bytes<P: Paths, R: RowRules>(paths: &P) -> u32
+    requires { (P.timeline paths.now).legs.count ≤ 65536 }
     ensures few { result ≤ 524288 }
-    ensures sum { result ≡ sum_to (λ i. places_of R.rules (slice_get rows.now i)) (length rows.now) }
+    ensures sum { result ≡ sum_to (λ i. places_of R.rules ((P.timeline paths.now).legs.row i)) (P.timeline paths.now).legs.count }
 {
     let mut sum = 0;
-    for row in rows {
-        sum += R::places(row);
+    for point in 0..paths.last_point() {
+        sum += row_places::<P, R>(paths, point);
     }
     sum
 }
 
-impl<'a, B: ByteFacts, W: Transfer, R: RowRules> Analysis<'a, B, W, R> {
+impl<'a, P: Paths + Drop, B: ByteFacts, W: Transfer, R: RowRules> Analysis<'a, P, B, W, R> {
     /// An analysis of these rows, at most 65,536, which end in these register values and this dump. Nothing is known yet.
     fn over(
         alloc: Global,
-        rows: &'a [StepRow],
+        paths: P,
         last: Vec<u32>,
         dump: &'a Dump<'a>,
         rules: R,
-    ) -> Result<Analysis<'a, B, W, R>, OutOfMemory>
-        requires few { length rows.now ≤ 65536 }
+    ) -> Result<Analysis<'a, P, B, W, R>, OutOfMemory>
+        requires line { IsOneLine (P.timeline paths) }
+        requires few { (P.timeline paths).legs.count ≤ 65536 }
         requires registers { length last.items ≡ 32 }
-        ensures path { IfOk result (λ a. (a.rows ≡ rows.now) × (a.last ≡ last.items) × (a.exe ≡ exe_of dump.now) × (a.core ≡ core_of dump.now)) }
+        ensures path { IfOk result (λ a. (a.paths ≡ paths) × (a.last ≡ last.items)) }
+        ensures memory { IfOk result (λ a. (a.exe ≡ exe_of dump.now) × (a.core ≡ core_of dump.now)) }
     {
-        let bytes = access_bytes::<R>(rows);
-        let count = rows.len() as u32;
+        let bytes = access_bytes::<P, R>(&paths);
+        let count = paths.last_point();
         let known = FactLog::new(alloc, count, bytes)?;
         let spans = Spans::new(alloc, count + 1)?;
-        let writing = Writings::new(alloc, rows.len(), bytes as usize)?;
-        let drawn = Passes::new(alloc, rows.len())?;
-        let fresh = Fresh::new(alloc, rows.len())?;
+        let writing = Writings::new(alloc, count as usize, bytes as usize)?;
+        let drawn = Passes::new(alloc, count as usize)?;
+        let fresh = Fresh::new(alloc, count as usize)?;
         Ok(Analysis {
             alloc,
-            rows,
+            paths,
             last,
             dump: *dump,
             known,
@@ -148,29 +159,52 @@ impl<'a, B: ByteFacts, W: Transfer, R: RowRules> Analysis<'a, B, W, R> {
         })
     }
 
-    /// How many rows there are, which is the last point.
+    /// The last point of all.
     fn count(&self) -> u32
-        ensures value { result ≡ length self.now.rows }
+        ensures value { result ≡ (P.timeline self.now.paths).legs.count }
         ensures few { result ≤ 65536 }
-        ensures last { self.now.known.last ≡ length self.now.rows }
-        ensures sized { self.now.spans.points ≡ length self.now.rows + 1 }
+        ensures last { self.now.known.last ≡ (P.timeline self.now.paths).legs.count }
+        ensures sized { self.now.spans.points ≡ (P.timeline self.now.paths).legs.count + 1 }
         ensures filled { self.now.filled ≤ length self.now.known.log }
     {
-        self.rows.len() as u32
+        self.paths.last_point()
     }
 
-    fn row(&self, i: u32) -> StepRow
-        requires { i < length self.now.rows }
-        ensures { slice_get self.now.rows i ≡ Some result }
+    /// The number of the end.
+    fn end(&self) -> u32
+        ensures value { result ≡ (P.timeline self.now.paths).moments.end }
+        ensures point { result ≡ (P.timeline self.now.paths).legs.count }
     {
-        let rows = self.rows;
-        rows[i as usize]
+        self.paths.end()
     }
 
-    fn last_value(&self, r: Reg) -> u32
-        ensures { slice_get self.now.last r ≡ Some result }
+    /// The number of the moment before or after a row.
+    fn moment_at(&self, row: u32, when: When) -> u32
+        requires { IsSome ((P.timeline self.now.paths).legs.row row) }
+        ensures value { result ≡ moment_of (P.timeline self.now.paths).moments row when }
+        ensures early { result ≤ (P.timeline self.now.paths).moments.end }
     {
-        let _rows = &self.rows;
+        let _end = self.end();
+        match when {
+            When::Before => self.paths.before(row),
+            When::After => self.paths.after(row),
+        }
+    }
+
+    /// The row that leads from a point, if one does.
+    fn row(&self, i: u32) -> Option<StepRow>
+        ensures row { result ≡ (P.timeline self.now.paths).legs.row i }
+        ensures inside { IfSome result (λ _. i < (P.timeline self.now.paths).legs.count) }
+    {
+        self.paths.row(i)
+    }
+
+    /// The value of a register at the last point of a thread.
+    fn last_value(&self, point: u32, r: Reg) -> u32
+        ensures { slice_get ((given_of P.timeline self.now).last point) r ≡ Some result }
+    {
+        let _point = point;
+        let _paths = &self.paths;
         self.last[r.number() as usize]
     }
 
@@ -183,11 +217,11 @@ impl<'a, B: ByteFacts, W: Transfer, R: RowRules> Analysis<'a, B, W, R> {
 
     /// What is known of a register at a point.
     fn known(&self, point: u32, r: Reg) -> Flat
-        requires point { point ≤ length self.now.rows }
+        requires point { point ≤ (P.timeline self.now.paths).legs.count }
         ensures value { result ≡ flat (register_known (told self.now.known.log) point r) }
         ensures in_file { r < 32 }
     {
-        let _rows = &self.rows;
+        let _paths = &self.paths;
         self.known.known(point, r)
     }
 
@@ -200,9 +234,9 @@ impl<'a, B: ByteFacts, W: Transfer, R: RowRules> Analysis<'a, B, W, R> {
 
     /// What always holds.
     fn held(&self)
-        ensures { IsKept (state_of W.sets W.moves R.rules B.store self.now) }
+        ensures { IsKept (state_of P.timeline W.sets W.moves R.rules B.store self.now) }
     {
-        let _rows = &self.rows;
+        let _paths = &self.paths;
     }
 
     /// How many addresses are tracked.
@@ -238,10 +272,10 @@ impl<'a, B: ByteFacts, W: Transfer, R: RowRules> Analysis<'a, B, W, R> {
 
     /// The set of a register, as the sets were filled.
     fn span(&self, point: u32, r: Reg) -> W
-        requires point { point ≤ length self.now.rows }
+        requires point { point ≤ (P.timeline self.now.paths).legs.count }
         ensures { entry_at self.now.spans point r ≡ Some result }
     {
-        let _rows = &self.rows;
+        let _paths = &self.paths;
         self.spans.at(point, r)
     }
 
@@ -252,34 +286,34 @@ impl<'a, B: ByteFacts, W: Transfer, R: RowRules> Analysis<'a, B, W, R> {
     /// store joins bytes that stand side by side, since `prepare` took all memory. So it is then Ok exactly where the closure has no conflict.
     /// What was known is known still, and what was answered of registers is answered still.
     pub fn refine(&mut self) -> Result<(), Stop>
-        ensures path { (path_of W.sets W.moves R.rules self.new) ≡ (path_of W.sets W.moves R.rules self.old) }
-        ensures kept { KeepsAnswers (state_of W.sets W.moves R.rules B.store self.old) (state_of W.sets W.moves R.rules B.store self.new) }
-        ensures more { KeepsKnown (state_of W.sets W.moves R.rules B.store self.old) (state_of W.sets W.moves R.rules B.store self.new) }
-        ensures report { OnOk result (IsReport (setting_of W.sets W.moves R.rules self.new) (answers (state_of W.sets W.moves R.rules B.store self.new))) }
+        ensures path { (path_of P.timeline W.sets W.moves R.rules self.new) ≡ (path_of P.timeline W.sets W.moves R.rules self.old) }
+        ensures kept { KeepsAnswers (state_of P.timeline W.sets W.moves R.rules B.store self.old) (state_of P.timeline W.sets W.moves R.rules B.store self.new) }
+        ensures more { KeepsKnown (state_of P.timeline W.sets W.moves R.rules B.store self.old) (state_of P.timeline W.sets W.moves R.rules B.store self.new) }
+        ensures report { OnOk result (IsReport (setting_of P.timeline W.sets W.moves R.rules self.new) (answers (state_of P.timeline W.sets W.moves R.rules B.store self.new))) }
         ensures complete { OnOk result (self.new.complete ≡ true) }
-        ensures consistent { OnOk result (IsConsistent (setting_of W.sets W.moves R.rules self.old)) }
-        ensures conflict { (kind : ConflictKind) → result ≡ Err (Stop.Conflict kind) → ClosureHas (setting_of W.sets W.moves R.rules self.old) kind }
+        ensures consistent { OnOk result (IsConsistent (setting_of P.timeline W.sets W.moves R.rules self.old)) }
+        ensures conflict { (kind : ConflictKind) → result ≡ Err (Stop.Conflict kind) → ClosureHas (setting_of P.timeline W.sets W.moves R.rules self.old) kind }
         ensures recorded { (kind : ConflictKind) → result ≡ Err (Stop.Conflict kind) → self.new.conflict ≡ Some kind }
 
         // How far it is answered after a stop: all facts of the log where memory ran out, and those that show the conflict.
         ensures whole { result ≡ Err Stop.OutOfMemory → self.new.shown ≡ length self.new.known.log }
-        ensures shown { self.old.conflict ≡ None → (kind : ConflictKind) → result ≡ Err (Stop.Conflict kind) → ShowsTo (state_of W.sets W.moves R.rules B.store self.new) self.new.shown kind }
+        ensures shown { self.old.conflict ≡ None → (kind : ConflictKind) → result ≡ Err (Stop.Conflict kind) → ShowsTo (state_of P.timeline W.sets W.moves R.rules B.store self.new) self.new.shown kind }
 
         // Where the store joins bytes, no memory is taken: it is Ok exactly where the closure has no conflict.
         ensures joins { B.JOINS ≡ true → result ≡ Err Stop.OutOfMemory → ⊥ }
-        ensures exact { B.JOINS ≡ true → IsConsistent (setting_of W.sets W.moves R.rules self.old) → IsOk result }
-        ensures refused { B.JOINS ≡ true → (kind : ConflictKind) → ClosureHas (setting_of W.sets W.moves R.rules self.old) kind → (named : ConflictKind) × (result ≡ Err (Stop.Conflict named)) }
+        ensures exact { B.JOINS ≡ true → IsConsistent (setting_of P.timeline W.sets W.moves R.rules self.old) → IsOk result }
+        ensures refused { B.JOINS ≡ true → (kind : ConflictKind) → ClosureHas (setting_of P.timeline W.sets W.moves R.rules self.old) kind → (named : ConflictKind) × (result ≡ Err (Stop.Conflict named)) }
 
         // Over all executions of the path that end in the dump.
-        ensures sound { OnOk result (IsSound (setting_of W.sets W.moves R.rules self.new) (answers (state_of W.sets W.moves R.rules B.store self.new))) }
-        ensures impossible { (kind : ConflictKind) → result ≡ Err (Stop.Conflict kind) → HasNoExecution (setting_of W.sets W.moves R.rules self.old) }
+        ensures sound { OnOk result (IsSound (setting_of P.timeline W.sets W.moves R.rules self.new) (answers (state_of P.timeline W.sets W.moves R.rules B.store self.new))) }
+        ensures impossible { (kind : ConflictKind) → result ≡ Err (Stop.Conflict kind) → HasNoExecution (setting_of P.timeline W.sets W.moves R.rules self.old) }
 
         // It draws the rules of each row at most 12 times: once at first, and once for each of the row's cells that becomes known.
-        ensures draws { R.draws self.new.rules ≤ R.draws self.old.rules + 12 * length self.old.rows }
+        ensures draws { R.draws self.new.rules ≤ R.draws self.old.rules + 12 * (P.timeline self.old.paths).legs.count }
 
         // A second call answers as the first did.
-        ensures again { (kind : ConflictKind) → self.old.conflict ≡ Some kind → (result ≡ Err (Stop.Conflict kind)) × ((state_of W.sets W.moves R.rules B.store self.new) ≡ (state_of W.sets W.moves R.rules B.store self.old)) }
-        ensures settled { self.old.complete ≡ true → self.old.conflict ≡ None → IsOk result × ((state_of W.sets W.moves R.rules B.store self.new) ≡ (state_of W.sets W.moves R.rules B.store self.old)) }
+        ensures again { (kind : ConflictKind) → self.old.conflict ≡ Some kind → (result ≡ Err (Stop.Conflict kind)) × ((state_of P.timeline W.sets W.moves R.rules B.store self.new) ≡ (state_of P.timeline W.sets W.moves R.rules B.store self.old)) }
+        ensures settled { self.old.complete ≡ true → self.old.conflict ≡ None → IsOk result × ((state_of P.timeline W.sets W.moves R.rules B.store self.new) ≡ (state_of P.timeline W.sets W.moves R.rules B.store self.old)) }
     {
         self.counted();
         let outcome = self.outcome();
@@ -290,20 +324,20 @@ impl<'a, B: ByteFacts, W: Transfer, R: RowRules> Analysis<'a, B, W, R> {
     /// What is known of a register at a point. x0 is 0. Each known value stands in the closure, also before `refine` and after it
     /// answered a stop; after it answered Ok, `Unknown` comes exactly where the closure has no value.
     pub fn reg(&self, point: u32, r: Reg) -> Flat
-        requires point { point ≤ length self.now.rows }
-        ensures value { result ≡ flat (register_answer (state_of W.sets W.moves R.rules B.store self.now) point r) }
-        ensures derived { (v : ℕ) → result ≡ Flat.Known v → 0 < r → InClosure (setting_of W.sets W.moves R.rules self.now) (fact_of point (Register r) v) }
-        ensures sound { (v : ℕ) → result ≡ Flat.Known v → AlwaysHolds (setting_of W.sets W.moves R.rules self.now) point (Register r) v }
+        requires point { point ≤ (P.timeline self.now.paths).legs.count }
+        ensures value { result ≡ flat (register_answer (state_of P.timeline W.sets W.moves R.rules B.store self.now) point r) }
+        ensures derived { (v : ℕ) → result ≡ Flat.Known v → 0 < r → InClosure (setting_of P.timeline W.sets W.moves R.rules self.now) (fact_of point (Register r) v) }
+        ensures sound { (v : ℕ) → result ≡ Flat.Known v → AlwaysHolds (setting_of P.timeline W.sets W.moves R.rules self.now) point (Register r) v }
     {
         self.held();
         self.shown_below(point, r)
     }
 
     fn shown_below(&self, point: u32, r: Reg) -> Flat
-        requires point { point ≤ length self.now.rows }
-        ensures { result ≡ flat (register_answer (state_of W.sets W.moves R.rules B.store self.now) point r) }
+        requires point { point ≤ (P.timeline self.now.paths).legs.count }
+        ensures { result ≡ flat (register_answer (state_of P.timeline W.sets W.moves R.rules B.store self.now) point r) }
     {
-        let _rows = &self.rows;
+        let _paths = &self.paths;
         self.known.known_below(self.shown, point, r)
     }
 
@@ -312,42 +346,32 @@ impl<'a, B: ByteFacts, W: Transfer, R: RowRules> Analysis<'a, B, W, R> {
         ensures draws { self.now.work.draws ≡ R.draws self.now.rules }
         ensures joins { self.now.work.joins ≡ B.JOINS }
     {
-        let _rows = &self.rows;
+        let _paths = &self.paths;
     }
 
-    /// The rows of the path.
-    pub fn rows(&self) -> &'a [StepRow]
-        ensures { result.now ≡ self.now.rows }
+    /// The rows and moments.
+    pub fn paths(&self) -> &P
+        ensures { result.now ≡ self.now.paths }
     {
-        self.rows
+        &self.paths
     }
 
-    /// The address to which the last row led, which is that of the last point. There must be a row.
-    pub fn end_pc(&self) -> u32
-        requires { 0 < length self.now.rows }
-        ensures { EndBefore self.now.rows result }
-    {
-        let last = self.count() - 1;
-        let row = self.row(last);
-        row.next
-    }
-
-    /// An analysis of these steps, which end in this dump, by these rules. Nothing is known yet. `OutOfMemory` says that its room
-    /// can't be had.
+    /// An analysis of these rows and moments, which end in this dump, by these rules. They are to be those of one path of at most 65,536 rows.
+    /// Nothing is known yet. `OutOfMemory` says that its room can't be had.
     pub fn prepare(
         alloc: Global,
-        steps: &'a Steps,
+        paths: P,
         dump: &'a Dump<'a>,
         rules: R,
-    ) -> Result<Analysis<'a, B, W, R>, OutOfMemory>
-        requires steps { 0 < length steps.now }
-        requires end { (s : Status) → IsStatus (registers_of dump.now) s → EndBefore steps.now s.pc }
-        ensures path { IfOk result (λ a. a.rows ≡ steps.now) }
+    ) -> Result<Analysis<'a, P, B, W, R>, OutOfMemory>
+        requires line { IsOneLine (P.timeline paths) }
+        requires few { (P.timeline paths).legs.count ≤ 65536 }
+        ensures path { IfOk result (λ a. a.paths ≡ paths) }
         ensures last { IfOk result (λ a. HasRegisters (registers_of dump.now) a.last) }
         ensures memory { IfOk result (λ a. (a.exe ≡ exe_of dump.now) × (a.core ≡ core_of dump.now)) }
     {
         let status = dump.status();
         let last = Vec::from_slice(alloc, &status.regs)?;
-        Analysis::over(alloc, steps.rows(), last, dump, rules)
+        Analysis::over(alloc, paths, last, dump, rules)
     }
 }

@@ -8,6 +8,7 @@ mod moment;
 mod offset;
 mod pass;
 pub mod stop;
+mod trail;
 mod turns;
 
 pub use analysis::Analysis;

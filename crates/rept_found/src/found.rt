@@ -10,6 +10,7 @@ ghost use Rattle.rept_found.specs.View.{IsFoundIn, path_in};
 use crate::prepared::Prepared;
 use rept_analysis::{Analysis, Stop};
 use rept_dump::Dump;
+use rept_line::OnePath;
 use rept_report::ConflictKind;
 use rept_span::Transfer;
 use rept_versions::SpanFacts;
@@ -19,7 +20,7 @@ use std::marker::Model;
 /// What an analysis found out: the report of a path and the dump in which it ends, by one kind of sets of values and of rules.
 #[derive(Drop)]
 pub struct Found<'a, W: Transfer, R: RowRules> {
-    pub(crate) analysis: Analysis<'a, SpanFacts, W, R>,
+    pub(crate) analysis: Analysis<'a, OnePath<'a>, SpanFacts, W, R>,
     pub(crate) end_pc: u32,
     pub(crate) process: u32,
     pub(crate) dump: &'a Dump<'a>,
@@ -34,7 +35,7 @@ impl<'a, W: Transfer, R: RowRules> Model for Found<'a, W, R> {
 
     ghost view = { λ f. record { analysis = f.analysis; scene = record { end_pc = f.end_pc; process = f.process; program = exe_of f.dump.now } } };
 
-    ghost invariant = { λ f. (f.analysis.complete ≡ true) × (length f.analysis.rows ≤ 65536) };
+    ghost invariant = { λ f. (f.analysis.complete ≡ true) × (length f.analysis.paths.rows.now ≤ 65536) };
 }
 
 /// Learns all that follows, which takes no memory: it is Ok exactly where the closure of the rules has no conflict. A conflict that is told is

@@ -10,6 +10,7 @@ ghost use Rattle.rept_found.specs.View.{IsPreparedFor};
 
 use rept_analysis::Analysis;
 use rept_dump::Dump;
+use rept_line::OnePath;
 use rept_span::Transfer;
 use rept_steps::Steps;
 use rept_versions::SpanFacts;
@@ -21,7 +22,7 @@ use std::marker::Model;
 /// A path and the dump in which it ends, with all memory that learning what follows needs. Nothing is learnt yet.
 #[derive(Drop)]
 pub struct Prepared<'a, W: Transfer, R: RowRules> {
-    pub(crate) analysis: Analysis<'a, SpanFacts, W, R>,
+    pub(crate) analysis: Analysis<'a, OnePath<'a>, SpanFacts, W, R>,
     pub(crate) end_pc: u32,
     pub(crate) process: u32,
     pub(crate) dump: &'a Dump<'a>,
@@ -36,7 +37,7 @@ impl<'a, W: Transfer, R: RowRules> Model for Prepared<'a, W, R> {
 
     ghost view = { λ p. record { analysis = p.analysis; scene = record { end_pc = p.end_pc; process = p.process; program = exe_of p.dump.now } } };
 
-    ghost invariant = { λ p. length p.analysis.rows ≤ 65536 };
+    ghost invariant = { λ p. length p.analysis.paths.rows.now ≤ 65536 };
 }
 
 /// Takes the memory to learn all that follows from the steps and the dump in which they end, with values followed as sets of `W`.
@@ -52,7 +53,8 @@ pub fn prepare<'a, W: Transfer, R: RowRules>(
     ensures prepared { IfOk result (IsPreparedFor (means W.sets W.moves R.rules) (route (means W.sets W.moves R.rules) (crash_of dump.now) steps.now) (scene_of (crash_of dump.now))) }
 {
     let status = dump.status();
-    let analysis = Analysis::<SpanFacts, W, R>::prepare(alloc, steps, dump, rules)?;
+    let paths = OnePath::new(steps.rows());
+    let analysis = Analysis::<OnePath<'a>, SpanFacts, W, R>::prepare(alloc, paths, dump, rules)?;
     analysis.account();
     Ok(Prepared {
         analysis,

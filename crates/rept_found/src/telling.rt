@@ -34,7 +34,7 @@ impl<'a, W: Transfer, R: RowRules> Findings for Found<'a, W, R> {
 
     fn rows(&self, _thread: u32) -> &[StepRow] {
         self.analysis.account();
-        self.analysis.rows()
+        self.analysis.paths().rows()
     }
 
     fn end_pc(&self, _thread: u32) -> u32 {
@@ -47,7 +47,7 @@ impl<'a, W: Transfer, R: RowRules> Findings for Found<'a, W, R> {
 
     fn points(&self) -> u32 {
         self.analysis.account();
-        self.analysis.rows().len() as u32 + 1
+        self.analysis.paths().rows().len() as u32 + 1
     }
 
     fn point(&self, number: u32) -> ThreadPoint {

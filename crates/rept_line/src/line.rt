@@ -8,7 +8,7 @@ use rept_report::Paths;
 use rept_report::paths::Line;
 
 /// The rows of one thread, of which each is traced, at most 65,536: the moments of its memory are its points. This project's own.
-#[derive(Clone, Copy)]
+#[derive(Drop)]
 pub struct OnePath<'a> {
     rows: &'a [StepRow],
     ghost few: { length rows.now ≤ 65536 },
@@ -21,6 +21,14 @@ impl<'a> OnePath<'a> {
         ensures { result.rows.now ≡ rows.now }
     {
         OnePath { rows }
+    }
+
+    /// The rows, at most 65,536.
+    pub fn rows(&self) -> &'a [StepRow]
+        ensures value { result.now ≡ self.now.rows.now }
+        ensures few { length result.now ≤ 65536 }
+    {
+        self.rows
     }
 }
 

@@ -1,9 +1,6 @@
 //! Small runs, worked out by hand from the rules. Bytes in a list, bytes in spans, and a list that refuses every other fact give the same answers.
 
-ghost use Rattle.std.specs.Prelude.{◌≡◌, ◌<◌, length, true};
-ghost use Rattle.rept_dump.specs.Dump.{registers_of};
-ghost use Rattle.rept_dump.specs.Status.{IsStatus};
-ghost use Rattle.rept_dump.specs.declared.status.Status.{Status};
+ghost use Rattle.std.specs.Prelude.{◌≡◌, true};
 ghost use Rattle.rept_steps.specs.Linked.{EndBefore};
 
 mod atomics;
@@ -17,8 +14,9 @@ use rept_analysis::Analysis;
 use rept_dump::Dump;
 use rept_elf::{Image, Want};
 use rept_isa::{Instr, Reg, StepRow, decode};
+use rept_line::OnePath;
 use rept_partial::{Flat, Partial, Range};
-use rept_report::{Counts, Writer};
+use rept_report::{Counts, Paths, Writer};
 use rept_steps::Steps;
 use rept_versions::{ByteFacts, PlainFacts, SpanFacts};
 use std::alloc::{AllocError, Global};
@@ -95,16 +93,6 @@ fn leads_to(steps: &Steps, at: u32) -> bool
     steps.end_pc() == at
 }
 
-/// Whether steps end where the dump's program counter stands.
-fn ends_in(steps: &Steps, dump: &Dump) -> bool
-    requires { 0 < length steps.now }
-    ensures { result ≡ true → (s : Status) → IsStatus (registers_of dump.now) s → EndBefore steps.now s.pc }
-{
-    let end = steps.end_pc();
-    let status = dump.status();
-    status.pc == end
-}
-
 /// The steps of these addresses, words and next addresses.
 fn steps_of(rt: &impl Abort, alloc: Global, given: &[(u32, u32, u32)]) -> Result<Steps, Fail> {
     let mut steps = Steps::new(alloc);
@@ -152,10 +140,10 @@ fn core(alloc: Global, pc: u32, given: &[(u8, u32)]) -> Result<Vec<u8>, AllocErr
 
 fn check_registers<B: ByteFacts>(
     rt: &impl Abort,
-    analysis: &Analysis<B, Range, Atomic>,
+    analysis: &Analysis<OnePath<'_>, B, Range, Atomic>,
     run: &Run,
 ) {
-    let count = analysis.rows().len();
+    let count = analysis.paths().last_point() as usize;
     for (point, number, wanted) in run.regs {
         assert!(rt; *point as usize <= count);
         let r = Reg::new(*number).expect(rt, "a register's number");
@@ -173,8 +161,12 @@ fn check_registers<B: ByteFacts>(
     }
 }
 
-fn check_bytes<B: ByteFacts>(rt: &impl Abort, analysis: &Analysis<B, Range, Atomic>, run: &Run) {
-    let count = analysis.rows().len();
+fn check_bytes<B: ByteFacts>(
+    rt: &impl Abort,
+    analysis: &Analysis<OnePath<'_>, B, Range, Atomic>,
+    run: &Run,
+) {
+    let count = analysis.paths().last_point() as usize;
     for (point, address, wanted) in run.bytes {
         assert!(rt; *point as usize <= count);
         assert_eq!(rt;
@@ -209,9 +201,7 @@ fn check_files<B: ByteFacts>(
     exe: &[u8],
     core: &[u8],
     run: &Run,
-) -> Result<u32, Fail>
-    requires { 0 < length steps.now }
-{
+) -> Result<u32, Fail> {
     let exe_image = Image::read(exe, Want::Exec)?;
     let core_image = Image::read(core, Want::Core)?;
     let dump = Dump::read(exe_image, core_image)?;
@@ -224,13 +214,10 @@ fn check_dump<B: ByteFacts>(
     steps: &Steps,
     dump: &Dump<'_>,
     run: &Run,
-) -> Result<u32, Fail>
-    requires { 0 < length steps.now }
-{
-    assert!(rt; ends_in(steps, dump));
-    let mut analysis: Analysis<B, Range, Atomic> = Analysis::prepare(
+) -> Result<u32, Fail> {
+    let mut analysis: Analysis<OnePath<'_>, B, Range, Atomic> = Analysis::prepare(
         alloc,
-        steps,
+        OnePath::new(steps.rows()),
         dump,
         Atomic::new(),
     )?;

@@ -24,65 +24,74 @@ ghost use Rattle.rept_analysis.specs.Answers.{unsaid, byte_answer};
 use super::Analysis;
 use crate::moment::Moment;
 use rept_isa::Reg;
-use rept_report::Writer;
+use rept_report::{Paths, Writer};
 use rept_span::Transfer;
 use rept_versions::ByteFacts;
 use rept_view::RowRules;
 
-impl<'a, B: ByteFacts, W: Transfer, R: RowRules> Analysis<'a, B, W, R> {
+impl<'a, P: Paths + Drop, B: ByteFacts, W: Transfer, R: RowRules> Analysis<'a, P, B, W, R> {
     /// Whether all is learnt.
     pub(super) fn ended(&self) -> bool
         ensures value { result ≡ self.now.complete }
-        ensures kept { IsKept (state_of W.sets W.moves R.rules B.store self.now) }
+        ensures kept { IsKept (state_of P.timeline W.sets W.moves R.rules B.store self.now) }
     {
         self.complete
     }
 
     /// The set of a register at a point, as it was filled last.
     fn filled(&self, point: u32, r: Reg) -> W
-        requires point { point ≤ length self.now.rows }
+        requires point { point ≤ (P.timeline self.now.paths).legs.count }
         ensures entry { entry_at self.now.spans point r ≡ Some result }
         ensures in_file { r < 32 }
     {
-        let _rows = &self.rows;
+        let _paths = &self.paths;
         let _number = r.number();
         self.spans.at(point, r)
     }
 
-    /// Whether row i may write a byte, by the facts of which the sets are.
+    /// Whether row i, if there is one, may write a byte, by the facts of which the sets are.
     fn may_write(&self, i: u32, a: u32) -> bool
-        requires inside { i < length self.now.rows }
-        requires fitted { IsFitted (state_of W.sets W.moves R.rules B.store self.now) }
-        ensures { result ≡ may_write (setting_of W.sets W.moves R.rules self.now) (told (oldest self.now.filled self.now.known.log)) i a }
+        requires inside { i < (P.timeline self.now.paths).legs.count }
+        requires fitted { IsFitted (state_of P.timeline W.sets W.moves R.rules B.store self.now) }
+        ensures { result ≡ may_write (setting_of P.timeline W.sets W.moves R.rules self.now) (told (oldest self.now.filled self.now.known.log)) i a }
     {
-        let row = self.row(i);
-        let access = self.access(i, &row);
-        access.may_hit(a)
+        match self.row(i) {
+            None => false,
+            Some(row) => {
+                let access = self.access(i, &row);
+                access.may_hit(a)
+            }
+        }
     }
 
     /// Whether row i writes each byte that it may write, by these facts.
     fn is_sure(&self, i: u32) -> bool
-        requires inside { i < length self.now.rows }
-        requires fitted { IsFitted (state_of W.sets W.moves R.rules B.store self.now) }
-        ensures { result ≡ is_sure (setting_of W.sets W.moves R.rules self.now) (told (oldest self.now.filled self.now.known.log)) i }
+        requires inside { i < (P.timeline self.now.paths).legs.count }
+        requires fitted { IsFitted (state_of P.timeline W.sets W.moves R.rules B.store self.now) }
+        ensures { result ≡ is_sure (setting_of P.timeline W.sets W.moves R.rules self.now) (told (oldest self.now.filled self.now.known.log)) i }
     {
-        let row = self.row(i);
-        let _len = self.known.len();
-        let view = Moment {
-            facts: &self.known,
-            spans: &self.spans,
-            limit: self.filled,
-            row: i,
-        };
-        R::sure(&row, &view)
+        match self.row(i) {
+            None => false,
+            Some(row) => {
+                let _len = self.known.len();
+                let view = Moment {
+                    facts: &self.known,
+                    spans: &self.spans,
+                    limit: self.filled,
+                    row: i,
+                };
+                R::sure(&row, &view)
+            }
+        }
     }
 
     /// Whether no row from a point on may write a byte, by these facts.
     fn is_untouched(&self, point: u32, a: u32) -> bool
-        requires point { point ≤ length self.now.rows }
-        requires fitted { IsFitted (state_of W.sets W.moves R.rules B.store self.now) }
-        ensures { result ≡ is_settled (setting_of W.sets W.moves R.rules self.now) (told (oldest self.now.filled self.now.known.log)) (spot point a) }
+        requires point { point ≤ (P.timeline self.now.paths).moments.end }
+        requires fitted { IsFitted (state_of P.timeline W.sets W.moves R.rules B.store self.now) }
+        ensures { result ≡ is_settled (setting_of P.timeline W.sets W.moves R.rules self.now) (told (oldest self.now.filled self.now.known.log)) (spot point a) }
     {
+        self.held();
         let count = self.count();
         for i in point..count {
             if self.may_write(i, a) {
@@ -94,9 +103,9 @@ impl<'a, B: ByteFacts, W: Transfer, R: RowRules> Analysis<'a, B, W, R> {
 
     /// The byte of the dump, where it is carried back to a point, by these facts.
     fn implied(&self, point: u32, a: u32) -> Option<u8>
-        requires point { point ≤ length self.now.rows }
-        requires fitted { IsFitted (state_of W.sets W.moves R.rules B.store self.now) }
-        ensures { result ≡ implied (setting_of W.sets W.moves R.rules self.now) (told (oldest self.now.filled self.now.known.log)) point a }
+        requires point { point ≤ (P.timeline self.now.paths).moments.end }
+        requires fitted { IsFitted (state_of P.timeline W.sets W.moves R.rules B.store self.now) }
+        ensures { result ≡ implied (setting_of P.timeline W.sets W.moves R.rules self.now) (told (oldest self.now.filled self.now.known.log)) point a }
     {
         let byte = self.dump_byte(a)?;
         if self.is_untouched(point, a) {
@@ -108,10 +117,12 @@ impl<'a, B: ByteFacts, W: Transfer, R: RowRules> Analysis<'a, B, W, R> {
 
     /// What is said of the step that last wrote a byte before a point, by these facts.
     fn last_writer(&self, point: u32, a: u32) -> Writer
-        requires point { point ≤ length self.now.rows }
-        requires fitted { IsFitted (state_of W.sets W.moves R.rules B.store self.now) }
-        ensures { IsWriter (setting_of W.sets W.moves R.rules self.now) (told (oldest self.now.filled self.now.known.log)) (spot point a) result }
+        requires point { point ≤ (P.timeline self.now.paths).moments.end }
+        requires fitted { IsFitted (state_of P.timeline W.sets W.moves R.rules B.store self.now) }
+        ensures { IsWriter (setting_of P.timeline W.sets W.moves R.rules self.now) (told (oldest self.now.filled self.now.known.log)) (spot point a) result }
     {
+        self.held();
+        let _end = self.end();
         for i in (0..point).rev() {
             if self.may_write(i, a) {
                 return if self.is_sure(i) {
@@ -126,8 +137,8 @@ impl<'a, B: ByteFacts, W: Transfer, R: RowRules> Analysis<'a, B, W, R> {
 
     /// The set of values of a register at a point: all words, unless all is learnt.
     pub fn range(&self, point: u32, r: Reg) -> W
-        requires { point ≤ length self.now.rows }
-        ensures ended { self.now.complete ≡ true → range (way_of (setting_of W.sets W.moves R.rules self.now)) (answers (state_of W.sets W.moves R.rules B.store self.now)) point r ≡ Some result }
+        requires { point ≤ (P.timeline self.now.paths).legs.count }
+        ensures ended { self.now.complete ≡ true → range (way_of (setting_of P.timeline W.sets W.moves R.rules self.now)) (answers (state_of P.timeline W.sets W.moves R.rules B.store self.now)) point r ≡ Some result }
         ensures open { self.now.complete ≡ false → result ≡ W.sets.unknown }
     {
         if self.ended() {
@@ -150,11 +161,11 @@ impl<'a, B: ByteFacts, W: Transfer, R: RowRules> Analysis<'a, B, W, R> {
         }
     }
 
-    /// The byte of the dump at the last point.
+    /// The byte of the dump at the end.
     fn end_byte(&self, point: u32, a: u32) -> Option<u8>
-        ensures { result ≡ (if point == length self.now.rows then byte_at (contents self.now.exe) self.now.core a else None) }
+        ensures { result ≡ (if point == (P.timeline self.now.paths).moments.end then byte_at (contents self.now.exe) self.now.core a else None) }
     {
-        if point == self.count() {
+        if point == self.end() {
             self.dump_byte(a)
         } else {
             None
@@ -165,14 +176,13 @@ impl<'a, B: ByteFacts, W: Transfer, R: RowRules> Analysis<'a, B, W, R> {
     pub(super) fn shown(&self) -> u32
         ensures { result ≡ self.now.shown }
     {
-        let _rows = &self.rows;
+        let _paths = &self.paths;
         self.shown
     }
 
     /// The byte that is answered while not all is learnt.
     fn shown_byte(&self, point: u32, a: u32) -> Option<u8>
-        requires { point ≤ length self.now.rows }
-        ensures { result ≡ byte_answer (state_of W.sets W.moves R.rules B.store self.now) point a }
+        ensures { result ≡ byte_answer (state_of P.timeline W.sets W.moves R.rules B.store self.now) point a }
     {
         if self.shown() == 0 {
             return None;
@@ -186,11 +196,11 @@ impl<'a, B: ByteFacts, W: Transfer, R: RowRules> Analysis<'a, B, W, R> {
     /// The value of the byte at an address, at a point, where it follows. While not all is learnt, as after a stop, it is that of the facts
     /// that are answered, and at the last point the dump's too.
     pub fn byte(&self, point: u32, a: u32) -> Option<u8>
-        requires { point ≤ length self.now.rows }
-        ensures ended { self.now.complete ≡ true → result ≡ answers (state_of W.sets W.moves R.rules B.store self.now) point (Byte a) }
-        ensures open { self.now.complete ≡ false → result ≡ byte_answer (state_of W.sets W.moves R.rules B.store self.now) point a }
-        ensures derived { (v : ℕ) → result ≡ Some v → InClosure (setting_of W.sets W.moves R.rules self.now) (fact_of point (Byte a) v) }
-        ensures sound { (v : ℕ) → result ≡ Some v → AlwaysHolds (setting_of W.sets W.moves R.rules self.now) point (Byte a) v }
+        requires { point ≤ (P.timeline self.now.paths).moments.end }
+        ensures ended { self.now.complete ≡ true → result ≡ answers (state_of P.timeline W.sets W.moves R.rules B.store self.now) point (Byte a) }
+        ensures open { self.now.complete ≡ false → result ≡ byte_answer (state_of P.timeline W.sets W.moves R.rules B.store self.now) point a }
+        ensures derived { (v : ℕ) → result ≡ Some v → InClosure (setting_of P.timeline W.sets W.moves R.rules self.now) (fact_of point (Byte a) v) }
+        ensures sound { (v : ℕ) → result ≡ Some v → AlwaysHolds (setting_of P.timeline W.sets W.moves R.rules self.now) point (Byte a) v }
     {
         if !self.ended() {
             return self.shown_byte(point, a);
@@ -204,8 +214,8 @@ impl<'a, B: ByteFacts, W: Transfer, R: RowRules> Analysis<'a, B, W, R> {
     /// What is said of the step that last wrote a byte before a point: that the step before the point may write it, unless all
     /// is learnt.
     pub fn writer(&self, point: u32, a: u32) -> Writer
-        requires { point ≤ length self.now.rows }
-        ensures ended { self.now.complete ≡ true → IsWriter (setting_of W.sets W.moves R.rules self.now) (answers (state_of W.sets W.moves R.rules B.store self.now)) (spot point a) result }
+        requires { point ≤ (P.timeline self.now.paths).moments.end }
+        ensures ended { self.now.complete ≡ true → IsWriter (setting_of P.timeline W.sets W.moves R.rules self.now) (answers (state_of P.timeline W.sets W.moves R.rules B.store self.now)) (spot point a) result }
         ensures open { self.now.complete ≡ false → result ≡ unsaid point }
     {
         if self.ended() {

@@ -16,9 +16,10 @@ use crate::halt::Halt;
 use rept_alias::CallAccess;
 use rept_isa::{Instr, StepRow};
 use rept_reason::Cell;
+use rept_report::Paths;
 use rept_span::Transfer;
 use rept_versions::{ByteFacts, Carried, Stretch};
-use rept_view::RowRules;
+use rept_view::{RowRules, When};
 use rept_writing::Writing;
 use std::alloc::AllocError as OutOfMemory;
 
@@ -52,30 +53,30 @@ fn has_all(stretch: &Stretch, from: u32, to: u32) -> bool
     stretch.first <= from && to <= stretch.last
 }
 
-impl<'a, B: ByteFacts, W: Transfer, R: RowRules> Analysis<'a, B, W, R> {
+impl<'a, P: Paths + Drop, B: ByteFacts, W: Transfer, R: RowRules> Analysis<'a, P, B, W, R> {
     /// Carries a byte's value from a point to another one, over rows that may not write it.
     fn send(&mut self, a: u32, from: u32, to: u32, value: u8) -> Result<Carried, OutOfMemory>
         requires open { self.old.complete ≡ false }
-        requires from { from ≤ length self.old.rows }
-        requires to { to ≤ length self.old.rows }
-        requires known { Knows from (Byte a) value (state_of W.sets W.moves R.rules B.store self.old) }
-        requires spared { IsSparedBetween from to a (state_of W.sets W.moves R.rules B.store self.old) }
-        ensures { Sends (state_of W.sets W.moves R.rules B.store self.old) (state_of W.sets W.moves R.rules B.store self.new) (record { address = a; from = from; to = to; value = value }) result }
+        requires from { from ≤ (P.timeline self.old.paths).legs.count }
+        requires to { to ≤ (P.timeline self.old.paths).legs.count }
+        requires known { Knows from (Byte a) value (state_of P.timeline W.sets W.moves R.rules B.store self.old) }
+        requires spared { IsSparedBetween from to a (state_of P.timeline W.sets W.moves R.rules B.store self.old) }
+        ensures { Sends (state_of P.timeline W.sets W.moves R.rules B.store self.old) (state_of P.timeline W.sets W.moves R.rules B.store self.new) (record { address = a; from = from; to = to; value = value }) result }
     {
         let _value = value;
-        let _rows = &self.rows;
+        let _paths = &self.paths;
         self.known.carry(a, from, to)
     }
 
     fn spread(&mut self, a: u32, from: u32, to: u32, value: u8) -> Result<bool, Halt>
-        requires from { from ≤ length self.old.rows }
-        requires to { to ≤ length self.old.rows }
-        requires known { Knows from (Byte a) value (state_of W.sets W.moves R.rules B.store self.old) }
-        requires spared { IsSparedBetween from to a (state_of W.sets W.moves R.rules B.store self.old) }
+        requires from { from ≤ (P.timeline self.old.paths).legs.count }
+        requires to { to ≤ (P.timeline self.old.paths).legs.count }
+        requires known { Knows from (Byte a) value (state_of P.timeline W.sets W.moves R.rules B.store self.old) }
+        requires spared { IsSparedBetween from to a (state_of P.timeline W.sets W.moves R.rules B.store self.old) }
         requires open { self.old.complete ≡ false }
-        ensures grows { Grows (state_of W.sets W.moves R.rules B.store self.old) (state_of W.sets W.moves R.rules B.store self.new) }
-        ensures drew { IfOk result (λ learnt. Drew (state_of W.sets W.moves R.rules B.store self.old) (state_of W.sets W.moves R.rules B.store self.new) learnt (IsSpreadTo (record { address = a; from = from; to = to; value = value }))) }
-        ensures halt { IfErr result (λ h. IsHalt (state_of W.sets W.moves R.rules B.store self.new) h) }
+        ensures grows { Grows (state_of P.timeline W.sets W.moves R.rules B.store self.old) (state_of P.timeline W.sets W.moves R.rules B.store self.new) }
+        ensures drew { IfOk result (λ learnt. Drew (state_of P.timeline W.sets W.moves R.rules B.store self.old) (state_of P.timeline W.sets W.moves R.rules B.store self.new) learnt (IsSpreadTo (record { address = a; from = from; to = to; value = value }))) }
+        ensures halt { IfErr result (λ h. IsHalt (state_of P.timeline W.sets W.moves R.rules B.store self.new) h) }
     {
         match self.send(a, from, to, value) {
             Ok(Carried::Same) => Ok(false),
@@ -103,12 +104,12 @@ impl<'a, B: ByteFacts, W: Transfer, R: RowRules> Analysis<'a, B, W, R> {
     /// The value of a byte from a point to another one, where no row between may write it.
     fn carry_segment(&mut self, a: u32, from: u32, to: u32) -> Result<bool, Halt>
         requires order { from ≤ to }
-        requires to { to ≤ length self.old.rows }
-        requires spared { IsSparedBetween from to a (state_of W.sets W.moves R.rules B.store self.old) }
+        requires to { to ≤ (P.timeline self.old.paths).legs.count }
+        requires spared { IsSparedBetween from to a (state_of P.timeline W.sets W.moves R.rules B.store self.old) }
         requires open { self.old.complete ≡ false }
-        ensures grows { Grows (state_of W.sets W.moves R.rules B.store self.old) (state_of W.sets W.moves R.rules B.store self.new) }
-        ensures drew { IfOk result (λ learnt. Drew (state_of W.sets W.moves R.rules B.store self.old) (state_of W.sets W.moves R.rules B.store self.new) learnt (IsCarriedFrom a from to)) }
-        ensures halt { IfErr result (λ h. IsHalt (state_of W.sets W.moves R.rules B.store self.new) h) }
+        ensures grows { Grows (state_of P.timeline W.sets W.moves R.rules B.store self.old) (state_of P.timeline W.sets W.moves R.rules B.store self.new) }
+        ensures drew { IfOk result (λ learnt. Drew (state_of P.timeline W.sets W.moves R.rules B.store self.old) (state_of P.timeline W.sets W.moves R.rules B.store self.new) learnt (IsCarriedFrom a from to)) }
+        ensures halt { IfErr result (λ h. IsHalt (state_of P.timeline W.sets W.moves R.rules B.store self.new) h) }
     {
         match self.stretch(a, from) {
             None => Ok(false),
@@ -171,8 +172,8 @@ impl<'a, B: ByteFacts, W: Transfer, R: RowRules> Analysis<'a, B, W, R> {
     fn put_writing(&mut self, k: usize, writing: Writing) -> bool
         requires open { self.old.complete ≡ false }
         requires within { k < length self.old.work.writing }
-        ensures put { result ≡ true → (state_of W.sets W.moves R.rules B.store self.new) ≡ with_writing (state_of W.sets W.moves R.rules B.store self.old) (set self.old.work.writing k writing) }
-        ensures same { result ≡ false → (state_of W.sets W.moves R.rules B.store self.new) ≡ (state_of W.sets W.moves R.rules B.store self.old) }
+        ensures put { result ≡ true → (state_of P.timeline W.sets W.moves R.rules B.store self.new) ≡ with_writing (state_of P.timeline W.sets W.moves R.rules B.store self.old) (set self.old.work.writing k writing) }
+        ensures same { result ≡ false → (state_of P.timeline W.sets W.moves R.rules B.store self.new) ≡ (state_of P.timeline W.sets W.moves R.rules B.store self.old) }
     {
         self.writing.replace(k, writing)
     }
@@ -213,7 +214,7 @@ impl<'a, B: ByteFacts, W: Transfer, R: RowRules> Analysis<'a, B, W, R> {
     /// Makes the rows of the list found by the byte again, where many were put in it anew.
     fn renew_index(&mut self)
         requires open { self.old.complete ≡ false }
-        ensures { (state_of W.sets W.moves R.rules B.store self.new) ≡ (state_of W.sets W.moves R.rules B.store self.old) }
+        ensures { (state_of P.timeline W.sets W.moves R.rules B.store self.new) ≡ (state_of P.timeline W.sets W.moves R.rules B.store self.old) }
     {
         if self.writing.is_worn() {
             self.index_writing();
@@ -222,17 +223,17 @@ impl<'a, B: ByteFacts, W: Transfer, R: RowRules> Analysis<'a, B, W, R> {
 
     /// Puts the bytes that row i may write by all that is known by now in the list, where it may write many by the list.
     fn list_anew(&mut self, k: usize, i: u32, row: &StepRow)
-        requires inside { i < length self.old.rows }
-        requires row { slice_get self.old.rows i ≡ Some row.now }
+        requires inside { i < (P.timeline self.old.paths).legs.count }
+        requires row { (P.timeline self.old.paths).legs.row i ≡ Some row.now }
         requires listed { (w : Writing) → slice_get self.old.work.writing k ≡ Some w → w.row ≡ i }
         requires within { k < length self.old.work.writing }
-        requires writings { AreWritings (state_of W.sets W.moves R.rules B.store self.old) }
+        requires writings { AreWritings (state_of P.timeline W.sets W.moves R.rules B.store self.old) }
         requires open { self.old.complete ≡ false }
-        ensures grows { Grows (state_of W.sets W.moves R.rules B.store self.old) (state_of W.sets W.moves R.rules B.store self.new) }
-        ensures uncut { IsUncut (state_of W.sets W.moves R.rules B.store self.old) → IsUncut (state_of W.sets W.moves R.rules B.store self.new) }
+        ensures grows { Grows (state_of P.timeline W.sets W.moves R.rules B.store self.old) (state_of P.timeline W.sets W.moves R.rules B.store self.new) }
+        ensures uncut { IsUncut (state_of P.timeline W.sets W.moves R.rules B.store self.old) → IsUncut (state_of P.timeline W.sets W.moves R.rules B.store self.new) }
     {
         let access = self.access_now(i, row);
-        let at = self.moment_before(i);
+        let at = self.moment_at(i, When::Before);
         let put = self.put_writing(k, Writing { row: i, at, access });
         if put {
             self.note_put();
@@ -242,14 +243,15 @@ impl<'a, B: ByteFacts, W: Transfer, R: RowRules> Analysis<'a, B, W, R> {
 
     /// So for a store that may stand in the list or not; nothing for another row, and nothing in the first round.
     pub(super) fn free(&mut self, i: u32, row: &StepRow)
-        requires inside { i < length self.old.rows }
-        requires row { slice_get self.old.rows i ≡ Some row.now }
-        requires writings { AreWritings (state_of W.sets W.moves R.rules B.store self.old) }
+        requires inside { i < (P.timeline self.old.paths).legs.count }
+        requires row { (P.timeline self.old.paths).legs.row i ≡ Some row.now }
+        requires writings { AreWritings (state_of P.timeline W.sets W.moves R.rules B.store self.old) }
         requires open { self.old.complete ≡ false }
-        ensures grows { Grows (state_of W.sets W.moves R.rules B.store self.old) (state_of W.sets W.moves R.rules B.store self.new) }
-        ensures uncut { IsUncut (state_of W.sets W.moves R.rules B.store self.old) → IsUncut (state_of W.sets W.moves R.rules B.store self.new) }
+        ensures grows { Grows (state_of P.timeline W.sets W.moves R.rules B.store self.old) (state_of P.timeline W.sets W.moves R.rules B.store self.new) }
+        ensures uncut { IsUncut (state_of P.timeline W.sets W.moves R.rules B.store self.old) → IsUncut (state_of P.timeline W.sets W.moves R.rules B.store self.new) }
     {
-        let k = self.listed_before(self.moment_before(i));
+        let before = self.moment_at(i, When::Before);
+        let k = self.listed_before(before);
         if !is_store(&row.instr) || self.is_first_round() || k >= self.writing_count() {
             return;
         }
@@ -261,7 +263,7 @@ impl<'a, B: ByteFacts, W: Transfer, R: RowRules> Analysis<'a, B, W, R> {
 
     /// The row after the one before an index in that list, or the first one.
     fn row_past(&self, k: usize) -> u32
-        requires writings { AreWritings (state_of W.sets W.moves R.rules B.store self.now) }
+        requires writings { AreWritings (state_of P.timeline W.sets W.moves R.rules B.store self.now) }
         requires within { k ≤ length self.now.work.writing }
         ensures { result ≡ past self.now.work.writing k }
     {
@@ -275,13 +277,14 @@ impl<'a, B: ByteFacts, W: Transfer, R: RowRules> Analysis<'a, B, W, R> {
 
     /// The number of the first row from an index of the list on that may write the byte, or the number of rows.
     fn next_writer(&self, k: usize, a: u32) -> u32
-        requires writings { AreWritings (state_of W.sets W.moves R.rules B.store self.now) }
+        requires writings { AreWritings (state_of P.timeline W.sets W.moves R.rules B.store self.now) }
         requires within { k ≤ length self.now.work.writing }
-        ensures last { result ≤ length self.now.rows }
+        ensures last { result ≤ (P.timeline self.now.paths).legs.count }
         ensures order { past self.now.work.writing k ≤ result }
-        ensures spared { IsSparedBetween (past self.now.work.writing k) result a (state_of W.sets W.moves R.rules B.store self.now) }
-        ensures stop { IsStopAt k a result (state_of W.sets W.moves R.rules B.store self.now) }
+        ensures spared { IsSparedBetween (past self.now.work.writing k) result a (state_of P.timeline W.sets W.moves R.rules B.store self.now) }
+        ensures stop { IsStopAt k a result (state_of P.timeline W.sets W.moves R.rules B.store self.now) }
     {
+        self.held();
         match self.next_hit(k, a) {
             None => self.count(),
             Some(hit) => {
@@ -301,11 +304,11 @@ impl<'a, B: ByteFacts, W: Transfer, R: RowRules> Analysis<'a, B, W, R> {
 
     /// The value of a byte over the rows around a point that may not write it.
     fn carry_around(&mut self, a: u32, point: u32) -> Result<bool, Halt>
-        requires writings { AreWritings (state_of W.sets W.moves R.rules B.store self.old) }
+        requires writings { AreWritings (state_of P.timeline W.sets W.moves R.rules B.store self.old) }
         requires open { self.old.complete ≡ false }
-        ensures grows { Grows (state_of W.sets W.moves R.rules B.store self.old) (state_of W.sets W.moves R.rules B.store self.new) }
-        ensures drew { IfOk result (λ learnt. Drew (state_of W.sets W.moves R.rules B.store self.old) (state_of W.sets W.moves R.rules B.store self.new) learnt (λ _. ⊤)) }
-        ensures halt { IfErr result (λ h. IsHalt (state_of W.sets W.moves R.rules B.store self.new) h) }
+        ensures grows { Grows (state_of P.timeline W.sets W.moves R.rules B.store self.old) (state_of P.timeline W.sets W.moves R.rules B.store self.new) }
+        ensures drew { IfOk result (λ learnt. Drew (state_of P.timeline W.sets W.moves R.rules B.store self.old) (state_of P.timeline W.sets W.moves R.rules B.store self.new) learnt (λ _. ⊤)) }
+        ensures halt { IfErr result (λ h. IsHalt (state_of P.timeline W.sets W.moves R.rules B.store self.new) h) }
     {
         let k = self.past_hit(point, a);
         let from = self.row_past(k);
@@ -316,11 +319,11 @@ impl<'a, B: ByteFacts, W: Transfer, R: RowRules> Analysis<'a, B, W, R> {
 
     /// So for so many bytes from an address on; nothing in the first round.
     pub(super) fn carry_bytes(&mut self, point: u32, start: u32, count: u32) -> Result<bool, Halt>
-        requires writings { AreWritings (state_of W.sets W.moves R.rules B.store self.old) }
+        requires writings { AreWritings (state_of P.timeline W.sets W.moves R.rules B.store self.old) }
         requires open { self.old.complete ≡ false }
-        ensures grows { Grows (state_of W.sets W.moves R.rules B.store self.old) (state_of W.sets W.moves R.rules B.store self.new) }
-        ensures drew { IfOk result (λ learnt. Drew (state_of W.sets W.moves R.rules B.store self.old) (state_of W.sets W.moves R.rules B.store self.new) learnt (λ _. ⊤)) }
-        ensures halt { IfErr result (λ h. IsHalt (state_of W.sets W.moves R.rules B.store self.new) h) }
+        ensures grows { Grows (state_of P.timeline W.sets W.moves R.rules B.store self.old) (state_of P.timeline W.sets W.moves R.rules B.store self.new) }
+        ensures drew { IfOk result (λ learnt. Drew (state_of P.timeline W.sets W.moves R.rules B.store self.old) (state_of P.timeline W.sets W.moves R.rules B.store self.new) learnt (λ _. ⊤)) }
+        ensures halt { IfErr result (λ h. IsHalt (state_of P.timeline W.sets W.moves R.rules B.store self.new) h) }
     {
         if self.is_first_round() {
             return Ok(false);
@@ -336,17 +339,17 @@ impl<'a, B: ByteFacts, W: Transfer, R: RowRules> Analysis<'a, B, W, R> {
 
     /// The byte of the dump at a tracked address, over the last rows that may not write it; nothing in the first round.
     pub(super) fn draw_dump(&mut self, a: u32) -> Result<bool, Halt>
-        requires tracked { IsTracked a (state_of W.sets W.moves R.rules B.store self.old) }
-        requires writings { AreWritings (state_of W.sets W.moves R.rules B.store self.old) }
+        requires tracked { IsTracked a (state_of P.timeline W.sets W.moves R.rules B.store self.old) }
+        requires writings { AreWritings (state_of P.timeline W.sets W.moves R.rules B.store self.old) }
         requires open { self.old.complete ≡ false }
-        ensures grows { Grows (state_of W.sets W.moves R.rules B.store self.old) (state_of W.sets W.moves R.rules B.store self.new) }
-        ensures drew { IfOk result (λ learnt. Drew (state_of W.sets W.moves R.rules B.store self.old) (state_of W.sets W.moves R.rules B.store self.new) learnt (λ _. ⊤)) }
-        ensures halt { IfErr result (λ h. IsHalt (state_of W.sets W.moves R.rules B.store self.new) h) }
+        ensures grows { Grows (state_of P.timeline W.sets W.moves R.rules B.store self.old) (state_of P.timeline W.sets W.moves R.rules B.store self.new) }
+        ensures drew { IfOk result (λ learnt. Drew (state_of P.timeline W.sets W.moves R.rules B.store self.old) (state_of P.timeline W.sets W.moves R.rules B.store self.new) learnt (λ _. ⊤)) }
+        ensures halt { IfErr result (λ h. IsHalt (state_of P.timeline W.sets W.moves R.rules B.store self.new) h) }
     {
         if self.is_first_round() {
             return Ok(false);
         }
-        let point = self.count();
+        let point = self.end();
         let told = self.draw_last_byte(a)?;
         let carried = self.carry_around(a, point)?;
         Ok(told | carried)
@@ -355,14 +358,15 @@ impl<'a, B: ByteFacts, W: Transfer, R: RowRules> Analysis<'a, B, W, R> {
     /// The value of a byte from the last row before a point that may write it to the next one. Answers whether it was new, and that next
     /// row, or the number of rows.
     fn carry_beside(&mut self, a: u32, point: u32) -> Result<(bool, u32), Halt>
-        requires point { point ≤ length self.old.rows }
-        requires writings { AreWritings (state_of W.sets W.moves R.rules B.store self.old) }
+        requires point { point ≤ (P.timeline self.old.paths).legs.count }
+        requires writings { AreWritings (state_of P.timeline W.sets W.moves R.rules B.store self.old) }
         requires open { self.old.complete ≡ false }
-        ensures grows { Grows (state_of W.sets W.moves R.rules B.store self.old) (state_of W.sets W.moves R.rules B.store self.new) }
-        ensures drew { IfOk result (λ ended. Drew (state_of W.sets W.moves R.rules B.store self.old) (state_of W.sets W.moves R.rules B.store self.new) ended.0 (IsCarriedBeside a point ended.1)) }
-        ensures halt { IfErr result (λ h. IsHalt (state_of W.sets W.moves R.rules B.store self.new) h) }
-        ensures onward { IfOk result (λ ended. (point ≤ ended.1) × (ended.1 ≤ length self.old.rows)) }
+        ensures grows { Grows (state_of P.timeline W.sets W.moves R.rules B.store self.old) (state_of P.timeline W.sets W.moves R.rules B.store self.new) }
+        ensures drew { IfOk result (λ ended. Drew (state_of P.timeline W.sets W.moves R.rules B.store self.old) (state_of P.timeline W.sets W.moves R.rules B.store self.new) ended.0 (IsCarriedBeside a point ended.1)) }
+        ensures halt { IfErr result (λ h. IsHalt (state_of P.timeline W.sets W.moves R.rules B.store self.new) h) }
+        ensures onward { IfOk result (λ ended. (point ≤ ended.1) × (ended.1 ≤ (P.timeline self.old.paths).legs.count)) }
     {
+        self.held();
         let k = self.past_hit(point, a);
         let from = self.row_past(k);
         let to = self.next_writer(k, a);
@@ -373,12 +377,13 @@ impl<'a, B: ByteFacts, W: Transfer, R: RowRules> Analysis<'a, B, W, R> {
     /// The value of a byte over all rows that may not write it: from each point at which its value begins or ends, and nowhere else, so that
     /// a path on which many rows may write something takes no longer.
     fn carry_address(&mut self, a: u32) -> Result<bool, Halt>
-        requires writings { AreWritings (state_of W.sets W.moves R.rules B.store self.old) }
+        requires writings { AreWritings (state_of P.timeline W.sets W.moves R.rules B.store self.old) }
         requires open { self.old.complete ≡ false }
-        ensures grows { Grows (state_of W.sets W.moves R.rules B.store self.old) (state_of W.sets W.moves R.rules B.store self.new) }
-        ensures drew { IfOk result (λ learnt. Drew (state_of W.sets W.moves R.rules B.store self.old) (state_of W.sets W.moves R.rules B.store self.new) learnt (IsCarriedAlong a)) }
-        ensures halt { IfErr result (λ h. IsHalt (state_of W.sets W.moves R.rules B.store self.new) h) }
+        ensures grows { Grows (state_of P.timeline W.sets W.moves R.rules B.store self.old) (state_of P.timeline W.sets W.moves R.rules B.store self.new) }
+        ensures drew { IfOk result (λ learnt. Drew (state_of P.timeline W.sets W.moves R.rules B.store self.old) (state_of P.timeline W.sets W.moves R.rules B.store self.new) learnt (IsCarriedAlong a)) }
+        ensures halt { IfErr result (λ h. IsHalt (state_of P.timeline W.sets W.moves R.rules B.store self.new) h) }
     {
+        self.held();
         let rows = self.count();
         let mut learnt = false;
         let mut from = 0;
@@ -399,11 +404,11 @@ impl<'a, B: ByteFacts, W: Transfer, R: RowRules> Analysis<'a, B, W, R> {
 
     /// The values of all tracked bytes.
     pub(super) fn carry_tracked(&mut self) -> Result<bool, Halt>
-        requires writings { AreWritings (state_of W.sets W.moves R.rules B.store self.old) }
+        requires writings { AreWritings (state_of P.timeline W.sets W.moves R.rules B.store self.old) }
         requires open { self.old.complete ≡ false }
-        ensures grows { Grows (state_of W.sets W.moves R.rules B.store self.old) (state_of W.sets W.moves R.rules B.store self.new) }
-        ensures drew { IfOk result (λ learnt. Drew (state_of W.sets W.moves R.rules B.store self.old) (state_of W.sets W.moves R.rules B.store self.new) learnt (AllCarried)) }
-        ensures halt { IfErr result (λ h. IsHalt (state_of W.sets W.moves R.rules B.store self.new) h) }
+        ensures grows { Grows (state_of P.timeline W.sets W.moves R.rules B.store self.old) (state_of P.timeline W.sets W.moves R.rules B.store self.new) }
+        ensures drew { IfOk result (λ learnt. Drew (state_of P.timeline W.sets W.moves R.rules B.store self.old) (state_of P.timeline W.sets W.moves R.rules B.store self.new) learnt (AllCarried)) }
+        ensures halt { IfErr result (λ h. IsHalt (state_of P.timeline W.sets W.moves R.rules B.store self.new) h) }
     {
         let count = self.tracked_count();
         let mut learnt = false;
@@ -418,7 +423,7 @@ impl<'a, B: ByteFacts, W: Transfer, R: RowRules> Analysis<'a, B, W, R> {
     /// Takes all rows out of the list of those that may write.
     fn clear_writing(&mut self)
         requires open { self.old.complete ≡ false }
-        ensures { (state_of W.sets W.moves R.rules B.store self.new) ≡ with_writing (state_of W.sets W.moves R.rules B.store self.old) [] }
+        ensures { (state_of P.timeline W.sets W.moves R.rules B.store self.new) ≡ with_writing (state_of P.timeline W.sets W.moves R.rules B.store self.old) [] }
     {
         self.writing.clear();
     }
@@ -426,41 +431,51 @@ impl<'a, B: ByteFacts, W: Transfer, R: RowRules> Analysis<'a, B, W, R> {
     /// Adds a row to it.
     fn add_writing(&mut self, writing: Writing)
         requires open { self.old.complete ≡ false }
-        requires room { length self.old.work.writing < length self.old.rows }
-        ensures { (state_of W.sets W.moves R.rules B.store self.new) ≡ with_writing (state_of W.sets W.moves R.rules B.store self.old) (self.old.work.writing ++ writing ∷ []) }
+        requires room { length self.old.work.writing < (P.timeline self.old.paths).legs.count }
+        ensures { (state_of P.timeline W.sets W.moves R.rules B.store self.new) ≡ with_writing (state_of P.timeline W.sets W.moves R.rules B.store self.old) (self.old.work.writing ++ writing ∷ []) }
     {
         self.writing.add(writing);
-    }
-
-    /// The number of the moment before a row.
-    fn moment_before(&self, row: u32) -> u32
-        ensures { result ≡ (setting_of W.sets W.moves R.rules self.now).moments.before row }
-    {
-        row
     }
 
     /// Makes the rows of the list found by the byte that they may write.
     fn index_writing(&mut self)
         requires open { self.old.complete ≡ false }
-        ensures { (state_of W.sets W.moves R.rules B.store self.new) ≡ (state_of W.sets W.moves R.rules B.store self.old) }
+        ensures { (state_of P.timeline W.sets W.moves R.rules B.store self.new) ≡ (state_of P.timeline W.sets W.moves R.rules B.store self.old) }
     {
         self.writing.index();
     }
 
-    /// Adds row i, if it may write, by the facts of which the sets are.
+    /// Adds row i, if there is one and it may write, by the facts of which the sets are.
     fn list_row(&mut self, i: u32)
         requires open { self.old.complete ≡ false }
-        requires inside { i < length self.old.rows }
+        requires inside { i < (P.timeline self.old.paths).legs.count }
         requires room { length self.old.work.writing ≤ i }
-        requires fitted { IsFitted (state_of W.sets W.moves R.rules B.store self.old) }
-        requires before { AreWritingsBefore i self.old.work.writing (state_of W.sets W.moves R.rules B.store self.old) }
-        ensures same { (state_of W.sets W.moves R.rules B.store self.new) ≡ with_writing (state_of W.sets W.moves R.rules B.store self.old) self.new.work.writing }
+        requires fitted { IsFitted (state_of P.timeline W.sets W.moves R.rules B.store self.old) }
+        requires before { AreWritingsBefore i self.old.work.writing (state_of P.timeline W.sets W.moves R.rules B.store self.old) }
+        ensures same { (state_of P.timeline W.sets W.moves R.rules B.store self.new) ≡ with_writing (state_of P.timeline W.sets W.moves R.rules B.store self.old) self.new.work.writing }
         ensures room { length self.new.work.writing ≤ i + 1 }
-        ensures listed { AreWritingsBefore (i + 1) self.new.work.writing (state_of W.sets W.moves R.rules B.store self.old) }
+        ensures listed { AreWritingsBefore (i + 1) self.new.work.writing (state_of P.timeline W.sets W.moves R.rules B.store self.old) }
     {
-        let row = self.row(i);
-        let access = self.access(i, &row);
-        let at = self.moment_before(i);
+        match self.row(i) {
+            None => {}
+            Some(row) => self.list_there(i, &row),
+        }
+    }
+
+    /// Adds this row, if it may write.
+    fn list_there(&mut self, i: u32, row: &StepRow)
+        requires open { self.old.complete ≡ false }
+        requires inside { i < (P.timeline self.old.paths).legs.count }
+        requires row { (P.timeline self.old.paths).legs.row i ≡ Some row.now }
+        requires room { length self.old.work.writing ≤ i }
+        requires fitted { IsFitted (state_of P.timeline W.sets W.moves R.rules B.store self.old) }
+        requires before { AreWritingsBefore i self.old.work.writing (state_of P.timeline W.sets W.moves R.rules B.store self.old) }
+        ensures same { (state_of P.timeline W.sets W.moves R.rules B.store self.new) ≡ with_writing (state_of P.timeline W.sets W.moves R.rules B.store self.old) self.new.work.writing }
+        ensures room { length self.new.work.writing ≤ i + 1 }
+        ensures listed { AreWritingsBefore (i + 1) self.new.work.writing (state_of P.timeline W.sets W.moves R.rules B.store self.old) }
+    {
+        let access = self.access(i, row);
+        let at = self.moment_at(i, When::Before);
         if !is_none(&access) {
             self.add_writing(Writing { row: i, at, access });
         }
@@ -469,10 +484,10 @@ impl<'a, B: ByteFacts, W: Transfer, R: RowRules> Analysis<'a, B, W, R> {
     /// Lists the rows that may write, by the facts of which the sets are.
     pub(super) fn list_writing(&mut self)
         requires open { self.old.complete ≡ false }
-        requires fitted { IsFitted (state_of W.sets W.moves R.rules B.store self.old) }
-        ensures same { (state_of W.sets W.moves R.rules B.store self.new) ≡ with_writing (state_of W.sets W.moves R.rules B.store self.old) self.new.work.writing }
-        ensures listed { AreWritings (state_of W.sets W.moves R.rules B.store self.new) }
-        ensures exact { AreExact (state_of W.sets W.moves R.rules B.store self.new) }
+        requires fitted { IsFitted (state_of P.timeline W.sets W.moves R.rules B.store self.old) }
+        ensures same { (state_of P.timeline W.sets W.moves R.rules B.store self.new) ≡ with_writing (state_of P.timeline W.sets W.moves R.rules B.store self.old) self.new.work.writing }
+        ensures listed { AreWritings (state_of P.timeline W.sets W.moves R.rules B.store self.new) }
+        ensures exact { AreExact (state_of P.timeline W.sets W.moves R.rules B.store self.new) }
     {
         self.held();
         let count = self.count();

@@ -1,7 +1,6 @@
 //! How many of a row's registers and bytes are known.
 
-ghost use Rattle.std.specs.Prelude.{◌≡◌, ◌*◌, ◌<◌, ◌≤◌, length, is_some};
-ghost use Rattle.rept_report.specs.Moments.{points_of};
+ghost use Rattle.std.specs.Prelude.{◌≡◌, ◌*◌, ◌<◌, ◌≤◌, length, is_some, IsSome};
 ghost use Rattle.rept_log.specs.Around.{around};
 ghost use Rattle.rept_log.specs.Known.{known_of};
 ghost use Rattle.rept_analysis.specs.Cells.{operand_known, byte_known, bytes_from, bytes_known, base_known, cells_known};
@@ -13,15 +12,16 @@ use crate::offset::address;
 use rept_isa::{Reg, StepRow, reads, writes};
 use rept_log::views::point_at;
 use rept_partial::Flat;
+use rept_report::Paths;
 use rept_span::Transfer;
 use rept_versions::ByteFacts;
 use rept_view::{RowRules, When};
 
-impl<'a, B: ByteFacts, W: Transfer, R: RowRules> Analysis<'a, B, W, R> {
+impl<'a, P: Paths + Drop, B: ByteFacts, W: Transfer, R: RowRules> Analysis<'a, P, B, W, R> {
     /// 1 where there is a register and it is known before row i or after it.
     fn operand_cell(&self, i: u32, when: When, r: Option<Reg>) -> u32
-        requires { i < length self.now.rows }
-        ensures value { result ≡ operand_known (around (points_of (length self.now.rows)) (known_of B.store self.now.known) i) when r }
+        requires { i < (P.timeline self.now.paths).legs.count }
+        ensures value { result ≡ operand_known (around (P.timeline self.now.paths).moments (known_of B.store self.now.known) i) when r }
         ensures few { result ≤ 1 }
     {
         let _count = self.count();
@@ -35,7 +35,7 @@ impl<'a, B: ByteFacts, W: Transfer, R: RowRules> Analysis<'a, B, W, R> {
         }
     }
 
-    /// 1 where the byte at an address is known at a point.
+    /// 1 where the byte at an address is known at a moment.
     fn byte_at_point(&self, point: u32, a: u32) -> u32
         ensures value { result ≡ one_if (is_some ((known_of B.store self.now.known).store.fact point a)) }
         ensures few { result ≤ 1 }
@@ -46,21 +46,22 @@ impl<'a, B: ByteFacts, W: Transfer, R: RowRules> Analysis<'a, B, W, R> {
         }
     }
 
-    /// At how many of the two points around row i the byte at an address is known.
+    /// At how many of the two moments around row i the byte at an address is known.
     fn byte_cells(&self, i: u32, a: u32) -> u32
-        requires { i < length self.now.rows }
-        ensures value { result ≡ byte_known (around (points_of (length self.now.rows)) (known_of B.store self.now.known) i) a }
+        requires { IsSome ((P.timeline self.now.paths).legs.row i) }
+        ensures value { result ≡ byte_known (around (P.timeline self.now.paths).moments (known_of B.store self.now.known) i) a }
         ensures few { result ≤ 2 }
     {
-        let _count = self.count();
-        self.byte_at_point(i, a) + self.byte_at_point(i + 1, a)
+        let before = self.moment_at(i, When::Before);
+        let after = self.moment_at(i, When::After);
+        self.byte_at_point(before, a) + self.byte_at_point(after, a)
     }
 
     /// So for up to four bytes from an address on.
     fn byte_cells_from(&self, i: u32, start: u32, count: u32) -> u32
-        requires inside { i < length self.now.rows }
+        requires row { IsSome ((P.timeline self.now.paths).legs.row i) }
         requires four { count ≤ 4 }
-        ensures value { result ≡ bytes_from (around (points_of (length self.now.rows)) (known_of B.store self.now.known) i) start count }
+        ensures value { result ≡ bytes_from (around (P.timeline self.now.paths).moments (known_of B.store self.now.known) i) start count }
         ensures few { result ≤ 2 * count }
     {
         let mut sum = 0;
@@ -72,8 +73,9 @@ impl<'a, B: ByteFacts, W: Transfer, R: RowRules> Analysis<'a, B, W, R> {
 
     /// So for the bytes that row i's rules look at.
     fn row_byte_cells(&self, i: u32, row: &StepRow) -> u32
-        requires inside { i < length self.now.rows }
-        ensures value { result ≡ bytes_known R.rules row.now (around (points_of (length self.now.rows)) (known_of B.store self.now.known) i) (base_known (first_read row.now.instr) (around (points_of (length self.now.rows)) (known_of B.store self.now.known) i)) }
+        requires inside { i < (P.timeline self.now.paths).legs.count }
+        requires row { IsSome ((P.timeline self.now.paths).legs.row i) }
+        ensures value { result ≡ bytes_known R.rules row.now (around (P.timeline self.now.paths).moments (known_of B.store self.now.known) i) (base_known (first_read row.now.instr) (around (P.timeline self.now.paths).moments (known_of B.store self.now.known) i)) }
         ensures few { result ≤ 8 }
     {
         let (first, _) = reads(&row.instr);
@@ -91,8 +93,9 @@ impl<'a, B: ByteFacts, W: Transfer, R: RowRules> Analysis<'a, B, W, R> {
 
     /// How many of the registers and bytes that row i's rules look at are known.
     pub(super) fn cells(&self, i: u32, row: &StepRow) -> u32
-        requires inside { i < length self.now.rows }
-        ensures value { result ≡ cells_known R.rules row.now (around (points_of (length self.now.rows)) (known_of B.store self.now.known) i) }
+        requires inside { i < (P.timeline self.now.paths).legs.count }
+        requires row { IsSome ((P.timeline self.now.paths).legs.row i) }
+        ensures value { result ≡ cells_known R.rules row.now (around (P.timeline self.now.paths).moments (known_of B.store self.now.known) i) }
         ensures few { result ≤ 11 }
     {
         let (first, second) = reads(&row.instr);

@@ -6,12 +6,11 @@ ghost use Rattle.rept_report.specs.Log.{oldest};
 ghost use Rattle.rept_analysis.specs.State.{setting_of, state_of};
 ghost use Rattle.rept_analysis.specs.Kept.{answers};
 ghost use Rattle.rept_analysis.specs.Counts.{is_call, base_of, is_store, row_is, calls_below, stores_below, known_at, known_below, IsCounted};
-ghost use Rattle.rept_span.specs.Ranges.{legs_of};
 
 use super::{Analysis, register};
 use rept_isa::{Instr, Reg, reads};
 use rept_partial::Flat;
-use rept_report::Counts;
+use rept_report::{Counts, Paths};
 use rept_span::Transfer;
 use rept_versions::ByteFacts;
 use rept_view::RowRules;
@@ -33,19 +32,19 @@ fn base(instr: &Instr) -> Option<Reg>
     }
 }
 
-impl<'a, B: ByteFacts, W: Transfer, R: RowRules> Analysis<'a, B, W, R> {
+impl<'a, P: Paths + Drop, B: ByteFacts, W: Transfer, R: RowRules> Analysis<'a, P, B, W, R> {
     /// Whether the value of a register other than x0 is answered.
     fn is_told(&self, point: u32, r: Reg) -> bool
-        requires { point ≤ length self.now.rows }
+        requires { point ≤ (P.timeline self.now.paths).legs.count }
         ensures { result ≡ is_some (register_fact (told (oldest self.now.shown self.now.known.log)) point r) }
     {
-        let _rows = &self.rows;
+        let _paths = &self.paths;
         self.known.fact_below(self.shown, point, r).is_some()
     }
 
     /// How many registers other than x0 are answered at a point.
     fn told_at(&self, point: u32) -> u32
-        requires { point ≤ length self.now.rows }
+        requires { point ≤ (P.timeline self.now.paths).legs.count }
         ensures value { result ≡ known_at (told (oldest self.now.shown self.now.known.log)) point 32 }
         ensures few { result ≤ 32 }
     {
@@ -60,7 +59,7 @@ impl<'a, B: ByteFacts, W: Transfer, R: RowRules> Analysis<'a, B, W, R> {
 
     /// How many are at all points.
     fn told(&self) -> u32
-        ensures { result ≡ known_below (told (oldest self.now.shown self.now.known.log)) (length self.now.rows + 1) }
+        ensures { result ≡ known_below (told (oldest self.now.shown self.now.known.log)) ((P.timeline self.now.paths).legs.count + 1) }
     {
         let count = self.count();
         let mut sum = 0;
@@ -70,14 +69,24 @@ impl<'a, B: ByteFacts, W: Transfer, R: RowRules> Analysis<'a, B, W, R> {
         sum
     }
 
+    /// Whether row i, if there is one, is an environment call.
+    fn is_call_row(&self, i: u32) -> bool
+        ensures { result ≡ row_is ((P.timeline self.now.paths).legs.row i) is_call }
+    {
+        match self.row(i) {
+            None => false,
+            Some(row) => is_call(row.instr),
+        }
+    }
+
     /// How many rows are environment calls.
     fn calls(&self) -> u32
-        ensures { result ≡ calls_below (legs_of self.now.rows) (length self.now.rows) }
+        ensures { result ≡ calls_below (P.timeline self.now.paths).legs ((P.timeline self.now.paths).legs.count) }
     {
         let count = self.count();
         let mut sum = 0;
         for i in 0..count {
-            if is_call(self.row(i).instr) {
+            if self.is_call_row(i) {
                 sum += 1;
             }
         }
@@ -86,10 +95,10 @@ impl<'a, B: ByteFacts, W: Transfer, R: RowRules> Analysis<'a, B, W, R> {
 
     /// Whether the value of a register before row i is answered.
     fn is_base_known(&self, i: u32, r: Reg) -> bool
-        requires { i ≤ length self.now.rows }
+        requires { i ≤ (P.timeline self.now.paths).legs.count }
         ensures { result ≡ is_some (register_known (told (oldest self.now.shown self.now.known.log)) i r) }
     {
-        let _rows = &self.rows;
+        let _paths = &self.paths;
         match self.known.known_below(self.shown, i, r) {
             Flat::Known(_) => true,
             Flat::Unknown => false,
@@ -98,19 +107,21 @@ impl<'a, B: ByteFacts, W: Transfer, R: RowRules> Analysis<'a, B, W, R> {
 
     /// Whether row i is a store whose base is known, or isn't.
     fn is_store(&self, known: bool, i: u32) -> bool
-        requires { i < length self.now.rows }
-        ensures { result ≡ row_is (slice_get self.now.rows i) (is_store known (told (oldest self.now.shown self.now.known.log)) i) }
+        requires { i < (P.timeline self.now.paths).legs.count }
+        ensures { result ≡ row_is ((P.timeline self.now.paths).legs.row i) (is_store known (told (oldest self.now.shown self.now.known.log)) i) }
     {
-        let row = self.row(i);
-        match base(&row.instr) {
-            Some(r) => self.is_base_known(i, r) == known,
+        match self.row(i) {
             None => false,
+            Some(row) => match base(&row.instr) {
+                Some(r) => self.is_base_known(i, r) == known,
+                None => false,
+            },
         }
     }
 
     /// How many rows are such stores.
     fn stores(&self, known: bool) -> u32
-        ensures { result ≡ stores_below (legs_of self.now.rows) (told (oldest self.now.shown self.now.known.log)) known (length self.now.rows) }
+        ensures { result ≡ stores_below (P.timeline self.now.paths).legs (told (oldest self.now.shown self.now.known.log)) known ((P.timeline self.now.paths).legs.count) }
     {
         let count = self.count();
         let mut sum = 0;
@@ -124,8 +135,8 @@ impl<'a, B: ByteFacts, W: Transfer, R: RowRules> Analysis<'a, B, W, R> {
 
     /// How many rows there are, of which kind, and how much is answered.
     pub fn counts(&self) -> Counts
-        ensures shown { IsCounted (setting_of W.sets W.moves R.rules self.now) (told (oldest self.now.shown self.now.known.log)) result }
-        ensures ended { self.now.complete ≡ true → IsCounted (setting_of W.sets W.moves R.rules self.now) (answers (state_of W.sets W.moves R.rules B.store self.now)) result }
+        ensures shown { IsCounted (setting_of P.timeline W.sets W.moves R.rules self.now) (told (oldest self.now.shown self.now.known.log)) result }
+        ensures ended { self.now.complete ≡ true → IsCounted (setting_of P.timeline W.sets W.moves R.rules self.now) (answers (state_of P.timeline W.sets W.moves R.rules B.store self.now)) result }
     {
         let _ended = self.ended();
         Counts {

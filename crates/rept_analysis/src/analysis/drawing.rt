@@ -6,13 +6,12 @@ ghost use Rattle.rept_isa.specs.Operands.{written_by};
 ghost use Rattle.rept_reason.specs.declared.fact.Cell.{Cell};
 ghost use Rattle.rept_reason.specs.declared.fact.Cell.TheVariants.{Register, Byte};
 ghost use Rattle.rept_view.specs.declared.drawn.Drawn.{Drawn};
-ghost use Rattle.rept_report.specs.Moments.{points_of};
 ghost use Rattle.rept_log.specs.Around.{around};
 ghost use Rattle.rept_analysis.specs.declared.pass.Pass.{Pass};
 ghost use Rattle.rept_analysis.specs.Cells.{cells_known};
 ghost use Rattle.rept_analysis.specs.Kept.{IsPass};
 ghost use Rattle.rept_analysis.specs.State.{state_of, with_draws, with_drawn};
-ghost use Rattle.rept_analysis.specs.Drawing.{IsTracked, Grows, Drew, IsHalt, KeptBelow, IsKeptAt, AreTrackedFrom, IsConclusion, AreConclusions, DrawnBelow, IsRowClosed, KnowsDrawn, DrawnKnown, IsRowTracked, IsUncut, AreWritings, IsRowAddress, AreRowAddresses};
+ghost use Rattle.rept_analysis.specs.Drawing.{IsTracked, Grows, Drew, IsHalt, KeptBelow, IsKeptAt, AreTrackedFrom, IsConclusion, AreConclusions, DrawnBelow, IsRowClosed, IsRowDrawn, KnowsDrawn, DrawnKnown, IsRowTracked, IsUncut, AreWritings, IsRowAddress, AreRowAddresses};
 ghost use Rattle.rept_log.specs.Known.{known_of};
 ghost use Rattle.rept_analysis.specs.Told.{Tracks};
 
@@ -22,14 +21,14 @@ use crate::halt::Halt;
 use crate::offset::address;
 use crate::pass::Pass;
 use rept_isa::{Instr, Reg, StepRow, reads, writes};
-use rept_line::OnePath;
 use rept_log::Around;
 use rept_log::views::point_at;
 use rept_partial::Flat;
 use rept_reason::Cell;
+use rept_report::Paths;
 use rept_span::Transfer;
 use rept_versions::ByteFacts;
-use rept_view::{Drawn, RowRules};
+use rept_view::{Drawn, RowRules, When};
 use smallvec::SmallVec;
 
 /// Whether the instruction leaves the register as it is.
@@ -67,26 +66,23 @@ fn one_if(r: Option<Reg>) -> u32
     }
 }
 
-/// The point around which row i's bytes are carried: after it where it stores or is an atomic
-/// instruction, and else before it.
-fn after_store(i: u32, instr: &Instr) -> u32
-    requires { i < 65536 }
-{
+/// On which side of a row its bytes are carried: after it where it stores or is an atomic instruction, and else before it.
+fn side(instr: &Instr) -> When {
     match *instr {
-        Instr::Store { .. } | Instr::Amo { .. } => i + 1,
-        _ => i,
+        Instr::Store { .. } | Instr::Amo { .. } => When::After,
+        _ => When::Before,
     }
 }
 
-impl<'a, B: ByteFacts, W: Transfer, R: RowRules> Analysis<'a, B, W, R> {
+impl<'a, P: Paths + Drop, B: ByteFacts, W: Transfer, R: RowRules> Analysis<'a, P, B, W, R> {
     /// The value of a register that row i keeps, onward and back.
     fn carry(&mut self, i: u32, row: &StepRow, r: Reg) -> Result<bool, Halt>
-        requires inside { i < length self.old.rows }
-        requires row { slice_get self.old.rows i ≡ Some row.now }
+        requires inside { i < (P.timeline self.old.paths).legs.count }
+        requires row { (P.timeline self.old.paths).legs.row i ≡ Some row.now }
         requires open { self.old.complete ≡ false }
-        ensures grows { Grows (state_of W.sets W.moves R.rules B.store self.old) (state_of W.sets W.moves R.rules B.store self.new) }
-        ensures drew { IfOk result (λ learnt. Drew (state_of W.sets W.moves R.rules B.store self.old) (state_of W.sets W.moves R.rules B.store self.new) learnt (λ s. 0 < r → written_by row.now.instr ≢ Some r → IsKeptAt i r s)) }
-        ensures halt { IfErr result (λ h. IsHalt (state_of W.sets W.moves R.rules B.store self.new) h) }
+        ensures grows { Grows (state_of P.timeline W.sets W.moves R.rules B.store self.old) (state_of P.timeline W.sets W.moves R.rules B.store self.new) }
+        ensures drew { IfOk result (λ learnt. Drew (state_of P.timeline W.sets W.moves R.rules B.store self.old) (state_of P.timeline W.sets W.moves R.rules B.store self.new) learnt (λ s. 0 < r → written_by row.now.instr ≢ Some r → IsKeptAt i r s)) }
+        ensures halt { IfErr result (λ h. IsHalt (state_of P.timeline W.sets W.moves R.rules B.store self.new) h) }
     {
         if !keeps(&row.instr, r) {
             return Ok(false);
@@ -105,12 +101,12 @@ impl<'a, B: ByteFacts, W: Transfer, R: RowRules> Analysis<'a, B, W, R> {
 
     /// The values of all registers that row i keeps.
     fn carry_all(&mut self, i: u32, row: &StepRow) -> Result<bool, Halt>
-        requires inside { i < length self.old.rows }
-        requires row { slice_get self.old.rows i ≡ Some row.now }
+        requires inside { i < (P.timeline self.old.paths).legs.count }
+        requires row { (P.timeline self.old.paths).legs.row i ≡ Some row.now }
         requires open { self.old.complete ≡ false }
-        ensures grows { Grows (state_of W.sets W.moves R.rules B.store self.old) (state_of W.sets W.moves R.rules B.store self.new) }
-        ensures drew { IfOk result (λ learnt. Drew (state_of W.sets W.moves R.rules B.store self.old) (state_of W.sets W.moves R.rules B.store self.new) learnt (KeptBelow 32 row.now i)) }
-        ensures halt { IfErr result (λ h. IsHalt (state_of W.sets W.moves R.rules B.store self.new) h) }
+        ensures grows { Grows (state_of P.timeline W.sets W.moves R.rules B.store self.old) (state_of P.timeline W.sets W.moves R.rules B.store self.new) }
+        ensures drew { IfOk result (λ learnt. Drew (state_of P.timeline W.sets W.moves R.rules B.store self.old) (state_of P.timeline W.sets W.moves R.rules B.store self.new) learnt (KeptBelow 32 row.now i)) }
+        ensures halt { IfErr result (λ h. IsHalt (state_of P.timeline W.sets W.moves R.rules B.store self.new) h) }
     {
         let mut learnt = false;
         for r in 1..32u8 {
@@ -122,13 +118,13 @@ impl<'a, B: ByteFacts, W: Transfer, R: RowRules> Analysis<'a, B, W, R> {
 
     /// Tracks an address. Where it wasn't tracked, its byte of the dump is learnt and carried at once.
     fn track_one(&mut self, a: u32) -> Result<bool, Halt>
-        requires row { IsRowAddress a (state_of W.sets W.moves R.rules B.store self.old) }
-        requires writings { AreWritings (state_of W.sets W.moves R.rules B.store self.old) }
+        requires row { IsRowAddress a (state_of P.timeline W.sets W.moves R.rules B.store self.old) }
+        requires writings { AreWritings (state_of P.timeline W.sets W.moves R.rules B.store self.old) }
         requires open { self.old.complete ≡ false }
-        ensures grows { Grows (state_of W.sets W.moves R.rules B.store self.old) (state_of W.sets W.moves R.rules B.store self.new) }
-        ensures drew { IfOk result (λ learnt. Drew (state_of W.sets W.moves R.rules B.store self.old) (state_of W.sets W.moves R.rules B.store self.new) learnt (IsTracked a)) }
-        ensures halt { IfErr result (λ h. IsHalt (state_of W.sets W.moves R.rules B.store self.new) h) }
-        ensures tracked { IfOk result (λ _. IsTracked a (state_of W.sets W.moves R.rules B.store self.new)) }
+        ensures grows { Grows (state_of P.timeline W.sets W.moves R.rules B.store self.old) (state_of P.timeline W.sets W.moves R.rules B.store self.new) }
+        ensures drew { IfOk result (λ learnt. Drew (state_of P.timeline W.sets W.moves R.rules B.store self.old) (state_of P.timeline W.sets W.moves R.rules B.store self.new) learnt (IsTracked a)) }
+        ensures halt { IfErr result (λ h. IsHalt (state_of P.timeline W.sets W.moves R.rules B.store self.new) h) }
+        ensures tracked { IfOk result (λ _. IsTracked a (state_of P.timeline W.sets W.moves R.rules B.store self.new)) }
     {
         match self.track(a) {
             Ok(true) => {
@@ -142,13 +138,13 @@ impl<'a, B: ByteFacts, W: Transfer, R: RowRules> Analysis<'a, B, W, R> {
 
     /// Tracks so many addresses from one on.
     fn track_from(&mut self, start: u32, count: u32) -> Result<bool, Halt>
-        requires row { AreRowAddresses start count (state_of W.sets W.moves R.rules B.store self.old) }
-        requires writings { AreWritings (state_of W.sets W.moves R.rules B.store self.old) }
+        requires row { AreRowAddresses start count (state_of P.timeline W.sets W.moves R.rules B.store self.old) }
+        requires writings { AreWritings (state_of P.timeline W.sets W.moves R.rules B.store self.old) }
         requires open { self.old.complete ≡ false }
-        ensures grows { Grows (state_of W.sets W.moves R.rules B.store self.old) (state_of W.sets W.moves R.rules B.store self.new) }
-        ensures drew { IfOk result (λ learnt. Drew (state_of W.sets W.moves R.rules B.store self.old) (state_of W.sets W.moves R.rules B.store self.new) learnt (AreTrackedFrom start count)) }
-        ensures halt { IfErr result (λ h. IsHalt (state_of W.sets W.moves R.rules B.store self.new) h) }
-        ensures tracked { IfOk result (λ _. AreTrackedFrom start count (state_of W.sets W.moves R.rules B.store self.new)) }
+        ensures grows { Grows (state_of P.timeline W.sets W.moves R.rules B.store self.old) (state_of P.timeline W.sets W.moves R.rules B.store self.new) }
+        ensures drew { IfOk result (λ learnt. Drew (state_of P.timeline W.sets W.moves R.rules B.store self.old) (state_of P.timeline W.sets W.moves R.rules B.store self.new) learnt (AreTrackedFrom start count)) }
+        ensures halt { IfErr result (λ h. IsHalt (state_of P.timeline W.sets W.moves R.rules B.store self.new) h) }
+        ensures tracked { IfOk result (λ _. AreTrackedFrom start count (state_of P.timeline W.sets W.moves R.rules B.store self.new)) }
     {
         let mut learnt = false;
         for k in 0..count {
@@ -161,14 +157,14 @@ impl<'a, B: ByteFacts, W: Transfer, R: RowRules> Analysis<'a, B, W, R> {
 
     /// Tracks the bytes that row i's rules look at.
     fn track_row(&mut self, i: u32, row: &StepRow) -> Result<bool, Halt>
-        requires inside { i < length self.old.rows }
-        requires row { slice_get self.old.rows i ≡ Some row.now }
-        requires writings { AreWritings (state_of W.sets W.moves R.rules B.store self.old) }
+        requires inside { i < (P.timeline self.old.paths).legs.count }
+        requires row { (P.timeline self.old.paths).legs.row i ≡ Some row.now }
+        requires writings { AreWritings (state_of P.timeline W.sets W.moves R.rules B.store self.old) }
         requires open { self.old.complete ≡ false }
-        ensures grows { Grows (state_of W.sets W.moves R.rules B.store self.old) (state_of W.sets W.moves R.rules B.store self.new) }
-        ensures drew { IfOk result (λ learnt. Drew (state_of W.sets W.moves R.rules B.store self.old) (state_of W.sets W.moves R.rules B.store self.new) learnt (IsRowTracked row.now i)) }
-        ensures halt { IfErr result (λ h. IsHalt (state_of W.sets W.moves R.rules B.store self.new) h) }
-        ensures tracked { IfOk result (λ _. IsRowTracked row.now i (state_of W.sets W.moves R.rules B.store self.new)) }
+        ensures grows { Grows (state_of P.timeline W.sets W.moves R.rules B.store self.old) (state_of P.timeline W.sets W.moves R.rules B.store self.new) }
+        ensures drew { IfOk result (λ learnt. Drew (state_of P.timeline W.sets W.moves R.rules B.store self.old) (state_of P.timeline W.sets W.moves R.rules B.store self.new) learnt (IsRowTracked row.now i)) }
+        ensures halt { IfErr result (λ h. IsHalt (state_of P.timeline W.sets W.moves R.rules B.store self.new) h) }
+        ensures tracked { IfOk result (λ _. IsRowTracked row.now i (state_of P.timeline W.sets W.moves R.rules B.store self.new)) }
     {
         let (first, _) = reads(&row.instr);
         match first {
@@ -187,19 +183,18 @@ impl<'a, B: ByteFacts, W: Transfer, R: RowRules> Analysis<'a, B, W, R> {
 
     /// What row i lets one draw.
     fn list_drawn(&mut self, i: u32, row: &StepRow) -> SmallVec<Drawn, 16>
-        requires inside { i < length self.old.rows }
-        requires row { slice_get self.old.rows i ≡ Some row.now }
+        requires inside { i < (P.timeline self.old.paths).legs.count }
+        requires row { (P.timeline self.old.paths).legs.row i ≡ Some row.now }
         requires open { self.old.complete ≡ false }
-        ensures list { result.items ≡ R.rules.draw row.now (around (points_of (length self.old.rows)) (known_of B.store self.old.known) i) }
-        ensures same { (state_of W.sets W.moves R.rules B.store self.new) ≡ with_draws (state_of W.sets W.moves R.rules B.store self.old) self.new.work.draws }
+        ensures list { result.items ≡ R.rules.draw row.now (around (P.timeline self.old.paths).moments (known_of B.store self.old.known) i) }
+        ensures same { (state_of P.timeline W.sets W.moves R.rules B.store self.new) ≡ with_draws (state_of P.timeline W.sets W.moves R.rules B.store self.old) self.new.work.draws }
         ensures once { self.new.work.draws ≤ self.old.work.draws + 1 }
     {
         let _len = self.known.len();
-        let _count = self.rows.len();
-        let paths = OnePath::new(self.rows);
+        let _paths = &self.paths;
         let view = Around {
             facts: &self.known,
-            paths: &paths,
+            paths: &self.paths,
             row: i,
         };
         self.rules.draw(self.alloc, row, &view)
@@ -207,24 +202,25 @@ impl<'a, B: ByteFacts, W: Transfer, R: RowRules> Analysis<'a, B, W, R> {
 
     /// Adds a conclusion of row i.
     fn conclude(&mut self, i: u32, drawn: &Drawn) -> Result<bool, Halt>
-        requires inside { i < length self.old.rows }
-        requires conclusion { IsConclusion i drawn.now (state_of W.sets W.moves R.rules B.store self.old) }
+        requires inside { i < (P.timeline self.old.paths).legs.count }
+        requires conclusion { IsConclusion i drawn.now (state_of P.timeline W.sets W.moves R.rules B.store self.old) }
         requires open { self.old.complete ≡ false }
-        ensures grows { Grows (state_of W.sets W.moves R.rules B.store self.old) (state_of W.sets W.moves R.rules B.store self.new) }
-        ensures drew { IfOk result (λ learnt. Drew (state_of W.sets W.moves R.rules B.store self.old) (state_of W.sets W.moves R.rules B.store self.new) learnt (KnowsDrawn i drawn.now)) }
-        ensures known { IfOk result (λ _. KnowsDrawn i drawn.now (state_of W.sets W.moves R.rules B.store self.new)) }
+        ensures grows { Grows (state_of P.timeline W.sets W.moves R.rules B.store self.old) (state_of P.timeline W.sets W.moves R.rules B.store self.new) }
+        ensures drew { IfOk result (λ learnt. Drew (state_of P.timeline W.sets W.moves R.rules B.store self.old) (state_of P.timeline W.sets W.moves R.rules B.store self.new) learnt (KnowsDrawn i drawn.now)) }
+        ensures known { IfOk result (λ _. KnowsDrawn i drawn.now (state_of P.timeline W.sets W.moves R.rules B.store self.new)) }
         ensures still { self.new.work ≡ self.old.work }
-        ensures halt { IfErr result (λ h. IsHalt (state_of W.sets W.moves R.rules B.store self.new) h) }
+        ensures halt { IfErr result (λ h. IsHalt (state_of P.timeline W.sets W.moves R.rules B.store self.new) h) }
     {
         let _count = self.count();
-        let point = point_at(i, drawn.when);
         match &drawn.cell {
             Cell::Register(r) => {
+                let point = point_at(i, drawn.when);
                 let learnt = self.learn(point, *r, drawn.value)?;
                 Ok(learnt)
             }
             Cell::Byte(a) => {
-                let learnt = self.learn_byte(point, *a, drawn.value as u8, true)?;
+                let moment = self.moment_at(i, drawn.when);
+                let learnt = self.learn_byte(moment, *a, drawn.value as u8, true)?;
                 Ok(learnt)
             }
         }
@@ -232,14 +228,14 @@ impl<'a, B: ByteFacts, W: Transfer, R: RowRules> Analysis<'a, B, W, R> {
 
     /// Adds conclusions of row i.
     fn conclude_all(&mut self, i: u32, list: &[Drawn]) -> Result<bool, Halt>
-        requires inside { i < length self.old.rows }
-        requires conclusions { AreConclusions i list.now (state_of W.sets W.moves R.rules B.store self.old) }
+        requires inside { i < (P.timeline self.old.paths).legs.count }
+        requires conclusions { AreConclusions i list.now (state_of P.timeline W.sets W.moves R.rules B.store self.old) }
         requires open { self.old.complete ≡ false }
-        ensures grows { Grows (state_of W.sets W.moves R.rules B.store self.old) (state_of W.sets W.moves R.rules B.store self.new) }
-        ensures drew { IfOk result (λ learnt. Drew (state_of W.sets W.moves R.rules B.store self.old) (state_of W.sets W.moves R.rules B.store self.new) learnt (DrawnBelow (length list.now) list.now i)) }
-        ensures known { IfOk result (λ _. DrawnBelow (length list.now) list.now i (state_of W.sets W.moves R.rules B.store self.new)) }
+        ensures grows { Grows (state_of P.timeline W.sets W.moves R.rules B.store self.old) (state_of P.timeline W.sets W.moves R.rules B.store self.new) }
+        ensures drew { IfOk result (λ learnt. Drew (state_of P.timeline W.sets W.moves R.rules B.store self.old) (state_of P.timeline W.sets W.moves R.rules B.store self.new) learnt (DrawnBelow (length list.now) list.now i)) }
+        ensures known { IfOk result (λ _. DrawnBelow (length list.now) list.now i (state_of P.timeline W.sets W.moves R.rules B.store self.new)) }
         ensures still { self.new.work ≡ self.old.work }
-        ensures halt { IfErr result (λ h. IsHalt (state_of W.sets W.moves R.rules B.store self.new) h) }
+        ensures halt { IfErr result (λ h. IsHalt (state_of P.timeline W.sets W.moves R.rules B.store self.new) h) }
     {
         self.held();
         let mut learnt = false;
@@ -252,34 +248,34 @@ impl<'a, B: ByteFacts, W: Transfer, R: RowRules> Analysis<'a, B, W, R> {
 
     /// How far row i's rules were drawn.
     fn pass(&self, i: u32) -> Pass
-        requires { i < length self.now.rows }
+        requires { i < (P.timeline self.now.paths).legs.count }
         ensures { slice_get self.now.work.drawn i ≡ Some result }
     {
-        let _rows = &self.rows;
+        let _paths = &self.paths;
         self.drawn.at(i)
     }
 
     /// Keeps how far they were.
     fn keep_pass(&mut self, i: u32, pass: Pass)
-        requires inside { i < length self.old.rows }
-        requires pass { (row : StepRow) → slice_get self.old.rows i ≡ Some row → IsPass row i pass (state_of W.sets W.moves R.rules B.store self.old) }
+        requires inside { i < (P.timeline self.old.paths).legs.count }
+        requires pass { (row : StepRow) → (P.timeline self.old.paths).legs.row i ≡ Some row → IsPass row i pass (state_of P.timeline W.sets W.moves R.rules B.store self.old) }
         requires open { self.old.complete ≡ false }
-        ensures { (state_of W.sets W.moves R.rules B.store self.new) ≡ with_drawn (state_of W.sets W.moves R.rules B.store self.old) (set self.old.work.drawn i pass) }
+        ensures { (state_of P.timeline W.sets W.moves R.rules B.store self.new) ≡ with_drawn (state_of P.timeline W.sets W.moves R.rules B.store self.old) (set self.old.work.drawn i pass) }
     {
-        let _rows = &self.rows;
+        let _paths = &self.paths;
         self.drawn.put(i, pass);
     }
 
     /// All that row i lets one draw, where more of its cells are known than when its rules were drawn last.
     fn draw_drawn(&mut self, i: u32, row: &StepRow) -> Result<bool, Halt>
-        requires inside { i < length self.old.rows }
-        requires row { slice_get self.old.rows i ≡ Some row.now }
-        requires tracked { IsRowTracked row.now i (state_of W.sets W.moves R.rules B.store self.old) }
+        requires inside { i < (P.timeline self.old.paths).legs.count }
+        requires row { (P.timeline self.old.paths).legs.row i ≡ Some row.now }
+        requires tracked { IsRowTracked row.now i (state_of P.timeline W.sets W.moves R.rules B.store self.old) }
         requires open { self.old.complete ≡ false }
-        requires uncut { IsUncut (state_of W.sets W.moves R.rules B.store self.old) }
-        ensures grows { Grows (state_of W.sets W.moves R.rules B.store self.old) (state_of W.sets W.moves R.rules B.store self.new) }
-        ensures drew { IfOk result (λ learnt. Drew (state_of W.sets W.moves R.rules B.store self.old) (state_of W.sets W.moves R.rules B.store self.new) learnt (DrawnKnown row.now i)) }
-        ensures halt { IfErr result (λ h. IsHalt (state_of W.sets W.moves R.rules B.store self.new) h) }
+        requires uncut { IsUncut (state_of P.timeline W.sets W.moves R.rules B.store self.old) }
+        ensures grows { Grows (state_of P.timeline W.sets W.moves R.rules B.store self.old) (state_of P.timeline W.sets W.moves R.rules B.store self.new) }
+        ensures drew { IfOk result (λ learnt. Drew (state_of P.timeline W.sets W.moves R.rules B.store self.old) (state_of P.timeline W.sets W.moves R.rules B.store self.new) learnt (DrawnKnown row.now i)) }
+        ensures halt { IfErr result (λ h. IsHalt (state_of P.timeline W.sets W.moves R.rules B.store self.new) h) }
     {
         let cells = self.cells(i, row);
         let pass = self.pass(i);
@@ -292,17 +288,17 @@ impl<'a, B: ByteFacts, W: Transfer, R: RowRules> Analysis<'a, B, W, R> {
 
     /// All that it lets one draw, where so many of its cells are known, and more than then.
     fn draw_anew(&mut self, i: u32, row: &StepRow, cells: u32) -> Result<bool, Halt>
-        requires inside { i < length self.old.rows }
-        requires row { slice_get self.old.rows i ≡ Some row.now }
-        requires tracked { IsRowTracked row.now i (state_of W.sets W.moves R.rules B.store self.old) }
+        requires inside { i < (P.timeline self.old.paths).legs.count }
+        requires row { (P.timeline self.old.paths).legs.row i ≡ Some row.now }
+        requires tracked { IsRowTracked row.now i (state_of P.timeline W.sets W.moves R.rules B.store self.old) }
         requires open { self.old.complete ≡ false }
-        requires uncut { IsUncut (state_of W.sets W.moves R.rules B.store self.old) }
-        requires cells { cells ≡ cells_known R.rules row.now (around (points_of (length self.old.rows)) (known_of B.store self.old.known) i) }
+        requires uncut { IsUncut (state_of P.timeline W.sets W.moves R.rules B.store self.old) }
+        requires cells { cells ≡ cells_known R.rules row.now (around (P.timeline self.old.paths).moments (known_of B.store self.old.known) i) }
         requires few { cells ≤ 11 }
         requires more { slice_get self.old.work.drawn i ≡ Some (Pass.With cells) → ⊥ }
-        ensures grows { Grows (state_of W.sets W.moves R.rules B.store self.old) (state_of W.sets W.moves R.rules B.store self.new) }
-        ensures drew { IfOk result (λ learnt. Drew (state_of W.sets W.moves R.rules B.store self.old) (state_of W.sets W.moves R.rules B.store self.new) learnt (DrawnKnown row.now i)) }
-        ensures halt { IfErr result (λ h. IsHalt (state_of W.sets W.moves R.rules B.store self.new) h) }
+        ensures grows { Grows (state_of P.timeline W.sets W.moves R.rules B.store self.old) (state_of P.timeline W.sets W.moves R.rules B.store self.new) }
+        ensures drew { IfOk result (λ learnt. Drew (state_of P.timeline W.sets W.moves R.rules B.store self.old) (state_of P.timeline W.sets W.moves R.rules B.store self.new) learnt (DrawnKnown row.now i)) }
+        ensures halt { IfErr result (λ h. IsHalt (state_of P.timeline W.sets W.moves R.rules B.store self.new) h) }
     {
         self.held();
         let list = self.list_drawn(i, row);
@@ -321,12 +317,13 @@ impl<'a, B: ByteFacts, W: Transfer, R: RowRules> Analysis<'a, B, W, R> {
 
     /// The bytes that row i's rules look at, over the rows around it that may not write them.
     fn carry_row(&mut self, i: u32, row: &StepRow) -> Result<bool, Halt>
-        requires inside { i < length self.old.rows }
-        requires writings { AreWritings (state_of W.sets W.moves R.rules B.store self.old) }
+        requires inside { i < (P.timeline self.old.paths).legs.count }
+        requires row { (P.timeline self.old.paths).legs.row i ≡ Some row.now }
+        requires writings { AreWritings (state_of P.timeline W.sets W.moves R.rules B.store self.old) }
         requires open { self.old.complete ≡ false }
-        ensures grows { Grows (state_of W.sets W.moves R.rules B.store self.old) (state_of W.sets W.moves R.rules B.store self.new) }
-        ensures drew { IfOk result (λ learnt. Drew (state_of W.sets W.moves R.rules B.store self.old) (state_of W.sets W.moves R.rules B.store self.new) learnt (λ _. ⊤)) }
-        ensures halt { IfErr result (λ h. IsHalt (state_of W.sets W.moves R.rules B.store self.new) h) }
+        ensures grows { Grows (state_of P.timeline W.sets W.moves R.rules B.store self.old) (state_of P.timeline W.sets W.moves R.rules B.store self.new) }
+        ensures drew { IfOk result (λ learnt. Drew (state_of P.timeline W.sets W.moves R.rules B.store self.old) (state_of P.timeline W.sets W.moves R.rules B.store self.new) learnt (λ _. ⊤)) }
+        ensures halt { IfErr result (λ h. IsHalt (state_of P.timeline W.sets W.moves R.rules B.store self.new) h) }
     {
         let (first, _) = reads(&row.instr);
         let _count = self.count();
@@ -335,7 +332,7 @@ impl<'a, B: ByteFacts, W: Transfer, R: RowRules> Analysis<'a, B, W, R> {
             Some(r) => match self.known(i, r) {
                 Flat::Unknown => Ok(false),
                 Flat::Known(base) => {
-                    let point = after_store(i, &row.instr);
+                    let point = self.moment_at(i, side(&row.instr));
                     let start = address(base, &row.instr);
                     let learnt = self.carry_bytes(point, start, R::places(row).min(4))?;
                     Ok(learnt)
@@ -347,7 +344,8 @@ impl<'a, B: ByteFacts, W: Transfer, R: RowRules> Analysis<'a, B, W, R> {
     /// Whether row i's first byte isn't known, and may be carried to it: a row was put in the list anew since the last store of unknown
     /// address that was looked at.
     fn lacks_byte(&mut self, i: u32, row: &StepRow) -> bool
-        requires inside { i < length self.old.rows }
+        requires inside { i < (P.timeline self.old.paths).legs.count }
+        requires row { (P.timeline self.old.paths).legs.row i ≡ Some row.now }
         ensures { self.new ≡ self.old }
     {
         if !self.is_freed() {
@@ -365,7 +363,7 @@ impl<'a, B: ByteFacts, W: Transfer, R: RowRules> Analysis<'a, B, W, R> {
                     false
                 }
                 Flat::Known(base) => {
-                    let point = after_store(i, &row.instr);
+                    let point = self.moment_at(i, side(&row.instr));
                     R::places(row) > 0
                         && self.known_byte(point, address(base, &row.instr)).is_none()
                 }
@@ -375,13 +373,13 @@ impl<'a, B: ByteFacts, W: Transfer, R: RowRules> Analysis<'a, B, W, R> {
 
     /// The bytes of such a row, carried to it, so that its rules are drawn with them.
     fn fetch(&mut self, i: u32, row: &StepRow) -> Result<bool, Halt>
-        requires inside { i < length self.old.rows }
-        requires row { slice_get self.old.rows i ≡ Some row.now }
-        requires writings { AreWritings (state_of W.sets W.moves R.rules B.store self.old) }
+        requires inside { i < (P.timeline self.old.paths).legs.count }
+        requires row { (P.timeline self.old.paths).legs.row i ≡ Some row.now }
+        requires writings { AreWritings (state_of P.timeline W.sets W.moves R.rules B.store self.old) }
         requires open { self.old.complete ≡ false }
-        ensures grows { Grows (state_of W.sets W.moves R.rules B.store self.old) (state_of W.sets W.moves R.rules B.store self.new) }
-        ensures drew { IfOk result (λ learnt. Drew (state_of W.sets W.moves R.rules B.store self.old) (state_of W.sets W.moves R.rules B.store self.new) learnt (λ _. ⊤)) }
-        ensures halt { IfErr result (λ h. IsHalt (state_of W.sets W.moves R.rules B.store self.new) h) }
+        ensures grows { Grows (state_of P.timeline W.sets W.moves R.rules B.store self.old) (state_of P.timeline W.sets W.moves R.rules B.store self.new) }
+        ensures drew { IfOk result (λ learnt. Drew (state_of P.timeline W.sets W.moves R.rules B.store self.old) (state_of P.timeline W.sets W.moves R.rules B.store self.new) learnt (λ _. ⊤)) }
+        ensures halt { IfErr result (λ h. IsHalt (state_of P.timeline W.sets W.moves R.rules B.store self.new) h) }
     {
         if !self.lacks_byte(i, row) {
             return Ok(false);
@@ -394,15 +392,15 @@ impl<'a, B: ByteFacts, W: Transfer, R: RowRules> Analysis<'a, B, W, R> {
     /// All that row i lets one draw; where its rules were drawn, the bytes that it may write are listed anew, and its bytes are carried at
     /// once.
     fn draw_around(&mut self, i: u32, row: &StepRow) -> Result<bool, Halt>
-        requires inside { i < length self.old.rows }
-        requires row { slice_get self.old.rows i ≡ Some row.now }
-        requires tracked { IsRowTracked row.now i (state_of W.sets W.moves R.rules B.store self.old) }
-        requires writings { AreWritings (state_of W.sets W.moves R.rules B.store self.old) }
+        requires inside { i < (P.timeline self.old.paths).legs.count }
+        requires row { (P.timeline self.old.paths).legs.row i ≡ Some row.now }
+        requires tracked { IsRowTracked row.now i (state_of P.timeline W.sets W.moves R.rules B.store self.old) }
+        requires writings { AreWritings (state_of P.timeline W.sets W.moves R.rules B.store self.old) }
         requires open { self.old.complete ≡ false }
-        requires uncut { IsUncut (state_of W.sets W.moves R.rules B.store self.old) }
-        ensures grows { Grows (state_of W.sets W.moves R.rules B.store self.old) (state_of W.sets W.moves R.rules B.store self.new) }
-        ensures drew { IfOk result (λ learnt. Drew (state_of W.sets W.moves R.rules B.store self.old) (state_of W.sets W.moves R.rules B.store self.new) learnt (DrawnKnown row.now i)) }
-        ensures halt { IfErr result (λ h. IsHalt (state_of W.sets W.moves R.rules B.store self.new) h) }
+        requires uncut { IsUncut (state_of P.timeline W.sets W.moves R.rules B.store self.old) }
+        ensures grows { Grows (state_of P.timeline W.sets W.moves R.rules B.store self.old) (state_of P.timeline W.sets W.moves R.rules B.store self.new) }
+        ensures drew { IfOk result (λ learnt. Drew (state_of P.timeline W.sets W.moves R.rules B.store self.old) (state_of P.timeline W.sets W.moves R.rules B.store self.new) learnt (DrawnKnown row.now i)) }
+        ensures halt { IfErr result (λ h. IsHalt (state_of P.timeline W.sets W.moves R.rules B.store self.new) h) }
     {
         let drawn = self.draw_drawn(i, row)?;
         if !drawn {
@@ -413,21 +411,40 @@ impl<'a, B: ByteFacts, W: Transfer, R: RowRules> Analysis<'a, B, W, R> {
         Ok(true)
     }
 
-    /// All that row i lets one conclude.
+    /// All that row i lets one conclude, if there is one.
     fn draw_row(&mut self, i: u32) -> Result<bool, Halt>
-        requires inside { i < length self.old.rows }
-        requires writings { AreWritings (state_of W.sets W.moves R.rules B.store self.old) }
+        requires inside { i < (P.timeline self.old.paths).legs.count }
+        requires writings { AreWritings (state_of P.timeline W.sets W.moves R.rules B.store self.old) }
         requires open { self.old.complete ≡ false }
-        requires uncut { IsUncut (state_of W.sets W.moves R.rules B.store self.old) }
-        ensures grows { Grows (state_of W.sets W.moves R.rules B.store self.old) (state_of W.sets W.moves R.rules B.store self.new) }
-        ensures drew { IfOk result (λ learnt. Drew (state_of W.sets W.moves R.rules B.store self.old) (state_of W.sets W.moves R.rules B.store self.new) learnt (IsRowClosed i)) }
-        ensures halt { IfErr result (λ h. IsHalt (state_of W.sets W.moves R.rules B.store self.new) h) }
+        requires uncut { IsUncut (state_of P.timeline W.sets W.moves R.rules B.store self.old) }
+        ensures grows { Grows (state_of P.timeline W.sets W.moves R.rules B.store self.old) (state_of P.timeline W.sets W.moves R.rules B.store self.new) }
+        ensures drew { IfOk result (λ learnt. Drew (state_of P.timeline W.sets W.moves R.rules B.store self.old) (state_of P.timeline W.sets W.moves R.rules B.store self.new) learnt (IsRowClosed i)) }
+        ensures halt { IfErr result (λ h. IsHalt (state_of P.timeline W.sets W.moves R.rules B.store self.new) h) }
     {
-        let row = self.row(i);
-        let registers = self.carry_all(i, &row)?;
-        let fetched = self.fetch(i, &row)?;
-        let tracked = self.track_row(i, &row)?;
-        let drawn = self.draw_around(i, &row)?;
+        match self.row(i) {
+            None => Ok(false),
+            Some(row) => {
+                let learnt = self.draw_all(i, &row)?;
+                Ok(learnt)
+            }
+        }
+    }
+
+    /// All that this row lets one conclude.
+    fn draw_all(&mut self, i: u32, row: &StepRow) -> Result<bool, Halt>
+        requires inside { i < (P.timeline self.old.paths).legs.count }
+        requires row { (P.timeline self.old.paths).legs.row i ≡ Some row.now }
+        requires writings { AreWritings (state_of P.timeline W.sets W.moves R.rules B.store self.old) }
+        requires open { self.old.complete ≡ false }
+        requires uncut { IsUncut (state_of P.timeline W.sets W.moves R.rules B.store self.old) }
+        ensures grows { Grows (state_of P.timeline W.sets W.moves R.rules B.store self.old) (state_of P.timeline W.sets W.moves R.rules B.store self.new) }
+        ensures drew { IfOk result (λ learnt. Drew (state_of P.timeline W.sets W.moves R.rules B.store self.old) (state_of P.timeline W.sets W.moves R.rules B.store self.new) learnt (IsRowDrawn row.now i)) }
+        ensures halt { IfErr result (λ h. IsHalt (state_of P.timeline W.sets W.moves R.rules B.store self.new) h) }
+    {
+        let registers = self.carry_all(i, row)?;
+        let fetched = self.fetch(i, row)?;
+        let tracked = self.track_row(i, row)?;
+        let drawn = self.draw_around(i, row)?;
         Ok(registers | fetched | tracked | drawn)
     }
 
@@ -441,13 +458,13 @@ impl<'a, B: ByteFacts, W: Transfer, R: RowRules> Analysis<'a, B, W, R> {
 
     /// All that row i lets one conclude, and that it was looked at.
     pub(super) fn draw_noted(&mut self, i: u32) -> Result<bool, Halt>
-        requires inside { i < length self.old.rows }
-        requires writings { AreWritings (state_of W.sets W.moves R.rules B.store self.old) }
+        requires inside { i < (P.timeline self.old.paths).legs.count }
+        requires writings { AreWritings (state_of P.timeline W.sets W.moves R.rules B.store self.old) }
         requires open { self.old.complete ≡ false }
-        requires uncut { IsUncut (state_of W.sets W.moves R.rules B.store self.old) }
-        ensures grows { Grows (state_of W.sets W.moves R.rules B.store self.old) (state_of W.sets W.moves R.rules B.store self.new) }
-        ensures drew { IfOk result (λ learnt. Drew (state_of W.sets W.moves R.rules B.store self.old) (state_of W.sets W.moves R.rules B.store self.new) learnt (IsRowClosed i)) }
-        ensures halt { IfErr result (λ h. IsHalt (state_of W.sets W.moves R.rules B.store self.new) h) }
+        requires uncut { IsUncut (state_of P.timeline W.sets W.moves R.rules B.store self.old) }
+        ensures grows { Grows (state_of P.timeline W.sets W.moves R.rules B.store self.old) (state_of P.timeline W.sets W.moves R.rules B.store self.new) }
+        ensures drew { IfOk result (λ learnt. Drew (state_of P.timeline W.sets W.moves R.rules B.store self.old) (state_of P.timeline W.sets W.moves R.rules B.store self.new) learnt (IsRowClosed i)) }
+        ensures halt { IfErr result (λ h. IsHalt (state_of P.timeline W.sets W.moves R.rules B.store self.new) h) }
     {
         let len = self.len();
         let learnt = self.draw_row(i)?;
@@ -458,12 +475,14 @@ impl<'a, B: ByteFacts, W: Transfer, R: RowRules> Analysis<'a, B, W, R> {
     /// Whether row i may tell something new: something was learnt beside it since it was looked at, or it looks at bytes of which not all
     /// are known, which are learnt along many rows.
     fn may_tell(&self, i: u32) -> bool
-        requires { i < length self.now.rows }
+        requires { i < (P.timeline self.now.paths).legs.count }
     {
         if self.fresh.has(i) {
             return true;
         }
-        let row = self.row(i);
+        let Some(row) = self.row(i) else {
+            return false;
+        };
         let places = R::places(&row).min(4);
         let (first, second) = reads(&row.instr);
         let operands = one_if(first) + one_if(second) + one_if(writes(&row.instr));
@@ -473,13 +492,13 @@ impl<'a, B: ByteFacts, W: Transfer, R: RowRules> Analysis<'a, B, W, R> {
 
     /// All that row i lets one conclude, where it may tell something new.
     pub(super) fn draw_fresh(&mut self, i: u32) -> Result<bool, Halt>
-        requires inside { i < length self.old.rows }
-        requires writings { AreWritings (state_of W.sets W.moves R.rules B.store self.old) }
+        requires inside { i < (P.timeline self.old.paths).legs.count }
+        requires writings { AreWritings (state_of P.timeline W.sets W.moves R.rules B.store self.old) }
         requires open { self.old.complete ≡ false }
-        requires uncut { IsUncut (state_of W.sets W.moves R.rules B.store self.old) }
-        ensures grows { Grows (state_of W.sets W.moves R.rules B.store self.old) (state_of W.sets W.moves R.rules B.store self.new) }
-        ensures drew { IfOk result (λ learnt. Drew (state_of W.sets W.moves R.rules B.store self.old) (state_of W.sets W.moves R.rules B.store self.new) learnt (λ _. ⊤)) }
-        ensures halt { IfErr result (λ h. IsHalt (state_of W.sets W.moves R.rules B.store self.new) h) }
+        requires uncut { IsUncut (state_of P.timeline W.sets W.moves R.rules B.store self.old) }
+        ensures grows { Grows (state_of P.timeline W.sets W.moves R.rules B.store self.old) (state_of P.timeline W.sets W.moves R.rules B.store self.new) }
+        ensures drew { IfOk result (λ learnt. Drew (state_of P.timeline W.sets W.moves R.rules B.store self.old) (state_of P.timeline W.sets W.moves R.rules B.store self.new) learnt (λ _. ⊤)) }
+        ensures halt { IfErr result (λ h. IsHalt (state_of P.timeline W.sets W.moves R.rules B.store self.new) h) }
     {
         if !self.may_tell(i) {
             return Ok(false);

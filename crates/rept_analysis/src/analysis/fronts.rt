@@ -4,42 +4,43 @@ ghost use Rattle.std.specs.Prelude.{◌≡◌, ◌+◌, ◌<◌, ◌≤◌, leng
 ghost use Rattle.rept_reason.specs.declared.fact.Cell.TheVariants.{Register, Byte};
 ghost use Rattle.rept_report.specs.Log.{oldest};
 ghost use Rattle.rept_report.specs.Why.{Because, IsDrawnBecause, IsKnownBecause, IsCarriedBecause};
-ghost use Rattle.rept_log.specs.Fronts.{front_of, stands, told_by, setting_in};
+ghost use Rattle.rept_log.specs.Fronts.{stands, told_by, setting_in};
 ghost use Rattle.rept_analysis.specs.State.{setting_of, state_of};
-ghost use Rattle.rept_analysis.specs.Reasoned.{basis_at, AreSetsOf, KeepsAll};
+ghost use Rattle.rept_analysis.specs.Reasoned.{front_below, AreSetsOf, KeepsAll};
 
 use super::Analysis;
+use crate::trail::PathTrail;
 use rept_isa::Reg;
-use rept_line::OnePath;
 use rept_log::{Below, Front, OneEnd};
 use rept_reason::{Fact, Reason};
+use rept_report::Paths;
 use rept_span::{Spans, Transfer};
 use rept_versions::ByteFacts;
 use rept_view::RowRules;
 use std::alloc::{AllocError as OutOfMemory, Global};
 
-impl<'a, B: ByteFacts, W: Transfer, R: RowRules> Analysis<'a, B, W, R> {
+impl<'a, P: Paths + Drop, B: ByteFacts, W: Transfer, R: RowRules> Analysis<'a, P, B, W, R> {
     /// Fills sets from the facts at places below a limit.
     pub(super) fn fill_sets(&self, spans: &mut Spans<W>, limit: u32)
-        requires sized { spans.old.points ≡ length self.now.rows + 1 }
+        requires sized { spans.old.points ≡ (P.timeline self.now.paths).legs.count + 1 }
         requires complete { self.now.complete ≡ true }
-        ensures sets { AreSetsOf (setting_of W.sets W.moves R.rules self.now) (oldest limit self.now.known.log) spans.new }
-        ensures sized { spans.new.points ≡ length self.now.rows + 1 }
+        ensures sets { AreSetsOf (setting_of P.timeline W.sets W.moves R.rules self.now) (oldest limit self.now.known.log) spans.new }
+        ensures sized { spans.new.points ≡ (P.timeline self.now.paths).legs.count + 1 }
     {
         self.held();
-        let rows = self.rows;
+        let trail = PathTrail { paths: &self.paths };
         let view = Below {
             facts: &self.known,
             limit,
         };
-        spans.fill(rows, &view).unwrap();
+        spans.fill_along(&trail, &view).unwrap();
     }
 
     /// Sets that are filled from the facts at places below a limit.
     pub(super) fn sets_below(&self, limit: u32) -> Result<Spans<W>, OutOfMemory>
         requires complete { self.now.complete ≡ true }
-        ensures sets { IfOk result (λ spans. AreSetsOf (setting_of W.sets W.moves R.rules self.now) (oldest limit self.now.known.log) spans) }
-        ensures sized { IfOk result (λ spans. spans.points ≡ length self.now.rows + 1) }
+        ensures sets { IfOk result (λ spans. AreSetsOf (setting_of P.timeline W.sets W.moves R.rules self.now) (oldest limit self.now.known.log) spans) }
+        ensures sized { IfOk result (λ spans. spans.points ≡ (P.timeline self.now.paths).legs.count + 1) }
     {
         let mut spans = Spans::new(self.alloc, self.count() + 1)?;
         self.fill_sets(&mut spans, limit);
@@ -51,27 +52,26 @@ impl<'a, B: ByteFacts, W: Transfer, R: RowRules> Analysis<'a, B, W, R> {
         &self,
         spans: &Spans<W>,
         limit: u32,
-        point: u32,
+        moment: u32,
         a: u32,
     ) -> Result<Option<u8>, OutOfMemory>
         requires within { limit ≤ length self.now.known.log }
-        requires sets { AreSetsOf (setting_of W.sets W.moves R.rules self.now) (oldest limit self.now.known.log) spans.now }
-        requires point { point ≤ length self.now.rows }
+        requires sets { AreSetsOf (setting_of P.timeline W.sets W.moves R.rules self.now) (oldest limit self.now.known.log) spans.now }
+        requires moment { moment ≤ (P.timeline self.now.paths).moments.end }
         requires complete { self.now.complete ≡ true }
-        ensures { IfOk result (λ byte. byte ≡ stands (front_of W.sets W.moves R.rules (basis_at self.now limit)) point (Byte a)) }
+        ensures { IfOk result (λ byte. byte ≡ stands (front_below P.timeline W.sets W.moves R.rules self.now limit) moment (Byte a)) }
     {
         let _len = self.known.len();
-        let paths = OnePath::new(self.rows);
         let last = OneEnd::new(self.last.as_slice());
-        let front: Front<'_, '_, OnePath<'_>, OneEnd<'_>, B, W, R> = Front::new(
+        let front: Front<'_, '_, P, OneEnd<'_>, B, W, R> = Front::new(
             &self.known,
             limit,
-            &paths,
+            &self.paths,
             &last,
             &self.dump,
             spans,
         );
-        front.byte(self.alloc, point, a)
+        front.byte(self.alloc, moment, a)
     }
 
     /// The reason of a register's value by what stands in the front.
@@ -84,19 +84,18 @@ impl<'a, B: ByteFacts, W: Transfer, R: RowRules> Analysis<'a, B, W, R> {
         r: Reg,
     ) -> Result<Option<Reason>, OutOfMemory>
         requires within { limit ≤ length self.old.known.log }
-        requires sets { AreSetsOf (setting_of W.sets W.moves R.rules self.old) (oldest limit self.old.known.log) spans.now }
-        requires point { fact.now.point ≤ length self.old.rows }
+        requires sets { AreSetsOf (setting_of P.timeline W.sets W.moves R.rules self.old) (oldest limit self.old.known.log) spans.now }
+        requires point { fact.now.point ≤ (P.timeline self.old.paths).legs.count }
         requires cell { fact.now.cell ≡ Register r }
         requires named { 0 < r }
         requires complete { self.old.complete ≡ true }
-        ensures found { IfOk result (λ found. IfSome found (λ reason. IsKnownBecause (setting_in (front_of W.sets W.moves R.rules (basis_at self.old limit))) (stands (front_of W.sets W.moves R.rules (basis_at self.old limit))) fact.now (told_by reason))) }
-        ensures none { IfOk result (λ found. IfNone found ((why : Because) → IsKnownBecause (setting_in (front_of W.sets W.moves R.rules (basis_at self.old limit))) (stands (front_of W.sets W.moves R.rules (basis_at self.old limit))) fact.now why → ⊥)) }
-        ensures same { KeepsAll (state_of W.sets W.moves R.rules B.store self.old) (state_of W.sets W.moves R.rules B.store self.new) }
+        ensures found { IfOk result (λ found. IfSome found (λ reason. IsKnownBecause (setting_in (front_below P.timeline W.sets W.moves R.rules self.old limit)) (stands (front_below P.timeline W.sets W.moves R.rules self.old limit)) fact.now (told_by reason))) }
+        ensures none { IfOk result (λ found. IfNone found ((why : Because) → IsKnownBecause (setting_in (front_below P.timeline W.sets W.moves R.rules self.old limit)) (stands (front_below P.timeline W.sets W.moves R.rules self.old limit)) fact.now why → ⊥)) }
+        ensures same { KeepsAll (state_of P.timeline W.sets W.moves R.rules B.store self.old) (state_of P.timeline W.sets W.moves R.rules B.store self.new) }
     {
         let _len = self.known.len();
-        let paths = OnePath::new(self.rows);
         let last = OneEnd::new(self.last.as_slice());
-        let front = Front::new(&self.known, limit, &paths, &last, &self.dump, spans);
+        let front = Front::new(&self.known, limit, &self.paths, &last, &self.dump, spans);
         front.of_register(&mut self.rules, alloc, fact, r)
     }
 
@@ -110,17 +109,16 @@ impl<'a, B: ByteFacts, W: Transfer, R: RowRules> Analysis<'a, B, W, R> {
         a: u32,
     ) -> Result<Option<Reason>, OutOfMemory>
         requires within { limit ≤ length self.old.known.log }
-        requires sets { AreSetsOf (setting_of W.sets W.moves R.rules self.old) (oldest limit self.old.known.log) spans.now }
+        requires sets { AreSetsOf (setting_of P.timeline W.sets W.moves R.rules self.old) (oldest limit self.old.known.log) spans.now }
         requires cell { fact.now.cell ≡ Byte a }
         requires complete { self.old.complete ≡ true }
-        ensures found { IfOk result (λ found. IfSome found (λ reason. IsDrawnBecause (setting_in (front_of W.sets W.moves R.rules (basis_at self.old limit))) (stands (front_of W.sets W.moves R.rules (basis_at self.old limit))) fact.now (told_by reason))) }
-        ensures none { IfOk result (λ found. IfNone found ((why : Because) → IsDrawnBecause (setting_in (front_of W.sets W.moves R.rules (basis_at self.old limit))) (stands (front_of W.sets W.moves R.rules (basis_at self.old limit))) fact.now why → ⊥)) }
-        ensures same { KeepsAll (state_of W.sets W.moves R.rules B.store self.old) (state_of W.sets W.moves R.rules B.store self.new) }
+        ensures found { IfOk result (λ found. IfSome found (λ reason. IsDrawnBecause (setting_in (front_below P.timeline W.sets W.moves R.rules self.old limit)) (stands (front_below P.timeline W.sets W.moves R.rules self.old limit)) fact.now (told_by reason))) }
+        ensures none { IfOk result (λ found. IfNone found ((why : Because) → IsDrawnBecause (setting_in (front_below P.timeline W.sets W.moves R.rules self.old limit)) (stands (front_below P.timeline W.sets W.moves R.rules self.old limit)) fact.now why → ⊥)) }
+        ensures same { KeepsAll (state_of P.timeline W.sets W.moves R.rules B.store self.old) (state_of P.timeline W.sets W.moves R.rules B.store self.new) }
     {
         let _len = self.known.len();
-        let paths = OnePath::new(self.rows);
         let last = OneEnd::new(self.last.as_slice());
-        let front = Front::new(&self.known, limit, &paths, &last, &self.dump, spans);
+        let front = Front::new(&self.known, limit, &self.paths, &last, &self.dump, spans);
         front.of_drawn_byte(&mut self.rules, alloc, fact, a)
     }
 
@@ -134,20 +132,19 @@ impl<'a, B: ByteFacts, W: Transfer, R: RowRules> Analysis<'a, B, W, R> {
         a: u32,
     ) -> Result<Option<Reason>, OutOfMemory>
         requires within { limit ≤ length self.now.known.log }
-        requires sets { AreSetsOf (setting_of W.sets W.moves R.rules self.now) (oldest limit self.now.known.log) spans.now }
-        requires point { fact.now.point ≤ length self.now.rows }
+        requires sets { AreSetsOf (setting_of P.timeline W.sets W.moves R.rules self.now) (oldest limit self.now.known.log) spans.now }
+        requires moment { fact.now.point ≤ (P.timeline self.now.paths).moments.end }
         requires cell { fact.now.cell ≡ Byte a }
         requires complete { self.now.complete ≡ true }
-        ensures found { IfOk result (λ found. IfSome found (λ reason. IsCarriedBecause (setting_in (front_of W.sets W.moves R.rules (basis_at self.now limit))) (front_of W.sets W.moves R.rules (basis_at self.now limit)).facts fact.now (told_by reason))) }
-        ensures none { IfOk result (λ found. IfNone found ((why : Because) → IsCarriedBecause (setting_in (front_of W.sets W.moves R.rules (basis_at self.now limit))) (front_of W.sets W.moves R.rules (basis_at self.now limit)).facts fact.now why → ⊥)) }
+        ensures found { IfOk result (λ found. IfSome found (λ reason. IsCarriedBecause (setting_in (front_below P.timeline W.sets W.moves R.rules self.now limit)) (front_below P.timeline W.sets W.moves R.rules self.now limit).facts fact.now (told_by reason))) }
+        ensures none { IfOk result (λ found. IfNone found ((why : Because) → IsCarriedBecause (setting_in (front_below P.timeline W.sets W.moves R.rules self.now limit)) (front_below P.timeline W.sets W.moves R.rules self.now limit).facts fact.now why → ⊥)) }
     {
         let _len = self.known.len();
-        let paths = OnePath::new(self.rows);
         let last = OneEnd::new(self.last.as_slice());
-        let front: Front<'_, '_, OnePath<'_>, OneEnd<'_>, B, W, R> = Front::new(
+        let front: Front<'_, '_, P, OneEnd<'_>, B, W, R> = Front::new(
             &self.known,
             limit,
-            &paths,
+            &self.paths,
             &last,
             &self.dump,
             spans,

@@ -17,20 +17,21 @@ ghost use Rattle.rept_analysis.specs.Drawing.{IsFitted, SameFacts, IsAccess, IsS
 
 use super::Analysis;
 use crate::moment::Moment;
+use crate::trail::PathTrail;
 use crate::turns::is_wrong_turn;
 use rept_alias::CallAccess;
 use rept_isa::{Reg, StepRow, reads};
 use rept_log::Below;
 use rept_partial::Flat;
-use rept_report::ConflictKind;
+use rept_report::{ConflictKind, Paths};
 use rept_span::{EmptyAt, Transfer};
 use rept_versions::ByteFacts;
 use rept_view::RowRules;
 
-impl<'a, B: ByteFacts, W: Transfer, R: RowRules> Analysis<'a, B, W, R> {
+impl<'a, P: Paths + Drop, B: ByteFacts, W: Transfer, R: RowRules> Analysis<'a, P, B, W, R> {
     /// The bytes that row i may write, by the facts at places below the limit and the sets as they were filled.
     fn access_below(&self, limit: u32, i: u32, row: &StepRow) -> CallAccess
-        requires { i < length self.now.rows }
+        requires { i < (P.timeline self.now.paths).legs.count }
         ensures { (a : ℕ) → a < 2 ^ 32 → call_hits result a ≡ R.rules.touched row.now (moment W.sets (oldest limit self.now.known.log) self.now.spans i) (contents self.now.exe).end a }
     {
         let _len = self.known.len();
@@ -46,20 +47,20 @@ impl<'a, B: ByteFacts, W: Transfer, R: RowRules> Analysis<'a, B, W, R> {
 
     /// The bytes that row i may write, by the facts of which the sets are.
     pub(super) fn access(&self, i: u32, row: &StepRow) -> CallAccess
-        requires inside { i < length self.now.rows }
-        requires row { slice_get self.now.rows i ≡ Some row.now }
-        requires fitted { IsFitted (state_of W.sets W.moves R.rules B.store self.now) }
-        ensures { IsAccess i result (state_of W.sets W.moves R.rules B.store self.now) }
+        requires inside { i < (P.timeline self.now.paths).legs.count }
+        requires row { (P.timeline self.now.paths).legs.row i ≡ Some row.now }
+        requires fitted { IsFitted (state_of P.timeline W.sets W.moves R.rules B.store self.now) }
+        ensures { IsAccess i result (state_of P.timeline W.sets W.moves R.rules B.store self.now) }
     {
         self.access_below(self.filled, i, row)
     }
 
     /// The bytes that row i may write, by all facts that are known by now and the sets as they were filled.
     pub(super) fn access_now(&self, i: u32, row: &StepRow) -> CallAccess
-        requires inside { i < length self.now.rows }
-        requires row { slice_get self.now.rows i ≡ Some row.now }
-        requires fitted { IsFitted (state_of W.sets W.moves R.rules B.store self.now) }
-        ensures { (a : ℕ) → a < 2 ^ 32 → call_hits result a ≡ false → IsSparedNow i a (state_of W.sets W.moves R.rules B.store self.now) }
+        requires inside { i < (P.timeline self.now.paths).legs.count }
+        requires row { (P.timeline self.now.paths).legs.row i ≡ Some row.now }
+        requires fitted { IsFitted (state_of P.timeline W.sets W.moves R.rules B.store self.now) }
+        ensures { (a : ℕ) → a < 2 ^ 32 → call_hits result a ≡ false → IsSparedNow i a (state_of P.timeline W.sets W.moves R.rules B.store self.now) }
     {
         self.held();
         let access = self.access_below(self.len(), i, row);
@@ -68,33 +69,37 @@ impl<'a, B: ByteFacts, W: Transfer, R: RowRules> Analysis<'a, B, W, R> {
 
     /// What is known of the register in an operand's place by the facts at places below the limit.
     fn operand_below(&self, limit: u32, point: u32, r: Option<Reg>) -> Flat
-        requires point { point ≤ length self.now.rows }
+        requires point { point ≤ (P.timeline self.now.paths).legs.count }
         ensures { result ≡ operand (told (oldest limit self.now.known.log)) point r }
     {
-        let _rows = &self.rows;
+        let _paths = &self.paths;
         match r {
             None => Flat::Unknown,
             Some(r) => self.known.known_below(limit, point, r),
         }
     }
 
-    /// Whether row i went another way than the facts at places below the limit say.
+    /// Whether row i, if there is one, went another way than the facts at places below the limit say.
     fn is_wrong(&self, limit: u32, i: u32) -> bool
-        requires inside { i < length self.now.rows }
-        ensures wrong { result ≡ true → IsWrongTurn (setting_of W.sets W.moves R.rules self.now) (told (oldest limit self.now.known.log)) i }
-        ensures right { result ≡ false → IsWrongTurn (setting_of W.sets W.moves R.rules self.now) (told (oldest limit self.now.known.log)) i → ⊥ }
+        requires inside { i < (P.timeline self.now.paths).legs.count }
+        ensures wrong { result ≡ true → IsWrongTurn (setting_of P.timeline W.sets W.moves R.rules self.now) (told (oldest limit self.now.known.log)) i }
+        ensures right { result ≡ false → IsWrongTurn (setting_of P.timeline W.sets W.moves R.rules self.now) (told (oldest limit self.now.known.log)) i → ⊥ }
     {
-        let row = self.row(i);
-        let (first, second) = reads(&row.instr);
-        let a = self.operand_below(limit, i, first);
-        let b = self.operand_below(limit, i, second);
-        is_wrong_turn(&row, a, b)
+        match self.row(i) {
+            None => false,
+            Some(row) => {
+                let (first, second) = reads(&row.instr);
+                let a = self.operand_below(limit, i, first);
+                let b = self.operand_below(limit, i, second);
+                is_wrong_turn(&row, a, b)
+            }
+        }
     }
 
     /// The first row that went another way than the facts at places below the limit say.
     fn wrong_turn(&self, limit: u32) -> Option<ConflictKind>
-        ensures none { result ≡ None → (i : ℕ) → IsWrongTurn (setting_of W.sets W.moves R.rules self.now) (told (oldest limit self.now.known.log)) i → ⊥ }
-        ensures some { (kind : ConflictKind) → result ≡ Some kind → Shows (setting_of W.sets W.moves R.rules self.now) (told (oldest limit self.now.known.log)) kind }
+        ensures none { result ≡ None → (i : ℕ) → IsWrongTurn (setting_of P.timeline W.sets W.moves R.rules self.now) (told (oldest limit self.now.known.log)) i → ⊥ }
+        ensures some { (kind : ConflictKind) → result ≡ Some kind → Shows (setting_of P.timeline W.sets W.moves R.rules self.now) (told (oldest limit self.now.known.log)) kind }
     {
         let count = self.count();
         for step in 0..count {
@@ -110,18 +115,18 @@ impl<'a, B: ByteFacts, W: Transfer, R: RowRules> Analysis<'a, B, W, R> {
     pub(super) fn fill(&mut self, limit: u32) -> Result<(), EmptyAt>
         requires open { self.old.complete ≡ false }
         requires within { limit ≤ length self.old.known.log }
-        ensures same { SameFacts (state_of W.sets W.moves R.rules B.store self.old) (state_of W.sets W.moves R.rules B.store self.new) }
+        ensures same { SameFacts (state_of P.timeline W.sets W.moves R.rules B.store self.old) (state_of P.timeline W.sets W.moves R.rules B.store self.new) }
         ensures limit { self.new.filled ≡ limit }
-        ensures filled { OnOk result (IsFilled (way_of (setting_of W.sets W.moves R.rules self.old)) self.new.spans (told (oldest limit self.old.known.log))) }
-        ensures some { OnOk result (NoneIsEmpty (way_of (setting_of W.sets W.moves R.rules self.old)) (told (oldest limit self.old.known.log))) }
-        ensures empty { IfErr result (λ e. IsEmptyFirst (way_of (setting_of W.sets W.moves R.rules self.old)) (told (oldest limit self.old.known.log)) e.point e.reg) }
+        ensures filled { OnOk result (IsFilled (way_of (setting_of P.timeline W.sets W.moves R.rules self.old)) self.new.spans (told (oldest limit self.old.known.log))) }
+        ensures some { OnOk result (NoneIsEmpty (way_of (setting_of P.timeline W.sets W.moves R.rules self.old)) (told (oldest limit self.old.known.log))) }
+        ensures empty { IfErr result (λ e. IsEmptyFirst (way_of (setting_of P.timeline W.sets W.moves R.rules self.old)) (told (oldest limit self.old.known.log)) e.point e.reg) }
     {
-        let rows = self.rows;
+        let trail = PathTrail { paths: &self.paths };
         let view = Below {
             facts: &self.known,
             limit,
         };
-        let filled = self.spans.fill(rows, &view);
+        let filled = self.spans.fill_along(&trail, &view);
         self.filled = limit;
         filled
     }
@@ -130,11 +135,11 @@ impl<'a, B: ByteFacts, W: Transfer, R: RowRules> Analysis<'a, B, W, R> {
     pub(super) fn look(&mut self, limit: u32) -> Option<ConflictKind>
         requires open { self.old.complete ≡ false }
         requires within { limit ≤ length self.old.known.log }
-        ensures same { SameFacts (state_of W.sets W.moves R.rules B.store self.old) (state_of W.sets W.moves R.rules B.store self.new) }
+        ensures same { SameFacts (state_of P.timeline W.sets W.moves R.rules B.store self.old) (state_of P.timeline W.sets W.moves R.rules B.store self.new) }
         ensures limit { self.new.filled ≡ limit }
-        ensures fitted { result ≡ None → IsFitted (state_of W.sets W.moves R.rules B.store self.new) }
-        ensures quiet { result ≡ None → IsQuiet (setting_of W.sets W.moves R.rules self.old) (told (oldest limit self.old.known.log)) }
-        ensures conflict { (kind : ConflictKind) → result ≡ Some kind → Shows (setting_of W.sets W.moves R.rules self.old) (told (oldest limit self.old.known.log)) kind }
+        ensures fitted { result ≡ None → IsFitted (state_of P.timeline W.sets W.moves R.rules B.store self.new) }
+        ensures quiet { result ≡ None → IsQuiet (setting_of P.timeline W.sets W.moves R.rules self.old) (told (oldest limit self.old.known.log)) }
+        ensures conflict { (kind : ConflictKind) → result ≡ Some kind → Shows (setting_of P.timeline W.sets W.moves R.rules self.old) (told (oldest limit self.old.known.log)) kind }
     {
         match self.fill(limit) {
             Err(empty) => {
@@ -150,11 +155,11 @@ impl<'a, B: ByteFacts, W: Transfer, R: RowRules> Analysis<'a, B, W, R> {
     pub(super) fn is_quiet(&mut self, limit: u32) -> bool
         requires open { self.old.complete ≡ false }
         requires within { limit ≤ length self.old.known.log }
-        ensures same { SameFacts (state_of W.sets W.moves R.rules B.store self.old) (state_of W.sets W.moves R.rules B.store self.new) }
+        ensures same { SameFacts (state_of P.timeline W.sets W.moves R.rules B.store self.old) (state_of P.timeline W.sets W.moves R.rules B.store self.new) }
         ensures limit { self.new.filled ≡ limit }
-        ensures fitted { result ≡ true → IsFitted (state_of W.sets W.moves R.rules B.store self.new) }
-        ensures quiet { result ≡ true → IsQuiet (setting_of W.sets W.moves R.rules self.old) (told (oldest limit self.old.known.log)) }
-        ensures loud { result ≡ false → IsQuiet (setting_of W.sets W.moves R.rules self.old) (told (oldest limit self.old.known.log)) → ⊥ }
+        ensures fitted { result ≡ true → IsFitted (state_of P.timeline W.sets W.moves R.rules B.store self.new) }
+        ensures quiet { result ≡ true → IsQuiet (setting_of P.timeline W.sets W.moves R.rules self.old) (told (oldest limit self.old.known.log)) }
+        ensures loud { result ≡ false → IsQuiet (setting_of P.timeline W.sets W.moves R.rules self.old) (told (oldest limit self.old.known.log)) → ⊥ }
     {
         match self.look(limit) {
             None => true,

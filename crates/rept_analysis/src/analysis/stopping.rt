@@ -16,7 +16,7 @@ use super::Analysis;
 use crate::halt::Halt;
 use crate::stop::Stop;
 use rept_reason::Cell;
-use rept_report::ConflictKind;
+use rept_report::{ConflictKind, Paths};
 use rept_span::Transfer;
 use rept_versions::ByteFacts;
 use rept_view::RowRules;
@@ -42,15 +42,15 @@ fn clash_kind(point: u32, cell: Cell, known: u32, value: u32) -> ConflictKind
     }
 }
 
-impl<'a, B: ByteFacts, W: Transfer, R: RowRules> Analysis<'a, B, W, R> {
+impl<'a, P: Paths + Drop, B: ByteFacts, W: Transfer, R: RowRules> Analysis<'a, P, B, W, R> {
     /// The least place such that the facts at places below it leave a set empty or a turn wrong.
     fn bisect(&mut self) -> u32
         requires open { self.old.complete ≡ false }
-        requires loud { IsQuiet (setting_of W.sets W.moves R.rules self.old) (told self.old.known.log) → ⊥ }
-        ensures same { SameFacts (state_of W.sets W.moves R.rules B.store self.old) (state_of W.sets W.moves R.rules B.store self.new) }
+        requires loud { IsQuiet (setting_of P.timeline W.sets W.moves R.rules self.old) (told self.old.known.log) → ⊥ }
+        ensures same { SameFacts (state_of P.timeline W.sets W.moves R.rules B.store self.old) (state_of P.timeline W.sets W.moves R.rules B.store self.new) }
         ensures within { result ≤ length self.old.known.log }
-        ensures quiet { QuietBelow (state_of W.sets W.moves R.rules B.store self.old) result }
-        ensures loud { IsQuiet (setting_of W.sets W.moves R.rules self.old) (told (oldest result self.old.known.log)) → ⊥ }
+        ensures quiet { QuietBelow (state_of P.timeline W.sets W.moves R.rules B.store self.old) result }
+        ensures loud { IsQuiet (setting_of P.timeline W.sets W.moves R.rules self.old) (told (oldest result self.old.known.log)) → ⊥ }
     {
         self.held();
         let mut low = 0;
@@ -72,9 +72,9 @@ impl<'a, B: ByteFacts, W: Transfer, R: RowRules> Analysis<'a, B, W, R> {
         requires open { self.old.complete ≡ false }
         requires within { limit ≤ length self.old.known.log }
         requires later { self.old.shown ≤ limit }
-        requires shows { ShowsTo (state_of W.sets W.moves R.rules B.store self.old) limit kind }
-        requires kind { ClosureHas (setting_of W.sets W.moves R.rules self.old) kind }
-        ensures ended { IsStopped (state_of W.sets W.moves R.rules B.store self.old) (state_of W.sets W.moves R.rules B.store self.new) kind }
+        requires shows { ShowsTo (state_of P.timeline W.sets W.moves R.rules B.store self.old) limit kind }
+        requires kind { ClosureHas (setting_of P.timeline W.sets W.moves R.rules self.old) kind }
+        ensures ended { IsStopped (state_of P.timeline W.sets W.moves R.rules B.store self.old) (state_of P.timeline W.sets W.moves R.rules B.store self.new) kind }
         ensures still { self.new.work.draws ≡ self.old.work.draws }
     {
         self.shown = limit;
@@ -84,8 +84,8 @@ impl<'a, B: ByteFacts, W: Transfer, R: RowRules> Analysis<'a, B, W, R> {
     /// Rolls back to the least place at which the facts show a conflict, and names it.
     pub(super) fn stop_least(&mut self) -> ConflictKind
         requires open { self.old.complete ≡ false }
-        requires loud { IsQuiet (setting_of W.sets W.moves R.rules self.old) (told self.old.known.log) → ⊥ }
-        ensures ended { IsStopped (state_of W.sets W.moves R.rules B.store self.old) (state_of W.sets W.moves R.rules B.store self.new) result }
+        requires loud { IsQuiet (setting_of P.timeline W.sets W.moves R.rules self.old) (told self.old.known.log) → ⊥ }
+        ensures ended { IsStopped (state_of P.timeline W.sets W.moves R.rules B.store self.old) (state_of P.timeline W.sets W.moves R.rules B.store self.new) result }
         ensures still { self.new.work.draws ≡ self.old.work.draws }
     {
         self.held();
@@ -99,8 +99,8 @@ impl<'a, B: ByteFacts, W: Transfer, R: RowRules> Analysis<'a, B, W, R> {
     /// Names the clash, where the facts show no other conflict, and else their least one.
     fn stop_clash(&mut self, point: u32, cell: Cell, known: u32, value: u32) -> ConflictKind
         requires open { self.old.complete ≡ false }
-        requires clash { IsClash (state_of W.sets W.moves R.rules B.store self.old) (fact_of point cell value) known }
-        ensures ended { IsStopped (state_of W.sets W.moves R.rules B.store self.old) (state_of W.sets W.moves R.rules B.store self.new) result }
+        requires clash { IsClash (state_of P.timeline W.sets W.moves R.rules B.store self.old) (fact_of point cell value) known }
+        ensures ended { IsStopped (state_of P.timeline W.sets W.moves R.rules B.store self.old) (state_of P.timeline W.sets W.moves R.rules B.store self.new) result }
         ensures still { self.new.work.draws ≡ self.old.work.draws }
     {
         self.held();
@@ -120,8 +120,8 @@ impl<'a, B: ByteFacts, W: Transfer, R: RowRules> Analysis<'a, B, W, R> {
         requires open { self.old.complete ≡ false }
         requires whole { limit ≡ length self.old.known.log }
         requires later { self.old.shown ≤ limit }
-        requires quiet { QuietBelow (state_of W.sets W.moves R.rules B.store self.old) limit }
-        ensures ended { IsPaused (state_of W.sets W.moves R.rules B.store self.old) (state_of W.sets W.moves R.rules B.store self.new) }
+        requires quiet { QuietBelow (state_of P.timeline W.sets W.moves R.rules B.store self.old) limit }
+        ensures ended { IsPaused (state_of P.timeline W.sets W.moves R.rules B.store self.old) (state_of P.timeline W.sets W.moves R.rules B.store self.new) }
         ensures still { self.new.work.draws ≡ self.old.work.draws }
     {
         self.shown = limit;
@@ -130,7 +130,7 @@ impl<'a, B: ByteFacts, W: Transfer, R: RowRules> Analysis<'a, B, W, R> {
     /// Where memory ran out: answers all facts, where these show no conflict, and else names their least one.
     fn stop_memory(&mut self) -> Stop
         requires open { self.old.complete ≡ false }
-        ensures ended { IsHalted (state_of W.sets W.moves R.rules B.store self.old) (state_of W.sets W.moves R.rules B.store self.new) result }
+        ensures ended { IsHalted (state_of P.timeline W.sets W.moves R.rules B.store self.old) (state_of P.timeline W.sets W.moves R.rules B.store self.new) result }
         ensures still { self.new.work.draws ≡ self.old.work.draws }
     {
         self.held();
@@ -146,8 +146,8 @@ impl<'a, B: ByteFacts, W: Transfer, R: RowRules> Analysis<'a, B, W, R> {
     /// What a halt comes to.
     pub(super) fn stop(&mut self, halt: &Halt) -> Stop
         requires open { self.old.complete ≡ false }
-        requires halt { IsHalt (state_of W.sets W.moves R.rules B.store self.old) halt.now }
-        ensures ended { IsHalted (state_of W.sets W.moves R.rules B.store self.old) (state_of W.sets W.moves R.rules B.store self.new) result }
+        requires halt { IsHalt (state_of P.timeline W.sets W.moves R.rules B.store self.old) halt.now }
+        ensures ended { IsHalted (state_of P.timeline W.sets W.moves R.rules B.store self.old) (state_of P.timeline W.sets W.moves R.rules B.store self.new) result }
         ensures still { self.new.work.draws ≡ self.old.work.draws }
         ensures plain { result ≡ Stop.OutOfMemory → B.JOINS ≡ false }
     {

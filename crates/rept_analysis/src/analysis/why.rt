@@ -1,6 +1,6 @@
 //! Reasons of facts.
 
-ghost use Rattle.std.specs.Prelude.{◌≡◌, ◌≢◌, ◌≤◌, ◌<◌, ◌+◌, ◌-◌, ◌↔◌, length, true, false, Some, IfOk, IfSome, IfNone, IsTrue};
+ghost use Rattle.std.specs.Prelude.{◌≡◌, ◌≢◌, ℕ, ◌≤◌, ◌<◌, ◌+◌, ◌-◌, ◌↔◌, length, true, false, Some, IfOk, IfSome, IfNone, IsTrue};
 ghost use Rattle.rept_reason.specs.declared.fact.Cell.TheVariants.{Register, Byte};
 ghost use Rattle.rept_report.specs.Log.{entry, place_of, oldest};
 ghost use Rattle.rept_report.specs.Reasons.{StandsIn};
@@ -13,20 +13,21 @@ ghost use Rattle.rept_analysis.specs.Reasoned.{AreSetsOf, KeepsAll, IsNotLast};
 use super::Analysis;
 use rept_isa::Reg;
 use rept_reason::{Cell, Fact, Reason};
+use rept_report::Paths;
 use rept_span::{Spans, Transfer};
 use rept_versions::ByteFacts;
 use rept_view::RowRules;
 use std::alloc::{AllocError as OutOfMemory, Global};
 
-impl<'a, B: ByteFacts, W: Transfer, R: RowRules> Analysis<'a, B, W, R> {
+impl<'a, P: Paths + Drop, B: ByteFacts, W: Transfer, R: RowRules> Analysis<'a, P, B, W, R> {
     /// The place in the log of the fact on a register at a point.
     fn place_at(&self, point: u32, r: Reg) -> Option<u32>
-        requires point { point ≤ length self.now.rows }
+        requires point { point ≤ (P.timeline self.now.paths).legs.count }
         requires named { 0 < r }
         ensures place { result ≡ place_of self.now.known.log point (Register r) }
         ensures within { IfSome result (λ t. t < length self.now.known.log) }
     {
-        let _rows = &self.rows;
+        let _paths = &self.paths;
         self.known.place(point, r)
     }
 
@@ -40,12 +41,12 @@ impl<'a, B: ByteFacts, W: Transfer, R: RowRules> Analysis<'a, B, W, R> {
 
     /// The place in the log of a register's fact.
     fn place(&self, fact: &Fact, r: Reg) -> Option<u32>
-        requires point { fact.now.point ≤ length self.now.rows }
+        requires point { fact.now.point ≤ (P.timeline self.now.paths).legs.count }
         requires cell { fact.now.cell ≡ Register r }
         requires complete { self.now.complete ≡ true }
         ensures found { IfSome result (λ t. entry self.now.known.log t ≡ Some fact.now) }
         ensures named { IfSome result (λ _. 0 < r) }
-        ensures none { IfNone result (answers (state_of W.sets W.moves R.rules B.store self.now) fact.now.point fact.now.cell ≢ Some fact.now.value) }
+        ensures none { IfNone result (answers (state_of P.timeline W.sets W.moves R.rules B.store self.now) fact.now.point fact.now.cell ≢ Some fact.now.value) }
     {
         self.held();
         if r.number() == 0 {
@@ -66,12 +67,12 @@ impl<'a, B: ByteFacts, W: Transfer, R: RowRules> Analysis<'a, B, W, R> {
         fact: &Fact,
         r: Reg,
     ) -> Result<Option<Reason>, OutOfMemory>
-        requires point { fact.now.point ≤ length self.old.rows }
+        requires point { fact.now.point ≤ (P.timeline self.old.paths).legs.count }
         requires cell { fact.now.cell ≡ Register r }
         requires complete { self.old.complete ≡ true }
-        ensures none { IfOk result (λ found. IfNone found (answers (state_of W.sets W.moves R.rules B.store self.old) fact.now.point fact.now.cell ≢ Some fact.now.value)) }
-        ensures reason { IfOk result (λ found. IfSome found (λ reason. IsReason (setting_of W.sets W.moves R.rules self.old) self.old.known.log fact.now (told_by reason))) }
-        ensures same { KeepsAll (state_of W.sets W.moves R.rules B.store self.old) (state_of W.sets W.moves R.rules B.store self.new) }
+        ensures none { IfOk result (λ found. IfNone found (answers (state_of P.timeline W.sets W.moves R.rules B.store self.old) fact.now.point fact.now.cell ≢ Some fact.now.value)) }
+        ensures reason { IfOk result (λ found. IfSome found (λ reason. IsReason (setting_of P.timeline W.sets W.moves R.rules self.old) self.old.known.log fact.now (told_by reason))) }
+        ensures same { KeepsAll (state_of P.timeline W.sets W.moves R.rules B.store self.old) (state_of P.timeline W.sets W.moves R.rules B.store self.new) }
     {
         self.held();
         match self.place(fact, r) {
@@ -92,11 +93,11 @@ impl<'a, B: ByteFacts, W: Transfer, R: RowRules> Analysis<'a, B, W, R> {
         a: u32,
     ) -> Result<bool, OutOfMemory>
         requires within { limit ≤ length self.now.known.log }
-        requires sets { AreSetsOf (setting_of W.sets W.moves R.rules self.now) (oldest limit self.now.known.log) spans.now }
-        requires point { fact.now.point ≤ length self.now.rows }
+        requires sets { AreSetsOf (setting_of P.timeline W.sets W.moves R.rules self.now) (oldest limit self.now.known.log) spans.now }
+        requires moment { fact.now.point ≤ (P.timeline self.now.paths).moments.end }
         requires cell { fact.now.cell ≡ Byte a }
         requires complete { self.now.complete ≡ true }
-        ensures { IfOk result (λ stands. IsTrue stands ↔ StandsIn (setting_of W.sets W.moves R.rules self.now) (oldest limit self.now.known.log) fact.now) }
+        ensures { IfOk result (λ stands. IsTrue stands ↔ StandsIn (setting_of P.timeline W.sets W.moves R.rules self.now) (oldest limit self.now.known.log) fact.now) }
     {
         self.held();
         let found = self.byte_below(spans, limit, fact.point, a)?;
@@ -109,14 +110,14 @@ impl<'a, B: ByteFacts, W: Transfer, R: RowRules> Analysis<'a, B, W, R> {
     /// How many facts in the log, from the oldest on, are enough for a byte's fact to stand in them. `OutOfMemory` says that the room for a search
     /// can't be had.
     fn least_front(&self, spans: &mut Spans<W>, fact: &Fact, a: u32) -> Result<u32, OutOfMemory>
-        requires sized { spans.old.points ≡ length self.now.rows + 1 }
-        requires point { fact.now.point ≤ length self.now.rows }
+        requires sized { spans.old.points ≡ (P.timeline self.now.paths).legs.count + 1 }
+        requires moment { fact.now.point ≤ (P.timeline self.now.paths).moments.end }
         requires cell { fact.now.cell ≡ Byte a }
         requires complete { self.now.complete ≡ true }
-        requires known { answers (state_of W.sets W.moves R.rules B.store self.now) fact.now.point fact.now.cell ≡ Some fact.now.value }
-        ensures least { IfOk result (λ t. IsLeastFront (setting_of W.sets W.moves R.rules self.now) self.now.known.log fact.now t) }
+        requires known { answers (state_of P.timeline W.sets W.moves R.rules B.store self.now) fact.now.point fact.now.cell ≡ Some fact.now.value }
+        ensures least { IfOk result (λ t. IsLeastFront (setting_of P.timeline W.sets W.moves R.rules self.now) self.now.known.log fact.now t) }
         ensures within { IfOk result (λ t. t ≤ length self.now.known.log) }
-        ensures sized { spans.new.points ≡ length self.now.rows + 1 }
+        ensures sized { spans.new.points ≡ (P.timeline self.now.paths).legs.count + 1 }
     {
         self.held();
         let mut low = 0;
@@ -143,15 +144,15 @@ impl<'a, B: ByteFacts, W: Transfer, R: RowRules> Analysis<'a, B, W, R> {
         fact: &Fact,
         a: u32,
     ) -> Result<Option<Reason>, OutOfMemory>
-        requires sized { spans.old.points ≡ length self.old.rows + 1 }
-        requires point { fact.now.point ≤ length self.old.rows }
+        requires sized { spans.old.points ≡ (P.timeline self.old.paths).legs.count + 1 }
+        requires moment { fact.now.point ≤ (P.timeline self.old.paths).moments.end }
         requires cell { fact.now.cell ≡ Byte a }
         requires complete { self.old.complete ≡ true }
-        requires least { IsLeastFront (setting_of W.sets W.moves R.rules self.old) self.old.known.log fact.now (place + 1) }
+        requires least { IsLeastFront (setting_of P.timeline W.sets W.moves R.rules self.old) self.old.known.log fact.now (place + 1) }
         requires entry { entry self.old.known.log place ≡ Some fact.now }
-        ensures none { IfOk result (λ found. IfNone found (answers (state_of W.sets W.moves R.rules B.store self.old) fact.now.point fact.now.cell ≢ Some fact.now.value)) }
-        ensures reason { IfOk result (λ found. IfSome found (λ reason. IsReason (setting_of W.sets W.moves R.rules self.old) self.old.known.log fact.now (told_by reason))) }
-        ensures same { KeepsAll (state_of W.sets W.moves R.rules B.store self.old) (state_of W.sets W.moves R.rules B.store self.new) }
+        ensures none { IfOk result (λ found. IfNone found (answers (state_of P.timeline W.sets W.moves R.rules B.store self.old) fact.now.point fact.now.cell ≢ Some fact.now.value)) }
+        ensures reason { IfOk result (λ found. IfSome found (λ reason. IsReason (setting_of P.timeline W.sets W.moves R.rules self.old) self.old.known.log fact.now (told_by reason))) }
+        ensures same { KeepsAll (state_of P.timeline W.sets W.moves R.rules B.store self.old) (state_of P.timeline W.sets W.moves R.rules B.store self.new) }
     {
         self.held();
         self.fill_sets(spans, place);
@@ -167,15 +168,15 @@ impl<'a, B: ByteFacts, W: Transfer, R: RowRules> Analysis<'a, B, W, R> {
         fact: &Fact,
         a: u32,
     ) -> Result<Option<Reason>, OutOfMemory>
-        requires sized { spans.old.points ≡ length self.now.rows + 1 }
+        requires sized { spans.old.points ≡ (P.timeline self.now.paths).legs.count + 1 }
         requires within { limit ≤ length self.now.known.log }
-        requires point { fact.now.point ≤ length self.now.rows }
+        requires moment { fact.now.point ≤ (P.timeline self.now.paths).moments.end }
         requires cell { fact.now.cell ≡ Byte a }
         requires complete { self.now.complete ≡ true }
-        requires least { IsLeastFront (setting_of W.sets W.moves R.rules self.now) self.now.known.log fact.now limit }
+        requires least { IsLeastFront (setting_of P.timeline W.sets W.moves R.rules self.now) self.now.known.log fact.now limit }
         requires other { IsNotLast self.now.known.log fact.now limit }
-        ensures none { IfOk result (λ found. IfNone found (answers (state_of W.sets W.moves R.rules B.store self.now) fact.now.point fact.now.cell ≢ Some fact.now.value)) }
-        ensures reason { IfOk result (λ found. IfSome found (λ reason. IsReason (setting_of W.sets W.moves R.rules self.now) self.now.known.log fact.now (told_by reason))) }
+        ensures none { IfOk result (λ found. IfNone found (answers (state_of P.timeline W.sets W.moves R.rules B.store self.now) fact.now.point fact.now.cell ≢ Some fact.now.value)) }
+        ensures reason { IfOk result (λ found. IfSome found (λ reason. IsReason (setting_of P.timeline W.sets W.moves R.rules self.now) self.now.known.log fact.now (told_by reason))) }
     {
         self.held();
         self.fill_sets(spans, limit);
@@ -184,10 +185,10 @@ impl<'a, B: ByteFacts, W: Transfer, R: RowRules> Analysis<'a, B, W, R> {
 
     /// Whether a byte's fact is answered.
     fn is_answered(&self, fact: &Fact, a: u32) -> bool
-        requires point { fact.now.point ≤ length self.now.rows }
+        requires moment { fact.now.point ≤ (P.timeline self.now.paths).moments.end }
         requires cell { fact.now.cell ≡ Byte a }
         requires complete { self.now.complete ≡ true }
-        ensures { IsTrue result ↔ (answers (state_of W.sets W.moves R.rules B.store self.now) fact.now.point fact.now.cell ≡ Some fact.now.value) }
+        ensures { IsTrue result ↔ (answers (state_of P.timeline W.sets W.moves R.rules B.store self.now) fact.now.point fact.now.cell ≡ Some fact.now.value) }
     {
         match self.byte(fact.point, a) {
             Some(byte) => u32::from(byte) == fact.value,
@@ -211,12 +212,12 @@ impl<'a, B: ByteFacts, W: Transfer, R: RowRules> Analysis<'a, B, W, R> {
         fact: &Fact,
         a: u32,
     ) -> Result<Option<Reason>, OutOfMemory>
-        requires point { fact.now.point ≤ length self.old.rows }
+        requires moment { fact.now.point ≤ (P.timeline self.old.paths).moments.end }
         requires cell { fact.now.cell ≡ Byte a }
         requires complete { self.old.complete ≡ true }
-        ensures none { IfOk result (λ found. IfNone found (answers (state_of W.sets W.moves R.rules B.store self.old) fact.now.point fact.now.cell ≢ Some fact.now.value)) }
-        ensures reason { IfOk result (λ found. IfSome found (λ reason. IsReason (setting_of W.sets W.moves R.rules self.old) self.old.known.log fact.now (told_by reason))) }
-        ensures same { KeepsAll (state_of W.sets W.moves R.rules B.store self.old) (state_of W.sets W.moves R.rules B.store self.new) }
+        ensures none { IfOk result (λ found. IfNone found (answers (state_of P.timeline W.sets W.moves R.rules B.store self.old) fact.now.point fact.now.cell ≢ Some fact.now.value)) }
+        ensures reason { IfOk result (λ found. IfSome found (λ reason. IsReason (setting_of P.timeline W.sets W.moves R.rules self.old) self.old.known.log fact.now (told_by reason))) }
+        ensures same { KeepsAll (state_of P.timeline W.sets W.moves R.rules B.store self.old) (state_of P.timeline W.sets W.moves R.rules B.store self.new) }
     {
         if !self.is_answered(fact, a) {
             return Ok(None);
@@ -233,11 +234,12 @@ impl<'a, B: ByteFacts, W: Transfer, R: RowRules> Analysis<'a, B, W, R> {
     /// the rule looked at, by those facts. `None` exactly where the fact isn't answered. `OutOfMemory` says that the room for the
     /// search can't be had. Nothing that other calls answer changes.
     pub fn why(&mut self, alloc: Global, fact: Fact) -> Result<Option<Reason>, OutOfMemory>
-        requires point { fact.point ≤ length self.old.rows }
+        requires point { (r : ℕ) → fact.cell ≡ Register r → fact.point ≤ (P.timeline self.old.paths).legs.count }
+        requires moment { (a : ℕ) → fact.cell ≡ Byte a → fact.point ≤ (P.timeline self.old.paths).moments.end }
         requires complete { self.old.complete ≡ true }
-        ensures none { IfOk result (λ found. IfNone found (answers (state_of W.sets W.moves R.rules B.store self.old) fact.point fact.cell ≢ Some fact.value)) }
-        ensures reason { IfOk result (λ found. IfSome found (λ reason. IsReason (setting_of W.sets W.moves R.rules self.old) self.old.known.log fact (because reason.rule reason.premises.items reason.ranges.items))) }
-        ensures same { KeepsAll (state_of W.sets W.moves R.rules B.store self.old) (state_of W.sets W.moves R.rules B.store self.new) }
+        ensures none { IfOk result (λ found. IfNone found (answers (state_of P.timeline W.sets W.moves R.rules B.store self.old) fact.point fact.cell ≢ Some fact.value)) }
+        ensures reason { IfOk result (λ found. IfSome found (λ reason. IsReason (setting_of P.timeline W.sets W.moves R.rules self.old) self.old.known.log fact (because reason.rule reason.premises.items reason.ranges.items))) }
+        ensures same { KeepsAll (state_of P.timeline W.sets W.moves R.rules B.store self.old) (state_of P.timeline W.sets W.moves R.rules B.store self.new) }
     {
         match &fact.cell {
             Cell::Register(r) => self.why_register(alloc, &fact, *r),

@@ -1,15 +1,15 @@
 //! Reasons, worked out by hand: each of these facts has one reason alone, in whatever order facts are learnt.
 
-ghost use Rattle.std.specs.Prelude.{◌<◌, length};
-
-use super::{BOUNDED, CODE, STORED, core, ends_in, steps_of};
+use super::{BOUNDED, CODE, STORED, core, steps_of};
 use rept_amo::Atomic;
 use rept_analysis::Analysis;
 use rept_dump::Dump;
 use rept_elf::{Image, Want};
 use rept_isa::Reg;
+use rept_line::OnePath;
 use rept_partial::{Partial, Range};
 use rept_reason::{Cell, Fact, Reason};
+use rept_report::Paths;
 use rept_steps::Steps;
 use rept_versions::{ByteFacts, PlainFacts, SpanFacts};
 use std::alloc::Global;
@@ -285,9 +285,7 @@ fn check_files<B: ByteFacts>(
     exe: &[u8],
     core: &[u8],
     told: &[Told],
-) -> Result<(), Fail>
-    requires { 0 < length steps.now }
-{
+) -> Result<(), Fail> {
     let exe_image = Image::read(exe, Want::Exec)?;
     let core_image = Image::read(core, Want::Core)?;
     let dump = Dump::read(exe_image, core_image)?;
@@ -300,20 +298,17 @@ fn check_dump<B: ByteFacts>(
     steps: &Steps,
     dump: &Dump<'_>,
     told: &[Told],
-) -> Result<(), Fail>
-    requires { 0 < length steps.now }
-{
-    assert!(rt; ends_in(steps, dump));
-    let mut analysis: Analysis<B, Range, Atomic> = Analysis::prepare(
+) -> Result<(), Fail> {
+    let mut analysis: Analysis<OnePath<'_>, B, Range, Atomic> = Analysis::prepare(
         alloc,
-        steps,
+        OnePath::new(steps.rows()),
         dump,
         Atomic::new(),
     )?;
     for wanted in told {
         assert!(rt; analysis.refine().is_ok());
         let fact = fact_of(rt, wanted.fact);
-        assert!(rt; fact.point as usize <= analysis.rows().len());
+        assert!(rt; fact.point as usize <= analysis.paths().last_point() as usize);
         match analysis.why(alloc, fact)? {
             None => assert_eq!(rt; wanted.rule, 0),
             Some(reason) => check_reason(rt, &reason, wanted),

@@ -4,7 +4,9 @@ use super::Run;
 use rept_amo::Atomic;
 use rept_analysis::{Analysis, Stop};
 use rept_isa::Reg;
+use rept_line::OnePath;
 use rept_partial::{Flat, Range};
+use rept_report::Paths;
 use rept_versions::{ByteFacts, Carried, Learnt, PlainFacts, Stretch};
 use std::alloc::{AllocError, Global};
 use std::process::Abort;
@@ -77,10 +79,10 @@ impl ByteFacts for Refusing {
 /// How many of the registers that are looked at are known. Each has the wanted value then.
 fn known_registers<B: ByteFacts>(
     rt: &impl Abort,
-    analysis: &Analysis<B, Range, Atomic>,
+    analysis: &Analysis<OnePath<'_>, B, Range, Atomic>,
     run: &Run,
 ) -> u32 {
-    let count = analysis.rows().len();
+    let count = analysis.paths().last_point() as usize;
     let mut known = 0u32;
     for (point, number, wanted) in run.regs {
         assert!(rt; *point as usize <= count);
@@ -97,10 +99,10 @@ fn known_registers<B: ByteFacts>(
 /// How many of the bytes that are looked at are known. Each has the wanted value then.
 fn known_bytes<B: ByteFacts>(
     rt: &impl Abort,
-    analysis: &Analysis<B, Range, Atomic>,
+    analysis: &Analysis<OnePath<'_>, B, Range, Atomic>,
     run: &Run,
 ) -> u32 {
-    let count = analysis.rows().len();
+    let count = analysis.paths().last_point() as usize;
     let mut known = 0u32;
     for (point, address, wanted) in run.bytes {
         assert!(rt; *point as usize <= count);
@@ -117,7 +119,7 @@ fn known_bytes<B: ByteFacts>(
 /// was known is known still.
 pub fn finish<B: ByteFacts>(
     rt: &impl Abort,
-    analysis: &mut Analysis<B, Range, Atomic>,
+    analysis: &mut Analysis<OnePath<'_>, B, Range, Atomic>,
     run: &Run,
 ) -> u32 {
     let mut registers = 0;

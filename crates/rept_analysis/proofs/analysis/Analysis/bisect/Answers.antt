@@ -8,12 +8,11 @@ use Rattle.rept_log.specs.Known.{Known}
 use Rattle.rept_analysis.specs.State.{state_of, Path, along}
 use Rattle.rept_analysis.proofs.Ending.{Same_itself, Same_trans, back_to}
 use Rattle.rept_analysis.proofs.Stopping.{quiet_before}
-use Rattle.rept_report.proofs.OneThread.{rows_within, are_points}
 use Rattle.rept_analysis.proofs.analysis.Analysis.bisect.Goals as goal
 
 pub loop-low-init : goal.loop-low-init
 loop-low-init g c =
-    let s = state_of g.W.Partial.sets g.W.Transfer.moves g.R.RowRules.rules g.B.ByteFacts.store c.args.self.now in
+    let s = state_of g.P.Paths.timeline g.W.Partial.sets g.W.Transfer.moves g.R.RowRules.rules g.B.ByteFacts.store c.args.self.now in
     let e = c.len-high.ensures.value in
     let all = oldest_all c.len-high.result s.known.log (omega (arith, e)) in
     record {
@@ -26,8 +25,8 @@ loop-low-init g c =
 
 pub loop-low-preserved-then-quiet : goal.loop-low-preserved-then-quiet
 loop-low-preserved-then-quiet g c =
-    let a = state_of g.W.Partial.sets g.W.Transfer.moves g.R.RowRules.rules g.B.ByteFacts.store c.args.self.now in
-    let b = state_of g.W.Partial.sets g.W.Transfer.moves g.R.RowRules.rules g.B.ByteFacts.store c.loop-low.self in
+    let a = state_of g.P.Paths.timeline g.W.Partial.sets g.W.Transfer.moves g.R.RowRules.rules g.B.ByteFacts.store c.args.self.now in
+    let b = state_of g.P.Paths.timeline g.W.Partial.sets g.W.Transfer.moves g.R.RowRules.rules g.B.ByteFacts.store c.loop-low.self in
     let i = c.loop-low.invariant in
     let less = c.loop-low-test.true in
     let middle = c.loop-low.low + (c.loop-low.high - c.loop-low.low) / 2 in
@@ -36,6 +35,6 @@ loop-low-preserved-then-quiet g c =
       same = Same_trans a b _ i.same c.is_quiet-quiet.ensures.same;
       low = omega (arith, less);
       high = i.high;
-      quiet = λ u below. quiet_before a (record { sets = g.met.W.Partial.lawful; moves = g.met.W.Transfer.covers; rules = g.met.R.RowRules.lawful; legs = rows_within _; moments = are_points _ }) c.held.ensures middle u (omega (arith, below)) here;
+      quiet = λ u below. quiet_before a (record { sets = g.met.W.Partial.lawful; moves = g.met.W.Transfer.covers; rules = g.met.R.RowRules.lawful; legs = (g.met.P.Paths.lawful _).legs; moments = (g.met.P.Paths.lawful _).moments }) c.held.ensures middle u (omega (arith, below)) here;
       loud = i.loud;
     }

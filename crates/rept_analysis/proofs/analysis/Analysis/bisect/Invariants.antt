@@ -9,13 +9,13 @@ use Rattle.rept_analysis.proofs.analysis.Analysis.bisect.Given as goal
 
 abbrev pub invariant-loop-low : goal.invariant-loop-low
 invariant-loop-low g l =
-    let st = state_of g.W.Partial.sets g.W.Transfer.moves g.R.RowRules.rules g.B.ByteFacts.store in
+    let st = state_of g.P.Paths.timeline g.W.Partial.sets g.W.Transfer.moves g.R.RowRules.rules g.B.ByteFacts.store in
     record {
       same : SameFacts (st l.fn.self) (st l.self);
       low : l.low ≤ l.high;
       high : l.high ≤ length l.fn.self.known.log;
       quiet : QuietBelow (st l.fn.self) l.low;
-      loud : IsQuiet (setting_of g.W.Partial.sets g.W.Transfer.moves g.R.RowRules.rules l.fn.self) (told (oldest l.high l.fn.self.known.log)) → ⊥;
+      loud : IsQuiet (setting_of g.P.Paths.timeline g.W.Partial.sets g.W.Transfer.moves g.R.RowRules.rules l.fn.self) (told (oldest l.high l.fn.self.known.log)) → ⊥;
     }
 
 abbrev pub decreases-loop-low : goal.decreases-loop-low

@@ -1,5 +1,4 @@
-use Rattle.std.proofs.Common.{◌≡◌, ◌≤◌, ◌*◌, length}
-use Rattle.rept_report.specs.Moments.{points_of}
+use Rattle.std.proofs.Common.{◌≡◌, ◌≤◌, ◌*◌}
 use Rattle.rept_log.specs.Around.{around}
 use Rattle.rept_log.specs.Known.{known_of}
 use Rattle.rept_analysis.specs.Cells.{bytes_from}
@@ -7,6 +6,6 @@ use Rattle.rept_analysis.proofs.analysis.Analysis.byte_cells_from.Given as goal
 
 abbrev pub invariant-loop-k : goal.invariant-loop-k
 invariant-loop-k g l = record {
-  value : l.sum ≡ bytes_from (around (points_of (length l.self.rows)) (known_of g.B.ByteFacts.store l.self.known) l.i) l.start l.k;
+  value : l.sum ≡ bytes_from (around (g.P.Paths.timeline l.self.paths).moments (known_of g.B.ByteFacts.store l.self.known) l.i) l.start l.k;
   few : l.sum ≤ 2 * l.k;
 }

@@ -1,20 +1,20 @@
-use Rattle.std.proofs.Common.{ℕ, Bool, sym, ◌∙◌, arith, slice_get}
+use Rattle.std.proofs.Common.{ℕ, Bool, sym, ◌∙◌, arith}
 use Rattle.rept_analysis.specs.Counts.{is_call, row_is}
 use Rattle.rept_analysis.proofs.Counting.{count_none, counted_yes, counted_no}
-use Rattle.rept_analysis.proofs.analysis.Analysis.calls.Goals.{then-is_call, else-is_call}
+use Rattle.rept_analysis.proofs.analysis.Analysis.calls.Goals.{then-is_call_row, else-is_call_row}
 use Rattle.rept_analysis.proofs.analysis.Analysis.calls.Goals as goal
 
 pub loop-i-init : goal.loop-i-init
-loop-i-init g c = record { value = sym (count_none (λ (i : ℕ). row_is (slice_get c.args.self.now.rows i) is_call)); few = omega arith; count = c.count-count.ensures.value }
+loop-i-init g c = record { value = sym (count_none (λ (i : ℕ). row_is ((g.P.Paths.timeline c.args.self.now.paths).legs.row i) is_call)); few = omega arith; count = c.count-count.ensures.value }
 
 pub loop-i-preserved : goal.loop-i-preserved
 loop-i-preserved g c =
-    let P : ℕ → Bool = λ (i : ℕ). row_is (slice_get c.args.self.now.rows i) is_call in
-    elim c.if-is_call.branch [
-      | then-is_call w ↦
-          let both = counted_yes P c.loop-i.i c.loop-i.sum c.if-is_call.sum (rw c.row.ensures (sym c.is_call.ensures ∙ w.if-is_call.true)) c.loop-i.invariant.value c.loop-i.invariant.few w.sum-is in
+    let P : ℕ → Bool = λ (i : ℕ). row_is ((g.P.Paths.timeline c.args.self.now.paths).legs.row i) is_call in
+    elim c.if-is_call_row.branch [
+      | then-is_call_row w ↦
+          let both = counted_yes P c.loop-i.i c.loop-i.sum c.if-is_call_row.sum (sym c.is_call_row.ensures ∙ w.if-is_call_row.true) c.loop-i.invariant.value c.loop-i.invariant.few w.sum-is in
           record { value = both.0; few = both.1; count = c.count-count.ensures.value }
-      | else-is_call w ↦
-          let both = counted_no P c.loop-i.i c.loop-i.sum c.if-is_call.sum (rw c.row.ensures (sym c.is_call.ensures ∙ w.if-is_call.false)) c.loop-i.invariant.value c.loop-i.invariant.few w.sum-is in
+      | else-is_call_row w ↦
+          let both = counted_no P c.loop-i.i c.loop-i.sum c.if-is_call_row.sum (sym c.is_call_row.ensures ∙ w.if-is_call_row.false) c.loop-i.invariant.value c.loop-i.invariant.few w.sum-is in
           record { value = both.0; few = both.1; count = c.count-count.ensures.value }
     ]

@@ -1,9 +1,8 @@
 use Rattle.std.proofs.Common.{◌+◌, ◌<◌, Some, None, refl, false, arith}
 use Rattle.rept_versions.specs.Facts.{Nexts}
-use Rattle.rept_analysis.specs.State.{State, alone_of, state_of}
+use Rattle.rept_analysis.specs.State.{State, state_of}
 use Rattle.rept_analysis.specs.Drawing.{IsCarriedBeside, IsCarriedAlong}
 use Rattle.rept_analysis.proofs.Drawn.{Drew_as, Drew_both, Drew_first, Drew_same, Grows_itself, Grows_trans}
-use Rattle.rept_report.proofs.Line.{is_line}
 use Rattle.rept_analysis.proofs.Listing.{IsCarriedBelow, below_beside, below_edge, below_free, below_all, nexts_none}
 use Rattle.rept_analysis.proofs.analysis.Analysis.carry_address.Goals as goal
 
@@ -12,33 +11,33 @@ loop-from-init g c = record { grows = Grows_itself _; drew = Drew_same _ _ (λ e
 
 pub returns-in_default-clause-drew : goal.returns-in_default-clause-drew
 returns-in_default-clause-drew g c =
-    let s = state_of g.W.Partial.sets g.W.Transfer.moves g.R.RowRules.rules g.B.ByteFacts.store c.args.self.now in
-    let t = state_of g.W.Partial.sets g.W.Transfer.moves g.R.RowRules.rules g.B.ByteFacts.store c.loop-from.self in
+    let s = state_of g.P.Paths.timeline g.W.Partial.sets g.W.Transfer.moves g.R.RowRules.rules g.B.ByteFacts.store c.args.self.now in
+    let t = state_of g.P.Paths.timeline g.W.Partial.sets g.W.Transfer.moves g.R.RowRules.rules g.B.ByteFacts.store c.loop-from.self in
     let a = c.args.a in
     let from = c.loop-from.from in
     let Q : State g.row.W.Denot → Type 0 = λ x. Nexts x.known.store.fact a from None in
-    Drew_first s t t c.loop-from.learnt false (IsCarriedBelow a from) Q (IsCarriedAlong a) (Grows_itself t) refl c.loop-from.invariant.drew (Drew_same t Q (nexts_none t.known.store.fact a from c.stretch.result c.in_default.not-Some c.stretch.ensures)) (λ p q. below_free s (is_line (alone_of c.args.self.now)) a from q p)
+    Drew_first s t t c.loop-from.learnt false (IsCarriedBelow a from) Q (IsCarriedAlong a) (Grows_itself t) refl c.loop-from.invariant.drew (Drew_same t Q (nexts_none t.known.store.fact a from c.stretch.result c.in_default.not-Some c.stretch.ensures)) (λ p q. below_free s c.held.ensures.line a from q p)
 
 pub returns-then-point-rows-clause-drew : goal.returns-then-point-rows-clause-drew
 returns-then-point-rows-clause-drew g c =
-    let s = state_of g.W.Partial.sets g.W.Transfer.moves g.R.RowRules.rules g.B.ByteFacts.store c.args.self.now in
-    let t = state_of g.W.Partial.sets g.W.Transfer.moves g.R.RowRules.rules g.B.ByteFacts.store c.loop-from.self in
+    let s = state_of g.P.Paths.timeline g.W.Partial.sets g.W.Transfer.moves g.R.RowRules.rules g.B.ByteFacts.store c.args.self.now in
+    let t = state_of g.P.Paths.timeline g.W.Partial.sets g.W.Transfer.moves g.R.RowRules.rules g.B.ByteFacts.store c.loop-from.self in
     let a = c.args.a in
     let from = c.loop-from.from in
     let Q : State g.row.W.Denot → Type 0 = λ x. Nexts x.known.store.fact a from (Some c.in-Some.stretch) in
     let rows = c.loop-from.invariant.rows in
     let after = c.if-point-rows.true in
     let far : s.path.given.legs.count < c.edge-point.result = omega (arith, rows, after) in
-    Drew_first s t t c.loop-from.learnt false (IsCarriedBelow a from) Q (IsCarriedAlong a) (Grows_itself t) refl c.loop-from.invariant.drew (Drew_same t Q (rw c.in-Some.is at c.stretch.ensures)) (λ p q. below_edge s a from c.edge-point.result c.in-Some.stretch q c.edge-point.ensures (is_line (alone_of c.args.self.now)) far p)
+    Drew_first s t t c.loop-from.learnt false (IsCarriedBelow a from) Q (IsCarriedAlong a) (Grows_itself t) refl c.loop-from.invariant.drew (Drew_same t Q (rw c.in-Some.is at c.stretch.ensures)) (λ p q. below_edge s a from c.edge-point.result c.in-Some.stretch q c.edge-point.ensures c.held.ensures.line far p)
 
 pub returns-in_err-beside-clause-grows : goal.returns-in_err-beside-clause-grows
 returns-in_err-beside-clause-grows g c = Grows_trans _ _ _ c.loop-from.invariant.grows c.carry_beside.ensures.grows
 
 pub loop-from-preserved : goal.loop-from-preserved
 loop-from-preserved g c =
-    let s = state_of g.W.Partial.sets g.W.Transfer.moves g.R.RowRules.rules g.B.ByteFacts.store c.args.self.now in
-    let t = state_of g.W.Partial.sets g.W.Transfer.moves g.R.RowRules.rules g.B.ByteFacts.store c.loop-from.self in
-    let u = state_of g.W.Partial.sets g.W.Transfer.moves g.R.RowRules.rules g.B.ByteFacts.store c.carry_beside.new.self in
+    let s = state_of g.P.Paths.timeline g.W.Partial.sets g.W.Transfer.moves g.R.RowRules.rules g.B.ByteFacts.store c.args.self.now in
+    let t = state_of g.P.Paths.timeline g.W.Partial.sets g.W.Transfer.moves g.R.RowRules.rules g.B.ByteFacts.store c.loop-from.self in
+    let u = state_of g.P.Paths.timeline g.W.Partial.sets g.W.Transfer.moves g.R.RowRules.rules g.B.ByteFacts.store c.carry_beside.new.self in
     let a = c.args.a in
     let from = c.loop-from.from in
     let point = c.edge-point.result in
@@ -60,9 +59,9 @@ loop-from-preserved g c =
 
 pub returns-clause-drew : goal.returns-clause-drew
 returns-clause-drew g c =
-    let s = state_of g.W.Partial.sets g.W.Transfer.moves g.R.RowRules.rules g.B.ByteFacts.store c.args.self.now in
-    let t = state_of g.W.Partial.sets g.W.Transfer.moves g.R.RowRules.rules g.B.ByteFacts.store c.loop-from.self in
+    let s = state_of g.P.Paths.timeline g.W.Partial.sets g.W.Transfer.moves g.R.RowRules.rules g.B.ByteFacts.store c.args.self.now in
+    let t = state_of g.P.Paths.timeline g.W.Partial.sets g.W.Transfer.moves g.R.RowRules.rules g.B.ByteFacts.store c.loop-from.self in
     let rows = c.loop-from.invariant.rows in
     let ended = c.loop-from-test.false in
     let far : s.path.given.legs.count < c.loop-from.from = omega (arith, rows, ended) in
-    Drew_as s t c.loop-from.learnt (IsCarriedBelow c.args.a c.loop-from.from) (IsCarriedAlong c.args.a) c.loop-from.invariant.drew (λ p. below_all s (is_line (alone_of c.args.self.now)) c.args.a c.loop-from.from far p)
+    Drew_as s t c.loop-from.learnt (IsCarriedBelow c.args.a c.loop-from.from) (IsCarriedAlong c.args.a) c.loop-from.invariant.drew (λ p. below_all s c.held.ensures.line c.args.a c.loop-from.from far p)

@@ -6,7 +6,7 @@ use Rattle.rept_analysis.proofs.analysis.Analysis.carry_address.Given as goal
 
 abbrev pub invariant-loop-from : goal.invariant-loop-from
 invariant-loop-from g l =
-    let st = state_of g.W.Partial.sets g.W.Transfer.moves g.R.RowRules.rules g.B.ByteFacts.store in
+    let st = state_of g.P.Paths.timeline g.W.Partial.sets g.W.Transfer.moves g.R.RowRules.rules g.B.ByteFacts.store in
     record {
       grows : Grows (st l.fn.self) (st l.self);
       drew : Drew (st l.fn.self) (st l.self) l.learnt (IsCarriedBelow l.a l.from);

@@ -17,7 +17,7 @@ loop-r-preserved g c =
       grows = Grows_trans _ _ _ c.loop-r.invariant.grows c.in_ok-new.ensures.grows;
       drew = Drew_both _ _ _ c.loop-r.learnt c.in_ok-new.new (KeptBelow c.loop-r.r row c.args.i) (λ a. C a c.loop-r.r) (KeptBelow (c.loop-r.r + 1) row c.args.i)
           c.loop-r.invariant.grows c.in_ok-new.ensures.grows c.loop-r.invariant.drew here
-          (λ below at_r r named inside kept. one_more (C (state_of g.W.Partial.sets g.W.Transfer.moves g.R.RowRules.rules g.B.ByteFacts.store c.args.self.now)) c.loop-r.r (λ s lt n k. below s n lt k) at_r r inside named kept);
+          (λ below at_r r named inside kept. one_more (C (state_of g.P.Paths.timeline g.W.Partial.sets g.W.Transfer.moves g.R.RowRules.rules g.B.ByteFacts.store c.args.self.now)) c.loop-r.r (λ s lt n k. below s n lt k) at_r r inside named kept);
     }
 
 pub returns-clause-drew : goal.returns-clause-drew

@@ -10,4 +10,4 @@ pub carry_segment-requires-clause-order : goal.carry_segment-requires-clause-ord
 carry_segment-requires-clause-order g c = rw c.row_past-from.ensures c.next_writer-to.ensures.order
 
 pub returns-clause-drew : goal.returns-clause-drew
-returns-clause-drew g c = Drew_as (state_of g.W.Partial.sets g.W.Transfer.moves g.R.RowRules.rules g.B.ByteFacts.store c.args.self.now) _ c.in_ok-learnt.learnt (IsCarriedFrom c.args.a c.row_past-from.result c.next_writer-to.result) (λ (x : State g.row.W.Denot). Unit {0}) c.in_ok-learnt.ensures.drew (λ h. tt)
+returns-clause-drew g c = Drew_as (state_of g.P.Paths.timeline g.W.Partial.sets g.W.Transfer.moves g.R.RowRules.rules g.B.ByteFacts.store c.args.self.now) _ c.in_ok-learnt.learnt (IsCarriedFrom c.args.a c.row_past-from.result c.next_writer-to.result) (λ (x : State g.row.W.Denot). Unit {0}) c.in_ok-learnt.ensures.drew (λ h. tt)

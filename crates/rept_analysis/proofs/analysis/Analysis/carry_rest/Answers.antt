@@ -9,8 +9,11 @@ returns-in_err-bytes-clause-grows g c = Grows_trans _ _ _ c.in_ok-carried.ensure
 
 pub returns-clause-drew : goal.returns-clause-drew
 returns-clause-drew g c =
-    let a = state_of g.W.Partial.sets g.W.Transfer.moves g.R.RowRules.rules g.B.ByteFacts.store c.args.self.now in
-    let b = state_of g.W.Partial.sets g.W.Transfer.moves g.R.RowRules.rules g.B.ByteFacts.store c.carry_tracked.new.self in
-    let d = state_of g.W.Partial.sets g.W.Transfer.moves g.R.RowRules.rules g.B.ByteFacts.store c.draw_last_bytes.new.self in
+    let a = state_of g.P.Paths.timeline g.W.Partial.sets g.W.Transfer.moves g.R.RowRules.rules g.B.ByteFacts.store c.args.self.now in
+    let b = state_of g.P.Paths.timeline g.W.Partial.sets g.W.Transfer.moves g.R.RowRules.rules g.B.ByteFacts.store c.carry_tracked.new.self in
+    let d = state_of g.P.Paths.timeline g.W.Partial.sets g.W.Transfer.moves g.R.RowRules.rules g.B.ByteFacts.store c.draw_last_bytes.new.self in
     let P : State g.row.W.Denot → Type 0 = λ x. c.args.has_news ≡ false → AllCarried x × LastBytesKnown x in
     Drew_both a b d c.in_ok-carried.carried c.in_ok-bytes.bytes AllCarried LastBytesKnown P c.in_ok-carried.ensures.grows c.in_ok-bytes.ensures.grows c.in_ok-carried.ensures.drew c.in_ok-bytes.ensures.drew (λ p q _. (p, q))
+
+pub returns-clause-grows : goal.returns-clause-grows
+returns-clause-grows g c = Grows_trans _ _ _ c.in_ok-carried.ensures.grows c.in_ok-bytes.ensures.grows

@@ -1,23 +1,36 @@
-use Rattle.std.proofs.Common.{◌+◌, ◌≤◌, arith}
-use Rattle.rept_analysis.specs.State.{state_of}
-use Rattle.rept_analysis.specs.Drawing.{LastKnown, LastKnownBelow}
-use Rattle.rept_analysis.proofs.Drawn.{Drew_both, Drew_as, Grows_trans, one_more}
+use Rattle.std.proofs.Common.{◌+◌, None, Some, subst, arith}
+use Rattle.rept_report.specs.Timeline.{IsLastFrom}
+use Rattle.rept_analysis.specs.State.{Path, state_of}
+use Rattle.rept_analysis.specs.Drawing.{LastPointKnown, LastKnownBelow}
+use Rattle.rept_analysis.proofs.Drawn.{Drew_both, Drew_as, Drew_same, Grows_itself, Grows_trans}
+use Rattle.rept_analysis.proofs.Following.{LastsBelow, last_none, lasts_all, lasts_more}
 use Rattle.rept_analysis.proofs.analysis.Analysis.draw_all_last.Goals as goal
 
+pub loop-point-init : goal.loop-point-init
+loop-point-init g c = record { grows = Grows_itself _; drew = Drew_same _ _ (λ p less last. absurd (omega (arith, less))) }
+
+pub returns-in_default-clause-drew : goal.returns-in_default-clause-drew
+returns-in_default-clause-drew g c =
+    let s = state_of g.P.Paths.timeline g.W.Partial.sets g.W.Transfer.moves g.R.RowRules.rules g.B.ByteFacts.store c.args.self.now in
+    let t = state_of g.P.Paths.timeline g.W.Partial.sets g.W.Transfer.moves g.R.RowRules.rules g.B.ByteFacts.store c.loop-point.self in
+    let none = last_none t.path.given.legs c.loop-point.least c.next_last.result c.in_default.not-Some c.next_last.ensures.last in
+    Drew_as s t c.loop-point.learnt (LastsBelow c.loop-point.least) (LastKnownBelow 32) c.loop-point.invariant.drew (λ h. lasts_all s c.loop-point.least (subst (λ (P : Path g.row.W.Denot). IsLastFrom P.given.legs c.loop-point.least None) c.loop-point.invariant.grows.path none) h)
+
+pub draw_last_point-requires-clause-point : goal.draw_last_point-requires-clause-point
+draw_last_point-requires-clause-point g c = let next = rw c.in-Some.is at c.next_last.ensures.last in (next.1, next.2)
+
 pub returns-in_err-new-clause-grows : goal.returns-in_err-new-clause-grows
-returns-in_err-new-clause-grows g c = Grows_trans _ _ _ c.loop-r.invariant.grows c.draw_last.ensures.grows
+returns-in_err-new-clause-grows g c = Grows_trans _ _ _ c.loop-point.invariant.grows c.draw_last_point.ensures.grows
 
-pub loop-r-preserved : goal.loop-r-preserved
-loop-r-preserved g c =
-    let here = rw c.register.ensures at c.in_ok-new.ensures.drew in
+pub loop-point-preserved : goal.loop-point-preserved
+loop-point-preserved g c =
+    let s = state_of g.P.Paths.timeline g.W.Partial.sets g.W.Transfer.moves g.R.RowRules.rules g.B.ByteFacts.store c.args.self.now in
+    let t = state_of g.P.Paths.timeline g.W.Partial.sets g.W.Transfer.moves g.R.RowRules.rules g.B.ByteFacts.store c.loop-point.self in
+    let u = state_of g.P.Paths.timeline g.W.Partial.sets g.W.Transfer.moves g.R.RowRules.rules g.B.ByteFacts.store c.draw_last_point.new.self in
+    let i = c.loop-point.invariant in
+    let here = rw c.in-Some.is at c.next_last.ensures.last in
+    let next = subst (λ (P : Path g.row.W.Denot). IsLastFrom P.given.legs c.loop-point.least (Some c.in-Some.point)) i.grows.path here in
     record {
-      grows = Grows_trans _ _ _ c.loop-r.invariant.grows c.in_ok-new.ensures.grows;
-      drew = Drew_both _ _ _ c.loop-r.learnt c.in_ok-new.new (LastKnownBelow c.loop-r.r) (LastKnown c.loop-r.r) (LastKnownBelow (c.loop-r.r + 1))
-          c.loop-r.invariant.grows c.in_ok-new.ensures.grows c.loop-r.invariant.drew here
-          (λ below at_r r inside. one_more (λ s. LastKnown s (state_of g.W.Partial.sets g.W.Transfer.moves g.R.RowRules.rules g.B.ByteFacts.store c.args.self.now)) c.loop-r.r below at_r r inside);
+      grows = Grows_trans s t u i.grows c.in_ok-new.ensures.grows;
+      drew = Drew_both s t u c.loop-point.learnt c.in_ok-new.new (LastsBelow c.loop-point.least) (LastPointKnown 32 c.in-Some.point) (LastsBelow (c.in-Some.point + 1)) i.grows c.in_ok-new.ensures.grows i.drew c.in_ok-new.ensures.drew (λ p q. lasts_more s c.loop-point.least c.in-Some.point next p q);
     }
-
-pub returns-clause-drew : goal.returns-clause-drew
-returns-clause-drew g c =
-    let passed : 32 ≤ c.loop-r.r = omega arith in
-    Drew_as _ _ c.loop-r.learnt (LastKnownBelow c.loop-r.r) (LastKnownBelow 32) c.loop-r.invariant.drew (λ h r inside. h r (omega (arith, passed, inside)))

@@ -15,4 +15,4 @@ returns g c =
     let low = c.number.ensures.in_file in
     let value = c.number.ensures.value in
     let here : slice_get c.self.inside.last.items c.number.result ≡ Some c.index.result.now = slice_get-get_or c.self.inside.last.items c.number.result c.index.result.now (omega (arith, long, low)) ∙ ap Some (sym c.index.ensures) in
-    subst (λ (x : Whole g.row.B.Denot g.row.W.Denot g.row.R.Denot). slice_get x.last c.args.r ≡ Some c.index.result.now) c.self.view_is (rw value at here)
+    subst (λ (x : Whole g.row.P.Denot g.row.B.Denot g.row.W.Denot g.row.R.Denot). slice_get x.last c.args.r ≡ Some c.index.result.now) c.self.view_is (rw value at here)

@@ -8,9 +8,9 @@ abbrev pub invariant-loop-low : goal.invariant-loop-low
 invariant-loop-low g l = record {
   low : l.low ≤ l.high;
   high : l.high ≤ length l.self.known.log;
-  sized : l.spans.points ≡ length l.self.rows + 1;
-  stands : StandsIn (setting_of g.W.Partial.sets g.W.Transfer.moves g.R.RowRules.rules l.self) (oldest l.high l.self.known.log) l.fact;
-  below : (u : ℕ) → u < l.low → StandsIn (setting_of g.W.Partial.sets g.W.Transfer.moves g.R.RowRules.rules l.self) (oldest u l.self.known.log) l.fact → ⊥;
+  sized : l.spans.points ≡ (g.P.Paths.timeline l.self.paths).legs.count + 1;
+  stands : StandsIn (setting_of g.P.Paths.timeline g.W.Partial.sets g.W.Transfer.moves g.R.RowRules.rules l.self) (oldest l.high l.self.known.log) l.fact;
+  below : (u : ℕ) → u < l.low → StandsIn (setting_of g.P.Paths.timeline g.W.Partial.sets g.W.Transfer.moves g.R.RowRules.rules l.self) (oldest u l.self.known.log) l.fact → ⊥;
 }
 
 abbrev pub decreases-loop-low : goal.decreases-loop-low

@@ -10,5 +10,5 @@ pub returns-in-Ok-clause-quiet : goal.returns-in-Ok-clause-quiet
 returns-in-Ok-clause-quiet g c =
     λ e. record {
       full = c.in-Ok.ensures.some;
-      right = λ i h. back_to (state_of g.W.Partial.sets g.W.Transfer.moves g.R.RowRules.rules g.B.ByteFacts.store c.args.self.now) (state_of g.W.Partial.sets g.W.Transfer.moves g.R.RowRules.rules g.B.ByteFacts.store c.fill.new.self) c.in-Ok.ensures.same (λ (P : Path g.row.W.Denot) (k : Known). IsWrongTurn (along P) (told (oldest c.args.limit k.log)) i → ⊥) (c.wrong_turn.ensures.none e i) h;
+      right = λ i h. back_to (state_of g.P.Paths.timeline g.W.Partial.sets g.W.Transfer.moves g.R.RowRules.rules g.B.ByteFacts.store c.args.self.now) (state_of g.P.Paths.timeline g.W.Partial.sets g.W.Transfer.moves g.R.RowRules.rules g.B.ByteFacts.store c.fill.new.self) c.in-Ok.ensures.same (λ (P : Path g.row.W.Denot) (k : Known). IsWrongTurn (along P) (told (oldest c.args.limit k.log)) i → ⊥) (c.wrong_turn.ensures.none e i) h;
     }

@@ -1,8 +1,7 @@
-use Rattle.std.proofs.Common.{length, sym, ◌∙◌}
-use Rattle.rept_report.specs.Moments.{points_of}
+use Rattle.std.proofs.Common.{sym, ◌∙◌}
 use Rattle.rept_log.specs.Known.{known_of}
 use Rattle.rept_analysis.proofs.Following.{row_bytes}
 use Rattle.rept_analysis.proofs.analysis.Analysis.row_byte_cells.Goals as goal
 
 pub returns-in-Known-clause-value : goal.returns-in-Known-clause-value
-returns-in-Known-clause-value g c = row_bytes g.R.RowRules.rules c.args.row.now (points_of (length c.args.self.now.rows)) (known_of g.B.ByteFacts.store c.args.self.now.known) c.args.i c.in-Some.r c.in-Known.base c.address.result c.min-count.result c.byte_cells_from.result c.known.result (sym c.reads-first.ensures.first ∙ c.in-Some.is) c.known.ensures.value c.in-Known.is c.address.ensures (rw c.places.ensures.value at c.min-count.ensures) c.byte_cells_from.ensures.value
+returns-in-Known-clause-value g c = row_bytes g.R.RowRules.rules c.args.row.now (g.P.Paths.timeline c.args.self.now.paths).moments (known_of g.B.ByteFacts.store c.args.self.now.known) c.args.i c.in-Some.r c.in-Known.base c.address.result c.min-count.result c.byte_cells_from.result c.known.result (sym c.reads-first.ensures.first ∙ c.in-Some.is) c.known.ensures.value c.in-Known.is c.address.ensures (rw c.places.ensures.value at c.min-count.ensures) c.byte_cells_from.ensures.value

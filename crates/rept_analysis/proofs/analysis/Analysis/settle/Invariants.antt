@@ -8,11 +8,11 @@ use Rattle.rept_analysis.proofs.analysis.Analysis.settle.Given as goal
 
 abbrev pub invariant-loop-len : goal.invariant-loop-len
 invariant-loop-len g l = record {
-  spent : (state_of g.W.Partial.sets g.W.Transfer.moves g.R.RowRules.rules g.B.ByteFacts.store l.self).work.draws + left (state_of g.W.Partial.sets g.W.Transfer.moves g.R.RowRules.rules g.B.ByteFacts.store l.self).work.drawn ≤ (state_of g.W.Partial.sets g.W.Transfer.moves g.R.RowRules.rules g.B.ByteFacts.store l.fn.self).work.draws + left (state_of g.W.Partial.sets g.W.Transfer.moves g.R.RowRules.rules g.B.ByteFacts.store l.fn.self).work.drawn;
-  uncut : IsUncut (state_of g.W.Partial.sets g.W.Transfer.moves g.R.RowRules.rules g.B.ByteFacts.store l.self);
-  more : KeepsKnown (state_of g.W.Partial.sets g.W.Transfer.moves g.R.RowRules.rules g.B.ByteFacts.store l.fn.self) (state_of g.W.Partial.sets g.W.Transfer.moves g.R.RowRules.rules g.B.ByteFacts.store l.self);
-  continues : Continues (state_of g.W.Partial.sets g.W.Transfer.moves g.R.RowRules.rules g.B.ByteFacts.store l.fn.self) (state_of g.W.Partial.sets g.W.Transfer.moves g.R.RowRules.rules g.B.ByteFacts.store l.self);
+  spent : (state_of g.P.Paths.timeline g.W.Partial.sets g.W.Transfer.moves g.R.RowRules.rules g.B.ByteFacts.store l.self).work.draws + left (state_of g.P.Paths.timeline g.W.Partial.sets g.W.Transfer.moves g.R.RowRules.rules g.B.ByteFacts.store l.self).work.drawn ≤ (state_of g.P.Paths.timeline g.W.Partial.sets g.W.Transfer.moves g.R.RowRules.rules g.B.ByteFacts.store l.fn.self).work.draws + left (state_of g.P.Paths.timeline g.W.Partial.sets g.W.Transfer.moves g.R.RowRules.rules g.B.ByteFacts.store l.fn.self).work.drawn;
+  uncut : IsUncut (state_of g.P.Paths.timeline g.W.Partial.sets g.W.Transfer.moves g.R.RowRules.rules g.B.ByteFacts.store l.self);
+  more : KeepsKnown (state_of g.P.Paths.timeline g.W.Partial.sets g.W.Transfer.moves g.R.RowRules.rules g.B.ByteFacts.store l.fn.self) (state_of g.P.Paths.timeline g.W.Partial.sets g.W.Transfer.moves g.R.RowRules.rules g.B.ByteFacts.store l.self);
+  continues : Continues (state_of g.P.Paths.timeline g.W.Partial.sets g.W.Transfer.moves g.R.RowRules.rules g.B.ByteFacts.store l.fn.self) (state_of g.P.Paths.timeline g.W.Partial.sets g.W.Transfer.moves g.R.RowRules.rules g.B.ByteFacts.store l.self);
 }
 
 abbrev pub decreases-loop-len : goal.decreases-loop-len
-decreases-loop-len g l = measure (state_of g.W.Partial.sets g.W.Transfer.moves g.R.RowRules.rules g.B.ByteFacts.store l.self)
+decreases-loop-len g l = measure (state_of g.P.Paths.timeline g.W.Partial.sets g.W.Transfer.moves g.R.RowRules.rules g.B.ByteFacts.store l.self)

@@ -1,4 +1,4 @@
-use Rattle.std.proofs.Common.{◌≡◌, ◌≤◌, ◌*◌, length}
+use Rattle.std.proofs.Common.{◌≡◌, ◌≤◌, ◌*◌}
 use Rattle.rept_reason.specs.Facts.{told}
 use Rattle.rept_report.specs.Log.{oldest}
 use Rattle.rept_analysis.specs.Counts.{known_below}
@@ -8,5 +8,5 @@ abbrev pub invariant-loop-point : goal.invariant-loop-point
 invariant-loop-point g l = record {
   value : l.sum ≡ known_below (told (oldest l.self.shown l.self.known.log)) l.point;
   few : l.sum ≤ 32 * l.point;
-  count : l.count ≡ length l.self.rows;
+  count : l.count ≡ (g.P.Paths.timeline l.self.paths).legs.count;
 }

@@ -1,4 +1,4 @@
-use Rattle.std.proofs.Common.{◌≡◌, ◌<◌, ℕ, length}
+use Rattle.std.proofs.Common.{◌≡◌, ◌<◌, ℕ}
 use Rattle.rept_reason.specs.Facts.{told}
 use Rattle.rept_report.specs.Log.{oldest}
 use Rattle.rept_report.specs.Conflicts.{IsWrongTurn}
@@ -7,6 +7,6 @@ use Rattle.rept_analysis.proofs.analysis.Analysis.wrong_turn.Given as goal
 
 abbrev pub invariant-loop-step : goal.invariant-loop-step
 invariant-loop-step g l = record {
-  right : (i : ℕ) → i < l.step → IsWrongTurn (setting_of g.W.Partial.sets g.W.Transfer.moves g.R.RowRules.rules l.self) (told (oldest l.limit l.self.known.log)) i → ⊥;
-  count : l.count ≡ length l.self.rows;
+  right : (i : ℕ) → i < l.step → IsWrongTurn (setting_of g.P.Paths.timeline g.W.Partial.sets g.W.Transfer.moves g.R.RowRules.rules l.self) (told (oldest l.limit l.self.known.log)) i → ⊥;
+  count : l.count ≡ (g.P.Paths.timeline l.self.paths).legs.count;
 }
