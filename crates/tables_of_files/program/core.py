@@ -6,7 +6,7 @@ of the vDSO is not saved. The bytes of the mappings begin at the next page."""
 import struct, sys
 
 PAGE = 4096
-EXECUTABLE = open("crash", "rb").read()
+EXECUTABLE = open("../data/crash", "rb").read()
 PC, SP = int(sys.argv[1], 0), 0x9CB1FE30
 COUNTERS = int(sys.argv[2], 0)
 
@@ -55,4 +55,4 @@ for address, flags, size, saved in mappings:
     headers += words(1, at + len(bodies), address, 0, len(saved), size, flags, PAGE)
     bodies += saved
 core = (header + headers + notes).ljust(at, b"\0") + bodies
-open("core", "wb").write(core)
+open("../data/core", "wb").write(core)
