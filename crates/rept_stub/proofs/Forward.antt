@@ -12,7 +12,7 @@ use Rattle.rept_session.specs.LastWriters.{AreLastWriters, IsNamed, named_row, w
 use Rattle.rept_session.specs.Shown.{IsAt, Shown}
 use Rattle.rept_session.specs.Texts.{at}
 use Rattle.rept_session.specs.declared.place.ThreadPoint.{ThreadPoint}
-use Rattle.rept_stub.specs.Halts.{came, has_changed, is_break, is_open, is_row, is_stop, is_touched, names, wanted}
+use Rattle.rept_stub.specs.Halts.{NamesNoOther, came, has_changed, is_break, is_new, is_open, is_row, is_stop, is_touched, names, wanted}
 use Rattle.rept_stub.proofs.Ranges.{find_on, range_front}
 
 same_some : {X : Type 0} {x y : X} → Some x ≡ Some y → x ≡ y
@@ -142,6 +142,44 @@ module _ (s : Shown) (c : ThreadPoint) (a : ℕ) (last : AreLastWriters s c.thre
       by_writer (writer.MayWrite row) e is = by_row row (ap named_row e) (not_true (names s c a row) is)
       by_writer writer.Several e is = ap (λ w. came s (here high) a (named_row w) || is_open w) e
       by_writer writer.None e is = true_false (sym is)
+
+  -- a row of the thread is named from the point after it on
+  pub own_since : (high row : ℕ) (step : ThreadPoint) → step ≡ s.point row → step.thread ≡ c.thread → IsAt s (here high) → IsNamed s (here high) a row → IsNamed s (here (step.point + 1)) a row
+  own_since high row step is own h named =
+      let same : (s.point row).thread ≡ c.thread = sym (ap (λ (p : ThreadPoint). p.thread) is) ∙ own in
+      let spot : step.point ≡ (s.point row).point = ap (λ (p : ThreadPoint). p.point) is in
+      let before = last.before row high h same named in
+      last.since row (step.point + 1) high h same named (omega (arith, spot)) (omega (arith, spot, before))
+
+  -- and it isn't before a point at which it isn't named yet
+  pub own_after : (high row : ℕ) (step : ThreadPoint) → step ≡ s.point row → step.thread ≡ c.thread → IsAt s (here high) → IsNamed s (here high) a row → (low : ℕ) → low < high → (IsNamed s (here low) a row → ⊥) → low < step.point + 1
+  own_after high row step is own h named low under not_yet =
+      let same : (s.point row).thread ≡ c.thread = sym (ap (λ (p : ThreadPoint). p.thread) is) ∙ own in
+      let spot : step.point ≡ (s.point row).point = ap (λ (p : ThreadPoint). p.point) is in
+      elim (cases_lt (s.point row).point low) as (λ _. low < step.point + 1) [
+        | inl earlier ↦ absurd (not_yet (last.since row low high h same named earlier (omega arith)))
+        | inr not_earlier ↦ omega (arith, not_earlier, spot)
+      ]
+
+-- what is new by a row is new wherever that row is named
+pub new_row : (s : Shown) (c : ThreadPoint) (a : ℕ) (w : Writer) (row : ℕ) → named_row w ≡ Some row → has_changed s c a w ≡ true → names s c a row ≡ false
+new_row s c a w row e is = not_true (names s c a row) (ap (λ b. b || false) (ap (λ o. is_new s c a o) (sym e)) ∙ ap (λ b. is_new s c a (named_row w) || b) (sym (closed w row e)) ∙ is)
+
+pub new_there : (s : Shown) (c : ThreadPoint) (a : ℕ) (w : Writer) (row : ℕ) → named_row w ≡ Some row → names s c a row ≡ false → has_changed s c a w ≡ true
+new_there s c a w row e is =
+    ap (λ b. is_new s c a (named_row w) || b) (closed w row e) ∙ ap (λ o. is_new s c a o || false) e ∙ ap (λ b. not b || false) is
+
+-- and isn't named where no other row is than at the earlier point
+pub not_named : (s : Shown) (c : ThreadPoint) (low a row : ℕ) → NamesNoOther s c low a → names s c a row ≡ false → IsNamed s (at c.thread low) a row → ⊥
+not_named s c low a row old new is = true_false (sym (old row (is_row_of (named_row (writer_at s (at c.thread low) a)) row is)) ∙ new)
+
+-- a lesser number that is another
+pub below : (m n : ℕ) → m ≤ n → (m ≡ n → ⊥) → m < n
+below m n order other =
+    elim (cases_lt m n) as (λ _. m < n) [
+      | inl less ↦ less
+      | inr not_less ↦ absurd (other (omega (arith, order, not_less)))
+    ]
 
 -- none of the first numbers of a range passes
 find_beyond : (test : ℕ → Bool) (from below bound : ℕ) → from ≤ below → below ≤ bound → ((k : ℕ) → from < k → k ≤ below → test k ≡ false)

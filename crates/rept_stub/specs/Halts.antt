@@ -1,7 +1,7 @@
 -- Where a thread is led to by a move, and why it stops there. The point p of a thread lies before its row p, and after its row p - 1. A move leads along
 -- the rows of one thread, and the cursors of the others stay. This project's own; the reasons are those of GDB's manual, appendix Remote Serial
 -- Protocol, section Stop Reply Packets.
-use Rattle.std.specs.Prelude.{ℕ, zero, suc, ◌+◌, ◌-◌, List, length, Bool, true, false, not, ◌||◌, ◌==◌, nat_lt, Option, None, Some, fold, if◌then◌else◌}
+use Rattle.std.specs.Prelude.{◌≡◌, ℕ, zero, suc, ◌+◌, ◌-◌, List, length, Bool, true, false, not, ◌||◌, ◌==◌, nat_lt, Option, None, Some, fold, if◌then◌else◌}
 use Rattle.std.specs.List.{find, list_any, range_with_len}
 use Rattle.rept_report.specs.declared.writer.Writer.{Writer}
 use Rattle.rept_report.specs.declared.writer.Writer.TheVariants as writer
@@ -90,6 +90,10 @@ is_new s c address (Some row) = not (names s c address row)
 -- at a later point of the thread a row is named that isn't named at this one, or none of several is known to be the last
 abbrev pub has_changed : Shown → ThreadPoint → ℕ → Writer → Bool
 has_changed s c address later = is_new s c address (named_row later) || is_open later
+
+-- at a point of the thread no row is named that isn't named at this one
+abbrev pub NamesNoOther : Shown → ThreadPoint → ℕ → ℕ → Type 0
+NamesNoOther s c point address = (row : ℕ) → names s (at c.thread point) address row ≡ true → names s c address row ≡ true
 
 abbrev pub halt_at : Shown → Wanted → ℕ → Option ℕ → Halt
 halt_at s w thread None = halt (length (s.rows thread)) stop.End

@@ -1,12 +1,12 @@
 //! Moves along the rows of a thread.
 
-ghost use Rattle.std.specs.Prelude.{◌≡◌, ◌≤◌, ◌<◌, ◌+◌, ◌-◌, ◌==◌, ◌||◌, ℕ, Bool, true, length, not, IfSome, Some};
+ghost use Rattle.std.specs.Prelude.{◌≡◌, ◌≤◌, ◌<◌, ◌+◌, ◌-◌, ◌==◌, ◌||◌, ℕ, Bool, true, false, length, not, IfSome, None, Some};
 ghost use Rattle.std.specs.List.{find, list_any, range_with_len};
 ghost use Rattle.std.specs.Option.{option_or};
-ghost use Rattle.rept_session.specs.LastWriters.{AreLastWriters, named_row, writer_at};
-ghost use Rattle.rept_session.specs.Shown.{IsAt};
+ghost use Rattle.rept_session.specs.LastWriters.{AreLastWriters, IsNamed, named_row, writer_at};
+ghost use Rattle.rept_session.specs.Shown.{IsAt, Shown};
 ghost use Rattle.rept_session.specs.Texts.{at};
-ghost use Rattle.rept_stub.specs.Halts.{before, break_before, came, continued, continued_back, halt, has_changed, has_open, is_break, is_open, is_stop, is_touched, is_written, last_below, last_write, later, latest, names, point_before, stepped, stepped_back, stop_by, wanted, write_before, written};
+ghost use Rattle.rept_stub.specs.Halts.{NamesNoOther, before, break_before, came, continued, continued_back, halt, has_changed, has_open, is_break, is_open, is_row, is_stop, is_touched, is_written, last_below, last_write, later, latest, names, point_before, stepped, stepped_back, stop_by, wanted, write_before, written};
 
 use crate::halt::{Halt, Stop, Written};
 use rept_report::Writer;
@@ -51,15 +51,22 @@ pub fn named_row(writer: Writer) -> Option<u32>
     }
 }
 
-/// Whether it names this row.
+/// Whether a row that is named is this one.
+fn is_row(named: Option<u32>, row: u32) -> bool
+    ensures { result ≡ is_row named row }
+{
+    match named {
+        Some(named) => named == row,
+        None => false,
+    }
+}
+
+/// Whether a point names this row.
 fn names<F: Findings>(findings: &F, at: ThreadPoint, address: u32, row: u32) -> bool
     requires { IsAt (F.shown findings.now) at }
     ensures { result ≡ names (F.shown findings.now) at address row }
 {
-    match named_row(writer_at(findings, at, address)) {
-        Some(named) => named == row,
-        None => false,
-    }
+    is_row(named_row(writer_at(findings, at, address)), row)
 }
 
 /// Whether the row that is named at a point came since the point before it.
@@ -199,31 +206,63 @@ fn break_after<F: Findings>(findings: &F, breaks: &[u32], here: ThreadPoint) -> 
     None
 }
 
-/// Whether the last writer of a byte at a later point of the thread isn't the row that is named at this one.
-fn has_changed<F: Findings>(findings: &F, at: ThreadPoint, address: u32, later: Writer) -> bool
-    requires { IsAt (F.shown findings.now) at }
-    ensures { result ≡ has_changed (F.shown findings.now) at address later }
+/// Whether the last writer of a byte at a later point of the thread isn't the row that is named at an earlier one.
+fn has_changed(known: Option<u32>, later: Writer) -> bool
+    ensures { (s : Shown) (c : ThreadPoint) (address : ℕ) → known ≡ named_row (writer_at s c address) → result ≡ has_changed s c address later }
 {
     match later {
-        Writer::Writes(row) | Writer::MayWrite(row) => !names(findings, at, address, row),
+        Writer::Writes(row) | Writer::MayWrite(row) => !is_row(known, row),
         Writer::Several => true,
         Writer::None => false,
     }
 }
 
-/// Whether a byte was written between two points of a thread, or may have been.
-fn is_changed<F: Findings>(findings: &F, here: ThreadPoint, point: u32, address: u32) -> bool
+/// The point after a row that is named, where that is a row of the thread itself: it is named from there on. Else the point at which it is named.
+fn since<F: Findings>(findings: &F, here: ThreadPoint, address: u32, row: u32) -> u32
+    requires here { IsAt (F.shown findings.now) here }
+    requires last { AreLastWriters (F.shown findings.now) here.thread address }
+    requires named { IsNamed (F.shown findings.now) here address row }
+    ensures within { result ≤ here.point }
+    ensures named { IsNamed (F.shown findings.now) (at here.thread result) address row }
+    ensures least { (low : ℕ) → low < here.point → (IsNamed (F.shown findings.now) (at here.thread low) address row → ⊥) → low < result }
+{
+    let step = findings.point(row);
+    if step.thread == here.thread {
+        step.point + 1
+    } else {
+        here.point
+    }
+}
+
+/// A point up to this one, before which a byte was written since an earlier point, or may have been; none where it wasn't up to this one. It is as early as
+/// the row that is named tells. `known` is the row that is named at the earlier point.
+fn changed_by<F: Findings>(
+    findings: &F,
+    here: ThreadPoint,
+    known: Option<u32>,
+    point: u32,
+    address: u32,
+) -> Option<u32>
     requires here { IsAt (F.shown findings.now) here }
     requires later { IsAt (F.shown findings.now) (at here.thread point) }
-    ensures value { result ≡ has_changed (F.shown findings.now) here address (writer_at (F.shown findings.now) (at here.thread point) address) }
+    requires known { known ≡ named_row (writer_at (F.shown findings.now) here address) }
+    ensures none { result ≡ None → has_changed (F.shown findings.now) here address (writer_at (F.shown findings.now) (at here.thread point) address) ≡ false }
+    ensures within { IfSome result (λ found. found ≤ point) }
+    ensures new { IfSome result (λ found. has_changed (F.shown findings.now) here address (writer_at (F.shown findings.now) (at here.thread found) address) ≡ true) }
+    ensures least { IfSome result (λ found. (low : ℕ) → low < point → NamesNoOther (F.shown findings.now) here low address → low < found) }
     ensures last { AreLastWriters (F.shown findings.now) here.thread address }
 {
     let later = writer_at(findings, point_at(here, point), address);
-    has_changed(findings, here, address, later)
+    if !has_changed(known, later) {
+        return None;
+    }
+    match named_row(later) {
+        Some(row) => Some(since(findings, point_at(here, point), address, row)),
+        None => Some(point),
+    }
 }
 
-/// The first point after this one, up to a bound, since whose point before a byte was written, or may have been. It is sought by halves:
-/// the last writers at two points tell whether it lies between them.
+/// The first point after this one, up to a bound, since whose point before a byte was written, or may have been.
 fn first_write<F: Findings>(
     findings: &F,
     here: ThreadPoint,
@@ -239,33 +278,55 @@ fn first_write<F: Findings>(
     if here.point == bound {
         return None;
     }
-    if !is_changed(findings, here, bound, address) {
-        return None;
+    let known = named_row(writer_at(findings, here, address));
+    match changed_by(findings, here, known, bound, address) {
+        Some(changed) => Some(first_change(findings, here, known, changed, address)),
+        None => None,
     }
-    Some(first_change(findings, here, bound, address))
 }
 
-/// That point, where there is one.
-fn first_change<F: Findings>(findings: &F, here: ThreadPoint, bound: u32, address: u32) -> u32
+/// That point, where a byte was written up to a later one. What is named at two points tells whether one lies between them. In turns the point below the
+/// later one is asked, which is the last question where one row alone writes, and the one in the middle.
+fn first_change<F: Findings>(
+    findings: &F,
+    here: ThreadPoint,
+    known: Option<u32>,
+    changed: u32,
+    address: u32,
+) -> u32
     requires here { IsAt (F.shown findings.now) here }
-    requires order { here.point < bound }
-    requires bound { IsAt (F.shown findings.now) (at here.thread bound) }
-    requires changed { has_changed (F.shown findings.now) here address (writer_at (F.shown findings.now) (at here.thread bound) address) ≡ true }
+    requires known { known ≡ named_row (writer_at (F.shown findings.now) here address) }
+    requires order { here.point < changed }
+    requires changed { IsAt (F.shown findings.now) (at here.thread changed) }
+    requires new { has_changed (F.shown findings.now) here address (writer_at (F.shown findings.now) (at here.thread changed) address) ≡ true }
     requires last { AreLastWriters (F.shown findings.now) here.thread address }
-    ensures value { Some result ≡ find (λ point. is_touched (F.shown findings.now) (at here.thread point) address) (range_with_len (here.point + 1) (bound - here.point)) }
-    ensures within { (here.point < result) × (result ≤ bound) }
+    ensures value { (bound : ℕ) → changed ≤ bound → Some result ≡ find (λ point. is_touched (F.shown findings.now) (at here.thread point) address) (range_with_len (here.point + 1) (bound - here.point)) }
+    ensures within { (here.point < result) × (result ≤ changed) }
 {
     let mut low = here.point;
-    let mut high = bound;
+    let mut high = changed;
+    let mut near = true;
     while high - low > 1 {
-        let middle = low + (high - low) / 2;
-        if is_changed(findings, here, middle, address) {
-            high = middle;
-        } else {
-            low = middle;
+        let point = between(low, high, near);
+        near = !near;
+        match changed_by(findings, here, known, point, address) {
+            Some(changed) => high = changed,
+            None => low = point,
         }
     }
     high
+}
+
+/// A point between two: the one below the higher, or the one in the middle.
+fn between(low: u32, high: u32, near: bool) -> u32
+    requires { low + 1 < high }
+    ensures { (low < result) × (result < high) }
+{
+    if near {
+        high - 1
+    } else {
+        low + (high - low) / 2
+    }
 }
 
 /// The first stop after a point, where the writes of one byte more count: `first` is the first stop without them.

@@ -1,7 +1,7 @@
 use Rattle.std.proofs.Common.{◌≡◌, ◌<◌, ◌≤◌, ◌-◌, ℕ, true, false}
 use Rattle.rept_session.specs.LastWriters.{writer_at}
 use Rattle.rept_session.specs.Texts.{at}
-use Rattle.rept_stub.specs.Halts.{has_changed, is_touched, names}
+use Rattle.rept_stub.specs.Halts.{NamesNoOther, has_changed, is_touched}
 use Rattle.rept_stub.proofs.moves.first_change.Given as goal
 
 -- nothing is written up to the lower point, and something up to the higher one
@@ -12,9 +12,9 @@ invariant-loop-high g l =
     record {
       from : l.here.point ≤ l.low;
       order : l.low < l.high;
-      within : l.high ≤ l.bound;
+      within : l.high ≤ l.changed;
       none : (k : ℕ) → l.here.point < k → k ≤ l.low → is_touched s (at t k) l.address ≡ false;
-      old : (row : ℕ) → names s (at t l.low) l.address row ≡ true → names s l.here l.address row ≡ true;
+      old : NamesNoOther s l.here l.low l.address;
       new : has_changed s l.here l.address (writer_at s (at t l.high) l.address) ≡ true;
     }
 
