@@ -1,18 +1,22 @@
 -- Of one thread a row leads from each point but the last one, and all numbers are one line.
-use Rattle.std.proofs.Common.{◌≡◌, ℕ, ◌+◌, ◌-◌, ◌<◌, ◌≤◌, List, length, Option, Some, None, slice_get, inl, inr, refl, ap, arith}
+use Rattle.std.proofs.Common.{◌≡◌, ℕ, ◌+◌, ◌-◌, ◌<◌, ◌≤◌, List, length, Option, Some, None, slice_get, inl, inr, refl, sym, ap, ◌∙◌, subst, arith}
 use Rattle.std.specs.Option.{is_some, IsSome}
-use Rattle.std.proofs.lemmas.Bool.{le-ltb, ltb-false}
+use Rattle.std.proofs.lemmas.Bool.{le-ltb, ltb-false, eqb-true}
 use Rattle.std.proofs.lemmas.Option.{slice_get_past, slice_get_cases}
 use Rattle.rept_isa.specs.declared.row.StepRow.{StepRow}
 use Rattle.rept_span.specs.Ranges.{legs_of}
 use Rattle.rept_report.specs.Moments.{points_of}
-use Rattle.rept_report.specs.Timeline.{Timeline, time_alone, IsLeastFrom, IsLastFrom, IsRowAt, IsRowTo, IsOpen, IsClose, IsLine}
+use Rattle.rept_report.specs.Timeline.{Timeline, time_alone, IsLeastFrom, IsLastFrom, IsRowAt, IsRowTo, IsOpen, IsClose, IsLine, IsAlike, IsStrip}
 use Rattle.rept_report.specs.declared.paths.Line.{Line}
+use Rattle.rept_report.specs.declared.paths.Strip.{Strip}
 use Rattle.rept_report.proofs.Line.{next_is, is_next}
 
 none_there : (o : Option StepRow) → o ≡ None → IsSome o → ⊥
 none_there None e some = cc
 none_there (Some x) e some = cc
+
+some_none : {p : ℕ} → None ≡ Some p → ⊥
+some_none e = cc
 
 -- the least of the numbers below a count from another one on
 abbrev pub IsBelowFrom : ℕ → ℕ → ℕ → Option ℕ → Type 0
@@ -73,4 +77,15 @@ line_is n m line first last few = record {
   joined = λ k low less. record { next = is_next n k (omega arith); only = λ w e. (next_is n k w e).1 };
   begins = λ k same joined. omega arith;
   ends = λ joined. let past = (next_is n line.last (line.last + 1) joined.next).0 in omega arith;
+}
+
+pub strip_is : (rows : List StepRow) (m : ℕ) (strip : Strip) → strip.first ≡ 0 → strip.last ≡ length rows → strip.pause ≡ None → m ≤ length rows → IsStrip (time_alone rows) m strip
+strip_is rows m strip first last none few = record {
+  from = omega arith;
+  to = omega arith;
+  inside = omega arith;
+  joined = λ k low less. record { next = is_next (length rows) k (omega arith); only = λ w e. (next_is (length rows) k w e).1 };
+  alike = λ k low less. subst (λ (o : Option ℕ). IsAlike (time_alone rows) o k) (sym none) (record { light = refl; own = λ i e. eqb-true i k e });
+  pause = λ p some. absurd (some_none (sym none ∙ some));
+  ends = λ joined. let past = (next_is (length rows) strip.last (strip.last + 1) joined.next).0 in absurd (omega arith);
 }

@@ -1,11 +1,10 @@
 //! One path, of which each row is traced: its moments are its points.
 
-ghost use Rattle.std.specs.Prelude.{◌≡◌, ◌≤◌, ◌<◌, length};
-ghost use Rattle.rept_report.specs.Timeline.{IsLeastFrom};
+ghost use Rattle.std.specs.Prelude.{◌≡◌, ◌≤◌, length};
 
 use rept_isa::StepRow;
-use rept_report::Paths;
-use rept_report::paths::Line;
+use rept_report::paths::{Line, Strip};
+use rept_report::{Paths, least_below};
 
 /// The rows of one thread, of which each is traced, at most 65,536: the moments of its memory are its points. This project's own.
 #[derive(Drop)]
@@ -30,14 +29,6 @@ impl<'a> OnePath<'a> {
     {
         self.rows
     }
-}
-
-/// The least number below a count from two others on.
-fn below(count: u32, low: u32, least: u32) -> Option<u32>
-    ensures { IsLeastFrom (λ i. (i < count) × (low ≤ i)) least result }
-{
-    let from = if low < least { least } else { low };
-    if from < count { Some(from) } else { None }
 }
 
 impl<'a> Paths for OnePath<'a> {
@@ -98,6 +89,14 @@ impl<'a> Paths for OnePath<'a> {
         }
     }
 
+    fn strip_of(&self, _number: u32) -> Strip {
+        Strip {
+            first: 0,
+            last: self.rows.len() as u32,
+            pause: None,
+        }
+    }
+
     fn next_from(&self, number: u32, least: u32) -> Option<u32> {
         let end = self.rows.len() as u32;
         if number < end && least <= number + 1 {
@@ -124,11 +123,11 @@ impl<'a> Paths for OnePath<'a> {
     }
 
     fn open_from(&self, number: u32, least: u32) -> Option<u32> {
-        below(self.rows.len() as u32, number, least)
+        least_below(self.rows.len() as u32, number, least)
     }
 
     fn close_from(&self, row: u32, least: u32) -> Option<u32> {
-        below(self.rows.len() as u32, row, least)
+        least_below(self.rows.len() as u32, row, least)
     }
 
     fn is_past(&self, row: u32, number: u32) -> bool {

@@ -5,6 +5,7 @@ use Rattle.rept_isa.specs.declared.row.StepRow.{StepRow}
 use Rattle.rept_span.specs.Ranges.{Legs, AreLegs, legs_of}
 use Rattle.rept_report.specs.Moments.{Moments, AreMoments, points_of}
 use Rattle.rept_report.specs.declared.paths.Line.{Line}
+use Rattle.rept_report.specs.declared.paths.Strip.{Strip}
 
 pub record Timeline : Type 0 where
   pub legs : Legs
@@ -98,3 +99,45 @@ pub record IsLine (moments : Moments) (m : ℕ) (line : Line) : Type 0 where
   pub joined : (k : ℕ) → line.first ≤ k → k < line.last → IsJoined moments k
   pub begins : (k : ℕ) → k + 1 ≡ line.first → IsJoined moments k → ⊥
   pub ends : IsJoined moments line.last → ⊥
+
+-- between a number and the one after it no row falls but one before which the number lies, and no writer that isn't told
+pub record IsClear (t : Timeline) (k : ℕ) : Type 0 where
+  pub light : t.moments.dark k (k + 1) ≡ false
+  pub own : (i : ℕ) → t.moments.falls i k (k + 1) ≡ true → t.moments.before i ≡ k
+
+-- what falls between a number and the one after it, but for a row before which the number lies, falls between another number and the one after that
+pub record IsLike (t : Timeline) (k p : ℕ) : Type 0 where
+  pub dark : t.moments.dark k (k + 1) ≡ true → t.moments.dark p (p + 1) ≡ true
+  pub others : (i : ℕ) → t.moments.falls i k (k + 1) ≡ true → t.moments.before i ≢ k → t.moments.falls i p (p + 1) ≡ true
+
+-- so it is with the pause, if there is one
+abbrev pub IsAlike : Timeline → Option ℕ → ℕ → Type 0
+IsAlike t None k = IsClear t k
+IsAlike t (Some p) k = IsLike t k p
+
+-- all that falls between a number and the one after it falls between another number and the one after that
+pub record FallsToo (t : Timeline) (k p : ℕ) : Type 0 where
+  pub dark : t.moments.dark k (k + 1) ≡ true → t.moments.dark p (p + 1) ≡ true
+  pub rows : (i : ℕ) → t.moments.falls i k (k + 1) ≡ true → t.moments.falls i p (p + 1) ≡ true
+
+-- something that falls at the pause doesn't fall between the number and the one after it
+abbrev pub IsCut : Timeline → Option ℕ → ℕ → Type 0
+IsCut t None k = ⊥
+IsCut t (Some p) k = FallsToo t p k → ⊥
+
+-- a number of a strip, between which and the one after it more falls than a row before which it lies
+pub record IsPause (t : Timeline) (strip : Strip) (p : ℕ) : Type 0 where
+  pub from : strip.first ≤ p
+  pub to : p < strip.last
+  pub crossed : IsClear t p → ⊥
+
+-- numbers one after the other, each joined to the one after it, between which the same falls. They end where the last one isn't joined to the one after it, or
+-- where something doesn't fall any more.
+pub record IsStrip (t : Timeline) (m : ℕ) (strip : Strip) : Type 0 where
+  pub from : strip.first ≤ m
+  pub to : m ≤ strip.last
+  pub inside : strip.last ≤ t.moments.end
+  pub joined : (k : ℕ) → strip.first ≤ k → k < strip.last → IsJoined t.moments k
+  pub alike : (k : ℕ) → strip.first ≤ k → k < strip.last → IsAlike t strip.pause k
+  pub pause : (p : ℕ) → strip.pause ≡ Some p → IsPause t strip p
+  pub ends : IsJoined t.moments strip.last → IsCut t strip.pause strip.last

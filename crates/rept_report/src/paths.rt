@@ -1,7 +1,7 @@
 //! The rows of all threads, and the moments of their memory, by numbers.
 
-ghost use Rattle.std.specs.Prelude.{◌≡◌, ◌≤◌, true, IsSome};
-ghost use Rattle.rept_report.specs.Timeline.{Timeline, IsTimeline, moment_in, IsNextFrom, IsFormerFrom, IsFallingFrom, IsLeastFrom, IsLastFrom, IsRowAt, IsRowTo, IsRowBetween, IsOpen, IsClose, IsLine};
+ghost use Rattle.std.specs.Prelude.{◌≡◌, ◌≤◌, ◌<◌, true, IsSome};
+ghost use Rattle.rept_report.specs.Timeline.{Timeline, IsTimeline, moment_in, IsNextFrom, IsFormerFrom, IsFallingFrom, IsLeastFrom, IsLastFrom, IsRowAt, IsRowTo, IsRowBetween, IsOpen, IsClose, IsLine, IsStrip};
 
 use rept_isa::StepRow;
 
@@ -13,6 +13,18 @@ pub struct Line {
     pub first: u32,
     /// The last number.
     pub last: u32,
+}
+
+/// Numbers of a line one after the other, between which the same falls: between each and the one after it the row before which it lies alone, or what
+/// falls at the pause, if there is one. So it is decided once for all of them whether another row may write a byte. This project's own.
+#[derive(Clone, Copy)]
+pub struct Strip {
+    /// The first number.
+    pub first: u32,
+    /// The last number.
+    pub last: u32,
+    /// The number at which all falls that does at another one, but for the rows before which these lie.
+    pub pause: Option<u32>,
 }
 
 /// The rows of all threads, by the points that they lead from: none leads from the last point of a thread. And the moments of their memory, by
@@ -63,6 +75,11 @@ pub trait Paths {
     fn line_of(&self, number: u32) -> Line
         requires { number ≤ (timeline self.now).moments.end }
         ensures { IsLine (timeline self.now).moments number result };
+
+    /// The numbers around one, one after the other, between which the same falls, as far as they go on from the first.
+    fn strip_of(&self, number: u32) -> Strip
+        requires { number ≤ (timeline self.now).moments.end }
+        ensures { IsStrip (timeline self.now) number result };
 
     /// The least number from `least` on that is next to this one.
     fn next_from(&self, number: u32, least: u32) -> Option<u32>
@@ -124,6 +141,14 @@ pub trait Paths {
         ensures { result ≡ (timeline self.now).moments.dark_before row };
 
     ghost lawful: { (p : Self) → IsTimeline (timeline p) };
+}
+
+/// The least number below a count from two others on.
+pub fn least_below(count: u32, low: u32, least: u32) -> Option<u32>
+    ensures { IsLeastFrom (λ i. (i < count) × (low ≤ i)) least result }
+{
+    let from = if low < least { least } else { low };
+    if from < count { Some(from) } else { None }
 }
 
 /// The row that one moment lies before and another one after, if there is one. There is no second one.

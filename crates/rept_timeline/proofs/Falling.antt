@@ -76,13 +76,13 @@ module _ (C : Course) (sound : ∥ IsSound C ∥₁) (m w : ℕ) (next : (number
     by_parts : (i : ℕ) → (stores C (row_on C i) && (not ((numbered C).past i m) && not ((numbered C).ahead i w))) ≡ (numbered C).falls i m w
     by_parts i = ∥∥₁_elim sound (hlevel props) (λ s. rest_falls C s m w i next none)
 
-    past_falls : (i : ℕ) → (numbered C).past i m ≡ true → (numbered C).falls i m w ≡ false
+    pub past_falls : (i : ℕ) → (numbered C).past i m ≡ true → (numbered C).falls i m w ≡ false
     past_falls i is = sym (by_parts i) ∙ ap (λ (b : Bool). stores C (row_on C i) && (not b && not ((numbered C).ahead i w))) is ∙ and_off (stores C (row_on C i))
 
     ahead_falls : (i : ℕ) → (numbered C).ahead i w ≡ true → (numbered C).falls i m w ≡ false
     ahead_falls i is = sym (by_parts i) ∙ ap (λ (b : Bool). stores C (row_on C i) && (not ((numbered C).past i m) && not b)) is ∙ ap (λ (b : Bool). stores C (row_on C i) && b) (and_off (not ((numbered C).past i m))) ∙ and_off (stores C (row_on C i))
 
-    open_falls : (i : ℕ) → (numbered C).past i m ≡ false → (numbered C).ahead i w ≡ false → (numbered C).falls i m w ≡ true
+    pub open_falls : (i : ℕ) → (numbered C).past i m ≡ false → (numbered C).ahead i w ≡ false → (numbered C).falls i m w ≡ true
     open_falls i is isnt =
         sym (by_parts i)
         ∙ ap (λ (b : Bool). b && (not ((numbered C).past i m) && not ((numbered C).ahead i w))) (open_stores C i m is)

@@ -5,3 +5,4 @@ pub mod Casting
 pub mod Falling
 pub mod Earliest
 pub mod Making
+pub mod Stripping

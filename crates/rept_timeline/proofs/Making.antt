@@ -1,7 +1,7 @@
 -- What a course has of the run that it is of.
-use Rattle.std.proofs.Common.{◌≡◌, ℕ, ◌<◌, ◌≤◌, true, List, length, Option, slice_get, inl, inr, refl, sym, ap, ◌∙◌, subst, arith}
+use Rattle.std.proofs.Common.{◌≡◌, ℕ, ◌<◌, ◌≤◌, true, List, length, ◌+◌, Option, Some, None, slice_get, inl, inr, refl, sym, ap, ◌∙◌, subst, arith}
 use Rattle.std.specs.Option.{is_some, IsSome}
-use Rattle.std.proofs.lemmas.Bool.{false≢true, le-ltb, ltb-false}
+use Rattle.std.proofs.lemmas.Bool.{false≢true, le-ltb, ltb-false, eqb-true}
 use Rattle.std.proofs.lemmas.Option.{slice_get_cases}
 use Rattle.rept_isa.specs.declared.row.StepRow.{StepRow}
 use Rattle.rept_steps.specs.Course.{IsSound}
@@ -15,9 +15,14 @@ use Rattle.rept_moments.proofs.Places.{some_below}
 use Rattle.rept_report.specs.Timeline.{IsLeastFrom}
 use Rattle.rept_carry.proofs.Carrying.{least_same}
 use Rattle.rept_timeline.specs.Small.{IsSmall}
-use Rattle.rept_report.specs.Timeline.{IsOpen, IsClose}
+use Rattle.rept_report.specs.Timeline.{IsOpen, IsClose, IsAlike, IsStrip}
+use Rattle.rept_report.specs.declared.paths.Strip.{Strip}
+use Rattle.rept_report.proofs.Line.{next_is, is_next}
 use Rattle.rept_timeline.specs.Times.{as_timeline, time_of, IsOpenFrom, IsCloseFrom}
-use Rattle.rept_timeline.specs.Listed.{IsSoundIn, AreStoring, AreListed}
+use Rattle.rept_timeline.specs.Listed.{IsSoundIn, AreStoring, AreListed, AreLinesOf}
+use Rattle.rept_timeline.specs.Strips.{AreStripsOf, AreManyStrips}
+use Rattle.rept_carry.specs.declared.lines.Lines.{Lines}
+use Rattle.rept_moments.specs.Several.{seen_of}
 use Rattle.rept_timeline.proofs.Counting.{is_timeline}
 
 pub sound_in : (C : runs.Course) (c : Course) → IsSound C → IsCourseOf C c → IsSoundIn c
@@ -34,6 +39,17 @@ timeline_in C c sound small same = subst (λ (s : Seen). IsTimeline (as_timeline
 -- the list of several threads
 pub many_storing : (c : Course) (many : runs.Course) (list : List ℕ) → c ≡ courses.TheVariants.Many many → ∥ AreListed c list ∥₁ → ∥ AreStoring many list ∥₁
 many_storing c many list e t = subst (λ (d : Course). ∥ AreListed d list ∥₁) e t
+
+-- the strips of several threads
+pub many_strips : (c : Course) (many : runs.Course) (list : List Strip) → c ≡ courses.TheVariants.Many many → ∥ AreStripsOf c list ∥₁ → ∥ AreManyStrips many list ∥₁
+many_strips c many list e t = subst (λ (d : Course). ∥ AreStripsOf d list ∥₁) e t
+
+-- and its lines
+pub many_lines : (c : Course) (many : runs.Course) (lines : Lines) → c ≡ courses.TheVariants.Many many → AreLinesOf (time_of c).moments lines → AreLinesOf (seen_of many).moments lines
+many_lines c many lines e h = subst (λ (d : Course). AreLinesOf (time_of d).moments lines) e h
+
+none_is : {p : ℕ} → None ≡ Some p → ⊥
+none_is e = cc
 
 -- of one thread alone
 module _ (rows : List StepRow) where
@@ -58,3 +74,14 @@ module _ (rows : List StepRow) where
       least_same (λ (i : ℕ). (i < length rows) × (j ≤ i)) (λ (i : ℕ). IsClose T j i)
       (λ i is. record { row = row_there i is.0; close_to = le-ltb i j is.1 })
       (λ i o. (some_below rows i o.row, ltb-false i j o.close_to)) least r its
+
+  pub strip_alone : (m : ℕ) (strip : Strip) → strip.first ≡ 0 → strip.last ≡ length rows → strip.pause ≡ None → m ≤ length rows → IsStrip T m strip
+  strip_alone m strip first last none few = record {
+    from = omega arith;
+    to = omega arith;
+    inside = omega arith;
+    joined = λ k low less. record { next = is_next (length rows) k (omega arith); only = λ w e. (next_is (length rows) k w e).1 };
+    alike = λ k low less. subst (λ (o : Option ℕ). IsAlike T o k) (sym none) (record { light = refl; own = λ i e. eqb-true i k e });
+    pause = λ p some. absurd (none_is (sym none ∙ some));
+    ends = λ joined. let past = (next_is (length rows) strip.last (strip.last + 1) joined.next).0 in absurd (omega arith);
+  }

@@ -2,3 +2,4 @@ pub mod Small
 pub mod Times
 pub mod Listed
 pub mod Lawful
+pub mod Strips

@@ -7,6 +7,7 @@ mod opening;
 mod run_paths;
 mod small;
 mod storing;
+mod strips;
 
 pub use run_paths::RunPaths;
 pub use small::is_small;

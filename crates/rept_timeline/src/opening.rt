@@ -85,7 +85,7 @@ pub fn open_from(storing: &Storing, many: &Many<'_>, m: u32, least: u32) -> Opti
 }
 
 /// The least row from one on that falls between a number and one that is next to it, where these aren't the moments of one row.
-fn rest_from(storing: &Storing, many: &Many<'_>, m: u32, w: u32, least: u32) -> Option<u32>
+pub fn rest_from(storing: &Storing, many: &Many<'_>, m: u32, w: u32, least: u32) -> Option<u32>
     requires listed { ∥ AreStoring many.now storing.now ∥₁ }
     requires next { (seen_of many.now).moments.next m w ≡ true }
     requires apart { IsBetween many.now m w None }

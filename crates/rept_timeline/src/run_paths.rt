@@ -6,18 +6,19 @@ ghost use Rattle.rept_steps.specs.Runs.{course_of};
 ghost use Rattle.rept_report.specs.Timeline.{IsTimeline};
 ghost use Rattle.rept_moments.specs.Seen.{seen, alone_by};
 ghost use Rattle.rept_moments.specs.Courses.{is_one, IsCourseOf};
-ghost use Rattle.rept_report.specs.Timeline.{IsLeastFrom};
 ghost use Rattle.rept_timeline.specs.Small.{IsSmall};
 ghost use Rattle.rept_timeline.specs.Times.{as_timeline, time_of};
 ghost use Rattle.rept_timeline.specs.Listed.{AreListed, IsSoundIn, AreLinesOf};
+ghost use Rattle.rept_timeline.specs.Strips.{AreStripsOf};
 
 use crate::storing::Storing;
+use crate::strips::Strips;
 use crate::{arriving, closing, opening};
 use rept_carry::{Lines, Ways};
 use rept_isa::StepRow;
 use rept_moments::Course;
-use rept_report::Paths;
-use rept_report::paths::Line;
+use rept_report::paths::{Line, Strip};
+use rept_report::{Paths, least_below};
 use rept_steps::Run;
 use std::alloc::{AllocError as OutOfMemory, Global};
 
@@ -27,7 +28,9 @@ pub struct RunPaths<'a> {
     ways: Ways<'a>,
     storing: Storing,
     lines: Lines,
+    strips: Strips,
     ghost lined: { ∥ AreLinesOf (time_of ways).moments lines ∥₁ },
+    ghost stripped: { ∥ AreStripsOf ways strips ∥₁ },
     ghost listed: { ∥ AreListed ways storing ∥₁ },
     ghost lawful: { ∥ IsTimeline (time_of ways) ∥₁ },
 }
@@ -53,9 +56,27 @@ fn lines_of(alloc: Global, ways: &Ways<'_>) -> Result<Lines, OutOfMemory>
     Ok(lines)
 }
 
+/// The strips of the moments of several threads; of one thread alone none is kept.
+fn strips_of(
+    alloc: Global,
+    course: &Course<'_>,
+    storing: &Storing,
+    lines: &Lines,
+) -> Result<Strips, OutOfMemory>
+    requires listed { AreListed course.now storing.now }
+    requires lined { AreLinesOf (time_of course.now).moments lines.now }
+    ensures strips { IfOk result (λ s. AreStripsOf course.now s) }
+    ensures alone { is_one course.now ≡ true → IsOk result }
+{
+    match course {
+        Course::One { .. } => Ok(Strips::none(alloc)),
+        Course::Many(many) => Strips::new(alloc, storing, many, lines),
+    }
+}
+
 impl<'a> RunPaths<'a> {
     /// The rows and moments of this run, which must be sound and have at most 65,536 rows and 1,024 threads. Of one thread in one slice, all of which is told, it takes no
-    /// memory; else memory for a few entries a point, for one a number and for two a pair of numbers that are next to one another.
+    /// memory; else memory for a few entries a point, for two a number and for two a pair of numbers that are next to one another.
     pub fn new(alloc: Global, run: &'a Run) -> Result<RunPaths<'a>, OutOfMemory>
         requires sound { IsSound (course_of run.now) }
         requires small { IsSmall (course_of run.now) }
@@ -66,10 +87,12 @@ impl<'a> RunPaths<'a> {
         let ways = Ways::new(alloc, run)?;
         let storing = storing_of(alloc, ways.course())?;
         let lines = lines_of(alloc, &ways)?;
+        let strips = strips_of(alloc, ways.course(), &storing, &lines)?;
         Ok(RunPaths {
             ways,
             storing,
             lines,
+            strips,
         })
     }
 
@@ -79,14 +102,6 @@ impl<'a> RunPaths<'a> {
     {
         &self.ways
     }
-}
-
-/// The least number below a count from two others on.
-fn in_path(count: u32, one: u32, other: u32) -> Option<u32>
-    ensures { IsLeastFrom (λ i. (i < count) × (one ≤ i)) other result }
-{
-    let least = if one < other { other } else { one };
-    if least < count { Some(least) } else { None }
 }
 
 impl<'a> Paths for RunPaths<'a> {
@@ -137,6 +152,17 @@ impl<'a> Paths for RunPaths<'a> {
         self.lines.line(number)
     }
 
+    fn strip_of(&self, number: u32) -> Strip {
+        match self.ways.course() {
+            Course::One { steps } => Strip {
+                first: 0,
+                last: steps.len(),
+                pause: None,
+            },
+            Course::Many(_many) => self.strips.strip(number),
+        }
+    }
+
     fn next_from(&self, number: u32, least: u32) -> Option<u32> {
         self.ways.course().next_from(number, least)
     }
@@ -160,14 +186,14 @@ impl<'a> Paths for RunPaths<'a> {
 
     fn open_from(&self, number: u32, least: u32) -> Option<u32> {
         match self.ways.course() {
-            Course::One { steps } => in_path(steps.len(), number, least),
+            Course::One { steps } => least_below(steps.len(), number, least),
             Course::Many(many) => opening::open_from(&self.storing, many, number, least),
         }
     }
 
     fn close_from(&self, row: u32, least: u32) -> Option<u32> {
         match self.ways.course() {
-            Course::One { steps } => in_path(steps.len(), row, least),
+            Course::One { steps } => least_below(steps.len(), row, least),
             Course::Many(many) => closing::close_from(many, row, least),
         }
     }

@@ -61,6 +61,10 @@ fn rows_in_the_way(rt: HostRuntime) -> Result<(), Fail> {
         assert_eq!(&rt; paths.open_from(0, 0), Some(0));
         assert_eq!(&rt; paths.open_from(3, 0), Some(3));
         assert_eq!(&rt; paths.open_from(6, 0), None);
+        // between 0 and 3 the other thread's row falls at 1 alone, and the second thread's numbers begin at 4
+        assert_eq!(&rt; paths.strip_of(2).last, 3);
+        assert_eq!(&rt; paths.strip_of(2).pause, Some(1));
+        assert_eq!(&rt; paths.strip_of(5).first, 4);
     }
     // the second row comes after the first one; of the threads' rows neither comes after the other's
     if paths.row(1).is_some() && paths.row(3).is_some() {

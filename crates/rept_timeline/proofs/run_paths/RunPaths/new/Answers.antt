@@ -1,7 +1,9 @@
-use Rattle.std.proofs.Common.{subst}
+use Rattle.std.proofs.Common.{sym, subst, ◌∙◌}
 use Rattle.rept_moments.specs.declared.course.Course.{Course}
 use Rattle.rept_steps.specs.Runs.{course_of}
-use Rattle.rept_timeline.specs.Listed.{AreListed}
+use Rattle.rept_timeline.specs.Listed.{AreListed, AreLinesOf}
+use Rattle.rept_timeline.specs.Strips.{AreStripsOf}
+use Rattle.rept_timeline.specs.Times.{time_of}
 use Rattle.rept_timeline.proofs.Counting.{few_points}
 use Rattle.rept_timeline.proofs.Making.{timeline_in}
 use Rattle.rept_timeline.proofs.run_paths.RunPaths.new.Goals as goal
@@ -17,3 +19,12 @@ invariant_of-result-clause-lawful c = ∣ timeline_in (course_of c.args.run.now)
 
 pub invariant_of-result-clause-lined : goal.invariant_of-result-clause-lined
 invariant_of-result-clause-lined c = ∣ c.in_ok-lines.ensures.lines ∣₁
+
+pub invariant_of-result-clause-stripped : goal.invariant_of-result-clause-stripped
+invariant_of-result-clause-stripped c = ∣ subst (λ (d : Course). AreStripsOf d c.in_ok-strips.strips) c.course-2.ensures.value c.in_ok-strips.ensures.strips ∣₁
+
+pub strips_of-requires-clause-listed : goal.strips_of-requires-clause-listed
+strips_of-requires-clause-listed c = subst (λ (d : Course). AreListed d c.in_ok-storing.storing) (c.course.ensures.value ∙ sym c.course-2.ensures.value) c.in_ok-storing.ensures.listed
+
+pub strips_of-requires-clause-lined : goal.strips_of-requires-clause-lined
+strips_of-requires-clause-lined c = subst (λ (d : Course). AreLinesOf (time_of d).moments c.in_ok-lines.lines) (sym c.course-2.ensures.value) c.in_ok-lines.ensures.lines

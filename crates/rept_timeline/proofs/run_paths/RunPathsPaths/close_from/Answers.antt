@@ -11,5 +11,5 @@ close_from-requires-clause-sound c = sound_of c.in-Many.many c.args.self.now.sto
 
 pub returns-in-One : goal.returns-in-One
 returns-in-One c =
-    let low : IsLeastFrom (λ (i : ℕ). (i < length c.in-One.steps.now) × (c.args.row ≤ i)) c.args.least c.in_path.result = subst (λ (n : ℕ). IsLeastFrom (λ (i : ℕ). (i < n) × (c.args.row ≤ i)) c.args.least c.in_path.result) c.len.ensures.value c.in_path.ensures in
-    subst (λ (d : Course). IsCloseFrom (time_of d) c.args.row c.args.least c.in_path.result) (sym (sym c.course.ensures.value ∙ c.in-One.is)) (close_alone c.in-One.steps.now c.args.row c.args.least c.in_path.result low)
+    let low : IsLeastFrom (λ (i : ℕ). (i < length c.in-One.steps.now) × (c.args.row ≤ i)) c.args.least c.least_below.result = subst (λ (n : ℕ). IsLeastFrom (λ (i : ℕ). (i < n) × (c.args.row ≤ i)) c.args.least c.least_below.result) c.len.ensures.value c.least_below.ensures in
+    subst (λ (d : Course). IsCloseFrom (time_of d) c.args.row c.args.least c.least_below.result) (sym (sym c.course.ensures.value ∙ c.in-One.is)) (close_alone c.in-One.steps.now c.args.row c.args.least c.least_below.result low)

@@ -10,5 +10,5 @@ open_from-requires-clause-listed c = (many_storing c.args.self.now.ways c.in-Man
 
 pub returns-in-One : goal.returns-in-One
 returns-in-One c =
-    let low : IsLeastFrom (λ (i : ℕ). (i < length c.in-One.steps.now) × (c.args.number ≤ i)) c.args.least c.in_path.result = subst (λ (n : ℕ). IsLeastFrom (λ (i : ℕ). (i < n) × (c.args.number ≤ i)) c.args.least c.in_path.result) c.len.ensures.value c.in_path.ensures in
-    subst (λ (d : Course). IsOpenFrom (time_of d) c.args.number c.args.least c.in_path.result) (sym (sym c.course.ensures.value ∙ c.in-One.is)) (open_alone c.in-One.steps.now c.args.number c.args.least c.in_path.result low)
+    let low : IsLeastFrom (λ (i : ℕ). (i < length c.in-One.steps.now) × (c.args.number ≤ i)) c.args.least c.least_below.result = subst (λ (n : ℕ). IsLeastFrom (λ (i : ℕ). (i < n) × (c.args.number ≤ i)) c.args.least c.least_below.result) c.len.ensures.value c.least_below.ensures in
+    subst (λ (d : Course). IsOpenFrom (time_of d) c.args.number c.args.least c.least_below.result) (sym (sym c.course.ensures.value ∙ c.in-One.is)) (open_alone c.in-One.steps.now c.args.number c.args.least c.least_below.result low)

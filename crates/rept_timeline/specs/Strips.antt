@@ -1,0 +1,57 @@
+-- Strips of several threads, as they are found number by number. This project's own.
+use Rattle.std.specs.Prelude.{◌≡◌, ℕ, ◌+◌, ◌≤◌, ◌<◌, true, false, List, length, Option, Some, None, slice_get}
+use Rattle.rept_steps.specs.Course.{Course}
+use Rattle.rept_report.specs.declared.paths.Strip.{Strip}
+use Rattle.rept_report.specs.Timeline.{Timeline, IsJoined, IsAlike, IsCut, IsPause, IsStrip}
+use Rattle.rept_moments.specs.declared.course.Course as courses
+use Rattle.rept_moments.specs.Several.{seen_of}
+use Rattle.rept_moments.specs.Between.{IsBetween}
+use Rattle.rept_timeline.specs.Times.{as_timeline}
+
+-- two numbers of a line, of which no row has one before it and the number after that one after it
+pub record AreTwo (C : Course) (p k : ℕ) : Type 0 where
+  pub order : p ≤ k
+  pub inside : k < (seen_of C).moments.end
+  pub next : (j : ℕ) → p ≤ j → j ≤ k → (seen_of C).moments.next j (j + 1) ≡ true
+  pub first : IsBetween C p (p + 1) None
+  pub second : IsBetween C k (k + 1) None
+
+-- no row that falls between a number and the one after it lies wholly before another number
+abbrev pub DoRowsStay : Timeline → ℕ → ℕ → Type 0
+DoRowsStay t p k = (i : ℕ) → t.moments.falls i p (p + 1) ≡ true → t.moments.past i k ≡ false
+
+-- a row falls between a number and the one after it, but for those before which the number lies
+abbrev pub DoesOtherFall : Timeline → ℕ → Type 0
+DoesOtherFall t k = (i : ℕ) × (t.moments.falls i k (k + 1) ≡ true) × (t.moments.before i ≡ k → ⊥)
+
+-- a pause, of which no row has it before it and the number after it after it
+pub record IsPauseApart (C : Course) (strip : Strip) (p : ℕ) : Type 0 where
+  pub pause : IsPause (as_timeline (seen_of C)) strip p
+  pub apart : IsBetween C p (p + 1) None
+
+-- a part of a strip: it may go on
+pub record IsPart (C : Course) (strip : Strip) : Type 0 where
+  pub up : strip.first ≤ strip.last
+  pub inside : strip.last ≤ (seen_of C).moments.end
+  pub joined : (k : ℕ) → strip.first ≤ k → k < strip.last → IsJoined (seen_of C).moments k
+  pub alike : (k : ℕ) → strip.first ≤ k → k < strip.last → IsAlike (as_timeline (seen_of C)) strip.pause k
+  pub pause : (p : ℕ) → strip.pause ≡ Some p → IsPauseApart C strip p
+
+-- it goes on by a number, or ends
+abbrev pub IsLonger : Course → Strip → Option Strip → Type 0
+IsLonger C strip None = IsCut (as_timeline (seen_of C)) strip.pause strip.last
+IsLonger C strip (Some more) = IsPart C more × (more.first ≡ strip.first) × (more.last ≡ strip.last + 1)
+
+-- the list has the strips of the numbers below one
+pub record AreStripsBelow (t : Timeline) (n : ℕ) (list : List Strip) : Type 0 where
+  pub count : length list ≡ n
+  pub each : (k : ℕ) (x : Strip) → slice_get list k ≡ Some x → IsStrip t k x
+
+-- those of all numbers
+abbrev pub AreManyStrips : Course → List Strip → Type 0
+AreManyStrips C list = AreStripsBelow (as_timeline (seen_of C)) ((seen_of C).moments.end + 1) list
+
+-- of several threads; of one thread alone no list is looked at
+abbrev pub AreStripsOf : courses.Course → List Strip → Type 0
+AreStripsOf (courses.TheVariants.One steps) list = Unit {0}
+AreStripsOf (courses.TheVariants.Many many) list = AreManyStrips many list

@@ -1,0 +1,262 @@
+//! Strips: numbers of a line one after the other, between which the same falls.
+
+ghost use Rattle.std.specs.Prelude.{◌≡◌, ◌≤◌, ◌<◌, ◌+◌, ℕ, [], true, false, length, IfOk, Some, None, slice_get};
+ghost use Rattle.rept_report.specs.Timeline.{IsJoined, IsClear, FallsToo, IsCut, IsStrip};
+ghost use Rattle.rept_moments.specs.Several.{seen_of};
+ghost use Rattle.rept_moments.specs.Between.{IsBetween};
+ghost use Rattle.rept_timeline.specs.Times.{as_timeline};
+ghost use Rattle.rept_timeline.specs.Listed.{AreStoring, AreLinesOf};
+ghost use Rattle.rept_timeline.specs.Strips.{AreTwo, DoRowsStay, DoesOtherFall, IsPart, IsLonger, AreStripsBelow, AreManyStrips};
+
+use crate::opening::{last_of, rest_from};
+use crate::storing::Storing;
+use rept_carry::Lines;
+use rept_moments::Many;
+use rept_report::paths::Strip;
+use std::alloc::{AllocError as OutOfMemory, Global};
+use std::marker::Model;
+
+/// The strip of each number. Contracts see a list.
+#[derive(Drop)]
+pub struct Strips {
+    list: Vec<Strip>,
+}
+
+impl Model for Strips {
+    ghost use Rattle.std.specs.Prelude.{List};
+    ghost use Rattle.rept_report.specs.declared.paths.Strip.{Strip};
+
+    ghost Value = { List Strip };
+
+    ghost view = { λ s. s.list.items };
+}
+
+/// Whether a row falls between a number and the one after it, but for those before which the number lies.
+fn does_other_fall(storing: &Storing, many: &Many<'_>, number: u32) -> bool
+    requires listed { ∥ AreStoring many.now storing.now ∥₁ }
+    requires inside { number < (seen_of many.now).moments.end }
+    requires next { (seen_of many.now).moments.next number (number + 1) ≡ true }
+    requires apart { IsBetween many.now number (number + 1) None }
+    ensures yes { result ≡ true → DoesOtherFall (as_timeline (seen_of many.now)) number }
+    ensures no { result ≡ false → (i : ℕ) → (seen_of many.now).moments.falls i number (number + 1) ≡ true → (seen_of many.now).moments.before i ≡ number }
+{
+    let _end = many.end();
+    let _last = many.last_point();
+    let mut from = 0;
+    loop {
+        let row = match rest_from(storing, many, number, number + 1, from) {
+            Some(row) => row,
+            None => return false,
+        };
+        if many.before(row) != number {
+            return true;
+        }
+        from = row + 1;
+    }
+}
+
+/// Whether more falls between a number and the one after it than a row before which the number lies.
+fn is_crossed(storing: &Storing, many: &Many<'_>, number: u32) -> bool
+    requires listed { ∥ AreStoring many.now storing.now ∥₁ }
+    requires inside { number < (seen_of many.now).moments.end }
+    requires next { (seen_of many.now).moments.next number (number + 1) ≡ true }
+    ensures clear { result ≡ false → IsClear (as_timeline (seen_of many.now)) number }
+    ensures crossed { result ≡ true → IsClear (as_timeline (seen_of many.now)) number → ⊥ }
+    ensures apart { result ≡ true → IsBetween many.now number (number + 1) None }
+{
+    let _end = many.end();
+    match many.row_between(number, number + 1) {
+        Some(_own) => false,
+        None => {
+            if many.is_dark_between(number, number + 1) {
+                return true;
+            }
+            does_other_fall(storing, many, number)
+        }
+    }
+}
+
+/// Whether no row that falls at the pause lies wholly before a later number.
+fn do_rows_stay(storing: &Storing, many: &Many<'_>, pause: u32, number: u32) -> bool
+    requires listed { ∥ AreStoring many.now storing.now ∥₁ }
+    requires two { AreTwo many.now pause number }
+    ensures yes { result ≡ true → DoRowsStay (as_timeline (seen_of many.now)) pause number }
+    ensures no { result ≡ false → FallsToo (as_timeline (seen_of many.now)) pause number → ⊥ }
+{
+    let _end = many.end();
+    let mut from = 0;
+    loop {
+        let row = match rest_from(storing, many, pause, pause + 1, from) {
+            Some(row) => row,
+            None => return true,
+        };
+        if many.is_past(row, number) {
+            return false;
+        }
+        from = last_of(many, row);
+    }
+}
+
+/// Whether writers that aren't told fall between a later number and the one after it, if they do at the pause.
+fn does_dark_stay(many: &Many<'_>, pause: u32, number: u32) -> bool
+    requires two { AreTwo many.now pause number }
+    ensures yes { result ≡ true → (seen_of many.now).moments.dark pause (pause + 1) ≡ true → (seen_of many.now).moments.dark number (number + 1) ≡ true }
+    ensures no { result ≡ false → FallsToo (as_timeline (seen_of many.now)) pause number → ⊥ }
+{
+    let _end = many.end();
+    if many.is_dark_between(pause, pause + 1) {
+        many.is_dark_between(number, number + 1)
+    } else {
+        true
+    }
+}
+
+/// Whether all that falls at the pause falls between a later number and the one after it.
+fn stays(storing: &Storing, many: &Many<'_>, pause: u32, number: u32) -> bool
+    requires listed { ∥ AreStoring many.now storing.now ∥₁ }
+    requires two { AreTwo many.now pause number }
+    ensures yes { result ≡ true → FallsToo (as_timeline (seen_of many.now)) pause number }
+    ensures no { result ≡ false → FallsToo (as_timeline (seen_of many.now)) pause number → ⊥ }
+{
+    if !does_dark_stay(many, pause, number) {
+        return false;
+    }
+    do_rows_stay(storing, many, pause, number)
+}
+
+/// So where there is a pause.
+fn stays_if(storing: &Storing, many: &Many<'_>, pause: Option<u32>, number: u32) -> bool
+    requires listed { ∥ AreStoring many.now storing.now ∥₁ }
+    requires two { (p : ℕ) → pause ≡ Some p → AreTwo many.now p number }
+    ensures yes { result ≡ true → (p : ℕ) → pause ≡ Some p → FallsToo (as_timeline (seen_of many.now)) p number }
+    ensures no { result ≡ false → IsCut (as_timeline (seen_of many.now)) pause number }
+{
+    match pause {
+        None => true,
+        Some(pause) => stays(storing, many, pause, number),
+    }
+}
+
+/// A part of a strip with one number more, if it goes on.
+fn longer(storing: &Storing, many: &Many<'_>, strip: Strip) -> Option<Strip>
+    requires listed { ∥ AreStoring many.now storing.now ∥₁ }
+    requires part { IsPart many.now strip }
+    requires inside { strip.last < (seen_of many.now).moments.end }
+    requires joined { IsJoined (seen_of many.now).moments strip.last }
+    ensures { IsLonger many.now strip result }
+{
+    let _end = many.end();
+    let last = strip.last;
+    if !is_crossed(storing, many, last) {
+        return Some(Strip {
+            first: strip.first,
+            last: last + 1,
+            pause: strip.pause,
+        });
+    }
+    if !stays_if(storing, many, strip.pause, last) {
+        return None;
+    }
+    Some(Strip {
+        first: strip.first,
+        last: last + 1,
+        pause: Some(last),
+    })
+}
+
+/// The last number of the line that a number is in.
+fn line_end(many: &Many<'_>, lines: &Lines, number: u32) -> u32
+    requires lined { AreLinesOf (seen_of many.now).moments lines.now }
+    requires inside { number ≤ (seen_of many.now).moments.end }
+    ensures from { number ≤ result }
+    ensures inside { result ≤ (seen_of many.now).moments.end }
+    ensures joined { (k : ℕ) → number ≤ k → k < result → IsJoined (seen_of many.now).moments k }
+    ensures ends { IsJoined (seen_of many.now).moments result → ⊥ }
+{
+    let _end = many.end();
+    lines.line(number).last
+}
+
+/// The strip that begins at a number.
+fn strip_from(storing: &Storing, many: &Many<'_>, lines: &Lines, first: u32) -> Strip
+    requires listed { ∥ AreStoring many.now storing.now ∥₁ }
+    requires lined { AreLinesOf (seen_of many.now).moments lines.now }
+    requires inside { first ≤ (seen_of many.now).moments.end }
+    ensures { IsStrip (as_timeline (seen_of many.now)) first result }
+{
+    let last = line_end(many, lines, first);
+    let mut strip = Strip {
+        first,
+        last: first,
+        pause: None,
+    };
+    while strip.last < last {
+        match longer(storing, many, strip) {
+            Some(more) => strip = more,
+            None => return strip,
+        }
+    }
+    strip
+}
+
+/// The strip of the number after one, from the strip of that.
+fn strip_after(
+    storing: &Storing,
+    many: &Many<'_>,
+    lines: &Lines,
+    strip: Strip,
+    number: u32,
+) -> Strip
+    requires listed { ∥ AreStoring many.now storing.now ∥₁ }
+    requires lined { AreLinesOf (seen_of many.now).moments lines.now }
+    requires inside { number < (seen_of many.now).moments.end }
+    requires strip { IsStrip (as_timeline (seen_of many.now)) number strip }
+    ensures { IsStrip (as_timeline (seen_of many.now)) (number + 1) result }
+{
+    let _end = many.end();
+    if number < strip.last {
+        strip
+    } else {
+        strip_from(storing, many, lines, number + 1)
+    }
+}
+
+impl Strips {
+    /// No strips. It takes no memory.
+    pub fn none(alloc: Global) -> Strips
+        ensures { result ≡ [] }
+    {
+        Strips {
+            list: Vec::new(alloc),
+        }
+    }
+
+    /// Those of several threads. It takes memory for one entry a number.
+    pub fn new(
+        alloc: Global,
+        storing: &Storing,
+        many: &Many<'_>,
+        lines: &Lines,
+    ) -> Result<Strips, OutOfMemory>
+        requires listed { ∥ AreStoring many.now storing.now ∥₁ }
+        requires lined { AreLinesOf (seen_of many.now).moments lines.now }
+        ensures { IfOk result (λ s. AreManyStrips many.now s) }
+    {
+        let mut list = Vec::new(alloc);
+        let mut strip = strip_from(storing, many, lines, 0);
+        for number in 0..many.end() {
+            list.push(strip)?;
+            strip = strip_after(storing, many, lines, strip, number);
+        }
+        list.push(strip)?;
+        Ok(Strips { list })
+    }
+
+    /// The strip of a number.
+    pub fn strip(&self, number: u32) -> Strip
+        requires { number < length self.now }
+        ensures { slice_get self.now number ≡ Some result }
+    {
+        self.list[number as usize]
+    }
+}
