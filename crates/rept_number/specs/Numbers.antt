@@ -22,6 +22,9 @@ hexadecimal_value digits = fold (λ n digit. 16 * n + digit_value digit) 0 digit
 abbrev pub are_hexadecimal : List ℕ → Bool
 are_hexadecimal digits = nat_lt 0 (length digits) && nat_le (length digits) 8 && list_all is_ascii_hexdigit digits
 
+abbrev pub hexadecimal_of : List ℕ → Option ℕ
+hexadecimal_of digits = if are_hexadecimal digits then Some (hexadecimal_value digits) else None
+
 -- `0x` or `0X` and hexadecimal digits
 abbrev pub is_hexadecimal : List ℕ → Bool
 is_hexadecimal word = (starts_with nat_eq word (codes "0x") || starts_with nat_eq word (codes "0X")) && are_hexadecimal (drop 2 word)

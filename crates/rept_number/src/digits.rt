@@ -3,7 +3,7 @@
 ghost use Rattle.std.specs.Prelude.{◌≡◌, ◌<◌, ◌≤◌, ◌^◌, length, true};
 ghost use Rattle.std.specs.List.{list_all};
 ghost use Rattle.std.specs.Char.{digit_value, is_ascii_digit, is_ascii_hexdigit};
-ghost use Rattle.rept_number.specs.Numbers.{are_hexadecimal, decimal_of, decimal_value, hexadecimal_value, is_hexadecimal, number_of_word};
+ghost use Rattle.rept_number.specs.Numbers.{are_hexadecimal, decimal_of, decimal_value, hexadecimal_of, hexadecimal_value, is_hexadecimal, number_of_word};
 
 /// The number that 1 to 10 decimal digits spell, where it is below 2^32. None for every other word.
 pub fn decimal(word: &[u8]) -> Option<u32>
@@ -40,10 +40,20 @@ pub fn number_in(word: &[u8]) -> Option<u32>
     ensures { result ≡ number_of_word word.now }
 {
     if is_hexadecimal_word(word) {
-        Some(hexadecimal(&word[2..]))
+        Some(hexadecimal_value(&word[2..]))
     } else {
         decimal(word)
     }
+}
+
+/// The number that 1 to 8 hexadecimal digits spell. None for every other word.
+pub fn hexadecimal(digits: &[u8]) -> Option<u32>
+    ensures { result ≡ hexadecimal_of digits.now }
+{
+    if !are_hexadecimal_digits(digits) {
+        return None;
+    }
+    Some(hexadecimal_value(digits))
 }
 
 fn is_hexadecimal_word(word: &[u8]) -> bool
@@ -71,7 +81,7 @@ fn are_all_hexadecimal(bytes: &[u8]) -> bool
 }
 
 /// The number that so few hexadecimal digits spell.
-fn hexadecimal(digits: &[u8]) -> u32
+fn hexadecimal_value(digits: &[u8]) -> u32
     requires digits { list_all is_ascii_hexdigit digits.now ≡ true }
     requires few { length digits.now ≤ 8 }
     ensures { result ≡ hexadecimal_value digits.now }

@@ -3,4 +3,4 @@
 
 pub mod digits;
 
-pub use digits::{decimal, number_in};
+pub use digits::{decimal, hexadecimal, number_in};

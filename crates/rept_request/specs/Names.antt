@@ -3,7 +3,7 @@
 use Rattle.std.specs.Prelude.{ℕ, ◌+◌, List, drop, take, Bool, ◌==◌, Option, None, Some, codes, if◌then◌else◌}
 use Rattle.std.specs.List.{position}
 use Rattle.std.specs.Str.{bytes_eq}
-use Rattle.rept_request.specs.Numbers.{number_of}
+use Rattle.rept_number.specs.Numbers.{hexadecimal_of}
 use Rattle.rept_request.specs.declared.request.ThreadName.{ThreadName}
 use Rattle.rept_request.specs.declared.request.ThreadName.TheVariants as name
 
@@ -13,7 +13,7 @@ name_of (Some number) = if number == 0 then name.Any else name.One number
 
 -- `0` is any thread, `-1` are all
 abbrev pub thread_name : List ℕ → ThreadName
-thread_name word = if bytes_eq word (codes "-1") then name.Any else name_of (number_of word)
+thread_name word = if bytes_eq word (codes "-1") then name.Any else name_of (hexadecimal_of word)
 
 -- the thread that is named after so many bytes of a packet
 abbrev pub thread_after : ℕ → List ℕ → ThreadName

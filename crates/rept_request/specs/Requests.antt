@@ -4,7 +4,8 @@ use Rattle.std.specs.Prelude.{ℕ, List, [], ◌∷◌, drop, Bool, ◌==◌, na
 use Rattle.std.specs.List.{starts_with}
 use Rattle.std.specs.Option.{option_or}
 use Rattle.std.specs.Str.{bytes_eq}
-use Rattle.rept_request.specs.Numbers.{number_of, pair_of}
+use Rattle.rept_number.specs.Numbers.{hexadecimal_of}
+use Rattle.rept_request.specs.Numbers.{pair_of}
 use Rattle.rept_request.specs.Names.{acted_thread, thread_after}
 use Rattle.rept_request.specs.declared.request.Request.{Request}
 use Rattle.rept_request.specs.declared.request.Request.TheVariants as request
@@ -105,7 +106,7 @@ request_at code writes (Some (spot.Writes address length)) = writes address leng
 -- packets with numbers in them, by their first byte
 abbrev pub numbered : ℕ → List ℕ → Request
 numbered letter rest =
-    if letter == 112 then with_number request.Register (number_of rest)
+    if letter == 112 then with_number request.Register (hexadecimal_of rest)
     else if letter == 109 then with_pair request.Memory (pair_of rest)
     else if letter == 120 then with_pair request.Bytes (pair_of rest)
     else if letter == 90 then with_spot request.Break request.Watch rest

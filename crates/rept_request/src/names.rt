@@ -4,8 +4,8 @@ ghost use Rattle.std.specs.Prelude.{◌≡◌};
 ghost use Rattle.std.specs.List.{position};
 ghost use Rattle.rept_request.specs.Names.{acted_thread, action_thread, first_action, is_colon, is_semicolon, name_of, thread_after, thread_name};
 
-use crate::numbers::number_of;
 use crate::request::ThreadName;
+use rept_number::hexadecimal;
 
 /// The thread that a word names.
 fn thread_name(word: &[u8]) -> ThreadName
@@ -14,7 +14,7 @@ fn thread_name(word: &[u8]) -> ThreadName
     if word == b"-1".as_slice() {
         ThreadName::Any
     } else {
-        name_of(number_of(word))
+        name_of(hexadecimal(word))
     }
 }
 

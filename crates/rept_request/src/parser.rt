@@ -1,12 +1,14 @@
 //! Reading a packet as a request.
 
 ghost use Rattle.std.specs.Prelude.{◌≡◌, ◌≤◌, ℕ, length, true};
-ghost use Rattle.rept_request.specs.Numbers.{number_of, pair_of};
+ghost use Rattle.rept_number.specs.Numbers.{hexadecimal_of};
+ghost use Rattle.rept_request.specs.Numbers.{pair_of};
 ghost use Rattle.rept_request.specs.Requests.{is_part, lettered, named, numbered, numbered_or_part, request_of, request_at, with_number, with_pair, with_spot};
 
 use crate::named::{change_begun, move_begun, move_named, query_begun, query_named, thread_begun};
-use crate::numbers::{number_of, pair_of};
+use crate::numbers::pair_of;
 use crate::request::Request;
+use rept_number::hexadecimal;
 
 /// What a packet asks for. Each packet asks for something; what isn't known is `Unknown`.
 pub fn parse(packet: &[u8]) -> Request
@@ -99,9 +101,9 @@ fn numbered(letter: u8, rest: &[u8]) -> Request
 }
 
 fn register_of(rest: &[u8]) -> Request
-    ensures { result ≡ with_number Request.Register (number_of rest.now) }
+    ensures { result ≡ with_number Request.Register (hexadecimal_of rest.now) }
 {
-    match number_of(rest) {
+    match hexadecimal(rest) {
         Some(number) => Request::Register(number),
         None => Request::Unknown,
     }

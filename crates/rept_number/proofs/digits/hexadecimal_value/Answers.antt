@@ -1,6 +1,6 @@
 use Rattle.std.proofs.Common.{◌<◌, ◌≤◌, ◌^◌, arith}
 use Rattle.std.proofs.Math.Nat.{pow-le-pow_right}
-use Rattle.rept_request.proofs.numbers.value_of.Goals as goal
+use Rattle.rept_number.proofs.digits.hexadecimal_value.Goals as goal
 
 pub overflow_mul-n : goal.overflow_mul-n
 overflow_mul-n c =
@@ -14,4 +14,4 @@ overflow_add-n c =
     let below : c.loop-digit.digit-index ≤ 7 = omega arith in
     let some : 0 < 16 = omega arith in
     let bound : 16 ^ c.loop-digit.digit-index ≤ 16 ^ 7 = pow-le-pow_right some below in
-    omega (arith, bound, c.loop-digit.invariant.small, c.value_of_digit.ensures.small)
+    omega (arith, bound, c.loop-digit.invariant.small, c.digit_of.ensures.small)

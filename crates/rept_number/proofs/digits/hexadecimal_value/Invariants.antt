@@ -1,6 +1,6 @@
 use Rattle.std.proofs.Common.{◌≡◌, ◌<◌, ◌^◌, take}
 use Rattle.rept_number.specs.Numbers.{hexadecimal_value}
-use Rattle.rept_request.proofs.numbers.value_of.Given as goal
+use Rattle.rept_number.proofs.digits.hexadecimal_value.Given as goal
 
 abbrev pub invariant-loop-digit : goal.invariant-loop-digit
 invariant-loop-digit l = record {
