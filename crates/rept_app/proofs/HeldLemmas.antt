@@ -9,7 +9,7 @@ use Rattle.rept_serve.specs.declared.serving.Served.{Served}
 use Rattle.rept_serve.specs.declared.serving.Served.TheVariants as served
 use Rattle.rept_app.specs.Delivered.{Delivers}
 use Rattle.rept_app.specs.Ends.{FaultEnds, EndsSession, IsCaused, TellsInputFault, Yields}
-use Rattle.rept_app.specs.Held.{Holds}
+use Rattle.rept_app.specs.Held.{IsHeldSession}
 use Rattle.rept_app.specs.Lines.{line_of}
 use Rattle.rept_app.specs.declared.refusal.Refusal.{Refusal}
 use Rattle.rept_app.specs.declared.refusal.Refusal.TheVariants as refusal
@@ -41,32 +41,32 @@ pub calm_in : (source sink : Move Port) (result : Served) → (result ≡ served
 calm_in source sink result never c = calm_at source.before.faults source.after.faults served.ReadFault result never c.input
 
 module _ (t : Told) (reading : Reading) (old mid : Port) where
-  pub ended : Serves t reading (move old mid) served.Ended → mid.faults ≡ old.faults → Delivers (Holds t reading) (move old mid) ends.Ok
+  pub ended : Serves t reading (move old mid) served.Ended → mid.faults ≡ old.faults → Delivers (IsHeldSession t reading) (move old mid) ends.Ok
   ended (inl (text, w, a)) calm = inl (text, inl w, a, calm)
   ended (inr (e, rest)) calm = let no : ⊥ = cc in absurd no
 
-  pub failed : Serves t reading (move old mid) served.OutputFault → OneFault old.faults mid.faults → Delivers (Holds t reading) (move old mid) ends.OutputFault
+  pub failed : Serves t reading (move old mid) served.OutputFault → OneFault old.faults mid.faults → Delivers (IsHeldSession t reading) (move old mid) ends.OutputFault
   failed (inl (text, w, a)) fault = absurd w
   failed (inr (e, (whole, first, front))) fault =
       inr (refl, fault, (whole ++ line_of refusal.OutOfMemory, ends.OutOfMemory, inr (whole, first, refl), prefix_of_longer old.bytes mid.bytes whole (line_of refusal.OutOfMemory) front))
 
   module _ (calm : mid.faults ≡ old.faults) (new : Port) (result : Status) where
-    pub cut_off : Serves t reading (move old mid) served.ReadFault → Delivers (Line refusal.InputFault ends.InputFault) (move mid new) result → Delivers (Holds t reading) (move old new) result
+    pub cut_off : Serves t reading (move old mid) served.ReadFault → Delivers (Line refusal.InputFault ends.InputFault) (move mid new) result → Delivers (IsHeldSession t reading) (move old new) result
     cut_off (inl (front, w, a)) d =
-        delivers_after (Line refusal.InputFault ends.InputFault) (Holds t reading) old mid new front result calm a
-        (λ text s goes. subst (Holds t reading (front ++ text)) (sym goes.1) (inr (front, w, ap (λ (x : List ℕ). front ++ x) goes.0))) d
+        delivers_after (Line refusal.InputFault ends.InputFault) (IsHeldSession t reading) old mid new front result calm a
+        (λ text s goes. subst (IsHeldSession t reading (front ++ text)) (sym goes.1) (inr (front, w, ap (λ (x : List ℕ). front ++ x) goes.0))) d
     cut_off (inr (e, rest)) d = let no : ⊥ = cc in absurd no
 
-    pub overran : Serves t reading (move old mid) served.TooMuchInput → Delivers (Line refusal.TooMuchInput ends.TooMuchInput) (move mid new) result → Delivers (Holds t reading) (move old new) result
+    pub overran : Serves t reading (move old mid) served.TooMuchInput → Delivers (Line refusal.TooMuchInput ends.TooMuchInput) (move mid new) result → Delivers (IsHeldSession t reading) (move old new) result
     overran (inl (front, w, a)) d =
-        delivers_after (Line refusal.TooMuchInput ends.TooMuchInput) (Holds t reading) old mid new front result calm a
-        (λ text s goes. subst (Holds t reading (front ++ text)) (sym goes.1) (inl (front, w, ap (λ (x : List ℕ). front ++ x) goes.0))) d
+        delivers_after (Line refusal.TooMuchInput ends.TooMuchInput) (IsHeldSession t reading) old mid new front result calm a
+        (λ text s goes. subst (IsHeldSession t reading (front ++ text)) (sym goes.1) (inl (front, w, ap (λ (x : List ℕ). front ++ x) goes.0))) d
     overran (inr (e, rest)) d = let no : ⊥ = cc in absurd no
 
-    pub ran_out : Serves t reading (move old mid) served.OutOfMemory → Delivers (Line refusal.OutOfMemory ends.OutOfMemory) (move mid new) result → Delivers (Holds t reading) (move old new) result
+    pub ran_out : Serves t reading (move old mid) served.OutOfMemory → Delivers (Line refusal.OutOfMemory ends.OutOfMemory) (move mid new) result → Delivers (IsHeldSession t reading) (move old new) result
     ran_out (inl (front, w, a)) d =
-        delivers_after (Line refusal.OutOfMemory ends.OutOfMemory) (Holds t reading) old mid new front result calm a
-        (λ text s goes. subst (Holds t reading (front ++ text)) (sym goes.1) (inr (front, w, ap (λ (x : List ℕ). front ++ x) goes.0))) d
+        delivers_after (Line refusal.OutOfMemory ends.OutOfMemory) (IsHeldSession t reading) old mid new front result calm a
+        (λ text s goes. subst (IsHeldSession t reading (front ++ text)) (sym goes.1) (inr (front, w, ap (λ (x : List ℕ). front ++ x) goes.0))) d
     ran_out (inr (e, rest)) d = let no : ⊥ = cc in absurd no
 
 -- how a line ends a call, after which its status is told

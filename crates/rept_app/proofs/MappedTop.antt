@@ -10,7 +10,7 @@ use Rattle.rept_app.specs.Loading.{CoreBytes, core_bytes, CrashBytes, Loading, l
 use Rattle.rept_app.specs.Loading.Loading.{LoadedCore}
 use Rattle.rept_app.specs.Mapped.{IsMappedAs, MappedCrash, NameFails, NamesLoaded, mapped_crash}
 use Rattle.rept_app.specs.MappedEnds.{ExaminesMapped, IsExaminedMapped, MappedEnd, MappedExcludes, MappedHolds, mapped_call, moves}
-use Rattle.rept_app.specs.Told.{Given, given, Holds, IsCrashOf, NoExecution, ToldOf, Writes}
+use Rattle.rept_app.specs.Told.{Given, given, ComeToReport, IsCrashOf, NoExecution, ToldOf, Writes}
 use Rattle.rept_app.specs.Top.{AskedEnds, EndsAt, EndsByFiles, FaultsEnd, LacksFile, LoadEnds, LoadsOf, ShelfCauses, TopCauses}
 use Rattle.rept_words.specs.Words.{CoreNames, Meaning, meaning_of}
 use Rattle.rept_words.specs.Words.Meaning.{Open, Maps, Made}
@@ -154,7 +154,7 @@ module _ (words : List (List ℕ)) (files : Files) (c : CoreBytes) (at : loading
   pub mapped_ends : (status : Status) → MappedEnd (mapped_crash files c) status ⊎ (status ≡ ends.LoadFault) → EndsByFiles words files status
   mapped_ends status h = subst (λ (l : Loading). EndsAt files l status) (sym at) h
 
-  pub mapped_holds : (status : Status) → MappedHolds (mapped_crash files c) status → Holds words files
+  pub mapped_holds : (status : Status) → MappedHolds (mapped_crash files c) status → ComeToReport words files
   mapped_holds status (bytes, is, ((note, path, read, traced, consistent), so)) = (opening bytes note path, record { loaded = opens_as bytes is; read = read; path = traced }, consistent)
 
   pub mapped_excludes : MappedExcludes (mapped_crash files c) → NoExecution words files

@@ -12,7 +12,7 @@ use Rattle.rept_found.specs.View.{View, IsFoundIn, state_in, path_in}
 use Rattle.rept_serve.specs.Serving.{Reading}
 use Rattle.rept_app.specs.Delivered.{Tells}
 use Rattle.rept_app.specs.Ends.{Stopped, Yields, EndsSession, IsCaused, PortsEnd}
-use Rattle.rept_app.specs.Held.{Holds}
+use Rattle.rept_app.specs.Held.{IsHeldSession}
 use Rattle.rept_app.specs.Study.{Studies, IsStudied}
 use Rattle.rept_words.specs.declared.request.Domain.{Domain}
 use Rattle.rept_app.specs.Domains.{SetsOf, means_of}
@@ -35,9 +35,9 @@ module _ {W R : Type 0} (m : Means W) (v : View W R) (crash : Crash) (path : Pat
   abbrev pub account_of : Account
   account_of = record { known = answers (state_in m v); log = (state_in m v).known.log; scene = v.scene; skipped = path.skipped }
 
-  pub held_studies : (reading : Reading) (text : List ℕ) (status : Status) → Holds (told_of (path_in m v) account_of) reading text status → Studies (crash_path m crash path) reading text status
+  pub held_studies : (reading : Reading) (text : List ℕ) (status : Status) → IsHeldSession (told_of (path_in m v) account_of) reading text status → Studies (crash_path m crash path) reading text status
   held_studies reading text status h =
-      inr (inl (account_of, record { report = found.report; log = found.log; scene = found.same_scene; skipped = refl }, subst (λ (P : AnalysedPath W). Holds (told_of P account_of) reading text status) found.path h))
+      inr (inl (account_of, record { report = found.report; log = found.log; scene = found.same_scene; skipped = refl }, subst (λ (P : AnalysedPath W). IsHeldSession (told_of P account_of) reading text status) found.path h))
 
 -- where the closure is consistent, a session is held
 pub held_causes : {W : Type 0} (m : Means W) (crash : Crash) (path : Path) (source sink : Move Port) (status : Status) → IsConsistent (setting m crash path.steps) → IsCaused source sink status → IsStudied (crash_path m crash path) source sink status

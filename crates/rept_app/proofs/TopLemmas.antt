@@ -36,7 +36,7 @@ use Rattle.rept_app.specs.Loading.{CrashBytes, crash_bytes, CoreBytes, core_byte
 use Rattle.rept_app.specs.Loading.Loading.{Refused, Loaded, LoadedCore, MadeRun}
 use Rattle.rept_app.specs.Mapped.{mapped_crash}
 use Rattle.rept_app.specs.MadeRun.{Sums}
-use Rattle.rept_app.specs.Told.{Given, given, ToldOf, IsCrashOf, summary_line, Opening, Writes, Holds, ReportHolds, BitsKnowMore, MadeHolds, AskedHolds, NoExecution, crash_at, domain_at, route_at}
+use Rattle.rept_app.specs.Told.{Given, given, ToldOf, IsCrashOf, summary_line, Opening, Writes, ComeToReport, ReportHolds, BitsKnowMore, MadeHolds, AskedHolds, NoExecution, crash_at, domain_at, route_at}
 use Rattle.rept_app.specs.Top.{TopCauses, ShelfCauses, LacksFile, LoadEnds, LoadsOf, EndsAt, EndsByFiles, AskedEnds, NoneFails, Completes}
 use Rattle.rept_words.specs.Words.{CoreNames, Names, Meaning, meaning_of}
 use Rattle.rept_words.specs.Words.Meaning.{Open, Maps, Made}
@@ -281,7 +281,7 @@ module _ (words : List (List ℕ)) (files : Files) where
     made_writes seed steps at named (inr (inr cut)) = inr (inr (inr (inr (seed, steps, named, cut))))
 
   module _ (bytes : CrashBytes) (at : loading words files ≡ Loaded bytes) where
-    pub files_hold : (status : Status) → FilesHold bytes status → Holds words files
+    pub files_hold : (status : Status) → FilesHold bytes status → ComeToReport words files
     files_hold status ((note, path, read, is, consistent), so) = (opening bytes note path, record { loaded = subst (λ (l : Loading). IsCrashOf files l bytes) (sym at) refl; read = read; path = is }, consistent)
 
     pub examined_ends : (source sink : Move Port) (status : Status) → IsExamined bytes source sink status → EndsByFiles words files status

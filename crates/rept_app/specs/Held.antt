@@ -24,5 +24,6 @@ CutOff t reading text ends.InputFault = WithLine refusal.InputFault (Failed t re
 CutOff t reading text ends.OutOfMemory = WithLine refusal.OutOfMemory (FirstAnswers t reading.input) text
 CutOff t reading text other = ⊥
 
-abbrev pub Holds : Told → Reading → List ℕ → Status → Type 0
-Holds t reading text status = Replies t reading.input text status ⊎ CutOff t reading text status
+-- what a session leaves on the output, and its status: its answers, or what is written where the input fails or memory runs out
+abbrev pub IsHeldSession : Told → Reading → List ℕ → Status → Type 0
+IsHeldSession t reading text status = Replies t reading.input text status ⊎ CutOff t reading text status

@@ -7,7 +7,7 @@ use Rattle.rept_found.specs.Telling.{Account, told_of}
 use Rattle.rept_serve.specs.Serving.{Reading}
 use Rattle.rept_app.specs.Delivered.{Says}
 use Rattle.rept_app.specs.Ends.{Yields, EndsSession, PortsEnd}
-use Rattle.rept_app.specs.Held.{Holds}
+use Rattle.rept_app.specs.Held.{IsHeldSession}
 use Rattle.rept_app.specs.Told.{CrashPath, setting_of, IsAccountOf, route_of}
 use Rattle.rept_app.specs.declared.refusal.Refusal.TheVariants as refusal
 use Rattle.rept_app.specs.declared.status.Status.{Status}
@@ -17,7 +17,7 @@ use Rattle.rept_app.specs.declared.status.Status.TheVariants as ends
 abbrev pub Studies : {W : Type 0} → CrashPath W → Reading → List ℕ → Status → Type 0
 Studies p reading text status =
     ((kind : ConflictKind) × ClosureHas (setting_of p) kind × Says (refusal.Inconsistent kind) text status)
-    ⊎ ((a : Account) × IsAccountOf p a × Holds (told_of (route_of p) a) reading text status)
+    ⊎ ((a : Account) × IsAccountOf p a × IsHeldSession (told_of (route_of p) a) reading text status)
     ⊎ Says refusal.OutOfMemory text status
 
 -- Each fault has its cause and ends the call; a conflict is told where the closure has one, and a session is held where it has

@@ -227,8 +227,8 @@ abbrev pub Writes : Given → List ℕ → Status → Type 0
 Writes g text status = Told g text status ⊎ Interrupted g text status
 
 -- the words and the files come to a path whose closure has no conflict
-abbrev pub Holds : List (List ℕ) → Files → Type 0
-Holds words files = (o : Opening) × Opens words files o × IsConsistent (setting_at o)
+abbrev pub ComeToReport : List (List ℕ) → Files → Type 0
+ComeToReport words files = (o : Opening) × Opens words files o × IsConsistent (setting_at o)
 
 -- what is told of the report holds in every execution of the path that ends in the dump: in the registers of the note, and with the
 -- bytes of memory that the files have

@@ -11,7 +11,7 @@ ghost use Rattle.rept_app.specs.Delivered.{Delivers};
 ghost use Rattle.rept_app.specs.Ends.{EndsSession};
 ghost use Rattle.rept_app.specs.Loading.{NamesNone};
 ghost use Rattle.rept_app.specs.Promise.{Promise};
-ghost use Rattle.rept_app.specs.Told.{AskedHolds, BitsKnowMore, Writes, Holds, ReportHolds, NoExecution, given};
+ghost use Rattle.rept_app.specs.Told.{AskedHolds, BitsKnowMore, Writes, ComeToReport, ReportHolds, NoExecution, given};
 ghost use Rattle.rept_app.specs.Top.{AskedEnds, FaultsEnd, ShelfCauses, TopCauses, LoadsOf, EndsByFiles, NoneFails, Completes};
 ghost use Rattle.rept_words.specs.Words.{meaning_of};
 
@@ -67,7 +67,7 @@ pub fn rept<H: Shelf, S: Source, K: Sink>(
     ensures loads { LoadsOf (meaning_of (map string_bytes words.now)) (move (H.port shelf.old) (H.port shelf.new)) result }
 
     // The input is as it was, unless a session was held; and that is only where the files come to a report.
-    ensures stays { (input.new ≡ input.old) ⊎ (EndsSession result × IfSome (H.port shelf.old).files (Holds (map string_bytes words.now))) }
+    ensures stays { (input.new ≡ input.old) ⊎ (EndsSession result × IfSome (H.port shelf.old).files (ComeToReport (map string_bytes words.now))) }
 
     // Where the files are told, they decide on each other status, unless a port fails or memory runs out.
     ensures files { IfSome (H.port shelf.old).files (λ files. EndsByFiles (map string_bytes words.now) files result) }

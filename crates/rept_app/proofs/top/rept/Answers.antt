@@ -12,7 +12,7 @@ use Rattle.rept_app.specs.declared.load.Asked.TheVariants as asked
 use Rattle.rept_app.proofs.MadeLemmas.{made_holds}
 use Rattle.rept_app.proofs.WordsLemmas.{asks_few}
 use Rattle.rept_app.proofs.MappedTop.{as_before, both_asks, both_at, both_loads, both_mean, both_named, mapped_causes, mapped_ends, mapped_excludes, mapped_holds, mapped_loads, mapped_once, mapped_stays, mapped_usage, mapped_writes}
-use Rattle.rept_app.specs.Told.{Writes, BitsKnowMore, Holds, ReportHolds, NoExecution, given}
+use Rattle.rept_app.specs.Told.{Writes, BitsKnowMore, ComeToReport, ReportHolds, NoExecution, given}
 use Rattle.rept_app.specs.Top.{EndsByFiles}
 use Rattle.rept_words.specs.Words.{meaning_of}
 use Rattle.rept_app.specs.declared.status.Status.TheVariants as ends
@@ -36,7 +36,7 @@ returns-in-Ok-Files-clause-loads g c = all_loads (g.H.Shelf.port c.args.shelf.no
 pub returns-in-Ok-Files-clause-stays : goal.returns-in-Ok-Files-clause-stays
 returns-in-Ok-Files-clause-stays g c =
     let words = map string_bytes c.args.words.now in
-    holds_where (g.H.Shelf.port c.args.shelf.now).files (Holds words) _ c.examine.result (λ files told.
+    holds_where (g.H.Shelf.port c.args.shelf.now).files (ComeToReport words) _ c.examine.result (λ files told.
     let loaded : loading words files ≡ Loaded (crash_bytes c.in-Ok-Files.files.exe.items c.in-Ok-Files.files.core.items c.in-Ok-Files.files.trace.items c.in-Ok-Files.files.manner) =
     at_some (g.H.Shelf.port c.args.shelf.now).files files (λ fs. loading words fs ≡ Loaded (crash_bytes c.in-Ok-Files.files.exe.items c.in-Ok-Files.files.core.items c.in-Ok-Files.files.trace.items c.in-Ok-Files.files.manner)) told (ok_at c.load_files.result c.in-Ok-Files.field-0 (asked.Files c.in-Ok-Files.files) (λ a. IfSome (g.H.Shelf.port c.args.shelf.now).files (λ fs. loading words fs ≡ asked_for a)) c.in-Ok-Files.is c.in-Ok-Files.field-0-is c.load_files.ensures.loaded) in
     files_hold words files (crash_bytes c.as_slice-exe.result.now c.as_slice-core.result.now c.as_slice-trace.result.now c.in-Ok-Files.files.manner)
@@ -423,7 +423,7 @@ returns-in-Ok-Maps-clause-stays g c =
     let calm = done_at c.load_files.result c.in-Ok-Maps.field-0 c.in-Ok-Maps.is f.calm in
     let loads = both_at c.load_files.result c.in-Ok-Maps.field-0 c.in-Ok-Maps.files (meaning_of words) old mid c.in-Ok-Maps.is c.in-Ok-Maps.field-0-is c.load_files.ensures.asked in
     let at : IfSome old.files (λ fs. loading words fs ≡ LoadedCore bytes) = ok_at c.load_files.result c.in-Ok-Maps.field-0 (asked.Maps c.in-Ok-Maps.files) (λ a. IfSome old.files (λ fs. loading words fs ≡ asked_for a)) c.in-Ok-Maps.is c.in-Ok-Maps.field-0-is c.load_files.ensures.loaded in
-    mapped_stays old.files mid.files (Holds words) (λ files. MappedHolds (mapped_crash files bytes) c.examine_mapped.result) c.examine_mapped.result f.files
+    mapped_stays old.files mid.files (ComeToReport words) (λ files. MappedHolds (mapped_crash files bytes) c.examine_mapped.result) c.examine_mapped.result f.files
     (λ files told h. mapped_holds words files bytes (at_some old.files files (λ fs. loading words fs ≡ LoadedCore bytes) told at) c.examine_mapped.result h) c.examine_mapped.ensures.stays
 
 pub returns-in-Ok-Maps-clause-files : goal.returns-in-Ok-Maps-clause-files
