@@ -2,13 +2,13 @@
 
 ghost use Rattle.std.specs.Prelude.{◌≡◌, ◌+◌, ◌-◌, ◌%◌, ◌^◌, ◌<◌, ◌≤◌, IfSome};
 ghost use Rattle.rept_isa.specs.declared.instr.RegOp.TheVariants.{Sra};
-ghost use Rattle.rept_machine.specs.Arithmetic.{computed, register_form};
+ghost use Rattle.rept_machine.specs.Arithmetic.{computed};
 ghost use Rattle.rept_known.specs.Operations.{all_open, all_known, low_open, sum_bits, difference_bits, and_bits, or_bits, xor_bits, amount, shifted_left, shifted_right, shifted_with_sign, operation_bits, loaded_bits};
 
 use crate::bits::Bits;
 use crate::outside::outside;
 use rept_isa::number::word;
-use rept_isa::{ImmOp, LoadOp, RegOp};
+use rept_isa::{LoadOp, RegOp};
 use rept_partial::Partial;
 
 /// What an operation on two registers makes of their bits.
@@ -33,23 +33,6 @@ pub(crate) fn operation_bits(op: RegOp, a: Bits, b: Bits) -> Bits
         | RegOp::Divu
         | RegOp::Rem
         | RegOp::Remu => all_open(),
-    }
-}
-
-/// The operation on two registers that does the same with the immediate as its second operand.
-pub(crate) fn register_form(op: ImmOp) -> RegOp
-    ensures { result ≡ register_form op }
-{
-    match op {
-        ImmOp::Addi => RegOp::Add,
-        ImmOp::Slti => RegOp::Slt,
-        ImmOp::Sltiu => RegOp::Sltu,
-        ImmOp::Xori => RegOp::Xor,
-        ImmOp::Ori => RegOp::Or,
-        ImmOp::Andi => RegOp::And,
-        ImmOp::Slli => RegOp::Sll,
-        ImmOp::Srli => RegOp::Srl,
-        ImmOp::Srai => RegOp::Sra,
     }
 }
 

@@ -4,9 +4,10 @@ ghost use Rattle.std.specs.Prelude.{◌≡◌};
 ghost use Rattle.rept_known.specs.Operations.{left_bits, with_both, tells_equal};
 
 use crate::bits::Bits;
-use crate::operation::{all_known, all_open, loaded_bits, operation_bits, register_form};
+use crate::operation::{all_known, all_open, loaded_bits, operation_bits};
 use rept_isa::number::{following, word};
 use rept_isa::{BranchOp, Instr, StepRow, Turn, turn};
+use rept_machine::arithmetic::register_form;
 use rept_partial::Partial;
 use rept_span::Transfer;
 
