@@ -1,0 +1,3 @@
+pub mod Few
+pub mod Once
+pub mod Paths

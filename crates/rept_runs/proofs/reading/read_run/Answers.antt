@@ -1,0 +1,73 @@
+use Rattle.std.proofs.Common.{◌≡◌, ◌⊎◌, inl, inr, ℕ, List, Result, Ok, Err, refl, sym, ap, ◌∙◌, subst, arith}
+use Rattle.std.proofs.lemmas.Result.{IfOk-weaker, IfErr-weaker}
+use Rattle.rept_trace.specs.Streams.{StreamFile}
+use Rattle.rept_trace.specs.declared.fault.TraceFault.{TraceFault}
+use Rattle.rept_path.specs.declared.fault.PathFault.{PathFault}
+use Rattle.rept_path.specs.declared.fault.PathFault.TheVariants.{Packet, OutOfMemory}
+use Rattle.rept_slices.specs.Raw.{files_of, IsRunOf, HasNoRun}
+use Rattle.rept_threads.proofs.Fitting.{file_fits}
+use Rattle.rept_runs.specs.Told.{traced, IsTracedRun, HasNoTracedRun}
+use Rattle.rept_runs.proofs.Few.{run_small}
+use Rattle.rept_runs.proofs.reading.read_run.Goals as goal
+use Rattle.rept_steps.specs.Runs.{course_of}
+use Rattle.rept_timeline.specs.Small.{IsSmall}
+
+pub rebuild_many-requires : goal.rebuild_many-requires
+rebuild_many-requires c =
+    let fits = file_fits c.args.trace.now c.in-Ok.streams c.in-Ok.ensures.opens in
+    let few = c.requires in
+    omega (arith, fits, few)
+
+pub returns-in-Ok-clause-ok : goal.returns-in-Ok-clause-ok
+returns-in-Ok-clause-ok c = λ descs threads count.
+    IfOk-weaker c.rebuild_many.result (IsRunOf (files_of c.args.dump.now c.in-Ok.streams descs c.args.from)) (IsTracedRun (traced c.args.dump.now descs c.args.trace.now c.args.from))
+    (λ run is. (c.in-Ok.streams, c.in-Ok.ensures.opens, is)) (c.rebuild_many.ensures.ok descs threads count)
+
+pub returns-in-Ok-clause-err : goal.returns-in-Ok-clause-err
+returns-in-Ok-clause-err c = λ descs threads count.
+    IfErr-weaker c.rebuild_many.result (λ e. (e ≡ OutOfMemory) ⊎ HasNoRun (files_of c.args.dump.now c.in-Ok.streams descs c.args.from) e) (λ e. (e ≡ OutOfMemory) ⊎ HasNoTracedRun (traced c.args.dump.now descs c.args.trace.now c.args.from) e)
+    (λ e refused. either descs e refused) (c.rebuild_many.ensures.err descs threads count)
+  where
+    either : (descs : List (List ℕ)) (e : PathFault) → (e ≡ OutOfMemory) ⊎ HasNoRun (files_of c.args.dump.now c.in-Ok.streams descs c.args.from) e → (e ≡ OutOfMemory) ⊎ HasNoTracedRun (traced c.args.dump.now descs c.args.trace.now c.args.from) e
+    either descs e (inl none) = inl none
+    either descs e (inr why) = inr (inr (c.in-Ok.streams, c.in-Ok.ensures.opens, why))
+
+pub returns-in-Ok-clause-only_run : goal.returns-in-Ok-clause-only_run
+returns-in-Ok-clause-only_run c = λ descs other threads count is.
+    let same : ◌≡◌ {A = Result StreamFile TraceFault} (Ok c.in-Ok.streams) (Ok is.0) = c.in-Ok.ensures.only (Ok is.0) is.1 in
+    let file : is.0 ≡ c.in-Ok.streams = cc in
+    c.rebuild_many.ensures.only_run descs other threads count (subst (λ (f : StreamFile). IsRunOf (files_of c.args.dump.now f descs c.args.from) other) file is.2)
+
+pub returns-in-Ok-clause-only_refusal : goal.returns-in-Ok-clause-only_refusal
+returns-in-Ok-clause-only_refusal c = λ descs fault threads count why.
+    elim why [
+      | inl bad ↦ absurd (let same = c.in-Ok.ensures.only (Err bad.0) bad.1 in cc)
+      | inr refused ↦
+          let same : ◌≡◌ {A = Result StreamFile TraceFault} (Ok c.in-Ok.streams) (Ok refused.0) = c.in-Ok.ensures.only (Ok refused.0) refused.1 in
+          let file : refused.0 ≡ c.in-Ok.streams = cc in
+          c.rebuild_many.ensures.only_refusal descs fault threads count (subst (λ (f : StreamFile). HasNoRun (files_of c.args.dump.now f descs c.args.from) fault) file refused.2)
+    ]
+
+pub returns-in-Ok-clause-sound : goal.returns-in-Ok-clause-sound
+returns-in-Ok-clause-sound c = λ descs threads count. c.rebuild_many.ensures.sound descs threads count
+
+pub returns-in-Ok-clause-small : goal.returns-in-Ok-clause-small
+returns-in-Ok-clause-small c = λ descs threads count apart.
+    IfOk-weaker c.rebuild_many.result (IsRunOf (files_of c.args.dump.now c.in-Ok.streams descs c.args.from)) (λ run. IsSmall (course_of run))
+    (λ run is. run_small (traced c.args.dump.now descs c.args.trace.now c.args.from) run (c.in-Ok.streams, c.in-Ok.ensures.opens, is) apart) (c.rebuild_many.ensures.ok descs threads count)
+
+pub returns-in-Err-clause-err : goal.returns-in-Err-clause-err
+returns-in-Err-clause-err c = λ descs threads count. inr (inl (c.in-Err.fault, c.in-Err.ensures.opens, refl))
+
+pub returns-in-Err-clause-only_run : goal.returns-in-Err-clause-only_run
+returns-in-Err-clause-only_run c = λ descs other threads count is. absurd (let same = c.in-Err.ensures.only (Ok is.0) is.1 in cc)
+
+pub returns-in-Err-clause-only_refusal : goal.returns-in-Err-clause-only_refusal
+returns-in-Err-clause-only_refusal c = λ descs fault threads count why.
+    elim why [
+      | inl bad ↦
+          let same : ◌≡◌ {A = Result StreamFile TraceFault} (Err c.in-Err.fault) (Err bad.0) = c.in-Err.ensures.only (Err bad.0) bad.1 in
+          let is : c.in-Err.fault ≡ bad.0 = cc in
+          inr (ap Packet is ∙ sym bad.2)
+      | inr refused ↦ absurd (let same = c.in-Err.ensures.only (Ok refused.0) refused.1 in cc)
+    ]

@@ -1,0 +1,22 @@
+//! Laws of the definitions. The calls do nothing.
+
+ghost use Rattle.std.specs.Prelude.{◌≡◌, List, ℕ, Some};
+ghost use Rattle.rept_isa.specs.declared.row.StepRow.{StepRow};
+ghost use Rattle.rept_steps.specs.Runs.{course_of};
+ghost use Rattle.rept_steps.specs.declared.run.Run.{Run};
+ghost use Rattle.rept_timeline.specs.Small.{IsSmall};
+ghost use Rattle.rept_runs.specs.Told.{Traced, AreApart, IsTracedRun};
+ghost use Rattle.rept_runs.specs.Kind.{path_rows, EndsPath};
+ghost use Rattle.rept_runs.specs.Opened.{CrashBytes, HasNotes};
+
+/// A run of few threads, no two of one process, is as small as an analysis wants it. The notes of a core file that is accepted are such ones, and there are no others.
+pub fn runs_are_small()
+    ensures small { (t : Traced) (run : Run) → IsTracedRun t run → AreApart t.notes → IsSmall (course_of run) }
+    ensures apart { (b : CrashBytes) (descs : List (List ℕ)) → HasNotes b descs → AreApart descs }
+    ensures only { (b : CrashBytes) (descs others : List (List ℕ)) → HasNotes b descs → HasNotes b others → descs ≡ others }
+{}
+
+/// A run that is one path has a step, there is one note, and the path ends at its program counter.
+pub fn paths_are_whole()
+    ensures { (t : Traced) (run : Run) (rows : List StepRow) → IsTracedRun t run → path_rows run ≡ Some rows → EndsPath t.notes rows }
+{}
