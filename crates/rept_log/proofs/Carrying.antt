@@ -1,18 +1,16 @@
 -- Reasons by which a byte is carried.
-use Rattle.std.proofs.Common.{◌≡◌, ℕ, zero, suc, ◌+◌, ◌<◌, ◌≤◌, ◌⊎◌, ◌&&◌, Bool, true, false, cond, eqb, inl, inr, List, [], ◌∷◌, Option, Some, None, is_some, IsSome, IfNone, refl, sym, ap, subst, ◌∙◌, arith}
+use Rattle.std.proofs.Common.{◌≡◌, ℕ, zero, suc, ◌<◌, ◌≤◌, ◌⊎◌, ◌&&◌, true, eqb, inl, inr, List, [], ◌∷◌, Some, None, is_some, refl, sym, ap, subst, ◌∙◌, arith}
 use Rattle.std.proofs.lemmas.Bool.{cases_Bool, cases_eq, cond-true, cond-false, eq-eqb, eqb-true, and_parts, and_from}
 use Rattle.rept_reason.specs.declared.fact.Fact.{Fact}
 use Rattle.rept_reason.specs.declared.fact.Cell.{Cell}
 use Rattle.rept_reason.specs.declared.fact.Cell.TheVariants.{Byte}
 use Rattle.rept_reason.specs.declared.reason.Looked.{Looked}
-use Rattle.rept_reason.specs.declared.reason.Reason.{Reason}
 use Rattle.rept_reason.specs.Facts.{Knowledge, told}
 use Rattle.rept_nearest.specs.declared.found.Found.{Found}
 use Rattle.rept_nearest.specs.Nets.{IsNearest}
-use Rattle.rept_nearest.specs.Nets.IsWithin.{here}
 use Rattle.rept_report.specs.Setting.{Setting, HasLaws}
 use Rattle.rept_report.specs.Spots.{Passage, passage, spot}
-use Rattle.rept_report.specs.Timeline.{Timeline, IsBetween, IsRowBetween}
+use Rattle.rept_report.specs.Timeline.{IsBetween, IsRowBetween}
 use Rattle.rept_report.specs.Views.{Carries}
 use Rattle.rept_report.specs.Reasons.{IsReached}
 use Rattle.rept_report.specs.Reasons.IsReached.{here as reached_here, onward as reached_onward, back as reached_back}
@@ -22,10 +20,10 @@ use Rattle.rept_report.proofs.Why.{carries_is}
 use Rattle.rept_origin.specs.declared.step.Way.{Way}
 use Rattle.rept_origin.specs.declared.step.Way.TheVariants.{Onward, Back}
 use Rattle.rept_origin.specs.declared.step.Step.{Step}
-use Rattle.rept_origin.specs.Bridges.{carries_by, IsBeside}
+use Rattle.rept_origin.specs.Bridges.{carries_by}
 use Rattle.rept_origin.specs.Logs.{time_of, byte_in, links_in}
-use Rattle.rept_origin.proofs.Reached.{as_soon, not_sooner, never, beside_is_nearer}
-use Rattle.rept_log.specs.Fronts.{FrontView, setting_in, told_by, IsNotOfDump, IsCarriedBy}
+use Rattle.rept_origin.proofs.Reached.{as_soon, never}
+use Rattle.rept_log.specs.Fronts.{FrontView, setting_in, IsNotOfDump, IsCarriedBy}
 
 -- the ranges by which the row between two moments may not write a byte
 module _ {W : Type 0} (S : Setting W) (K : Knowledge) (x : Passage) where

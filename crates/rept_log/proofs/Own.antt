@@ -1,5 +1,5 @@
 -- The bytes of a row that were found are all that its rules look at.
-use Rattle.std.proofs.Common.{◌≡◌, ℕ, zero, suc, ◌<◌, ◌≤◌, cond, eqb, inl, inr, List, [], ◌∷◌, ◌++◌, Option, Some, None, map, min, refl, sym, ap, subst, ◌∙◌, arith}
+use Rattle.std.proofs.Common.{◌≡◌, ℕ, zero, suc, ◌<◌, cond, eqb, inl, inr, List, [], ◌∷◌, ◌++◌, Option, Some, None, map, min, refl, sym, ap, subst, ◌∙◌, arith}
 use Rattle.std.specs.Prelude.{⊤}
 use Rattle.std.specs.List.{Contains}
 use Rattle.std.proofs.lemmas.Bool.{cases_eq, cases_order, cond-true, cond-false, eq-eqb, ne_eqb}
@@ -8,7 +8,6 @@ use Rattle.rept_isa.specs.Numbers.{plus}
 use Rattle.rept_isa.specs.Operands.{first_read}
 use Rattle.rept_machine.specs.Arithmetic.{beside}
 use Rattle.rept_reason.specs.declared.fact.Fact.{Fact}
-use Rattle.rept_reason.specs.declared.fact.Cell.{Cell}
 use Rattle.rept_reason.specs.declared.fact.Cell.TheVariants.{Register, Byte}
 use Rattle.rept_view.specs.declared.drawn.When.{When}
 use Rattle.rept_view.specs.declared.drawn.When.TheVariants.{Before, After}

@@ -1,11 +1,11 @@
 //! Reasons by what rows let one draw in a prefix of a log.
 
-ghost use Rattle.std.specs.Prelude.{◌≡◌, ◌-◌, ◌<◌, map, Some, IsSome, IfOk, IfSome, IfNone, Contains};
+ghost use Rattle.std.specs.Prelude.{◌≡◌, ◌-◌, ◌<◌, ◌≤◌, length, map, Some, IsSome, IfOk, IfSome, IfNone, Contains};
 ghost use Rattle.rept_reason.specs.declared.fact.Cell.TheVariants.{Register, Byte};
 ghost use Rattle.rept_view.specs.declared.drawn.Drawn.{Drawn};
 ghost use Rattle.rept_view.specs.Seen.{seen_cell};
 ghost use Rattle.rept_report.specs.Why.{premise_of, IsDrawnBecause};
-ghost use Rattle.rept_log.specs.Fronts.{basis_of, front_of, stands, told_by, IsNotDrawn, IsNotDrawnBy, AreNotDrawnBefore, AreNotDrawnAfter, Gives, setting_in};
+ghost use Rattle.rept_log.specs.Fronts.{basis_of, front_of, stands, told_by, IsInPlace, IsNotDrawn, IsNotDrawnBy, AreNotDrawnBefore, AreNotDrawnAfter, Gives, setting_in};
 
 use super::Front;
 use super::views::Standing;
@@ -86,16 +86,18 @@ impl<'k, 'd, P: Paths, L: LastValues, B: ByteFacts, W: Transfer, R: RowRules> Fr
         view: &V,
         i: u32,
         needs: &[Need],
-    ) -> Result<SmallVec<Fact, 10>, OutOfMemory>
-        requires { IsSome ((P.timeline self.now.paths).legs.row i) }
-        ensures { IfOk result (λ v. v.items ≡ map (premise_of (P.timeline self.now.paths).moments (V.seen view.now) i) needs.now) }
+    ) -> SmallVec<Fact, 10>
+        requires row { IsSome ((P.timeline self.now.paths).legs.row i) }
+        requires few { length needs.now ≤ 10 }
+        ensures facts { result.items ≡ map (premise_of (P.timeline self.now.paths).moments (V.seen view.now) i) needs.now }
+        ensures room { result.capacity ≡ 10 }
     {
         let mut premises = SmallVec::new(alloc);
         for need in needs {
             let premise = self.premise(view, i, need);
-            premises.push(premise)?;
+            premises.push_reserved(premise);
         }
-        Ok(premises)
+        premises
     }
 
     /// The reason by what row i lets one draw.
@@ -110,6 +112,7 @@ impl<'k, 'd, P: Paths, L: LastValues, B: ByteFacts, W: Transfer, R: RowRules> Fr
         requires { (P.timeline self.now.paths).legs.row i ≡ Some row.now }
         ensures found { IfOk result (λ found. IfSome found (λ reason. IsDrawnBecause (setting_in (front_of W.sets W.moves R.rules (basis_of P.timeline L.values self.now))) (stands (front_of W.sets W.moves R.rules (basis_of P.timeline L.values self.now))) fact.now (told_by reason))) }
         ensures none { IfOk result (λ found. IfNone found (IsNotDrawnBy (front_of W.sets W.moves R.rules (basis_of P.timeline L.values self.now)) i fact.now)) }
+        ensures room { IfOk result (λ found. IfSome found IsInPlace) }
     {
         let _count = self.count();
         let bytes = self.row_bytes(alloc, i, row)?;
@@ -123,7 +126,7 @@ impl<'k, 'd, P: Paths, L: LastValues, B: ByteFacts, W: Transfer, R: RowRules> Fr
             None => Ok(None),
             Some(drawn) => {
                 let needs = R::needs(alloc, row, &view, &drawn);
-                let premises = self.premises(alloc, &view, i, needs.as_slice())?;
+                let premises = self.premises(alloc, &view, i, needs.as_slice());
                 Ok(Some(Reason {
                     rule: drawn.rule,
                     premises,
@@ -143,6 +146,7 @@ impl<'k, 'd, P: Paths, L: LastValues, B: ByteFacts, W: Transfer, R: RowRules> Fr
     ) -> Result<Option<Reason>, OutOfMemory>
         ensures found { IfOk result (λ found. IfSome found (λ reason. IsDrawnBecause (setting_in (front_of W.sets W.moves R.rules (basis_of P.timeline L.values self.now))) (stands (front_of W.sets W.moves R.rules (basis_of P.timeline L.values self.now))) fact.now (told_by reason))) }
         ensures none { IfOk result (λ found. IfNone found (IsNotDrawnBy (front_of W.sets W.moves R.rules (basis_of P.timeline L.values self.now)) i fact.now)) }
+        ensures room { IfOk result (λ found. IfSome found IsInPlace) }
     {
         match self.row(i) {
             None => Ok(None),
@@ -159,6 +163,7 @@ impl<'k, 'd, P: Paths, L: LastValues, B: ByteFacts, W: Transfer, R: RowRules> Fr
     ) -> Result<Option<Reason>, OutOfMemory>
         ensures found { IfOk result (λ found. IfSome found (λ reason. IsDrawnBecause (setting_in (front_of W.sets W.moves R.rules (basis_of P.timeline L.values self.now))) (stands (front_of W.sets W.moves R.rules (basis_of P.timeline L.values self.now))) fact.now (told_by reason))) }
         ensures none { IfOk result (λ found. IfNone found (0 < fact.now.point → IsNotDrawnBy (front_of W.sets W.moves R.rules (basis_of P.timeline L.values self.now)) (fact.now.point - 1) fact.now)) }
+        ensures room { IfOk result (λ found. IfSome found IsInPlace) }
     {
         if fact.point == 0 {
             return Ok(None);
@@ -177,6 +182,7 @@ impl<'k, 'd, P: Paths, L: LastValues, B: ByteFacts, W: Transfer, R: RowRules> Fr
         requires { fact.now.cell ≡ Register r }
         ensures found { IfOk result (λ found. IfSome found (λ reason. IsDrawnBecause (setting_in (front_of W.sets W.moves R.rules (basis_of P.timeline L.values self.now))) (stands (front_of W.sets W.moves R.rules (basis_of P.timeline L.values self.now))) fact.now (told_by reason))) }
         ensures none { IfOk result (λ found. IfNone found (IsNotDrawn (front_of W.sets W.moves R.rules (basis_of P.timeline L.values self.now)) fact.now)) }
+        ensures room { IfOk result (λ found. IfSome found IsInPlace) }
     {
         let found = self.drawn_to(rules, alloc, fact)?;
         if found.is_some() {
@@ -194,6 +200,7 @@ impl<'k, 'd, P: Paths, L: LastValues, B: ByteFacts, W: Transfer, R: RowRules> Fr
     ) -> Result<Option<Reason>, OutOfMemory>
         ensures found { IfOk result (λ found. IfSome found (λ reason. IsDrawnBecause (setting_in (front_of W.sets W.moves R.rules (basis_of P.timeline L.values self.now))) (stands (front_of W.sets W.moves R.rules (basis_of P.timeline L.values self.now))) fact.now (told_by reason))) }
         ensures none { IfOk result (λ found. IfNone found (AreNotDrawnBefore (front_of W.sets W.moves R.rules (basis_of P.timeline L.values self.now)) (P.timeline self.now.paths).legs.count fact.now)) }
+        ensures room { IfOk result (λ found. IfSome found IsInPlace) }
     {
         let count = self.count();
         let mut least = 0;
@@ -219,6 +226,7 @@ impl<'k, 'd, P: Paths, L: LastValues, B: ByteFacts, W: Transfer, R: RowRules> Fr
     ) -> Result<Option<Reason>, OutOfMemory>
         ensures found { IfOk result (λ found. IfSome found (λ reason. IsDrawnBecause (setting_in (front_of W.sets W.moves R.rules (basis_of P.timeline L.values self.now))) (stands (front_of W.sets W.moves R.rules (basis_of P.timeline L.values self.now))) fact.now (told_by reason))) }
         ensures none { IfOk result (λ found. IfNone found (AreNotDrawnAfter (front_of W.sets W.moves R.rules (basis_of P.timeline L.values self.now)) fact.now)) }
+        ensures room { IfOk result (λ found. IfSome found IsInPlace) }
     {
         match self.row_at(fact.point) {
             None => Ok(None),
@@ -226,8 +234,8 @@ impl<'k, 'd, P: Paths, L: LastValues, B: ByteFacts, W: Transfer, R: RowRules> Fr
         }
     }
 
-    /// The reason of a byte's fact by what a row beside its moment lets one draw, one after which it lies first. `OutOfMemory` says that its
-    /// room can't be had.
+    /// The reason of a byte's fact by what a row beside its moment lets one draw, one after which it lies first. `OutOfMemory` says that the
+    /// room for finding the bytes that a row's rules look at can't be had; the reason takes none.
     pub fn of_drawn_byte(
         &self,
         rules: &mut R,
@@ -238,6 +246,7 @@ impl<'k, 'd, P: Paths, L: LastValues, B: ByteFacts, W: Transfer, R: RowRules> Fr
         requires { fact.now.cell ≡ Byte a }
         ensures found { IfOk result (λ found. IfSome found (λ reason. IsDrawnBecause (setting_in (front_of W.sets W.moves R.rules (basis_of P.timeline L.values self.now))) (stands (front_of W.sets W.moves R.rules (basis_of P.timeline L.values self.now))) fact.now (told_by reason))) }
         ensures none { IfOk result (λ found. IfNone found (IsNotDrawn (front_of W.sets W.moves R.rules (basis_of P.timeline L.values self.now)) fact.now)) }
+        ensures room { IfOk result (λ found. IfSome found IsInPlace) }
     {
         let _count = self.count();
         let found = self.drawn_before(rules, alloc, fact)?;

@@ -1,4 +1,3 @@
-use Rattle.std.proofs.Common.{refl, sym, subst}
 use Rattle.rept_log.proofs.Telling.{told_nothing}
 use Rattle.rept_log.proofs.fact_log.FactLog.bytes_below.Goals as goal
 

@@ -1,4 +1,4 @@
-use Rattle.std.proofs.Common.{◌≡◌, ◌<◌, ◌≤◌, ℕ, IsSome, subst, sym, arith}
+use Rattle.std.proofs.Common.{◌<◌, ℕ, IsSome, subst, arith}
 use Rattle.rept_report.specs.Setting.{HasLaws}
 use Rattle.rept_log.specs.Fronts.{Stored, basis_of, front_of, setting_in}
 use Rattle.rept_log.proofs.Fronts.{row_inside}

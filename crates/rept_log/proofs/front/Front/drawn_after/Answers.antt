@@ -1,4 +1,3 @@
-use Rattle.std.proofs.Common.{sym, ◌∙◌}
 use Rattle.std.proofs.lemmas.Result.{IfOk-weaker}
 use Rattle.rept_log.specs.Fronts.{basis_of, front_of}
 use Rattle.rept_log.proofs.Reasoning.{none_after, not_after_none, not_after_one}

@@ -1,4 +1,4 @@
-use Rattle.std.proofs.Common.{◌≡◌, ◌<◌, IsSome, subst, sym, arith}
+use Rattle.std.proofs.Common.{◌≡◌, subst}
 use Rattle.rept_report.specs.Views.{instant_of}
 use Rattle.rept_log.specs.Fronts.{Stored}
 use Rattle.rept_log.proofs.front.Front.instant.Goals as goal
