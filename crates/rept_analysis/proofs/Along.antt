@@ -1,5 +1,5 @@
 -- What the definitions for several threads say of the path of one.
-use Rattle.std.proofs.Common.{◌≡◌, ℕ, ◌+◌, ◌<◌, ◌≤◌, true, false, Option, Some, None, IfSome, refl, sym, ap, arith}
+use Rattle.std.proofs.Common.{◌≡◌, ℕ, ◌+◌, ◌<◌, ◌≤◌, true, false, Option, Some, None, IfSome, refl, sym, ap, subst, arith}
 use Rattle.rept_reason.specs.declared.fact.Cell.{Cell}
 use Rattle.rept_reason.specs.Facts.{Knowledge}
 use Rattle.rept_view.specs.declared.drawn.When.{When}
@@ -15,7 +15,7 @@ use Rattle.rept_view.specs.declared.drawn.When.TheVariants.{Before, After}
 use Rattle.rept_report.specs.Given.{Given}
 use Rattle.rept_report.specs.OneThread.{IsLine}
 use Rattle.rept_isa.specs.declared.row.StepRow.{StepRow}
-use Rattle.rept_report.proofs.Line.{last_is, instant_is, CarriesBefore, carries_is_before, before_carries, settled_is, is_settled_from}
+use Rattle.rept_report.proofs.Line.{next_is, last_is, instant_is, CarriesBefore, carries_is_before, before_carries, settled_is, is_settled_from}
 use Rattle.rept_analysis.specs.State.{Path, along}
 
 -- of one path the end is the last point
@@ -28,13 +28,17 @@ point_early g line p few = let same = end_is g line in omega (arith, few, same)
 pub end_early : (g : Given) → IsLine g → (p : ℕ) → p ≤ g.moments.end → p ≤ g.legs.count
 end_early g line p few = let same = end_is g line in omega (arith, few, same)
 
+-- of one path the one next moment is that of the next number
+pub one_link : (g : Given) → IsLine g → (m w : ℕ) → g.moments.next m w ≡ true → w ≡ m + 1
+one_link g line m w next = (next_is g.legs.count m w (subst (λ (t : Moments). t.next m w ≡ true) line.moments next)).1
+
 -- a row isn't both there and not
 pub no_row : (o : Option StepRow) (row : StepRow) → o ≡ None → o ≡ Some row → ⊥
 no_row None row e f = cc
 no_row (Some x) row e f = cc
 
 -- a row that is there
-some_row : (o : Option StepRow) → IsSome o → (row : StepRow) × (o ≡ Some row)
+pub some_row : (o : Option StepRow) → IsSome o → (row : StepRow) × (o ≡ Some row)
 some_row None some = cc
 some_row (Some row) some = (row, refl)
 

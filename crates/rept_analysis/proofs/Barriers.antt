@@ -1,5 +1,6 @@
 -- The rows by which bytes are carried stay such rows as more is known, and when one of them is put in their list anew.
-use Rattle.std.proofs.Common.{◌≡◌, ℕ, zero, suc, ◌+◌, ◌-◌, ◌<◌, ◌≤◌, ◌^◌, false, List, length, Some, inl, inr, refl, sym, ap, subst, ◌∙◌, arith, get_or, set, slice_get}
+use Rattle.std.proofs.Common.{◌≡◌, ℕ, zero, suc, ◌+◌, ◌<◌, ◌^◌, false, List, length, Some, inl, inr, refl, sym, ap, subst, ◌∙◌, arith, get_or, set, slice_get}
+use Rattle.std.specs.Option.{IsSome}
 use Rattle.std.proofs.lemmas.Bool.{cases_eq}
 use Rattle.std.proofs.lemmas.List.{length-set}
 use Rattle.std.proofs.lemmas.Option.{slice_get-get_or, slice_get_within}
@@ -9,33 +10,35 @@ use Rattle.rept_reason.specs.declared.fact.Cell.TheVariants.{Register}
 use Rattle.rept_span.proofs.Filling.{set_here, set_elsewhere}
 use Rattle.rept_writing.specs.Hits.{AreInOrder}
 use Rattle.rept_writing.specs.declared.list.Writing.{Writing}
-use Rattle.rept_report.specs.Moments.{Moments}
-use Rattle.rept_report.specs.OneThread.{IsLine}
 use Rattle.rept_report.specs.Setting.{HasLaws}
 use Rattle.rept_report.specs.Views.{may_write}
 use Rattle.rept_report.specs.Conclusions.{HasWords}
 use Rattle.rept_report.specs.Conflicts.{IsQuiet}
 use Rattle.rept_report.specs.Log.{oldest}
 use Rattle.rept_report.proofs.Monotony.{quiet_less, spared_more}
-use Rattle.rept_analysis.specs.Work.{row_past}
+use Rattle.rept_analysis.specs.Work.{number_past}
 use Rattle.rept_analysis.specs.State.{State, all_known, with_writing, Path, along}
-use Rattle.rept_analysis.specs.Drawing.{Knows, IsSilent, IsSpared, IsSparedNow, past, IsBarrier, AreBarriers, AreWritings, Grows, IsUncut}
+use Rattle.rept_analysis.specs.Drawing.{Knows, IsSilent, IsSpared, IsSparedNow, IsListed, past, IsBarrier, AreBarriers, AreWritings, Grows, IsUncut}
 
 module _ {W : Type 0} (s t : State W) (laws : HasLaws (along s.path)) (words : HasWords (all_known t)) (setting : t.path ≡ s.path) (older : oldest t.filled t.known.log ≡ oldest s.filled s.known.log) (more : (p : ℕ) (c : Cell) (v : ℕ) → Knows p c v s → Knows p c v t) where
   -- a row that may not write a byte may not where more is known
-  spared_still : (i a : ℕ) → a < 2 ^ 32 → IsSpared i a s → IsSpared i a t
+  pub spared_still : (i a : ℕ) → a < 2 ^ 32 → IsSpared i a s → IsSpared i a t
   spared_still i a small (inl old) = inl (rw (setting, older) old)
   spared_still i a small (inr now) = inr (subst (λ (P : Path W). IsQuiet (along P) (all_known t) → may_write (along P) (all_known t) i a ≡ false) (sym setting) (λ quiet.
       spared_more (along s.path) laws (all_known s) (all_known t) (λ p r v e. more p (Register r) v e) words quiet i a small (now (quiet_less (along s.path) laws (all_known s) (all_known t) (λ p r v e. more p (Register r) v e) quiet))))
 
-  silent_still : (from to : ℕ) → IsSilent from to s → IsSilent from to t
-  silent_still from to h i a le lt small = rw (setting, older) (h i a le lt small)
+  silent_still : (i : ℕ) → IsSilent i s → IsSilent i t
+  silent_still i h a small = rw (setting, older) (h a small)
 
   pub barriers_still : (list : List Writing) → AreBarriers list s → AreBarriers list t
   barriers_still list h = record {
-    each = λ k w at. let x = h.each k w at in record { low = x.low; inside = rw setting x.inside; time = rw setting x.time; others = λ a small miss. spared_still w.row a small (x.others a small miss); silent = silent_still (past list k) w.row x.silent };
-    low = rw setting h.low;
-    silent = λ i a le lt small. silent_still (past list (length list)) (s.path.given.legs.count) h.silent i a le (subst (λ (P : Path W). i < P.given.legs.count) setting lt) small;
+    each = λ k w at. let x = h.each k w at in record { there = rw setting x.there; time = rw setting x.time; others = λ a small miss. spared_still w.row a small (x.others a small miss) };
+    order = h.order;
+    all = λ i there.
+        elim (h.all i (subst (λ (P : Path W). IsSome (P.given.legs.row i)) setting there)) [
+          | inl listed ↦ inl listed
+          | inr silent ↦ inr (silent_still i silent)
+        ];
   }
 
 pub writings_still : {W : Type 0} (s t : State W) → t.path ≡ s.path → t.spans ≡ s.spans → oldest t.filled t.known.log ≡ oldest s.filled s.known.log → ((p : ℕ) (c : Cell) (v : ℕ) → Knows p c v s → Knows p c v t) → t.work.writing ≡ s.work.writing → (HasWords (all_known s) → HasWords (all_known t)) → AreWritings s → AreWritings t
@@ -49,54 +52,79 @@ writings_still s t setting spans older more same words h = record {
 same_writing : {x y : Writing} → Some x ≡ Some y → x ≡ y
 same_writing e = cc
 
--- the row at an index
-pub past_at : (list : List Writing) (k : ℕ) (w : Writing) → slice_get list k ≡ Some w → past list (k + 1) ≡ w.row + 1
+-- the number after that of the entry at an index
+pub past_at : (list : List Writing) (k : ℕ) (w : Writing) → slice_get list k ≡ Some w → past list (k + 1) ≡ w.at + 1
 past_at list k w at = at_suc (k + 1) refl
   where
-    at_suc : (n : ℕ) → n ≡ k + 1 → past list n ≡ w.row + 1
+    at_suc : (n : ℕ) → n ≡ k + 1 → past list n ≡ w.at + 1
     at_suc zero e = absurd (omega (arith, e))
-    at_suc (suc m) e = let same : m ≡ k = omega (arith, e) in rw same (ap row_past at)
+    at_suc (suc m) e = let same : m ≡ k = omega (arith, e) in rw same (ap number_past at)
 
--- another row of the same number at an index
+-- another entry of the same row at an index
 module _ (list : List Writing) (k : ℕ) (w x : Writing) (found : slice_get list k ≡ Some w) (row : x.row ≡ w.row) where
   there : slice_get (set list k x) k ≡ Some x
   there = set_here list k x (slice_get_within list k w found)
 
-  past_set : (j : ℕ) → past (set list k x) j ≡ past list j
-  past_set zero = refl
-  past_set (suc j) =
-      elim (cases_eq j k) [
-        | inl e ↦ let same : row_past (slice_get (set list k x) k) ≡ row_past (slice_get list k) = ap row_past there ∙ ap (λ (n : ℕ). n + 1) row ∙ sym (ap row_past found) in rw e same
-        | inr ne ↦ ap row_past (set_elsewhere list k j x ne)
+  listed_set : (i : ℕ) → IsListed list i → IsListed (set list k x) i
+  listed_set i h =
+      elim (cases_eq h.index k) [
+        | inl e ↦
+            let same : w ≡ h.writing = same_writing (sym found ∙ subst (λ (n : ℕ). slice_get list n ≡ Some h.writing) e h.found) in
+            record { index = k; writing = x; found = there; row = row ∙ ap (λ (y : Writing). y.row) same ∙ h.row }
+        | inr ne ↦ record { index = h.index; writing = h.writing; found = set_elsewhere list k h.index x ne ∙ h.found; row = h.row }
       ]
 
+  module _ (time : x.at ≡ w.at) where
+    at_set : (i : ℕ) (d : Writing) → i < length list → (get_or (set list k x) i d).at ≡ (get_or list i d).at
+    at_set i d inside =
+        let long = length-set list k x in
+        let new = slice_get-get_or (set list k x) i d (omega (arith, inside, long)) in
+        let old = slice_get-get_or list i d inside in
+        elim (cases_eq i k) [
+          | inl e ↦
+              let here : x ≡ get_or (set list k x) i d = same_writing (sym there ∙ subst (λ (n : ℕ). slice_get (set list k x) n ≡ Some (get_or (set list k x) i d)) e new) in
+              let before : w ≡ get_or list i d = same_writing (sym found ∙ subst (λ (n : ℕ). slice_get list n ≡ Some (get_or list i d)) e old) in
+              sym (ap (λ (y : Writing). y.at) here) ∙ time ∙ ap (λ (y : Writing). y.at) before
+          | inr ne ↦ ap (λ (y : Writing). y.at) (same_writing (sym new ∙ set_elsewhere list k i x ne ∙ old))
+        ]
+
+    order_set : AreInOrder list → AreInOrder (set list k x)
+    order_set order i j d le lt =
+        let long = length-set list k x in
+        let before = order i j d le (omega (arith, lt, long)) in
+        let first = at_set i d (omega (arith, le, lt, long)) in
+        let second = at_set j d (omega (arith, lt, long)) in
+        omega (arith, before, first, second)
+
   module _ {W : Type 0} (s : State W) (free : (a : ℕ) → a < 2 ^ 32 → call_hits x.access a ≡ false → IsSparedNow w.row a s) (time : x.at ≡ s.path.given.moments.before w.row) (h : AreBarriers list s) where
-    anew_here : IsBarrier (set list k x) k x s
+    anew_here : IsBarrier x s
     anew_here =
         let old = h.each k w found in
-        record { low = rw (past_set k, row) old.low; inside = rw row old.inside; time = rw row time; others = λ a small miss. rw row (inr (free a small miss)); silent = rw (past_set k, row) old.silent }
+        record { there = rw row old.there; time = rw row time; others = λ a small miss. rw row (inr (free a small miss)) }
 
-    anew_each : (j : ℕ) (y : Writing) → slice_get (set list k x) j ≡ Some y → IsBarrier (set list k x) j y s
+    anew_each : (j : ℕ) (y : Writing) → slice_get (set list k x) j ≡ Some y → IsBarrier y s
     anew_each j y at =
         elim (cases_eq j k) [
-          | inl e ↦ let same : x ≡ y = same_writing (sym there ∙ subst (λ (n : ℕ). slice_get (set list k x) n ≡ Some y) e at) in rw (e, ← same) anew_here
-          | inr ne ↦
-              let old = h.each j y (sym (set_elsewhere list k j x ne) ∙ at) in
-              record { low = rw (past_set j) old.low; inside = old.inside; time = old.time; others = old.others; silent = rw (past_set j) old.silent }
+          | inl e ↦ let same : x ≡ y = same_writing (sym there ∙ subst (λ (n : ℕ). slice_get (set list k x) n ≡ Some y) e at) in subst (λ (z : Writing). IsBarrier z s) same anew_here
+          | inr ne ↦ h.each j y (sym (set_elsewhere list k j x ne) ∙ at)
         ]
 
     pub barriers_anew : AreBarriers (set list k x) s
     barriers_anew = record {
       each = anew_each;
-      low = rw (length-set list k x, past_set (length list)) h.low;
-      silent = rw (length-set list k x, past_set (length list)) h.silent;
+      order = order_set (time ∙ sym (h.each k w found).time) h.order;
+      all = λ i some.
+          elim (h.all i some) [
+            | inl listed ↦ inl (listed_set i listed)
+            | inr silent ↦ inr silent
+          ];
     }
 
 barriers_listed : {W : Type 0} (s : State W) (rows list : List Writing) → AreBarriers rows s → AreBarriers rows (with_writing s list)
 barriers_listed s rows list h = record {
-  each = λ k w at. let x = h.each k w at in record { low = x.low; inside = x.inside; time = x.time; others = x.others; silent = x.silent };
-  low = h.low;
-  silent = h.silent;
+  each = λ k w at. let x = h.each k w at in record { there = x.there; time = x.time; others = x.others };
+  order = h.order;
+  all = h.all;
 }
 
 -- a row of the list was put in it anew, with what it may write by all that is known by now
@@ -125,25 +153,3 @@ module _ {W : Type 0} (s t : State W) (k : ℕ) (x : Writing) (within : k < leng
 
   pub anew_grows : Grows s t
   anew_grows = put_grows s t (set s.work.writing k x) is (put_writings s t k former x found (sym (listed former found)) (λ a small miss. subst (λ (i : ℕ). IsSparedNow i a s) (sym (listed former found)) (free a small miss)) (subst (λ (i : ℕ). x.at ≡ s.path.given.moments.before i) (sym (listed former found)) time) is)
-
--- of one path a row stands at its own number
-pub stands_at : {W : Type 0} (list : List Writing) (s : State W) → IsLine s.path.given → AreBarriers list s → (k : ℕ) (w : Writing) → slice_get list k ≡ Some w → w.at ≡ w.row
-stands_at list s line h k w at = (h.each k w at).time ∙ ap (λ (t : Moments). t.before w.row) line.moments
-
--- the rows of the list stand in the order of their numbers
-pub barriers_ordered : {W : Type 0} (list : List Writing) (s : State W) → IsLine s.path.given → AreBarriers list s → AreInOrder list
-barriers_ordered list s line h i j d le lt = rising (j - i) j (omega (arith, le)) lt
-  where
-    rising : (m n : ℕ) → n ≡ i + m → n < length list → (get_or list i d).at ≤ (get_or list n d).at
-    rising zero n e inside = let same : i ≡ n = omega (arith, e) in subst (λ (y : ℕ). (get_or list i d).at ≤ (get_or list y d).at) same (omega arith)
-    rising (suc m) n e inside =
-        let k : ℕ = i + m in
-        let same : k + 1 ≡ n = omega (arith, e) in
-        let before = rising m k refl (omega (arith, inside, same)) in
-        let at = slice_get-get_or list k d (omega (arith, inside, same)) in
-        let more = slice_get-get_or list (k + 1) d (omega (arith, inside, same)) in
-        let next = past_at list k (get_or list k d) at in
-        let low = (h.each (k + 1) (get_or list (k + 1) d) more).low in
-        let here = stands_at list s line h k (get_or list k d) at in
-        let there = stands_at list s line h (k + 1) (get_or list (k + 1) d) more in
-        subst (λ (y : ℕ). (get_or list i d).at ≤ (get_or list y d).at) same (omega (arith, before, next, low, here, there))

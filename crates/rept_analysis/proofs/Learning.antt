@@ -286,11 +286,13 @@ module _ {W : Type 0} (s : State W) (laws : HasLaws (along s.path)) (kept : IsKe
 
   byte_room : (keep : Bool) → HasPlace keep p a s → (k : Known) → AddsByte (known_change joins s.known k) byte_learnt keep → ((q : ℕ) (c : Cell) (w : ℕ) → all_known s q c ≡ Some w → knows k q c ≡ Some w) → s.work.joins ≡ true → HasRoom s.path k
   byte_room true place k adds more j = room_drawn s.path laws s.known k more joins p a v place adds (kept.roomy j)
-  byte_room false place k adds more j = room_last s.path s.known k more joins p a v place tracked adds (kept.roomy j)
+  byte_room false (inl place) k adds more j = room_last s.path s.known k more joins p a v place tracked adds (kept.roomy j)
+  byte_room false (inr plain) k adds more j = absurd (false≢true (sym plain ∙ j))
 
   byte_full : (keep : Bool) → HasPlace keep p a s → HasNoRoom s.known p a keep → s.work.joins ≡ false
   byte_full true place full = false_from_ne_true s.work.joins (λ j. room_to_draw s.path laws s.known (kept.roomy j) p a place full)
-  byte_full false place full = false_from_ne_true s.work.joins (λ j. room_to_read s.path s.known (kept.roomy j) p a place tracked full)
+  byte_full false (inl place) full = false_from_ne_true s.work.joins (λ j. room_to_read s.path s.known (kept.roomy j) p a place tracked full)
+  byte_full false (inr plain) full = plain
 
   pub told_byte : (keep : Bool) → (keep ≡ false → IsBrought s g) → HasPlace keep p a s → (k : Known) → OnceEach k.log → (r : Result Answer AllocError) → LearnsByte (known_change joins s.known k) byte_learnt keep r → IsKept (with_known s k) × TellsByte s (with_known s k) g r
   told_byte keep brought place k once (Err e) (same, full) = (kept_same s k same kept, (same_known s k same, byte_full keep place full))
@@ -362,7 +364,7 @@ module _ {W : Type 0} (s : State W) (kept : IsKept s) (a : ℕ) (small : a < 2 ^
   tracked_byte k (Ok true) h = (track_kept k h, (track_grows k h, address a small h.was_not (now_tracked k h), now_tracked k h, h.log, h.fact, refl))
 
 -- a new analysis
-pub fresh_kept : {W : Type 0} (s : State W) (bytes : ℕ) → IsLine s.path.given → bytes ≡ sum_to (places_at s.path) (s.path.given.legs.count) → s.path.given.legs.count ≤ 65536 → ((p : ℕ) → length (s.path.given.last p) ≡ 32) → IsNew s.work.joins s.known (s.path.given.legs.count) bytes → s.spans.points ≡ s.path.given.legs.count + 1 → s.filled ≡ 0 → s.shown ≡ 0 → s.complete ≡ false → s.conflict ≡ None → s.path.given.legs.count ≤ s.work.room → length s.work.drawn ≡ s.path.given.legs.count → ((i : ℕ) (x : Pass) → slice_get s.work.drawn i ≡ Some x → x ≡ Never) → IsKept s
+pub fresh_kept : {W : Type 0} (s : State W) (bytes : ℕ) → IsLine s.path.given → bytes ≡ sum_to (places_at s.path) (s.path.given.legs.count) → s.path.given.legs.count ≤ 65536 → ((p : ℕ) → length (s.path.given.last p) ≡ 32) → IsNew s.work.joins s.known (s.path.given.legs.count) bytes → s.spans.points ≡ s.path.given.legs.count + 1 → s.filled ≡ 0 → s.shown ≡ 0 → s.complete ≡ false → s.conflict ≡ None → s.path.given.moments.end < s.work.room → length s.work.drawn ≡ s.path.given.legs.count → ((i : ℕ) (x : Pass) → slice_get s.work.drawn i ≡ Some x → x ≡ Never) → IsKept s
 fresh_kept s bytes line sum few registers new sized filled shown open_ calm_ room rows never = record {
   line = line;
   few = few;

@@ -7,6 +7,7 @@ pub mod Counting
 pub mod Drawn
 pub mod Ending
 pub mod Following
+pub mod Going
 pub mod Learning
 pub mod Listing
 pub mod Measure

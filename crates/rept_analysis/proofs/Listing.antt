@@ -1,132 +1,163 @@
--- The list of the rows that may write.
-use Rattle.std.proofs.Common.{◌≡◌, ℕ, zero, suc, ◌+◌, ◌-◌, ◌<◌, ◌≤◌, ◌^◌, ◌⊎◌, true, false, List, [], ◌∷◌, ◌++◌, length, Option, Some, None, inl, inr, refl, sym, ap, subst, ◌∙◌, arith, slice_get}
-use Rattle.std.proofs.lemmas.Bool.{cases_lt, cases_eq, false≢true}
+-- The list of the rows that may write, and the numbers between which a byte is carried by it.
+use Rattle.std.proofs.Common.{◌≡◌, ℕ, zero, suc, ◌+◌, ◌<◌, ◌≤◌, ◌^◌, ◌⊎◌, Bool, true, false, List, [], ◌∷◌, ◌++◌, length, Option, Some, None, inl, inr, refl, sym, ap, subst, ◌∙◌, arith, slice_get, get_or, max, min, eqb}
+use Rattle.std.specs.Option.{IsSome}
+use Rattle.std.proofs.lemmas.Bool.{cases_Bool, cases_lt, cases_eq, cases_order, false≢true, eq-eqb, ne_eqb}
 use Rattle.std.proofs.lemmas.Option.{slice_get-get_or, slice_get_within}
 use Rattle.std.proofs.lemmas.List.{length_push, get_or_append_left, get_or_push}
 use Rattle.rept_alias.specs.Accesses.{call_hits}
 use Rattle.rept_alias.specs.declared.addresses.CallAccess.{CallAccess}
-use Rattle.rept_writing.specs.Hits.{hits_at, IsFirstHit, IsPastHit}
-use Rattle.rept_versions.specs.declared.facts.Stretch.{Stretch}
-use Rattle.rept_versions.specs.Facts.{Told, Nexts}
-use Rattle.rept_reason.specs.declared.fact.Cell.TheVariants.{Byte}
-use Rattle.rept_reason.specs.Facts.{told}
-use Rattle.rept_report.specs.OneThread.{IsLine}
-use Rattle.rept_report.specs.Spots.{passage}
 use Rattle.rept_isa.specs.declared.row.StepRow.{StepRow}
-use Rattle.rept_report.specs.Views.{may_write, touched_by, registers_at, Carries}
-use Rattle.rept_report.proofs.Told.{same_some, none_some}
-use Rattle.rept_report.specs.Log.{oldest}
+use Rattle.rept_writing.specs.Hits.{hits_at, IsFirstHit, IsNextHit, IsPastHit, AreInOrder}
 use Rattle.rept_writing.specs.declared.list.Writing.{Writing}
-use Rattle.rept_analysis.specs.Work.{row_past}
-use Rattle.rept_analysis.specs.State.{State, with_writing, all_known, along}
-use Rattle.rept_analysis.specs.Drawing.{Grows, IsAccess, Knows, IsSparedAt, IsSpared, IsBridged, IsSparedBetween, IsSilent, IsCarriedOver, IsCarriedAt, IsCarriedFrom, IsCarriedBeside, IsCarriedAlong, IsStopAt, past, IsWriting, AreWritingsBefore, AreBarriers, AreWritings, AreExact, SameFacts, IsFitted}
-use Rattle.rept_analysis.proofs.Along.{carried_over, over_carried}
+use Rattle.rept_reason.specs.Facts.{Knowledge, told}
+use Rattle.rept_report.specs.Moments.{AreMoments}
+use Rattle.rept_span.specs.Ranges.{AreLegs}
+use Rattle.rept_report.specs.Timeline.{Timeline, IsFallingFrom, IsClear, IsLike, IsAlike, IsStrip}
+use Rattle.rept_report.specs.declared.paths.Strip.{Strip}
+use Rattle.rept_report.specs.Spots.{Passage, passage}
+use Rattle.rept_report.specs.Log.{oldest}
+use Rattle.rept_analysis.specs.State.{State, with_writing}
+use Rattle.rept_analysis.specs.declared.piece.Piece.{Piece}
+use Rattle.rept_analysis.specs.Drawing.{Grows, IsAccess, IsSpared, IsBridged, IsSparedBetween, IsSilent, IsListed, past, IsWriting, AreWritingsBefore, AreBarriers, AreWritings, AreExact, SameFacts, IsFitted, IsBlocked, IsCalm, IsLooseEnd, IsLooseBefore, IsEnd, IsPiece}
 use Rattle.rept_analysis.proofs.Barriers.{past_at}
-use Rattle.rept_analysis.proofs.Spreading.{between_none, segment_free}
 
 -- the same rows may write where path, facts and sets are the same
 module _ {W : Type 0} (s t : State W) (setting : t.path ≡ s.path) (older : oldest t.filled t.known.log ≡ oldest s.filled s.known.log) where
-  silent_like : (from to : ℕ) → IsSilent from to s → IsSilent from to t
-  silent_like from to h i a le lt small = rw (setting, older) (h i a le lt small)
-
   pub writings_like : (n : ℕ) (list : List Writing) → AreWritingsBefore n list s → AreWritingsBefore n list t
   writings_like n list h = record {
-    each = λ k w at. let x = h.each k w at in record { low = x.low; inside = rw setting x.inside; time = rw setting x.time; access = λ a small. rw (setting, older) (x.access a small); silent = silent_like (past list k) w.row x.silent };
-    low = h.low;
-    silent = silent_like (past list (length list)) n h.silent;
+    each = λ k w at. let x = h.each k w at in record { low = x.low; there = rw setting x.there; time = rw setting x.time; access = λ a small. rw (setting, older) (x.access a small) };
+    order = h.order;
+    all = λ i there less.
+        elim (h.all i (subst (λ (P : _). IsSome (P.given.legs.row i)) setting there) (subst (λ (P : _). P.given.moments.before i < n) setting less)) [
+          | inl listed ↦ inl listed
+          | inr silent ↦ inr (λ a small. rw (setting, older) (silent a small))
+        ];
   }
 
 pub writings_after : {W : Type 0} (s t : State W) → Grows s t → AreWritings s → AreWritings t
 writings_after s t g h = g.writing h
 
--- a row that may write nothing
-pub listed_less : {W : Type 0} (s : State W) (i : ℕ) (list : List Writing) → ((a : ℕ) → a < 2 ^ 32 → IsSparedAt i a s) → AreWritingsBefore i list s → AreWritingsBefore (i + 1) list s
-listed_less s i list none h = record {
-  each = h.each;
-  low = let low = h.low in omega (arith, low);
-  silent = λ j a le lt small. elim (cases_eq j i) [ inl e ↦ rw e (none a small) | inr ne ↦ h.silent j a le (omega (arith, lt, ne)) small ];
-}
-
-pub none_spared : {W : Type 0} (s : State W) (i : ℕ) (access : CallAccess) → IsAccess i access s → ((a : ℕ) → call_hits access a ≡ false) → (a : ℕ) → a < 2 ^ 32 → IsSparedAt i a s
-none_spared s i access is none a small = sym (is a small) ∙ none a
-
--- where no row leads from a point, nothing is written
-pub none_there : {W : Type 0} (s : State W) (i : ℕ) → s.path.given.legs.row i ≡ None → (a : ℕ) → a < 2 ^ 32 → IsSparedAt i a s
-none_there s i none a small = ap (λ (o : Option StepRow). touched_by (along s.path) o (registers_at (along s.path) (told (oldest s.filled s.known.log)) i) a) none
-
 same_writing : {x y : Writing} → Some x ≡ Some y → x ≡ y
 same_writing e = cc
 
-before_push : (list : List Writing) (w : Writing) (k : ℕ) → k < length list → slice_get (list ++ w ∷ []) k ≡ slice_get list k
-before_push list w k lt =
-    let long = length_push list w in
-    slice_get-get_or (list ++ w ∷ []) k w (omega (arith, lt, long)) ∙ ap Some (get_or_append_left list (w ∷ []) w k lt) ∙ sym (slice_get-get_or list k w lt)
+lower_more : {W : Type 0} (s : State W) (n : ℕ) (w : Writing) → IsWriting n w s → IsWriting (n + 1) w s
+lower_more s n w x = record { low = let low = x.low in omega (arith, low); there = x.there; time = x.time; access = x.access }
 
-at_push : (list : List Writing) (w : Writing) → slice_get (list ++ w ∷ []) (length list) ≡ Some w
-at_push list w =
-    let long = length_push list w in
-    slice_get-get_or (list ++ w ∷ []) (length list) w (omega (arith, long)) ∙ ap Some (get_or_push list w w (length list) refl)
+module _ {W : Type 0} (s : State W) (n : ℕ) (list : List Writing) (h : AreWritingsBefore n list s) where
+  -- no row stands at the number
+  pub listed_none : ((i : ℕ) → IsSome (s.path.given.legs.row i) → s.path.given.moments.before i ≡ n → ⊥) → AreWritingsBefore (n + 1) list s
+  listed_none none = record {
+    each = λ k w at. lower_more s n w (h.each k w at);
+    order = h.order;
+    all = λ i there less.
+        elim (cases_order (s.path.given.moments.before i) n) [
+          | inl same ↦ absurd (none i there same)
+          | inr (inl low) ↦ h.all i there low
+          | inr (inr over) ↦ absurd (omega (arith, less, over))
+        ];
+  }
 
-past_push : (list : List Writing) (w : Writing) (k : ℕ) → k ≤ length list → past (list ++ w ∷ []) k ≡ past list k
-past_push list w zero le = refl
-past_push list w (suc k) le = ap row_past (before_push list w k (omega (arith, le)))
-
-past_all : (list : List Writing) (w : Writing) (n : ℕ) → n ≡ length list + 1 → past (list ++ w ∷ []) n ≡ w.row + 1
-past_all list w zero e = absurd (omega (arith, e))
-past_all list w (suc n) e = let same : n ≡ length list = omega (arith, e) in rw same (ap row_past (at_push list w))
-
--- one that may
-pub listed_more : {W : Type 0} (s : State W) (i : ℕ) (list : List Writing) (w : Writing) → w.row ≡ i → w.at ≡ s.path.given.moments.before i → i < s.path.given.legs.count → IsAccess i w.access s → AreWritingsBefore i list s → AreWritingsBefore (i + 1) (list ++ w ∷ []) s
-listed_more s i list w row time inside access h =
-    let long = length_push list w in
-    let end = past_all list w (length (list ++ w ∷ [])) (omega (arith, long)) in
-    record {
-      each = each;
-      low = omega (arith, end, row);
-      silent = λ j a le lt small. absurd (omega (arith, le, lt, end, row));
+  module _ (i : ℕ) (only : (j : ℕ) → IsSome (s.path.given.legs.row j) → s.path.given.moments.before j ≡ n → j ≡ i) where
+    -- the one that stands there may write nothing
+    pub listed_less : IsSilent i s → AreWritingsBefore (n + 1) list s
+    listed_less silent = record {
+      each = λ k w at. lower_more s n w (h.each k w at);
+      order = h.order;
+      all = λ j there less.
+          elim (cases_order (s.path.given.moments.before j) n) [
+            | inl same ↦ let here : j ≡ i = only j there same in inr (subst (λ (k : ℕ). IsSilent k s) (sym here) silent)
+            | inr (inl low) ↦ h.all j there low
+            | inr (inr over) ↦ absurd (omega (arith, less, over))
+          ];
     }
-  where
-    last : IsWriting (list ++ w ∷ []) (length list) w s
-    last =
-        let same = past_push list w (length list) (omega arith) in
-        record { low = rw (same, row) h.low; inside = rw row inside; time = rw row time; access = rw row access; silent = rw (same, row) h.silent }
 
-    each : (k : ℕ) (x : Writing) → slice_get (list ++ w ∷ []) k ≡ Some x → IsWriting (list ++ w ∷ []) k x s
-    each k x at =
-        elim (cases_lt k (length list)) [
-          | inl lt ↦
-              let old = h.each k x (sym (before_push list w k lt) ∙ at) in
-              let same = past_push list w k (omega (arith, lt)) in
-              record { low = rw same old.low; inside = old.inside; time = old.time; access = old.access; silent = rw same old.silent }
-          | inr ge ↦
-              let within = slice_get_within (list ++ w ∷ []) k x at in
-              let long = length_push list w in
-              let e : k ≡ length list = omega (arith, ge, within, long) in
-              let found : w ≡ x = same_writing (sym (at_push list w) ∙ rw e at at) in
-              rw (e, ← found) last
-        ]
+    -- it may
+    module _ (w : Writing) (row : w.row ≡ i) (at : w.at ≡ n) (there : IsSome (s.path.given.legs.row i)) (time : s.path.given.moments.before i ≡ n) (access : IsAccess i w.access s) where
+      long : length (list ++ w ∷ []) ≡ length list + 1
+      long = length_push list w
+
+      before_push : (k : ℕ) → k < length list → slice_get (list ++ w ∷ []) k ≡ slice_get list k
+      before_push k lt =
+          let more = long in
+          slice_get-get_or (list ++ w ∷ []) k w (omega (arith, lt, more)) ∙ ap Some (get_or_append_left list (w ∷ []) w k lt) ∙ sym (slice_get-get_or list k w lt)
+
+      at_push : slice_get (list ++ w ∷ []) (length list) ≡ Some w
+      at_push =
+          let more = long in
+          slice_get-get_or (list ++ w ∷ []) (length list) w (omega (arith, more)) ∙ ap Some (get_or_push list w w (length list) refl)
+
+      here : IsWriting (n + 1) w s
+      here = record { low = omega (arith, at); there = rw row there; time = at ∙ sym time ∙ ap s.path.given.moments.before (sym row); access = rw row access }
+
+      each : (k : ℕ) (x : Writing) → slice_get (list ++ w ∷ []) k ≡ Some x → IsWriting (n + 1) x s
+      each k x found =
+          elim (cases_lt k (length list)) [
+            | inl lt ↦ lower_more s n x (h.each k x (sym (before_push k lt) ∙ found))
+            | inr ge ↦
+                let within = slice_get_within (list ++ w ∷ []) k x found in
+                let more = long in
+                let e : k ≡ length list = omega (arith, ge, within, more) in
+                let same : w ≡ x = same_writing (sym at_push ∙ subst (λ (j : ℕ). slice_get (list ++ w ∷ []) j ≡ Some x) e found) in
+                subst (λ (y : Writing). IsWriting (n + 1) y s) same here
+          ]
+
+      order : AreInOrder (list ++ w ∷ [])
+      order j k d le lt =
+          elim (cases_lt k (length list)) [
+            | inl inside ↦
+                let first = get_or_append_left list (w ∷ []) d j (omega (arith, le, inside)) in
+                let second = get_or_append_left list (w ∷ []) d k inside in
+                let old = h.order j k d le inside in
+                let first_at : (get_or (list ++ w ∷ []) j d).at ≡ (get_or list j d).at = ap (λ (y : Writing). y.at) first in
+                let second_at : (get_or (list ++ w ∷ []) k d).at ≡ (get_or list k d).at = ap (λ (y : Writing). y.at) second in
+                omega (arith, old, first_at, second_at)
+            | inr ge ↦
+                let more = long in
+                let e : k ≡ length list = omega (arith, ge, lt, more) in
+                let second_at : (get_or (list ++ w ∷ []) k d).at ≡ w.at = ap (λ (y : Writing). y.at) (get_or_push list w d k (sym e)) in
+                elim (cases_lt j (length list)) [
+                  | inl inside ↦
+                      let first_at : (get_or (list ++ w ∷ []) j d).at ≡ (get_or list j d).at = ap (λ (y : Writing). y.at) (get_or_append_left list (w ∷ []) d j inside) in
+                      let low = (h.each j (get_or list j d) (slice_get-get_or list j d inside)).low in
+                      omega (arith, low, first_at, second_at, at)
+                  | inr past_end ↦
+                      let f : j ≡ length list = omega (arith, past_end, le, e) in
+                      let first_at : (get_or (list ++ w ∷ []) j d).at ≡ w.at = ap (λ (y : Writing). y.at) (get_or_push list w d j (sym f)) in
+                      omega (arith, first_at, second_at)
+                ]
+          ]
+
+      kept : (j : ℕ) → IsListed list j → IsListed (list ++ w ∷ []) j
+      kept j x = record { index = x.index; writing = x.writing; found = before_push x.index (slice_get_within list x.index x.writing x.found) ∙ x.found; row = x.row }
+
+      pub listed_more : AreWritingsBefore (n + 1) (list ++ w ∷ []) s
+      listed_more = record {
+        each = each;
+        order = order;
+        all = λ j some less.
+            elim (cases_order (s.path.given.moments.before j) n) [
+              | inl same ↦ inl (record { index = length list; writing = w; found = at_push; row = row ∙ sym (only j some same) })
+              | inr (inl low) ↦
+                  elim (h.all j some low) [
+                    | inl listed ↦ inl (kept j listed)
+                    | inr silent ↦ inr silent
+                  ]
+              | inr (inr over) ↦ absurd (omega (arith, less, over))
+            ];
+      }
+
+pub none_spared : {W : Type 0} (s : State W) (i : ℕ) (access : CallAccess) → IsAccess i access s → ((a : ℕ) → call_hits access a ≡ false) → IsSilent i s
+none_spared s i access is none a small = sym (is a small) ∙ none a
 
 pub nothing_listed : {W : Type 0} (s : State W) → AreWritingsBefore 0 [] s
-nothing_listed s = record { each = λ k w at. absurd (none_here k w at); low = omega arith; silent = λ i a le lt small. absurd (omega (arith, lt)) }
+nothing_listed s = record {
+  each = λ k w at. absurd (none_here k w at);
+  order = λ i j d le lt. absurd (omega (arith, lt));
+  all = λ i there lt. absurd (omega (arith, lt));
+}
   where
     none_here : (k : ℕ) (w : Writing) → slice_get [] k ≡ Some w → ⊥
     none_here k w e = let lt = slice_get_within [] k w e in omega (arith, lt)
-
--- of one path a byte is carried over a row that may not write it
-bridged : {W : Type 0} (s : State W) → IsLine s.path.given → (i a : ℕ) → i < s.path.given.legs.count → IsSpared i a s → IsBridged i a s
-bridged s line i a inside (inl old) = inl (carried_over s.path line (told (oldest s.filled s.known.log)) a i inside old)
-bridged s line i a inside (inr now) = inr (λ quiet. carried_over s.path line (all_known s) a i inside (now quiet))
-
--- rows that may not write a byte, and then rows that may write nothing
-pub between_silent : {W : Type 0} (s : State W) → IsLine s.path.given → (from middle to a : ℕ) → a < 2 ^ 32 → middle ≤ to → to ≤ s.path.given.legs.count → IsSparedBetween from middle a s → IsSilent middle to s → from ≤ middle → IsSparedBetween from to a s
-between_silent s line from middle to a small le early before after low i (inl x) =
-    let p = x.0 in
-    let q = x.1 in
-    elim (cases_lt i middle) [
-      | inl lt ↦ before i (inl (p, lt))
-      | inr ge ↦ bridged s line i a (omega (arith, q, early)) (inl (after i a ge q small))
-    ]
-between_silent s line from middle to a small le early before after low i (inr x) = let p = x.0 in let q = x.1 in absurd (omega (arith, p, q, le, low))
 
 -- with another list everything else is the same
 pub listed_same : {W : Type 0} (s t : State W) (list : List Writing) → t ≡ with_writing s list → SameFacts s t
@@ -144,203 +175,305 @@ writings_back s t list is n rows h = writings_like t s (rw is refl) (rw is refl)
 pub listed_then : {W : Type 0} (s t u : State W) (xs ys : List Writing) → t ≡ with_writing s xs → u ≡ with_writing t ys → u ≡ with_writing s ys
 listed_then s t u xs ys p q = q ∙ ap (λ (x : State _). with_writing x ys) p
 
--- from one index of the list to another one no listed row may write the byte
-abbrev pub IsMissed : List Writing → ℕ → ℕ → ℕ → Type 0
-IsMissed list from to a = (j : ℕ) → from ≤ j → j < to → hits_at list j a ≡ false
+some_there : (o : Option StepRow) → IsSome o → (row : StepRow) × (o ≡ Some row)
+some_there None some = absurd (false≢true some)
+some_there (Some row) some = (row, refl)
 
--- the rows from the one after one of the list to another one may not write the byte
-pub record IsReached {W : Type 0} (s : State W) (from to a : ℕ) : Type 0 where
-  pub order : from ≤ to
-  pub spared : IsSparedBetween from to a s
+-- where a row falls is found by a search from it on
+pub falls_none : (t : Timeline) → AreLegs t.legs → (m w row : ℕ) → IsSome (t.legs.row row) → IsFallingFrom t m w row None → false ≡ t.moments.falls row m w
+falls_none t laws m w row there none =
+    let its = some_there (t.legs.row row) there in
+    sym (none row (omega arith) (laws.inside row its.0 its.1))
 
--- rows that may write nothing come after
-reach_silent : {W : Type 0} (s : State W) → IsLine s.path.given → (from middle to a : ℕ) → a < 2 ^ 32 → middle ≤ to → to ≤ s.path.given.legs.count → IsSilent middle to s → IsReached s from middle a → IsReached s from to a
-reach_silent s line from middle to a small le early silent x = let order = x.order in record { order = omega (arith, le, order); spared = between_silent s line from middle to a small le early x.spared silent order }
+pub falls_some : (t : Timeline) (m w row found : ℕ) → IsFallingFrom t m w row (Some found) → eqb found row ≡ t.moments.falls row m w
+falls_some t m w row found its =
+    elim (cases_eq found row) [
+      | inl same ↦ eq-eqb found row same ∙ sym (subst (λ (n : ℕ). t.moments.falls n m w ≡ true) same its.1)
+      | inr other ↦ ne_eqb found row other ∙ sym (let low = its.2 in its.3 row (omega arith) (omega (arith, low, other)))
+    ]
 
--- then one that may not write the byte
-reach_spared : {W : Type 0} (s : State W) (from to a : ℕ) → IsBridged to a s → IsReached s from to a → IsReached s from (to + 1) a
-reach_spared s from to a spared x = let order = x.order in record { order = omega (arith, order); spared = each }
-  where
-    each : IsSparedBetween from (to + 1) a s
-    each i (inl p) = let low = p.0 in let high = p.1 in elim (cases_eq i to) [ inl e ↦ rw e spared | inr ne ↦ x.spared i (inl (low, omega (arith, high, ne))) ]
-    each i (inr p) = let high = p.0 in let low = p.1 in let order = x.order in absurd (omega (arith, high, low, order))
+pub entry_early : {W : Type 0} (s : State W) → AreWritings s → (k : ℕ) (w : Writing) → slice_get s.work.writing k ≡ Some w → w.at ≤ s.path.given.moments.end
+entry_early s h k w found =
+    let its = h.barriers.each k w found in
+    let row = some_there (s.path.given.legs.row w.row) its.there in
+    let early = h.laws.moments.rows_before w.row row.0 row.1 in
+    let time = its.time in
+    omega (arith, early, time)
 
-reach_none : {W : Type 0} (s : State W) (from a : ℕ) → IsReached s from from a
-reach_none s from a = record { order = omega arith; spared = between_none s from a }
+-- the list as it was made, of all numbers
+pub listed_barriers : {W : Type 0} (s : State W) (n : ℕ) → AreMoments s.path.given.legs s.path.given.moments → n ≡ s.path.given.moments.end + 1 → AreWritingsBefore n s.work.writing s → AreBarriers s.work.writing s
+listed_barriers s n laws all h = record {
+  each = λ k w at. let x = h.each k w at in record { there = x.there; time = x.time; others = λ a small miss. inl (sym (x.access a small) ∙ miss) };
+  order = h.order;
+  all = λ i there.
+      let its = some_there (s.path.given.legs.row i) there in
+      let early = laws.rows_before i its.0 its.1 in
+      h.all i there (omega (arith, early, all));
+}
 
-same_hit : (list : List Writing) (j a : ℕ) (w : Writing) → slice_get list j ≡ Some w → hits_at list j a ≡ call_hits w.access a
+pub listed_exact : {W : Type 0} (s : State W) (n : ℕ) → AreWritingsBefore n s.work.writing s → AreExact s
+listed_exact s n h k w a at small hits = sym ((h.each k w at).access a small) ∙ hits
+
+pub same_hit : (list : List Writing) (j a : ℕ) (w : Writing) → slice_get list j ≡ Some w → hits_at list j a ≡ call_hits w.access a
 same_hit list j a w at = rw at refl
 
-module _ {W : Type 0} (list : List Writing) (s : State W) (line : IsLine s.path.given) (h : AreBarriers list s) (from a : ℕ) (small : a < 2 ^ 32) where
-  -- over a row of the list that may not write the byte
-  reach_over : (j : ℕ) (w : Writing) → slice_get list j ≡ Some w → hits_at list j a ≡ false → IsReached s from (past list j) a → IsReached s from (past list (j + 1)) a
-  reach_over j w at miss x =
-      let row = h.each j w at in
-      let inside = row.inside in
-      rw (past_at list j w at) (reach_spared s from w.row a (bridged s line w.row a inside (row.others a small (sym (same_hit list j a w at) ∙ miss))) (reach_silent s line from (past list j) w.row a small row.low (omega (arith, inside)) row.silent x))
+module _ {W : Type 0} (s : State W) (h : AreWritings s) (a : ℕ) (small : a < 2 ^ 32) where
+  abbrev list : List Writing
+  list = s.work.writing
 
-  -- over all of them from an index to another one
-  reach_all : (k m j : ℕ) → j ≡ k + m → j ≤ length list → IsMissed list k j a → IsReached s from (past list k) a → IsReached s from (past list j) a
-  reach_all k zero j e le miss x = let same : j ≡ k = omega (arith, e) in rw same x
-  reach_all k (suc m) j e le miss x =
-      let i : ℕ = k + m in
-      let same : j ≡ i + 1 = omega (arith, e) in
-      let before = reach_all k m i refl (omega (arith, e, le)) (λ l low high. miss l low (omega (arith, high, same))) x in
-      let there = slice_get-get_or list i (record { row = 0; at = 0; access = record { first = None; second = None } }) (omega (arith, same, le)) in
-      rw same (reach_over i _ there (miss i (omega arith) (omega (arith, same))) before)
+  abbrev K : Knowledge
+  K = told (oldest s.filled s.known.log)
 
--- from an index of the list on, to the next row that may write the byte, or to the end
-module _ {W : Type 0} (s : State W) (line : IsLine s.path.given) (h : AreWritings s) (a k : ℕ) (small : a < 2 ^ 32) where
-  abbrev rows : List Writing
-  rows = s.work.writing
+  -- where no row leads, none may write
+  none_writes : (i : ℕ) (o : Option StepRow) → s.path.given.legs.row i ≡ o → (IsSome o → IsSpared i a s) → IsSpared i a s
+  none_writes i None is spared = inl (rw is refl)
+  none_writes i (Some row) is spared = spared refl
 
-  here : IsReached s (past rows k) (past rows k) a
-  here = reach_none s (past rows k) a
-
-  pub hit_reached : (hit : ℕ) (w : Writing) → IsFirstHit rows k a hit → slice_get rows hit ≡ Some w → IsReached s (past rows k) w.row a
-  hit_reached hit w first at =
-      let low = first.from in
-      let inside = first.inside in
-      let row = h.barriers.each hit w at in
-      let within = row.inside in
-      let all = reach_all rows s line h.barriers (past rows k) a small k (hit - k) hit (omega (arith, low)) (omega (arith, inside)) first.none_before here in
-      reach_silent s line (past rows k) (past rows hit) w.row a small row.low (omega (arith, within)) row.silent all
-
-  pub hit_inside : (hit : ℕ) (w : Writing) → slice_get rows hit ≡ Some w → w.row < s.path.given.legs.count
-  hit_inside hit w at = (h.barriers.each hit w at).inside
-
-  pub hit_stops : (hit : ℕ) (w : Writing) → IsFirstHit rows k a hit → slice_get rows hit ≡ Some w → IsStopAt k a w.row s
-  hit_stops hit w first at = inr (record { index = hit; writing = w; from = first.from; found = at; row = refl; hits = sym (same_hit rows hit a w at) ∙ first.hits })
-
-  pub end_reached : k ≤ length rows → ((j : ℕ) → k ≤ j → hits_at rows j a ≡ false) → IsReached s (past rows k) (s.path.given.legs.count) a
-  end_reached low missed =
-      let all = reach_all rows s line h.barriers (past rows k) a small k (length rows - k) (length rows) (omega (arith, low)) (omega arith) (λ j le lt. missed j le) here in
-      reach_silent s line (past rows k) (past rows (length rows)) (s.path.given.legs.count) a small h.barriers.low (omega arith) h.barriers.silent all
-
--- the list as it was made
-pub listed_barriers : {W : Type 0} (s : State W) → AreWritingsBefore (s.path.given.legs.count) s.work.writing s → AreBarriers s.work.writing s
-listed_barriers s h = record {
-  each = λ k w at. let x = h.each k w at in record { low = x.low; inside = x.inside; time = x.time; others = λ a small miss. inl (sym (x.access a small) ∙ miss); silent = x.silent };
-  low = h.low;
-  silent = h.silent;
-}
-
-pub listed_exact : {W : Type 0} (s : State W) → AreWritingsBefore (s.path.given.legs.count) s.work.writing s → AreExact s
-listed_exact s h k w a at small hits = sym ((h.each k w at).access a small) ∙ hits
-
--- a byte that a row may write needs no carrying over it
-blocked : {W : Type 0} (s : State W) → IsLine s.path.given → (i a : ℕ) → may_write (along s.path) (told (oldest s.filled s.known.log)) i a ≡ true → IsCarriedAt i a s
-blocked s line i a hit = record {
-  onward = λ v carries h. absurd (false≢true (sym (over_carried s.path line (told (oldest s.filled s.known.log)) a i (i + 1) carries).spared ∙ hit));
-  back = λ v carries h. absurd (false≢true (sym (over_carried s.path line (told (oldest s.filled s.known.log)) a i (i + 1) carries).spared ∙ hit));
-}
-
--- of one path a byte is carried over single rows alone
-along_line : {W : Type 0} (s : State W) → IsLine s.path.given → (a : ℕ) → ((i : ℕ) → i < s.path.given.legs.count → IsCarriedAt i a s) → (m w : ℕ) → IsCarriedOver (passage a m w) s
-along_line s line a each m w = record {
-  onward = λ v carries h.
-      let x = over_carried s.path line (told (oldest s.filled s.known.log)) a m w carries in
-      subst (λ (q : ℕ). Knows q (Byte a) v s) (sym x.next) ((each m x.inside).onward v (subst (λ (q : ℕ). Carries (along s.path) (told (oldest s.filled s.known.log)) (passage a m q)) x.next carries) h);
-  back = λ v carries h.
-      let x = over_carried s.path line (told (oldest s.filled s.known.log)) a m w carries in
-      (each m x.inside).back v (subst (λ (q : ℕ). Carries (along s.path) (told (oldest s.filled s.known.log)) (passage a m q)) x.next carries) (subst (λ (q : ℕ). Knows q (Byte a) v s) x.next h);
-}
-
-module _ {W : Type 0} (s : State W) (line : IsLine s.path.given) (a point k to : ℕ) (small : a < 2 ^ 32) (own : (j : ℕ) (w : Writing) → slice_get s.work.writing j ≡ Some w → w.at ≡ w.row) (last : IsPastHit s.work.writing point a k) (stop : IsStopAt k a to s) where
-  at_stop : IsStopAt k a to s → AreExact s → (i : ℕ) → i ≡ to → i < s.path.given.legs.count → IsCarriedAt i a s
-  at_stop (inl end) exact i e inside = absurd (omega (arith, end, e, inside))
-  at_stop (inr x) exact i e inside = subst (λ (n : ℕ). IsCarriedAt n a s) (x.row ∙ sym e) (blocked s line x.writing.row a (exact x.index x.writing a x.found small x.hits))
-
-  -- over the rows around a point, and those at both ends
-  pub beside_closed : IsCarriedFrom a (past s.work.writing k) to s → IsCarriedBeside a point to s
-  beside_closed carried =
-      elim last.before [
-        | inl e ↦ record {
-          first = 0;
-          low = omega arith;
-          closed = λ exact i low le inside. elim (cases_lt i to) [
-            | inl lt ↦ carried i (from_start e i) lt
-            | inr ge ↦ at_stop stop exact i (omega (arith, le, ge)) inside
-          ];
-        }
-        | inr (j, e, hit) ↦ record {
-          first = hit.writing.row;
-          low = let lower = hit.lower in let same = own j hit.writing hit.stands in omega (arith, lower, same);
-          closed = λ exact i low le inside. elim (cases_eq i hit.writing.row) [
-            | inl same ↦ subst (λ (n : ℕ). IsCarriedAt n a s) (sym same) (blocked s line hit.writing.row a (exact j hit.writing a hit.stands small hit.hits))
-            | inr ne ↦ elim (cases_lt i to) [
-              | inl lt ↦ carried i (let next = past_at s.work.writing j hit.writing hit.stands in rw (e, next) (omega (arith, low, ne))) lt
-              | inr ge ↦ at_stop stop exact i (omega (arith, le, ge)) inside
+  -- a row may not write the byte, if its entry has not its address
+  spared_by : (i : ℕ) → ((j : ℕ) (w : Writing) → slice_get list j ≡ Some w → w.row ≡ i → call_hits w.access a ≡ true → ⊥) → IsSpared i a s
+  spared_by i none =
+      none_writes i (s.path.given.legs.row i) refl (λ some.
+      elim (h.barriers.all i some) [
+        | inr silent ↦ inl (silent a small)
+        | inl x ↦
+            elim (cases_Bool (call_hits x.writing.access a)) [
+              | inl hit ↦ absurd (none x.index x.writing x.found x.row hit)
+              | inr miss ↦ subst (λ (k : ℕ). IsSpared k a s) x.row ((h.barriers.each x.index x.writing x.found).others a small miss)
             ]
-          ];
-        }
+      ])
+
+  -- none of the entries below one that may write the byte falls
+  abbrev pub DoNoneFall : ℕ → ℕ → ℕ → Type 0
+  DoNoneFall m w k = (j : ℕ) (x : Writing) → j < k → slice_get list j ≡ Some x → call_hits x.access a ≡ true → s.path.given.moments.falls x.row m w ≡ false
+
+  pub none_fall_more : (m w k hit : ℕ) (x : Writing) → IsFirstHit list k a hit → slice_get list hit ≡ Some x → s.path.given.moments.falls x.row m w ≡ false → DoNoneFall m w k → DoNoneFall m w (hit + 1)
+  none_fall_more m w k hit x first at calm below j y lt found hits =
+      elim (cases_order j hit) [
+        | inl same ↦
+            let here : x ≡ y = same_writing (sym at ∙ subst (λ (n : ℕ). slice_get list n ≡ Some y) same found) in
+            subst (λ (z : Writing). s.path.given.moments.falls z.row m w ≡ false) here calm
+        | inr (inl low) ↦
+            elim (cases_lt j k) [
+              | inl early ↦ below j y early found hits
+              | inr late ↦ absurd (false≢true (sym (first.none_before j late low) ∙ same_hit list j a y found ∙ hits))
+            ]
+        | inr (inr over) ↦ absurd (omega (arith, lt, over))
       ]
-    where
-      from_start : k ≡ 0 → (i : ℕ) → past s.work.writing k ≤ i
-      from_start e i = rw e (omega arith)
 
-  pub beside_onward : point ≤ s.path.given.legs.count → point ≤ to
-  beside_onward early =
-      elim stop [
-        | inl end ↦ omega (arith, early, end)
-        | inr x ↦ elim (cases_lt to point) [
-          | inl lt ↦ absurd (last.none_after x.index x.from (record { writing = x.writing; stands = x.found; lower = let row = x.row in let same = own x.index x.writing x.found in omega (arith, row, lt, same); hits = x.hits }))
-          | inr ge ↦ ge
-        ]
-      ]
-
--- the byte is carried over the rows below one, where the list is exact
-abbrev pub IsCarriedBelow : {W : Type 0} → ℕ → ℕ → State W → Type 0
-IsCarriedBelow a from s = AreExact s → (i : ℕ) → i < from → i < s.path.given.legs.count → IsCarriedAt i a s
-
--- where a value begins after a point, or where it ends if it begins there or before
-abbrev pub IsEdge : ℕ → Stretch → ℕ → Type 0
-IsEdge from stretch point = ((from < stretch.first) × (point ≡ stretch.first)) ⊎ ((stretch.first ≤ from) × (point ≡ stretch.last))
-
-module _ {W : Type 0} (s : State W) (a from point : ℕ) (stretch : Stretch) (next : Nexts s.known.store.fact a from (Some stretch)) (edge : IsEdge from stretch point) where
-  edge_carried : IsEdge from stretch point → (i : ℕ) → from ≤ i → i + 1 < point → IsCarriedAt i a s
-  edge_carried (inl (later, is)) i low lt = record {
-    onward = λ v spared h. absurd (none_some (sym (next.free i low (omega (arith, is, lt))) ∙ h));
-    back = λ v spared h. absurd (none_some (sym (next.free (i + 1) (omega (arith, low)) (omega (arith, is, lt))) ∙ h));
+  pub bridged_by : (m w k : ℕ) → s.path.given.moments.next m w ≡ true → s.path.given.moments.dark m w ≡ false → IsNextHit list k a None → DoNoneFall m w k → IsBridged (passage a m w) s
+  bridged_by m w k next light none below = record {
+    next = next;
+    light = light;
+    spared = λ i falls. spared_by i (λ j x found row hits.
+        elim (cases_lt j k) [
+          | inl early ↦ false≢true (sym (below j x early found hits) ∙ subst (λ (n : ℕ). s.path.given.moments.falls n m w ≡ true) (sym row) falls)
+          | inr late ↦ false≢true (sym (none j late) ∙ same_hit list j a x found ∙ hits)
+        ]);
   }
-  edge_carried (inr (begun, is)) i low lt =
-      let this = next.run.value i (omega (arith, begun, low)) (omega (arith, is, lt)) in
-      let after = next.run.value (i + 1) (omega (arith, begun, low)) (omega (arith, is, lt)) in
-      record { onward = λ v spared h. after ∙ ap Some (same_some (sym this ∙ h)); back = λ v spared h. this ∙ ap Some (same_some (sym after ∙ h)) }
 
-  pub edge_onward : from ≤ point
-  edge_onward = elim edge [ inl (later, is) ↦ omega (arith, later, is) | inr (begun, is) ↦ let reaches = next.reaches in omega (arith, reaches, is) ]
+  -- where a row falls that may write the byte it isn't carried
+  pub blocked_by : (m w hit : ℕ) (x : Writing) → slice_get list hit ≡ Some x → hits_at list hit a ≡ true → s.path.given.moments.falls x.row m w ≡ true → IsBlocked (passage a m w) s
+  blocked_by m w hit x at hits falls exact carries = false≢true (sym (carries.spared x.row falls) ∙ exact hit x a at small (sym (same_hit list hit a x at) ∙ hits))
 
-  -- over the rows to the edge, and those around it
-  pub below_beside : (to : ℕ) → IsCarriedBelow a from s → IsCarriedBeside a point to s → IsCarriedBelow a (to + 1) s
-  below_beside to below beside exact i lt inside =
-      elim (cases_lt i from) [
-        | inl less ↦ below exact i less inside
-        | inr more ↦ elim (cases_lt i beside.first) [
-          | inl early ↦ let low = beside.low in edge_carried edge i more (omega (arith, early, low))
-          | inr late ↦ beside.closed exact i late (omega (arith, lt)) inside
-        ]
+pub blocked_dark : {W : Type 0} (s : State W) (x : Passage) → s.path.given.moments.dark x.from x.to ≡ true → IsBlocked x s
+blocked_dark s x dark exact carries = false≢true (sym carries.light ∙ dark)
+
+pub some_pause : {p q : ℕ} → Some p ≡ Some q → p ≡ q
+some_pause e = cc
+
+none_pause : {p : ℕ} → None ≡ Some p → ⊥
+none_pause e = cc
+
+pub calm_none : {W : Type 0} (s : State W) (a : ℕ) (strip : Strip) → strip.pause ≡ None → IsCalm a strip s
+calm_none s a strip none p some = absurd (none_pause (sym none ∙ some))
+
+pub calm_some : {W : Type 0} (s : State W) (a p : ℕ) (strip : Strip) → strip.pause ≡ Some p → IsBridged (passage a p (p + 1)) s → IsCalm a strip s
+calm_some s a p strip is h q some = subst (λ (n : ℕ). IsBridged (passage a n (n + 1)) s) (some_pause (sym is ∙ some)) h
+
+-- the rows and moments of a state
+abbrev pub timeline_of : {W : Type 0} → State W → Timeline
+timeline_of s = record { legs = s.path.given.legs; moments = s.path.given.moments }
+
+-- of a strip in which nothing else may write the byte
+module _ {W : Type 0} (s : State W) (h : AreWritings s) (a : ℕ) (small : a < 2 ^ 32) (strip : Strip) (number : ℕ) (its : IsStrip (timeline_of s) number strip) (calm : IsCalm a strip s) where
+  abbrev entries : List Writing
+  entries = s.work.writing
+
+  -- from a number at which no row of the list may write the byte it is carried on
+  one : (m : ℕ) → strip.first ≤ m → m < strip.last → ((j : ℕ) (w : Writing) → slice_get entries j ≡ Some w → w.at ≡ m → call_hits w.access a ≡ true → ⊥) → IsBridged (passage a m (m + 1)) s
+  one m low high none = by strip.pause refl
+    where
+      own : (i : ℕ) → s.path.given.moments.before i ≡ m → IsSpared i a s
+      own i here = spared_by s h a small i (λ j w found row hits. none j w found ((h.barriers.each j w found).time ∙ ap s.path.given.moments.before row ∙ here) hits)
+
+      by : (o : Option ℕ) → strip.pause ≡ o → IsBridged (passage a m (m + 1)) s
+      by None is =
+          let clear : IsClear (timeline_of s) m = subst (λ (o : Option ℕ). IsAlike (timeline_of s) o m) is (its.alike m low high) in
+          record { next = (its.joined m low high).next; light = clear.light; spared = λ i falls. own i (clear.own i falls) }
+      by (Some p) is =
+          let like : IsLike (timeline_of s) m p = subst (λ (o : Option ℕ). IsAlike (timeline_of s) o m) is (its.alike m low high) in
+          let pause = calm p is in
+          record {
+            next = (its.joined m low high).next;
+            light = not_dark (s.path.given.moments.dark m (m + 1)) refl like.dark pause.light;
+            spared = λ i falls.
+                elim (cases_eq (s.path.given.moments.before i) m) [
+                  | inl here ↦ own i here
+                  | inr other ↦ pause.spared i (like.others i falls other)
+                ];
+          }
+        where
+          not_dark : (b : Bool) → s.path.given.moments.dark m (m + 1) ≡ b → (s.path.given.moments.dark m (m + 1) ≡ true → s.path.given.moments.dark p (p + 1) ≡ true) → s.path.given.moments.dark p (p + 1) ≡ false → s.path.given.moments.dark m (m + 1) ≡ false
+          not_dark true e dark light = absurd (false≢true (sym light ∙ dark e))
+          not_dark false e dark light = e
+
+  -- the entries before an index stand at lower numbers than the one after the last of them, and those from an index on at no lower ones
+  below_past : (k j : ℕ) (w : Writing) → j < k → k ≤ length entries → slice_get entries j ≡ Some w → w.at < past entries k
+  below_past zero j w lt inside found = absurd (omega (arith, lt))
+  below_past (suc k) j w lt inside found =
+      let last = slice_get-get_or entries k w (omega (arith, inside)) in
+      let here : w ≡ get_or entries j w = same_writing (sym found ∙ slice_get-get_or entries j w (omega (arith, lt, inside))) in
+      let order = h.barriers.order j k w (omega (arith, lt)) (omega (arith, inside)) in
+      let at : w.at ≡ (get_or entries j w).at = ap (λ (x : Writing). x.at) here in
+      let one_more : k + 1 ≡ suc k = omega arith in
+      let next : past entries (suc k) ≡ (get_or entries k w).at + 1 = subst (λ (n : ℕ). past entries n ≡ (get_or entries k w).at + 1) one_more (past_at entries k (get_or entries k w) last) in
+      omega (arith, order, at, next)
+
+  above_hit : (hit j : ℕ) (x w : Writing) → hit ≤ j → slice_get entries hit ≡ Some x → slice_get entries j ≡ Some w → x.at ≤ w.at
+  above_hit hit j x w le at found =
+      let inside = slice_get_within entries j w found in
+      let order = h.barriers.order hit j w le inside in
+      let first : x ≡ get_or entries hit w = same_writing (sym at ∙ slice_get-get_or entries hit w (omega (arith, le, inside))) in
+      let second : w ≡ get_or entries j w = same_writing (sym found ∙ slice_get-get_or entries j w inside) in
+      let first_at : x.at ≡ (get_or entries hit w).at = ap (λ (y : Writing). y.at) first in
+      let second_at : w.at ≡ (get_or entries j w).at = ap (λ (y : Writing). y.at) second in
+      omega (arith, order, first_at, second_at)
+
+  -- the numbers between two entries that may write the byte
+  between_free : (k from to : ℕ) → k ≤ length entries → past entries k ≤ from → strip.first ≤ from → to ≤ strip.last → from ≤ to → ((j : ℕ) (w : Writing) → k ≤ j → slice_get entries j ≡ Some w → w.at < to → call_hits w.access a ≡ true → ⊥) → IsSparedBetween from to a s
+  between_free k from to few low least most order none m (inl x) =
+      let up = x.0 in
+      let down = x.1 in
+      one m (omega (arith, least, up)) (omega (arith, most, down)) (λ j w found at hits.
+      elim (cases_lt j k) [
+        | inl early ↦ let under = below_past k j w early few found in omega (arith, under, low, up, at)
+        | inr late ↦ none j w late found (omega (arith, at, down)) hits
+      ])
+  between_free k from to few low least most order none m (inr x) = let up = x.0 in let down = x.1 in absurd (omega (arith, up, down, order))
+
+  -- the number after that of the last entry before a number that may write the byte is no later
+  past_early : (point k : ℕ) → IsPastHit entries point a k → past entries k ≤ point
+  past_early point k last =
+      elim last.before [
+        | inl e ↦ rw e (omega arith)
+        | inr (j, e, hit) ↦ let next = past_at entries j hit.writing hit.stands in let lower = hit.lower in rw e (omega (arith, next, lower))
       ]
 
-  -- the edge is after all rows
-  pub below_edge : IsLine s.path.given → s.path.given.legs.count < point → IsCarriedBelow a from s → IsCarriedAlong a s
-  below_edge line far below exact = along_line s line a (λ i lt. elim (cases_lt i from) [
-    | inl less ↦ below exact i less lt
-    | inr more ↦ edge_carried edge i more (omega (arith, lt, far))
-  ])
+  hit_late : (point k hit : ℕ) (x : Writing) → IsPastHit entries point a k → IsFirstHit entries k a hit → slice_get entries hit ≡ Some x → point ≤ x.at
+  hit_late point k hit x last first at =
+      elim (cases_lt x.at point) [
+        | inr ge ↦ ge
+        | inl lt ↦ absurd (last.none_after hit first.from (record { writing = x; stands = at; lower = lt; hits = sym (same_hit entries hit a x at) ∙ first.hits }))
+      ]
 
--- a stretch that wasn't found
-pub nexts_none : (f : Told) (a p : ℕ) (x : Option Stretch) → ((y : Stretch) → x ≡ Some y → ⊥) → Nexts f a p x → Nexts f a p None
-nexts_none f a p None never h = h
-nexts_none f a p (Some y) never h = absurd (never y refl)
+  -- of an entry that may write the byte
+  loose_by : (n : ℕ) (w : Writing) → slice_get entries n ≡ Some w → call_hits w.access a ≡ true → (i : ℕ) → w.at ≡ i → strip.first ≤ i → i < strip.last → (m : Option ℕ) → IsLooseEnd strip n m s → IsBlocked (passage a i (i + 1)) s ⊎ (m ≡ Some i)
+  loose_by n w stands hits i at up down None its =
+      let falls : s.path.given.moments.falls w.row w.at (w.at + 1) ≡ true = its w stands (omega (arith, at, up)) (omega (arith, at, down)) in
+      inl (blocked_by s h a small i (i + 1) n w stands (same_hit entries n a w stands ∙ hits) (subst (λ (x : ℕ). s.path.given.moments.falls w.row x (x + 1) ≡ true) at falls))
+  loose_by n w stands hits i at up down (Some m) its = let number = (its w stands).0 in inr (ap Some (sym number ∙ at))
 
--- nothing is known of the byte from a point on
-pub below_free : {W : Type 0} (s : State W) → IsLine s.path.given → (a from : ℕ) → Nexts s.known.store.fact a from None → IsCarriedBelow a from s → IsCarriedAlong a s
-below_free s line a from none below exact = along_line s line a (λ i lt. elim (cases_lt i from) [
-  | inl less ↦ below exact i less lt
-  | inr more ↦ segment_free s a from (s.path.given.legs.count) (λ q least most. none q least) i more lt
-])
+  loose_next : (n : ℕ) → n < length entries → (m : Option ℕ) → IsLooseEnd strip n m s → (i : ℕ) → m ≡ Some i → s.path.given.moments.next i (i + 1) ≡ true
+  loose_next n inside None its i some = absurd (none_pause some)
+  loose_next n inside (Some m) its i some =
+      let none : Writing = record { row = 0; at = 0; access = record { first = None; second = None } } in
+      let next = (its (get_or entries n none) (slice_get-get_or entries n none inside)).1 in
+      subst (λ (x : ℕ). s.path.given.moments.next x (x + 1) ≡ true) (some_pause some) next
 
--- all rows are below
-pub below_all : {W : Type 0} (s : State W) → IsLine s.path.given → (a from : ℕ) → s.path.given.legs.count < from → IsCarriedBelow a from s → IsCarriedAlong a s
-below_all s line a from far below exact = along_line s line a (λ i lt. below exact i (omega (arith, lt, far)) lt)
+  module _ (point k : ℕ) (here : strip.first ≤ point) (there : point ≤ strip.last) (few : k ≤ length entries) (last : IsPastHit entries point a k) (piece : Piece) (from : piece.from ≡ max (past entries k) strip.first) (loose : IsLooseBefore strip k piece.before s) where
+    -- what was found of the entry before
+    below_by : (n : ℕ) → n ≡ k → IsPastHit entries point a n → IsLooseBefore strip n piece.before s → (i : ℕ) → i + 1 ≡ piece.from → strip.first ≤ i → IsBlocked (passage a i (i + 1)) s ⊎ IsEnd piece i
+    below_by zero same past_hit its i e up = absurd (let none : past entries k ≡ 0 = subst (λ (n : ℕ). past entries n ≡ 0) same refl in omega (arith, e, up, from, none))
+    below_by (suc n) same past_hit its i e up =
+        elim past_hit.before [
+          | inl zero_is ↦ absurd (omega (arith, zero_is))
+          | inr (j, f, hit) ↦
+              let index : j ≡ n = omega (arith, f) in
+              let stands : slice_get entries n ≡ Some hit.writing = subst (λ (x : ℕ). slice_get entries x ≡ Some hit.writing) index hit.stands in
+              let one_more : n + 1 ≡ k = omega (arith, same) in
+              let next : past entries k ≡ hit.writing.at + 1 = subst (λ (x : ℕ). past entries x ≡ hit.writing.at + 1) one_more (past_at entries n hit.writing stands) in
+              let at : hit.writing.at ≡ i = omega (arith, next, from, e, up) in
+              let lower = hit.lower in
+              elim (loose_by n hit.writing stands hit.hits i at up (omega (arith, lower, at, there)) piece.before its) [
+                | inl blocked ↦ inl blocked
+                | inr is ↦ inr (inl is)
+              ]
+        ]
+
+    ends_before : (n : ℕ) → n ≡ k → IsLooseBefore strip n piece.before s → (i : ℕ) → piece.before ≡ Some i → s.path.given.moments.next i (i + 1) ≡ true
+    ends_before zero same its i some = absurd (none_pause (sym its ∙ some))
+    ends_before (suc n) same its i some = loose_next n (omega (arith, same, few)) piece.before its i some
+
+    -- no later entry may write the byte
+    pub piece_last : piece.to ≡ strip.last → piece.after ≡ None → IsNextHit entries k a None → IsPiece a strip point piece s
+    piece_last to none missed =
+        let low = past_early point k last in
+        record {
+          inside = omega (arith, from);
+          low = omega (arith, from, low, here);
+          high = omega (arith, to, there);
+          within = omega (arith, to);
+          spared = between_free k piece.from piece.to few (omega (arith, from)) (omega (arith, from)) (omega (arith, to)) (omega (arith, from, low, here, to, there)) (λ j w late found down hits. false≢true (sym (missed j late) ∙ same_hit entries j a w found ∙ hits));
+          below = below_by k refl last loose;
+          above = λ less. absurd (omega (arith, less, to));
+          ends = ends;
+        }
+      where
+        ends : (i : ℕ) → IsEnd piece i → s.path.given.moments.next i (i + 1) ≡ true
+        ends i (inl before) = ends_before k refl loose i before
+        ends i (inr after) = absurd (none_pause (sym none ∙ after))
+
+    -- the next one that may
+    pub piece_hit : (hit : ℕ) (x : Writing) → piece.to ≡ min x.at strip.last → IsLooseEnd strip hit piece.after s → IsFirstHit entries k a hit → slice_get entries hit ≡ Some x → IsPiece a strip point piece s
+    piece_hit hit x to after first at =
+        let low = past_early point k last in
+        let late = hit_late point k hit x last first at in
+        record {
+          inside = omega (arith, from);
+          low = omega (arith, from, low, here);
+          high = omega (arith, to, there, late);
+          within = omega (arith, to);
+          spared = between_free k piece.from piece.to few (omega (arith, from)) (omega (arith, from)) (omega (arith, to)) (omega (arith, from, low, here, to, there, late)) none;
+          below = below_by k refl last loose;
+          above = λ less.
+              let number : x.at ≡ piece.to = omega (arith, less, to) in
+              elim (loose_by hit x at (sym (same_hit entries hit a x at) ∙ first.hits) piece.to number (omega (arith, number, late, here)) less piece.after after) [
+                | inl blocked ↦ inl blocked
+                | inr is ↦ inr (inr is)
+              ];
+          ends = ends;
+        }
+      where
+        none : (j : ℕ) (w : Writing) → k ≤ j → slice_get entries j ≡ Some w → w.at < piece.to → call_hits w.access a ≡ true → ⊥
+        none j w low found down hits =
+            elim (cases_lt j hit) [
+              | inl early ↦ false≢true (sym (first.none_before j low early) ∙ same_hit entries j a w found ∙ hits)
+              | inr past_it ↦ let above = above_hit hit j x w past_it at found in omega (arith, above, down, to)
+            ]
+
+        ends : (i : ℕ) → IsEnd piece i → s.path.given.moments.next i (i + 1) ≡ true
+        ends i (inl before) = ends_before k refl loose i before
+        ends i (inr is) = loose_next hit first.inside piece.after after i is
+
+-- an entry that isn't in the strip, or whose row falls
+pub loose_low : {W : Type 0} (s : State W) (strip : Strip) (k : ℕ) (w : Writing) → slice_get s.work.writing k ≡ Some w → w.at < strip.first → IsLooseEnd strip k None s
+loose_low s strip k w found low x at up down = let same : w.at ≡ x.at = ap (λ (y : Writing). y.at) (same_writing (sym found ∙ at)) in absurd (omega (arith, low, up, same))
+
+pub loose_high : {W : Type 0} (s : State W) (strip : Strip) (k : ℕ) (w : Writing) → slice_get s.work.writing k ≡ Some w → strip.last ≤ w.at → IsLooseEnd strip k None s
+loose_high s strip k w found high x at up down = let same : w.at ≡ x.at = ap (λ (y : Writing). y.at) (same_writing (sym found ∙ at)) in absurd (omega (arith, high, down, same))
+
+pub loose_falls : {W : Type 0} (s : State W) (strip : Strip) (k : ℕ) (w : Writing) → slice_get s.work.writing k ≡ Some w → s.path.given.moments.falls w.row w.at (w.at + 1) ≡ true → IsLooseEnd strip k None s
+loose_falls s strip k w found falls x at up down = subst (λ (y : Writing). s.path.given.moments.falls y.row y.at (y.at + 1) ≡ true) (same_writing (sym found ∙ at)) falls
+
+pub loose_some : {W : Type 0} (s : State W) (strip : Strip) (k : ℕ) (w : Writing) → slice_get s.work.writing k ≡ Some w → s.path.given.moments.next w.at (w.at + 1) ≡ true → IsLooseEnd strip k (Some w.at) s
+loose_some s strip k w found next x at = (sym (ap (λ (y : Writing). y.at) (same_writing (sym found ∙ at))), next)

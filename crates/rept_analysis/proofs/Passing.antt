@@ -63,7 +63,7 @@ pub never_pass : {W : Type 0} (s : State W) (row : StepRow) (i : ℕ) (x : Pass)
 never_pass s row i x e = subst (λ (y : Pass). IsPass row i y s) (sym e) tt
 
 -- other work
-pub kept_work : {W : Type 0} (s : State W) → IsKept s → s.complete ≡ false → (w : Work) → s.path.given.legs.count ≤ w.room → length w.drawn ≡ s.path.given.legs.count → ((i : ℕ) (row : StepRow) (pass : Pass) → s.path.given.legs.row i ≡ Some row → slice_get w.drawn i ≡ Some pass → IsPass row i pass s) → w.joins ≡ s.work.joins → IsKept (with_work s w)
+pub kept_work : {W : Type 0} (s : State W) → IsKept s → s.complete ≡ false → (w : Work) → s.path.given.moments.end < w.room → length w.drawn ≡ s.path.given.legs.count → ((i : ℕ) (row : StepRow) (pass : Pass) → s.path.given.legs.row i ≡ Some row → slice_get w.drawn i ≡ Some pass → IsPass row i pass s) → w.joins ≡ s.work.joins → IsKept (with_work s w)
 kept_work s kept open_ w room rows passes joins = record {
   line = kept.line;
   few = kept.few;

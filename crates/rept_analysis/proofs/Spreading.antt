@@ -4,18 +4,16 @@ use Rattle.std.proofs.lemmas.Bool.{cases_lt, cases_eq, cond-true, cond-false, an
 use mathlib.Core.Path.{fun_ext}
 use Rattle.rept_reason.specs.declared.fact.Cell.{Cell}
 use Rattle.rept_reason.specs.declared.fact.Cell.TheVariants.{Register, Byte}
-use Rattle.rept_reason.specs.Facts.{Knowledge, told}
-use Rattle.rept_report.specs.Setting.{Setting, HasLaws}
-use Rattle.rept_report.specs.Knowing.{RegistersExtend}
-use Rattle.rept_report.specs.Conclusions.{HasWords}
-use Rattle.rept_report.specs.Spots.{passage}
-use Rattle.rept_report.specs.Views.{Carries}
+use Rattle.rept_reason.specs.Facts.{told}
+use Rattle.rept_report.specs.Setting.{HasLaws}
+use Rattle.rept_report.specs.Spots.{Passage, passage}
+use Rattle.rept_report.specs.Views.{may_write, Carries}
 use Rattle.rept_report.specs.Conclusions.IsCarried.{onward, back}
 use Rattle.rept_report.specs.Conflicts.{IsQuiet}
 use Rattle.rept_report.specs.Log.{oldest}
 use Rattle.rept_report.proofs.Told.{same_some, none_some}
 use Rattle.rept_report.proofs.Places.{oldest_less}
-use Rattle.rept_report.proofs.Monotony.{spared_more, quiet_less}
+use Rattle.rept_report.proofs.Monotony.{spared_more}
 use Rattle.std.specs.declared.alloc.AllocError.{AllocError}
 use Rattle.rept_reason.specs.declared.fact.Fact.{Fact}
 use Rattle.rept_versions.specs.declared.facts.Carried.{Carried}
@@ -26,11 +24,11 @@ use Rattle.rept_log.proofs.Stores.{stays_same}
 use Rattle.rept_log.specs.Known.{Known, knows, known_change, AddsByte, SameLog}
 use Rattle.rept_analysis.specs.State.{State, all_known, Path, along}
 use Rattle.rept_report.specs.Why.{fact_of}
-use Rattle.rept_analysis.specs.Drawing.{Knows, IsTracked, Grows, IsBrought, IsBridged, IsSparedBetween, IsSpreadTo, IsCarriedFrom}
+use Rattle.rept_analysis.specs.Drawing.{Knows, IsTracked, Grows, IsBrought, IsSpared, IsBridged, IsSparedBetween, IsSpreadTo, IsCarriedFrom}
 use Rattle.rept_analysis.specs.Drawing.HasNews.{fact}
 use Rattle.rept_analysis.specs.Told.{Sends}
 use Rattle.rept_analysis.specs.Kept.{IsKept}
-use Rattle.rept_analysis.proofs.Barriers.{writings_still}
+use Rattle.rept_analysis.proofs.Barriers.{writings_still, spared_still}
 use Rattle.rept_analysis.proofs.Drawn.{Grows_itself, Grows_trans}
 use Rattle.rept_analysis.proofs.Following.{brought_follows}
 use Rattle.rept_analysis.proofs.Passing.{passes_more}
@@ -64,29 +62,39 @@ kept_like s k k' last log facts tracked open_ roomy kept = record {
     same p (Register r) = rw log refl
     same p (Byte a) = rw facts refl
 
--- a byte is carried still where more is known
-carries_more : {W : Type 0} (S : Setting W) → HasLaws S → (K L : Knowledge) → RegistersExtend K L → HasWords L → IsQuiet S L → (a m w : ℕ) → a < 2 ^ 32 → Carries S K (passage a m w) → Carries S L (passage a m w)
-carries_more S laws K L more words quiet a m w small h = record { next = h.next; light = h.light; spared = λ i falls. spared_more S laws K L more words quiet i a small (h.spared i falls) }
+-- a row that may not write the byte may not by all that is known
+spared_now : {W : Type 0} (s : State W) → HasLaws (along s.path) → IsKept s → IsQuiet (along s.path) (all_known s) → (i a : ℕ) → a < 2 ^ 32 → IsSpared i a s → may_write (along s.path) (all_known s) i a ≡ false
+spared_now s laws kept quiet i a small (inl old) = spared_more (along s.path) laws (told (oldest s.filled s.known.log)) (all_known s) (λ p r w e. oldest_less s.filled s.known.log kept.once p (Register r) w e) (known_words s kept) quiet i a small old
+spared_now s laws kept quiet i a small (inr now) = now quiet
 
 -- a byte is brought to where it is carried
-module _ {W : Type 0} (s : State W) (laws : HasLaws (along s.path)) (kept : IsKept s) (m a v : ℕ) (small : a < 2 ^ 32) (bridged : IsBridged m a s) where
-  carries : IsQuiet (along s.path) (all_known s) → Carries (along s.path) (all_known s) (passage a m (m + 1))
-  carries quiet = missed bridged
-    where
-      missed : IsBridged m a s → Carries (along s.path) (all_known s) (passage a m (m + 1))
-      missed (inl old) = carries_more (along s.path) laws (told (oldest s.filled s.known.log)) (all_known s) (λ p r w e. oldest_less s.filled s.known.log kept.once p (Register r) w e) (known_words s kept) quiet a m (m + 1) small old
-      missed (inr now) = now quiet
+module _ {W : Type 0} (s : State W) (laws : HasLaws (along s.path)) (kept : IsKept s) (x : Passage) (v : ℕ) (small : x.address < 2 ^ 32) (bridged : IsBridged x s) where
+  carries : IsQuiet (along s.path) (all_known s) → Carries (along s.path) (all_known s) (passage x.address x.from x.to)
+  carries quiet = record { next = bridged.next; light = bridged.light; spared = λ i falls. spared_now s laws kept quiet i x.address small (bridged.spared i falls) }
 
+  pub brought_on : Knows x.from (Byte x.address) v s → IsBrought s (fact_of x.to (Byte x.address) v)
+  brought_on h quiet = onward x.address x.from x.to refl refl (carries quiet) h
+
+  pub brought_back : Knows x.to (Byte x.address) v s → IsBrought s (fact_of x.from (Byte x.address) v)
+  brought_back h quiet = back x.address x.from x.to refl refl (carries quiet) h
+
+module _ {W : Type 0} (s : State W) (laws : HasLaws (along s.path)) (kept : IsKept s) (m a v : ℕ) (small : a < 2 ^ 32) (bridged : IsBridged (passage a m (m + 1)) s) where
   pub up_brought : Knows m (Byte a) v s → IsBrought s (fact_of (m + 1) (Byte a) v)
-  up_brought h quiet = onward a m (m + 1) refl refl (carries quiet) h
+  up_brought h = brought_on s laws kept (passage a m (m + 1)) v small bridged h
 
   pub down_brought : Knows (m + 1) (Byte a) v s → IsBrought s (fact_of m (Byte a) v)
-  down_brought h quiet = back a m (m + 1) refl refl (carries quiet) h
+  down_brought h = brought_back s laws kept (passage a m (m + 1)) v small bridged h
 
-pub bridged_after : {W : Type 0} (s t : State W) → HasLaws (along s.path) → IsKept t → Grows s t → (m a : ℕ) → a < 2 ^ 32 → IsBridged m a s → IsBridged m a t
-bridged_after s t laws kept g m a small (inl old) = inl (rw (g.path, g.older) old)
-bridged_after s t laws kept g m a small (inr now) = inr (subst (λ (P : Path _). IsQuiet (along P) (all_known t) → Carries (along P) (all_known t) (passage a m (m + 1))) (sym g.path) (λ quiet.
-    carries_more (along s.path) laws (all_known s) (all_known t) (λ p r v e. g.more p (Register r) v e) (known_words t kept) quiet a m (m + 1) small (now (quiet_less (along s.path) laws (all_known s) (all_known t) (λ p r v e. g.more p (Register r) v e) quiet))))
+-- it is carried still where more is known
+pub bridged_still : {W : Type 0} (s t : State W) → HasLaws (along s.path) → IsKept t → Grows s t → (x : Passage) → x.address < 2 ^ 32 → IsBridged x s → IsBridged x t
+bridged_still s t laws kept g x small h = record {
+  next = rw g.path h.next;
+  light = rw g.path h.light;
+  spared = λ i falls. spared_still s t laws (known_words t kept) g.path g.older g.more i x.address small (h.spared i (subst (λ (P : Path _). P.given.moments.falls i x.from x.to ≡ true) g.path falls));
+}
+
+pub bridged_after : {W : Type 0} (s t : State W) → HasLaws (along s.path) → IsKept t → Grows s t → (m a : ℕ) → a < 2 ^ 32 → IsBridged (passage a m (m + 1)) s → IsBridged (passage a m (m + 1)) t
+bridged_after s t laws kept g m a small h = bridged_still s t laws kept g (passage a m (m + 1)) small h
 
 module _ {W : Type 0} (s : State W) (laws : HasLaws (along s.path)) (kept : IsKept s) (open_ : s.complete ≡ false) (a v : ℕ) (small : a < 2 ^ 32) (tracked : IsTracked a s) where
   -- one fact more
@@ -315,13 +323,13 @@ module _ {W : Type 0} (s : State W) (laws : HasLaws (along s.path)) (kept : IsKe
   spread : (k : Known) → SameLog s.known k → (before : ℕ) → Between from to before → Spreads (change s.work.joins s.known.store k.store) (record { address = a; from = from; to = before; value = v }) → IsKept (with_known s k) × Grows s (with_known s k)
   spread k log before at h = spread_kept s laws kept open_ a v small tracked k from before log.last log.log log.left from_early (between_early before at) known (within before at) h
 
-  up_spared : (before stop : ℕ) → before + 1 ≡ stop → Between from to before → Between from to stop → IsBridged before a s
+  up_spared : (before stop : ℕ) → before + 1 ≡ stop → Between from to before → Between from to stop → IsBridged (passage a before (before + 1)) s
   up_spared before stop next (inl y) (inl x) = let p = y.0 in let q = x.1 in spared before (inl (p, omega (arith, next, q)))
   up_spared before stop next (inr y) (inr x) = let p = y.0 in let q = x.1 in spared before (inr (p, omega (arith, next, q)))
   up_spared before stop next (inl y) (inr x) = let p = y.0 in let q = x.1 in let z = y.1 in absurd (omega (arith, next, p, q, z))
   up_spared before stop next (inr y) (inl x) = let p = y.0 in let q = x.1 in let z = y.1 in let w = x.0 in spared before (inl (omega (arith, z, w, next, q, p), omega (arith, next, q)))
 
-  down_spared : (before stop : ℕ) → stop + 1 ≡ before → Between from to before → Between from to stop → IsBridged stop a s
+  down_spared : (before stop : ℕ) → stop + 1 ≡ before → Between from to before → Between from to stop → IsBridged (passage a stop (stop + 1)) s
   down_spared before stop next (inl y) (inl x) = let p = x.0 in let q = y.1 in spared stop (inl (p, omega (arith, next, q)))
   down_spared before stop next (inr y) (inr x) = let p = x.0 in let q = y.1 in spared stop (inr (p, omega (arith, next, q)))
   down_spared before stop next (inl y) (inr x) = let p = x.0 in let q = x.1 in let z = y.0 in let w = y.1 in spared stop (inr (p, omega (arith, next, q, z, w)))

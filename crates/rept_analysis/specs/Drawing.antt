@@ -1,5 +1,6 @@
 -- What drawing conclusions does to an analysis. This project's own.
-use Rattle.std.specs.Prelude.{◌≡◌, ◌≢◌, ℕ, zero, suc, ◌+◌, ◌-◌, ◌<◌, ◌≤◌, ◌^◌, ◌⊎◌, Bool, true, false, List, length, Some, None, Contains, slice_get}
+use Rattle.std.specs.Prelude.{◌≡◌, ◌≢◌, ℕ, zero, suc, ◌+◌, ◌-◌, ◌<◌, ◌≤◌, ◌^◌, ◌⊎◌, Bool, true, false, List, length, Option, Some, None, Contains, slice_get}
+use Rattle.std.specs.Option.{IsSome}
 use Rattle.rept_isa.specs.declared.row.StepRow.{StepRow}
 use Rattle.rept_isa.specs.Operands.{written_by}
 use Rattle.rept_versions.specs.Facts.{Between, Course}
@@ -25,9 +26,12 @@ use Rattle.rept_report.specs.Log.{oldest}
 use Rattle.rept_report.specs.Why.{fact_of}
 use Rattle.rept_analysis.specs.declared.halt.Halt.{Halt}
 use Rattle.rept_analysis.specs.declared.halt.Halt.TheVariants.{Clash, OutOfMemory}
+use Rattle.rept_writing.specs.Hits.{AreInOrder}
 use Rattle.rept_writing.specs.declared.list.Writing.{Writing}
+use Rattle.rept_report.specs.declared.paths.Strip.{Strip}
+use Rattle.rept_analysis.specs.declared.piece.Piece.{Piece}
 use Rattle.rept_analysis.specs.declared.pass.Pass.TheVariants.{Cut}
-use Rattle.rept_analysis.specs.Work.{left, row_past}
+use Rattle.rept_analysis.specs.Work.{left, number_past}
 use Rattle.rept_analysis.specs.Room.{IsDrawable, IsDrawnAt, own_at, IsOwnByte}
 use Rattle.rept_analysis.specs.State.{State, all_known, along}
 
@@ -54,29 +58,33 @@ IsSparedNow i a s = IsQuiet (along s.path) (all_known s) → may_write (along s.
 abbrev pub IsSpared : {W : Type 0} → ℕ → ℕ → State W → Type 0
 IsSpared i a s = IsSparedAt i a s ⊎ IsSparedNow i a s
 
--- no row from one to before another may write anything, by the facts of which the sets are
-abbrev pub IsSilent : {W : Type 0} → ℕ → ℕ → State W → Type 0
-IsSilent from to s = (i a : ℕ) → from ≤ i → i < to → a < 2 ^ 32 → IsSparedAt i a s
+-- row i may write nothing, by the facts of which the sets are
+abbrev pub IsSilent : {W : Type 0} → ℕ → State W → Type 0
+IsSilent i s = (a : ℕ) → a < 2 ^ 32 → IsSparedAt i a s
 
--- the row after the one before an index in a list of rows that may write
+-- a row stands in a list of rows that may write
+pub record IsListed (list : List Writing) (i : ℕ) : Type 0 where
+  pub index : ℕ
+  pub writing : Writing
+  pub found : slice_get list index ≡ Some writing
+  pub row : writing.row ≡ i
+
+-- the number after that of the entry before an index in such a list, or the first one
 abbrev pub past : List Writing → ℕ → ℕ
 past list zero = 0
-past list (suc k) = row_past (slice_get list k)
+past list (suc k) = number_past (slice_get list k)
 
--- A row of such a list: it may not write what isn't among its addresses, by the one or by the other, and no row between the one before
--- it and this one may write.
-pub record IsBarrier {W : Type 0} (list : List Writing) (k : ℕ) (w : Writing) (s : State W) : Type 0 where
-  pub low : past list k ≤ w.row
-  pub inside : w.row < s.path.given.legs.count
+-- a row of such a list: it may not write what isn't among its addresses, by the one or by the other
+pub record IsBarrier {W : Type 0} (w : Writing) (s : State W) : Type 0 where
+  pub there : IsSome (s.path.given.legs.row w.row)
   pub time : w.at ≡ s.path.given.moments.before w.row
   pub others : (a : ℕ) → a < 2 ^ 32 → call_hits w.access a ≡ false → IsSpared w.row a s
-  pub silent : IsSilent (past list k) w.row s
 
--- no row but these may write
+-- no row but these may write, and they stand in the order of time
 pub record AreBarriers {W : Type 0} (list : List Writing) (s : State W) : Type 0 where
-  pub each : (k : ℕ) (w : Writing) → slice_get list k ≡ Some w → IsBarrier list k w s
-  pub low : past list (length list) ≤ s.path.given.legs.count
-  pub silent : IsSilent (past list (length list)) (s.path.given.legs.count) s
+  pub each : (k : ℕ) (w : Writing) → slice_get list k ≡ Some w → IsBarrier w s
+  pub order : AreInOrder list
+  pub all : (i : ℕ) → IsSome (s.path.given.legs.row i) → IsListed list i ⊎ IsSilent i s
 
 -- the sets are those of some of the facts, and no row may write but those of the list
 pub record AreWritings {W : Type 0} (s : State W) : Type 0 where
@@ -274,10 +282,10 @@ IsRowAddress a s = (i : ℕ) × (j : ℕ) × IsOwnByte s.path s.known.log (own_a
 abbrev pub AreRowAddresses : {W : Type 0} → ℕ → ℕ → State W → Type 0
 AreRowAddresses start n s = (k : ℕ) → k < n → IsRowAddress (beside start k) s
 
--- There is room for the byte at a moment: a row lets one conclude it, and the log keeps it, or it is the end.
+-- There is room for the byte at a moment: a row lets one conclude it, and the log keeps it, or it is the end; or room isn't promised.
 abbrev pub HasPlace : {W : Type 0} → Bool → ℕ → ℕ → State W → Type 0
 HasPlace true p a s = IsDrawnAt s.path s.known.log p a
-HasPlace false p a s = p ≡ s.path.given.moments.end
+HasPlace false p a s = (p ≡ s.path.given.moments.end) ⊎ (s.work.joins ≡ false)
 
 -- a conclusion that follows, on a cell that can be learnt
 pub record IsConclusion {W : Type 0} (i : ℕ) (d : Drawn) (s : State W) : Type 0 where
@@ -303,20 +311,22 @@ LastBytesKnown s = (a : ℕ) → IsTracked a s → LastByteKnown a s
 abbrev pub SinglesKnown : {W : Type 0} → State W → Type 0
 SinglesKnown s = SinglesBelow (s.path.given.legs.count + 1) s
 
--- the byte is carried from a moment to the one of the next number, by the facts of which the sets are, or by all that is known by now, if
--- that leaves no range empty and no turn wrong
-abbrev pub IsBridged : {W : Type 0} → ℕ → ℕ → State W → Type 0
-IsBridged m a s = Carries (along s.path) (told (oldest s.filled s.known.log)) (passage a m (m + 1)) ⊎ (IsQuiet (along s.path) (all_known s) → Carries (along s.path) (all_known s) (passage a m (m + 1)))
+-- nothing that isn't told falls between a moment and a next one, and no row that may write the byte, by the facts of which the sets are or by
+-- all that is known by now
+pub record IsBridged {W : Type 0} (x : Passage) (s : State W) : Type 0 where
+  pub next : s.path.given.moments.next x.from x.to ≡ true
+  pub light : s.path.given.moments.dark x.from x.to ≡ false
+  pub spared : (i : ℕ) → s.path.given.moments.falls i x.from x.to ≡ true → IsSpared i x.address s
 
--- so it is from each number between two
+-- so it is from each number between two to the one after it
 abbrev pub IsSparedBetween : {W : Type 0} → ℕ → ℕ → ℕ → State W → Type 0
-IsSparedBetween from to a s = (m : ℕ) → ((from ≤ m) × (m < to)) ⊎ ((to ≤ m) × (m < from)) → IsBridged m a s
+IsSparedBetween from to a s = (m : ℕ) → ((from ≤ m) × (m < to)) ⊎ ((to ≤ m) × (m < from)) → IsBridged (passage a m (m + 1)) s
 
 -- the byte has the value at each point of a course
 abbrev pub IsSpreadTo : {W : Type 0} → Course → State W → Type 0
 IsSpreadTo course s = (q : ℕ) → Between course.from course.to q → Knows q (Byte course.address) course.value s
 
--- the byte is carried from each number from one to before another to the next one
+-- the byte is carried from each number from one to before another to the one after it
 abbrev pub IsCarriedFrom : {W : Type 0} → ℕ → ℕ → ℕ → State W → Type 0
 IsCarriedFrom a from to s = (i : ℕ) → from ≤ i → i < to → IsCarriedAt i a s
 
@@ -328,23 +338,68 @@ AreExact s = (k : ℕ) (w : Writing) (a : ℕ) → slice_get s.work.writing k �
 abbrev pub IsCarriedAlong : {W : Type 0} → ℕ → State W → Type 0
 IsCarriedAlong a s = AreExact s → (m w : ℕ) → IsCarriedOver (passage a m w) s
 
--- the row at which a search for one that may write the byte ended, from an index of the list on: such a row, or the end
-pub record IsHitFrom {W : Type 0} (k a to : ℕ) (s : State W) : Type 0 where
-  pub index : ℕ
-  pub writing : Writing
-  pub from : k ≤ index
-  pub found : slice_get s.work.writing index ≡ Some writing
-  pub row : writing.row ≡ to
-  pub hits : call_hits writing.access a ≡ true
+-- the byte isn't carried over, where the list is exact
+abbrev pub IsBlocked : {W : Type 0} → Passage → State W → Type 0
+IsBlocked x s = AreExact s → Carries (along s.path) (told (oldest s.filled s.known.log)) x → ⊥
 
-abbrev pub IsStopAt : {W : Type 0} → ℕ → ℕ → ℕ → State W → Type 0
-IsStopAt k a to s = (to ≡ s.path.given.legs.count) ⊎ IsHitFrom k a to s
+-- nothing that may write the byte falls at the pause of a strip, if it has one
+abbrev pub IsCalm : {W : Type 0} → ℕ → Strip → State W → Type 0
+IsCalm a strip s = (p : ℕ) → strip.pause ≡ Some p → IsBridged (passage a p (p + 1)) s
 
--- the byte is carried over the rows from one before a point to another one, where the list is exact
-pub record IsCarriedBeside {W : Type 0} (a point to : ℕ) (s : State W) : Type 0 where
+-- a number before or after a piece from which it isn't known whether the byte is carried on
+abbrev pub IsEnd : Piece → ℕ → Type 0
+IsEnd piece i = (piece.before ≡ Some i) ⊎ (piece.after ≡ Some i)
+
+-- the number of an entry of the list from which it isn't known whether the byte is carried on in the strip; its row falls there, or it isn't in it
+abbrev pub IsLooseEnd : {W : Type 0} → Strip → ℕ → Option ℕ → State W → Type 0
+IsLooseEnd strip k None s = (w : Writing) → slice_get s.work.writing k ≡ Some w → strip.first ≤ w.at → w.at < strip.last → s.path.given.moments.falls w.row w.at (w.at + 1) ≡ true
+IsLooseEnd strip k (Some m) s = (w : Writing) → slice_get s.work.writing k ≡ Some w → (w.at ≡ m) × (s.path.given.moments.next m (m + 1) ≡ true)
+
+-- so it is with the entry before an index, if there is one
+abbrev pub IsLooseBefore : {W : Type 0} → Strip → ℕ → Option ℕ → State W → Type 0
+IsLooseBefore strip zero m s = m ≡ None
+IsLooseBefore strip (suc k) m s = IsLooseEnd strip k m s
+
+-- numbers around one, in a strip, over which the byte is carried: they end with the strip, or where it isn't carried, or at one of the two ends
+pub record IsPiece {W : Type 0} (a : ℕ) (strip : Strip) (point : ℕ) (piece : Piece) (s : State W) : Type 0 where
+  pub inside : strip.first ≤ piece.from
+  pub low : piece.from ≤ point
+  pub high : point ≤ piece.to
+  pub within : piece.to ≤ strip.last
+  pub spared : IsSparedBetween piece.from piece.to a s
+  pub below : (i : ℕ) → i + 1 ≡ piece.from → strip.first ≤ i → IsBlocked (passage a i (i + 1)) s ⊎ IsEnd piece i
+  pub above : piece.to < strip.last → IsBlocked (passage a piece.to (piece.to + 1)) s ⊎ IsEnd piece piece.to
+  pub ends : (i : ℕ) → IsEnd piece i → s.path.given.moments.next i (i + 1) ≡ true
+
+-- from a moment to a next one, where the list is exact
+abbrev pub IsCarriedIf : {W : Type 0} → Passage → State W → Type 0
+IsCarriedIf x s = AreExact s → IsCarriedOver x s
+
+-- from the numbers of a strip around one to the ones after them, from one before it to another one
+pub record IsCarriedBeside {W : Type 0} (a : ℕ) (strip : Strip) (point to : ℕ) (s : State W) : Type 0 where
   pub first : ℕ
   pub low : first ≤ point - 1
-  pub closed : AreExact s → (i : ℕ) → first ≤ i → i ≤ to → i < s.path.given.legs.count → IsCarriedAt i a s
+  pub closed : (i : ℕ) → first ≤ i → i ≤ to → strip.first ≤ i → i < strip.last → IsCarriedIf (passage a i (i + 1)) s
+
+-- from those below one
+abbrev pub IsCarriedBelow : {W : Type 0} → ℕ → Strip → ℕ → State W → Type 0
+IsCarriedBelow a strip n s = (i : ℕ) → strip.first ≤ i → i < n → i < strip.last → IsCarriedIf (passage a i (i + 1)) s
+
+-- from all of them
+abbrev pub IsCarriedIn : {W : Type 0} → ℕ → Strip → State W → Type 0
+IsCarriedIn a strip s = (i : ℕ) → strip.first ≤ i → i < strip.last → IsCarriedIf (passage a i (i + 1)) s
+
+-- from a number to the next ones below another one
+abbrev pub AreLinksBelow : {W : Type 0} → ℕ → ℕ → ℕ → State W → Type 0
+AreLinksBelow a m n s = (w : ℕ) → w < n → IsCarriedIf (passage a m w) s
+
+-- to all of them
+abbrev pub AreLinks : {W : Type 0} → ℕ → ℕ → State W → Type 0
+AreLinks a m s = (w : ℕ) → IsCarriedIf (passage a m w) s
+
+-- from the numbers below one to all next ones
+abbrev pub IsCarriedUpTo : {W : Type 0} → ℕ → ℕ → State W → Type 0
+IsCarriedUpTo a n s = (m w : ℕ) → m < n → IsCarriedIf (passage a m w) s
 
 -- so are the first n tracked bytes
 abbrev pub CarriedAlongBelow : {W : Type 0} → ℕ → State W → Type 0
@@ -354,16 +409,15 @@ CarriedAlongBelow n s = (k a : ℕ) → k < n → slice_get s.known.store.tracke
 abbrev pub AllCarried : {W : Type 0} → State W → Type 0
 AllCarried s = (a : ℕ) → IsTracked a s → IsCarriedAlong a s
 
--- a row of such a list, with the bytes that it may write; no row between the one before it and this one may write
-pub record IsWriting {W : Type 0} (list : List Writing) (k : ℕ) (w : Writing) (s : State W) : Type 0 where
-  pub low : past list k ≤ w.row
-  pub inside : w.row < s.path.given.legs.count
+-- a row of such a list, with the bytes that it may write, at a lower number
+pub record IsWriting {W : Type 0} (n : ℕ) (w : Writing) (s : State W) : Type 0 where
+  pub low : w.at < n
+  pub there : IsSome (s.path.given.legs.row w.row)
   pub time : w.at ≡ s.path.given.moments.before w.row
   pub access : IsAccess w.row w.access s
-  pub silent : IsSilent (past list k) w.row s
 
--- these are the rows before one that may write
+-- these are the rows at numbers below one that may write, in the order of time
 pub record AreWritingsBefore {W : Type 0} (n : ℕ) (list : List Writing) (s : State W) : Type 0 where
-  pub each : (k : ℕ) (w : Writing) → slice_get list k ≡ Some w → IsWriting list k w s
-  pub low : past list (length list) ≤ n
-  pub silent : IsSilent (past list (length list)) n s
+  pub each : (k : ℕ) (w : Writing) → slice_get list k ≡ Some w → IsWriting n w s
+  pub order : AreInOrder list
+  pub all : (i : ℕ) → IsSome (s.path.given.legs.row i) → s.path.given.moments.before i < n → IsListed list i ⊎ IsSilent i s

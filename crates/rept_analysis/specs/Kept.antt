@@ -75,7 +75,7 @@ pub record IsKept {W : Type 0} (s : State W) : Type 0 where
   pub calm : (u : ℕ) → u < s.shown → IsQuiet (along s.path) (told (oldest u s.known.log))
   pub stopped : (kind : ConflictKind) → s.conflict ≡ Some kind → ClosureHas (along s.path) kind
   pub finished : s.complete ≡ true → IsFinished s
-  pub room : s.path.given.legs.count ≤ s.work.room
+  pub room : s.path.given.moments.end < s.work.room
   pub rows : length s.work.drawn ≡ s.path.given.legs.count
   pub drawn : (i : ℕ) (row : StepRow) (pass : Pass) → s.path.given.legs.row i ≡ Some row → slice_get s.work.drawn i ≡ Some pass → IsPass row i pass s
   pub roomy : s.work.joins ≡ true → HasRoom s.path s.known

@@ -28,7 +28,7 @@ left_of Cut = 0
 abbrev pub left : List Pass → ℕ
 left passes = sum_by left_of passes
 
--- the row after the one that the entry before an index has, or the first one
-abbrev pub row_past : Option Writing → ℕ
-row_past None = 0
-row_past (Some w) = w.row + 1
+-- the number after that of the entry before an index, or the first one
+abbrev pub number_past : Option Writing → ℕ
+number_past None = 0
+number_past (Some w) = w.at + 1

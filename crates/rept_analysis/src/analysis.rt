@@ -136,7 +136,7 @@ impl<'a, P: Paths + Drop, B: ByteFacts, W: Transfer, R: RowRules> Analysis<'a, P
         let count = paths.last_point();
         let known = FactLog::new(alloc, count, bytes)?;
         let spans = Spans::new(alloc, count + 1)?;
-        let writing = Writings::new(alloc, count as usize, bytes as usize)?;
+        let writing = Writings::new(alloc, paths.end() as usize + 1, bytes as usize)?;
         let drawn = Passes::new(alloc, count as usize)?;
         let fresh = Fresh::new(alloc, count as usize)?;
         Ok(Analysis {

@@ -7,6 +7,7 @@ mod halt;
 mod moment;
 mod offset;
 mod pass;
+mod piece;
 pub mod stop;
 mod trail;
 mod turns;

@@ -1,22 +1,26 @@
 //! The carrying of bytes over rows that may not write them.
 
-ghost use Rattle.std.specs.Prelude.{◌≡◌, ◌↔◌, ◌∷◌, ◌++◌, [], ◌+◌, ◌^◌, ◌<◌, ◌≤◌, ◌⊎◌, ℕ, length, true, false, Some, None, IsTrue, IfOk, IfErr, set, slice_get, ⊤};
+ghost use Rattle.std.specs.Prelude.{◌≡◌, ◌↔◌, ◌∷◌, ◌++◌, [], ◌+◌, ◌^◌, ◌<◌, ◌≤◌, ◌⊎◌, ℕ, length, true, false, Some, None, IsSome, IsTrue, IfOk, IfErr, set, slice_get, ⊤};
 ghost use Rattle.rept_alias.specs.Accesses.{call_hits};
 ghost use Rattle.rept_reason.specs.declared.fact.Cell.TheVariants.{Byte};
 ghost use Rattle.rept_versions.specs.Facts.{Nexts};
 ghost use Rattle.rept_analysis.specs.State.{setting_of, state_of, with_writing};
-ghost use Rattle.rept_analysis.specs.Drawing.{Knows, IsTracked, past, Grows, Drew, IsHalt, IsFitted, IsAccess, AreWritings, AreWritingsBefore, AreExact, IsUncut, IsSparedBetween, IsStopAt, IsSpreadTo, IsCarriedFrom, IsCarriedBeside, IsCarriedAlong, AllCarried};
+ghost use Rattle.rept_analysis.specs.Drawing.{Knows, IsTracked, past, Grows, Drew, IsHalt, IsFitted, IsAccess, AreWritings, AreWritingsBefore, AreExact, IsUncut, IsBridged, IsBlocked, IsSparedBetween, IsSpreadTo, IsCarriedFrom, IsCalm, IsLooseEnd, IsLooseBefore, IsPiece, IsCarriedIf, IsCarriedBeside, IsCarriedIn, AreLinks, IsBrought, IsCarriedAlong, AllCarried};
 ghost use Rattle.rept_analysis.specs.Told.{Sends};
 ghost use Rattle.rept_isa.specs.declared.row.StepRow.{StepRow};
+ghost use Rattle.rept_report.specs.Timeline.{IsRowAt, IsFallingFrom, IsNextFrom, IsStrip};
+ghost use Rattle.rept_report.specs.Why.{fact_of};
 ghost use Rattle.rept_writing.specs.Hits.{AreInOrder, IsNextHit, IsPastHit};
 ghost use Rattle.rept_writing.specs.declared.list.Writing.{Writing};
 
 use super::Analysis;
 use crate::halt::Halt;
+use crate::piece::Piece;
 use rept_alias::CallAccess;
 use rept_isa::{Instr, StepRow};
 use rept_reason::Cell;
 use rept_report::Paths;
+use rept_report::paths::Strip;
 use rept_span::Transfer;
 use rept_versions::{ByteFacts, Carried, Stretch};
 use rept_view::{RowRules, When};
@@ -46,6 +50,25 @@ fn edge(stretch: &Stretch, from: u32) -> u32
     }
 }
 
+/// The number after which the value of a stretch begins, or at which it ends if it begins at a number or before.
+fn border(stretch: &Stretch, from: u32) -> u32
+    ensures { ((from < stretch.now.first) × (result + 1 ≡ stretch.now.first)) ⊎ ((stretch.now.first ≤ from) × (result ≡ stretch.now.last)) }
+{
+    if from < stretch.first {
+        stretch.first - 1
+    } else {
+        stretch.last
+    }
+}
+
+/// Whether a number is the one after another.
+fn is_after(m: u32, w: u32) -> bool
+    ensures yes { result ≡ true → w ≡ m + 1 }
+    ensures no { result ≡ false → w ≡ m + 1 → ⊥ }
+{
+    if m < w { w - m == 1 } else { false }
+}
+
 /// Whether a stretch has each point from one to another one.
 fn has_all(stretch: &Stretch, from: u32, to: u32) -> bool
     ensures { result ≡ true → (stretch.now.first ≤ from) × (to ≤ stretch.now.last) }
@@ -57,8 +80,8 @@ impl<'a, P: Paths + Drop, B: ByteFacts, W: Transfer, R: RowRules> Analysis<'a, P
     /// Carries a byte's value from a point to another one, over rows that may not write it.
     fn send(&mut self, a: u32, from: u32, to: u32, value: u8) -> Result<Carried, OutOfMemory>
         requires open { self.old.complete ≡ false }
-        requires from { from ≤ (P.timeline self.old.paths).legs.count }
-        requires to { to ≤ (P.timeline self.old.paths).legs.count }
+        requires from { from ≤ (P.timeline self.old.paths).moments.end }
+        requires to { to ≤ (P.timeline self.old.paths).moments.end }
         requires known { Knows from (Byte a) value (state_of P.timeline W.sets W.moves R.rules B.store self.old) }
         requires spared { IsSparedBetween from to a (state_of P.timeline W.sets W.moves R.rules B.store self.old) }
         ensures { Sends (state_of P.timeline W.sets W.moves R.rules B.store self.old) (state_of P.timeline W.sets W.moves R.rules B.store self.new) (record { address = a; from = from; to = to; value = value }) result }
@@ -69,8 +92,8 @@ impl<'a, P: Paths + Drop, B: ByteFacts, W: Transfer, R: RowRules> Analysis<'a, P
     }
 
     fn spread(&mut self, a: u32, from: u32, to: u32, value: u8) -> Result<bool, Halt>
-        requires from { from ≤ (P.timeline self.old.paths).legs.count }
-        requires to { to ≤ (P.timeline self.old.paths).legs.count }
+        requires from { from ≤ (P.timeline self.old.paths).moments.end }
+        requires to { to ≤ (P.timeline self.old.paths).moments.end }
         requires known { Knows from (Byte a) value (state_of P.timeline W.sets W.moves R.rules B.store self.old) }
         requires spared { IsSparedBetween from to a (state_of P.timeline W.sets W.moves R.rules B.store self.old) }
         requires open { self.old.complete ≡ false }
@@ -104,7 +127,7 @@ impl<'a, P: Paths + Drop, B: ByteFacts, W: Transfer, R: RowRules> Analysis<'a, P
     /// The value of a byte from a point to another one, where no row between may write it.
     fn carry_segment(&mut self, a: u32, from: u32, to: u32) -> Result<bool, Halt>
         requires order { from ≤ to }
-        requires to { to ≤ (P.timeline self.old.paths).legs.count }
+        requires to { to ≤ (P.timeline self.old.paths).moments.end }
         requires spared { IsSparedBetween from to a (state_of P.timeline W.sets W.moves R.rules B.store self.old) }
         requires open { self.old.complete ≡ false }
         ensures grows { Grows (state_of P.timeline W.sets W.moves R.rules B.store self.old) (state_of P.timeline W.sets W.moves R.rules B.store self.new) }
@@ -261,36 +284,174 @@ impl<'a, P: Paths + Drop, B: ByteFacts, W: Transfer, R: RowRules> Analysis<'a, P
         }
     }
 
-    /// The row after the one before an index in that list, or the first one.
-    fn row_past(&self, k: usize) -> u32
+    /// The row that may write, at an index, which stands at a moment.
+    fn entry(&self, k: usize) -> Writing
+        requires writings { AreWritings (state_of P.timeline W.sets W.moves R.rules B.store self.now) }
+        requires within { k < length self.now.work.writing }
+        ensures found { slice_get self.now.work.writing k ≡ Some result }
+        ensures there { IsSome ((P.timeline self.now.paths).legs.row result.row) }
+        ensures early { result.at ≤ (P.timeline self.now.paths).moments.end }
+    {
+        let _end = self.end();
+        self.writing_at(k)
+    }
+
+    /// The number after that of the entry before an index in that list, or the first one.
+    fn number_past(&self, k: usize) -> u32
         requires writings { AreWritings (state_of P.timeline W.sets W.moves R.rules B.store self.now) }
         requires within { k ≤ length self.now.work.writing }
-        ensures { result ≡ past self.now.work.writing k }
+        ensures value { result ≡ past self.now.work.writing k }
     {
-        let _count = self.count();
+        let _end = self.end();
         if k == 0 {
             return 0;
         }
-        let row = self.writing_at(k - 1).row;
-        row + 1
+        let number = self.entry(k - 1).at;
+        number + 1
     }
 
-    /// The number of the first row from an index of the list on that may write the byte, or the number of rows.
-    fn next_writer(&self, k: usize, a: u32) -> u32
-        requires writings { AreWritings (state_of P.timeline W.sets W.moves R.rules B.store self.now) }
-        requires within { k ≤ length self.now.work.writing }
-        ensures last { result ≤ (P.timeline self.now.paths).legs.count }
-        ensures order { past self.now.work.writing k ≤ result }
-        ensures spared { IsSparedBetween (past self.now.work.writing k) result a (state_of P.timeline W.sets W.moves R.rules B.store self.now) }
-        ensures stop { IsStopAt k a result (state_of P.timeline W.sets W.moves R.rules B.store self.now) }
+    /// The numbers around one, one after the other, between which the same falls.
+    fn strip(&self, number: u32) -> Strip
+        requires { number ≤ (P.timeline self.now.paths).moments.end }
+        ensures { IsStrip (P.timeline self.now.paths) number result }
     {
-        self.held();
-        match self.next_hit(k, a) {
-            None => self.count(),
-            Some(hit) => {
-                let row = self.writing_at(hit).row;
-                row
+        self.paths.strip_of(number)
+    }
+
+    /// The least row from one on that falls between a number and one that is next to it.
+    fn falling_from(&self, m: u32, w: u32, least: u32) -> Option<u32>
+        requires next { (P.timeline self.now.paths).moments.next m w ≡ true }
+        ensures { IsFallingFrom (P.timeline self.now.paths) m w least result }
+    {
+        self.paths.falling_from(m, w, least)
+    }
+
+    /// Whether writers that aren't told fall between a number and one that is next to it.
+    fn is_dark_between(&self, m: u32, w: u32) -> bool
+        requires next { (P.timeline self.now.paths).moments.next m w ≡ true }
+        ensures { result ≡ (P.timeline self.now.paths).moments.dark m w }
+    {
+        self.paths.is_dark_between(m, w)
+    }
+
+    /// The least number from one on that is next to a number.
+    fn next_from(&self, m: u32, least: u32) -> Option<u32>
+        requires inside { m ≤ (P.timeline self.now.paths).moments.end }
+        ensures { IsNextFrom (P.timeline self.now.paths).moments m least result }
+    {
+        self.paths.next_from(m, least)
+    }
+
+    /// Whether a row falls between a number and one that is next to it.
+    fn falls(&self, row: u32, m: u32, w: u32) -> bool
+        requires there { IsSome ((P.timeline self.now.paths).legs.row row) }
+        requires next { (P.timeline self.now.paths).moments.next m w ≡ true }
+        ensures { result ≡ (P.timeline self.now.paths).moments.falls row m w }
+    {
+        match self.falling_from(m, w, row) {
+            None => false,
+            Some(found) => found == row,
+        }
+    }
+
+    /// Whether a byte is carried from a number to one that is next to it: whether nothing that isn't told falls between, and no row of the list that may write it.
+    fn is_carried(&self, a: u32, m: u32, w: u32) -> bool
+        requires writings { AreWritings (state_of P.timeline W.sets W.moves R.rules B.store self.now) }
+        requires next { (P.timeline self.now.paths).moments.next m w ≡ true }
+        ensures yes { result ≡ true → IsBridged (record { address = a; from = m; to = w }) (state_of P.timeline W.sets W.moves R.rules B.store self.now) }
+        ensures no { result ≡ false → IsBlocked (record { address = a; from = m; to = w }) (state_of P.timeline W.sets W.moves R.rules B.store self.now) }
+    {
+        if self.is_dark_between(m, w) {
+            return false;
+        }
+        let mut k = 0;
+        loop {
+            let hit = match self.next_hit(k, a) {
+                Some(hit) => hit,
+                None => return true,
+            };
+            let row = self.entry(hit).row;
+            if self.falls(row, m, w) {
+                return false;
             }
+            k = hit + 1;
+        }
+    }
+
+    /// Whether nothing that may write the byte falls at the pause of a strip, if it has one.
+    fn is_calm(&self, a: u32, strip: Strip) -> bool
+        requires writings { AreWritings (state_of P.timeline W.sets W.moves R.rules B.store self.now) }
+        requires strip { (number : ℕ) × IsStrip (P.timeline self.now.paths) number strip }
+        ensures { result ≡ true → IsCalm a strip (state_of P.timeline W.sets W.moves R.rules B.store self.now) }
+    {
+        match strip.pause {
+            None => true,
+            Some(pause) => {
+                let _end = self.end();
+                self.is_carried(a, pause, pause + 1)
+            }
+        }
+    }
+
+    /// The number of an entry of the list from which it isn't known whether the byte is carried on in a strip: none, where the row of the entry falls there.
+    fn loose_end(&self, strip: Strip, k: usize) -> Option<u32>
+        requires writings { AreWritings (state_of P.timeline W.sets W.moves R.rules B.store self.now) }
+        requires strip { (number : ℕ) × IsStrip (P.timeline self.now.paths) number strip }
+        requires within { k < length self.now.work.writing }
+        ensures { IsLooseEnd strip k result (state_of P.timeline W.sets W.moves R.rules B.store self.now) }
+    {
+        let _end = self.end();
+        let entry = self.entry(k);
+        if entry.at < strip.first {
+            return None;
+        }
+        if entry.at >= strip.last {
+            return None;
+        }
+        if self.falls(entry.row, entry.at, entry.at + 1) {
+            None
+        } else {
+            Some(entry.at)
+        }
+    }
+
+    /// That of the entry before an index, if there is one.
+    fn loose_before(&self, strip: Strip, k: usize) -> Option<u32>
+        requires writings { AreWritings (state_of P.timeline W.sets W.moves R.rules B.store self.now) }
+        requires strip { (number : ℕ) × IsStrip (P.timeline self.now.paths) number strip }
+        requires within { k ≤ length self.now.work.writing }
+        ensures { IsLooseBefore strip k result (state_of P.timeline W.sets W.moves R.rules B.store self.now) }
+    {
+        if k == 0 {
+            None
+        } else {
+            self.loose_end(strip, k - 1)
+        }
+    }
+
+    /// The numbers of a strip around one, from one row that may write the byte to the next one.
+    fn piece(&self, a: u32, point: u32, strip: Strip) -> Piece
+        requires writings { AreWritings (state_of P.timeline W.sets W.moves R.rules B.store self.now) }
+        requires strip { IsStrip (P.timeline self.now.paths) point strip }
+        requires calm { IsCalm a strip (state_of P.timeline W.sets W.moves R.rules B.store self.now) }
+        ensures { IsPiece a strip point result (state_of P.timeline W.sets W.moves R.rules B.store self.now) }
+    {
+        let k = self.past_hit(point, a);
+        let from = self.number_past(k).max(strip.first);
+        let before = self.loose_before(strip, k);
+        match self.next_hit(k, a) {
+            None => Piece {
+                from,
+                to: strip.last,
+                before,
+                after: None,
+            },
+            Some(hit) => Piece {
+                from,
+                to: self.entry(hit).at.min(strip.last),
+                before,
+                after: self.loose_end(strip, hit),
+            },
         }
     }
 
@@ -302,7 +463,7 @@ impl<'a, P: Paths + Drop, B: ByteFacts, W: Transfer, R: RowRules> Analysis<'a, P
         self.filled == 0
     }
 
-    /// The value of a byte over the rows around a point that may not write it.
+    /// The value of a byte over the numbers around one, as far as it is carried in their strip.
     fn carry_around(&mut self, a: u32, point: u32) -> Result<bool, Halt>
         requires writings { AreWritings (state_of P.timeline W.sets W.moves R.rules B.store self.old) }
         requires open { self.old.complete ≡ false }
@@ -310,10 +471,13 @@ impl<'a, P: Paths + Drop, B: ByteFacts, W: Transfer, R: RowRules> Analysis<'a, P
         ensures drew { IfOk result (λ learnt. Drew (state_of P.timeline W.sets W.moves R.rules B.store self.old) (state_of P.timeline W.sets W.moves R.rules B.store self.new) learnt (λ _. ⊤)) }
         ensures halt { IfErr result (λ h. IsHalt (state_of P.timeline W.sets W.moves R.rules B.store self.new) h) }
     {
-        let k = self.past_hit(point, a);
-        let from = self.row_past(k);
-        let to = self.next_writer(k, a);
-        let learnt = self.carry_segment(a, from, to)?;
+        let number = point.min(self.end());
+        let strip = self.strip(number);
+        if !self.is_calm(a, strip) {
+            return Ok(false);
+        }
+        let piece = self.piece(a, number, strip);
+        let learnt = self.carry_segment(a, piece.from, piece.to)?;
         Ok(learnt)
     }
 
@@ -355,49 +519,261 @@ impl<'a, P: Paths + Drop, B: ByteFacts, W: Transfer, R: RowRules> Analysis<'a, P
         Ok(told | carried)
     }
 
-    /// The value of a byte from the last row before a point that may write it to the next one. Answers whether it was new, and that next
-    /// row, or the number of rows.
-    fn carry_beside(&mut self, a: u32, point: u32) -> Result<(bool, u32), Halt>
-        requires point { point ≤ (P.timeline self.old.paths).legs.count }
+    /// The value of a byte from a number to the one after it, and back, if it is carried.
+    fn carry_step(&mut self, a: u32, m: u32) -> Result<bool, Halt>
+        requires writings { AreWritings (state_of P.timeline W.sets W.moves R.rules B.store self.old) }
+        requires next { (P.timeline self.old.paths).moments.next m (m + 1) ≡ true }
+        requires open { self.old.complete ≡ false }
+        ensures grows { Grows (state_of P.timeline W.sets W.moves R.rules B.store self.old) (state_of P.timeline W.sets W.moves R.rules B.store self.new) }
+        ensures drew { IfOk result (λ learnt. Drew (state_of P.timeline W.sets W.moves R.rules B.store self.old) (state_of P.timeline W.sets W.moves R.rules B.store self.new) learnt (IsCarriedIf (record { address = a; from = m; to = m + 1 }))) }
+        ensures halt { IfErr result (λ h. IsHalt (state_of P.timeline W.sets W.moves R.rules B.store self.new) h) }
+    {
+        let end = self.end();
+        self.held();
+        if m >= end {
+            return Ok(false);
+        }
+        if !self.is_carried(a, m, m + 1) {
+            return Ok(false);
+        }
+        let learnt = self.carry_segment(a, m, m + 1)?;
+        Ok(learnt)
+    }
+
+    /// So from a number, if there is one.
+    fn carry_end(&mut self, a: u32, m: Option<u32>) -> Result<bool, Halt>
+        requires writings { AreWritings (state_of P.timeline W.sets W.moves R.rules B.store self.old) }
+        requires next { (i : ℕ) → m ≡ Some i → (P.timeline self.old.paths).moments.next i (i + 1) ≡ true }
+        requires open { self.old.complete ≡ false }
+        ensures grows { Grows (state_of P.timeline W.sets W.moves R.rules B.store self.old) (state_of P.timeline W.sets W.moves R.rules B.store self.new) }
+        ensures drew { IfOk result (λ learnt. Drew (state_of P.timeline W.sets W.moves R.rules B.store self.old) (state_of P.timeline W.sets W.moves R.rules B.store self.new) learnt (λ s. (i : ℕ) → m ≡ Some i → IsCarriedIf (record { address = a; from = i; to = i + 1 }) s)) }
+        ensures halt { IfErr result (λ h. IsHalt (state_of P.timeline W.sets W.moves R.rules B.store self.new) h) }
+    {
+        let Some(m) = m else {
+            return Ok(false);
+        };
+        let learnt = self.carry_step(a, m)?;
+        Ok(learnt)
+    }
+
+    /// The value of a byte from the last row before a number that may write it to the next one, in a strip in which no other may. Answers whether it was new, and how far it is
+    /// carried.
+    fn carry_beside(&mut self, a: u32, point: u32, strip: Strip) -> Result<(bool, u32), Halt>
+        requires strip { IsStrip (P.timeline self.old.paths) point strip }
+        requires calm { IsCalm a strip (state_of P.timeline W.sets W.moves R.rules B.store self.old) }
         requires writings { AreWritings (state_of P.timeline W.sets W.moves R.rules B.store self.old) }
         requires open { self.old.complete ≡ false }
         ensures grows { Grows (state_of P.timeline W.sets W.moves R.rules B.store self.old) (state_of P.timeline W.sets W.moves R.rules B.store self.new) }
-        ensures drew { IfOk result (λ ended. Drew (state_of P.timeline W.sets W.moves R.rules B.store self.old) (state_of P.timeline W.sets W.moves R.rules B.store self.new) ended.0 (IsCarriedBeside a point ended.1)) }
+        ensures drew { IfOk result (λ ended. Drew (state_of P.timeline W.sets W.moves R.rules B.store self.old) (state_of P.timeline W.sets W.moves R.rules B.store self.new) ended.0 (IsCarriedBeside a strip point ended.1)) }
         ensures halt { IfErr result (λ h. IsHalt (state_of P.timeline W.sets W.moves R.rules B.store self.new) h) }
-        ensures onward { IfOk result (λ ended. (point ≤ ended.1) × (ended.1 ≤ (P.timeline self.old.paths).legs.count)) }
+        ensures onward { IfOk result (λ ended. (point ≤ ended.1) × (ended.1 ≤ strip.last)) }
     {
-        self.held();
-        let k = self.past_hit(point, a);
-        let from = self.row_past(k);
-        let to = self.next_writer(k, a);
-        let learnt = self.carry_segment(a, from, to)?;
-        Ok((learnt, to))
+        let piece = self.piece(a, point, strip);
+        let inside = self.carry_segment(a, piece.from, piece.to)?;
+        let before = self.carry_end(a, piece.before)?;
+        let after = self.carry_end(a, piece.after)?;
+        Ok((inside | before | after, piece.to))
     }
 
-    /// The value of a byte over all rows that may not write it: from each point at which its value begins or ends, and nowhere else, so that
+    /// The value of a byte in a strip in which no row may write it but those of its own numbers: from each number at which its value begins or ends, and nowhere else, so that
     /// a path on which many rows may write something takes no longer.
+    fn carry_calm(&mut self, a: u32, strip: Strip) -> Result<bool, Halt>
+        requires strip { IsStrip (P.timeline self.old.paths) strip.first strip }
+        requires calm { IsCalm a strip (state_of P.timeline W.sets W.moves R.rules B.store self.old) }
+        requires writings { AreWritings (state_of P.timeline W.sets W.moves R.rules B.store self.old) }
+        requires open { self.old.complete ≡ false }
+        ensures grows { Grows (state_of P.timeline W.sets W.moves R.rules B.store self.old) (state_of P.timeline W.sets W.moves R.rules B.store self.new) }
+        ensures drew { IfOk result (λ learnt. Drew (state_of P.timeline W.sets W.moves R.rules B.store self.old) (state_of P.timeline W.sets W.moves R.rules B.store self.new) learnt (IsCarriedIn a strip)) }
+        ensures halt { IfErr result (λ h. IsHalt (state_of P.timeline W.sets W.moves R.rules B.store self.new) h) }
+    {
+        let _end = self.end();
+        let mut learnt = false;
+        let mut from = strip.first;
+        while from <= strip.last {
+            let Some(stretch) = self.stretch(a, from) else {
+                return Ok(learnt);
+            };
+            let point = edge(&stretch, from);
+            if point > strip.last {
+                return Ok(learnt);
+            }
+            self.held();
+            let beside = self.carry_beside(a, point, strip)?;
+            learnt = learnt | beside.0;
+            from = beside.1 + 1;
+        }
+        Ok(learnt)
+    }
+
+    /// So in any strip, number by number, from each at which its value ends or before which it begins.
+    fn carry_singly(&mut self, a: u32, strip: Strip) -> Result<bool, Halt>
+        requires strip { IsStrip (P.timeline self.old.paths) strip.first strip }
+        requires writings { AreWritings (state_of P.timeline W.sets W.moves R.rules B.store self.old) }
+        requires open { self.old.complete ≡ false }
+        ensures grows { Grows (state_of P.timeline W.sets W.moves R.rules B.store self.old) (state_of P.timeline W.sets W.moves R.rules B.store self.new) }
+        ensures drew { IfOk result (λ learnt. Drew (state_of P.timeline W.sets W.moves R.rules B.store self.old) (state_of P.timeline W.sets W.moves R.rules B.store self.new) learnt (IsCarriedIn a strip)) }
+        ensures halt { IfErr result (λ h. IsHalt (state_of P.timeline W.sets W.moves R.rules B.store self.new) h) }
+    {
+        let _end = self.end();
+        let mut learnt = false;
+        let mut from = strip.first;
+        while from < strip.last {
+            let Some(stretch) = self.stretch(a, from) else {
+                return Ok(learnt);
+            };
+            let m = border(&stretch, from);
+            if m >= strip.last {
+                return Ok(learnt);
+            }
+            let new = self.carry_step(a, m)?;
+            learnt = learnt | new;
+            from = m + 1;
+        }
+        Ok(learnt)
+    }
+
+    /// The value of a byte in a strip.
+    fn carry_strip(&mut self, a: u32, strip: Strip) -> Result<bool, Halt>
+        requires strip { IsStrip (P.timeline self.old.paths) strip.first strip }
+        requires writings { AreWritings (state_of P.timeline W.sets W.moves R.rules B.store self.old) }
+        requires open { self.old.complete ≡ false }
+        ensures grows { Grows (state_of P.timeline W.sets W.moves R.rules B.store self.old) (state_of P.timeline W.sets W.moves R.rules B.store self.new) }
+        ensures drew { IfOk result (λ learnt. Drew (state_of P.timeline W.sets W.moves R.rules B.store self.old) (state_of P.timeline W.sets W.moves R.rules B.store self.new) learnt (IsCarriedIn a strip)) }
+        ensures halt { IfErr result (λ h. IsHalt (state_of P.timeline W.sets W.moves R.rules B.store self.new) h) }
+    {
+        if self.is_calm(a, strip) {
+            let learnt = self.carry_calm(a, strip)?;
+            Ok(learnt)
+        } else {
+            let learnt = self.carry_singly(a, strip)?;
+            Ok(learnt)
+        }
+    }
+
+    /// Tells the value of a byte at a number to which it is carried from one that isn't before or after it by one.
+    fn tell_across(&mut self, a: u32, to: u32, value: u8) -> Result<bool, Halt>
+        requires to { to ≤ (P.timeline self.old.paths).moments.end }
+        requires tracked { IsTracked a (state_of P.timeline W.sets W.moves R.rules B.store self.old) }
+        requires brought { IsBrought (state_of P.timeline W.sets W.moves R.rules B.store self.old) (fact_of to (Byte a) value) }
+        requires room { B.JOINS ≡ false }
+        requires open { self.old.complete ≡ false }
+        ensures grows { Grows (state_of P.timeline W.sets W.moves R.rules B.store self.old) (state_of P.timeline W.sets W.moves R.rules B.store self.new) }
+        ensures drew { IfOk result (λ learnt. Drew (state_of P.timeline W.sets W.moves R.rules B.store self.old) (state_of P.timeline W.sets W.moves R.rules B.store self.new) learnt (Knows to (Byte a) value)) }
+        ensures halt { IfErr result (λ h. IsHalt (state_of P.timeline W.sets W.moves R.rules B.store self.new) h) }
+    {
+        self.counted();
+        let learnt = self.learn_byte(to, a, value, false)?;
+        Ok(learnt)
+    }
+
+    /// Tells the value of a byte at a number that is known at one that is next to it, over which it is carried, if it is known there.
+    fn tell_back(&mut self, a: u32, m: u32, w: u32) -> Result<bool, Halt>
+        requires tracked { IsTracked a (state_of P.timeline W.sets W.moves R.rules B.store self.old) }
+        requires bridged { IsBridged (record { address = a; from = m; to = w }) (state_of P.timeline W.sets W.moves R.rules B.store self.old) }
+        requires unknown { (B.store self.old.known.bytes).fact m a ≡ None }
+        requires room { B.JOINS ≡ false }
+        requires open { self.old.complete ≡ false }
+        ensures grows { Grows (state_of P.timeline W.sets W.moves R.rules B.store self.old) (state_of P.timeline W.sets W.moves R.rules B.store self.new) }
+        ensures drew { IfOk result (λ learnt. Drew (state_of P.timeline W.sets W.moves R.rules B.store self.old) (state_of P.timeline W.sets W.moves R.rules B.store self.new) learnt (IsCarriedIf (record { address = a; from = m; to = w }))) }
+        ensures halt { IfErr result (λ h. IsHalt (state_of P.timeline W.sets W.moves R.rules B.store self.new) h) }
+    {
+        self.held();
+        let Some(value) = self.known_byte(w, a) else {
+            return Ok(false);
+        };
+        let learnt = self.tell_across(a, m, value)?;
+        Ok(learnt)
+    }
+
+    /// So at either of them.
+    fn tell_either(&mut self, a: u32, m: u32, w: u32) -> Result<bool, Halt>
+        requires tracked { IsTracked a (state_of P.timeline W.sets W.moves R.rules B.store self.old) }
+        requires bridged { IsBridged (record { address = a; from = m; to = w }) (state_of P.timeline W.sets W.moves R.rules B.store self.old) }
+        requires room { B.JOINS ≡ false }
+        requires open { self.old.complete ≡ false }
+        ensures grows { Grows (state_of P.timeline W.sets W.moves R.rules B.store self.old) (state_of P.timeline W.sets W.moves R.rules B.store self.new) }
+        ensures drew { IfOk result (λ learnt. Drew (state_of P.timeline W.sets W.moves R.rules B.store self.old) (state_of P.timeline W.sets W.moves R.rules B.store self.new) learnt (IsCarriedIf (record { address = a; from = m; to = w }))) }
+        ensures halt { IfErr result (λ h. IsHalt (state_of P.timeline W.sets W.moves R.rules B.store self.new) h) }
+    {
+        self.held();
+        match self.known_byte(m, a) {
+            None => {
+                let learnt = self.tell_back(a, m, w)?;
+                Ok(learnt)
+            }
+            Some(value) => {
+                let learnt = self.tell_across(a, w, value)?;
+                Ok(learnt)
+            }
+        }
+    }
+
+    /// The value of a byte from a number to one that is next to it, and back, if it is carried.
+    fn carry_link(&mut self, a: u32, m: u32, w: u32) -> Result<bool, Halt>
+        requires tracked { IsTracked a (state_of P.timeline W.sets W.moves R.rules B.store self.old) }
+        requires next { (P.timeline self.old.paths).moments.next m w ≡ true }
+        requires room { (w ≡ m + 1 → ⊥) → B.JOINS ≡ false }
+        requires writings { AreWritings (state_of P.timeline W.sets W.moves R.rules B.store self.old) }
+        requires open { self.old.complete ≡ false }
+        ensures grows { Grows (state_of P.timeline W.sets W.moves R.rules B.store self.old) (state_of P.timeline W.sets W.moves R.rules B.store self.new) }
+        ensures drew { IfOk result (λ learnt. Drew (state_of P.timeline W.sets W.moves R.rules B.store self.old) (state_of P.timeline W.sets W.moves R.rules B.store self.new) learnt (IsCarriedIf (record { address = a; from = m; to = w }))) }
+        ensures halt { IfErr result (λ h. IsHalt (state_of P.timeline W.sets W.moves R.rules B.store self.new) h) }
+    {
+        if is_after(m, w) {
+            let learnt = self.carry_step(a, m)?;
+            return Ok(learnt);
+        }
+        if !self.is_carried(a, m, w) {
+            return Ok(false);
+        }
+        let learnt = self.tell_either(a, m, w)?;
+        Ok(learnt)
+    }
+
+    /// The value of a byte from a number to all that are next to it, and back.
+    fn carry_links(&mut self, a: u32, m: u32) -> Result<bool, Halt>
+        requires inside { m ≤ (P.timeline self.old.paths).moments.end }
+        requires room { (w : ℕ) → (P.timeline self.old.paths).moments.next m w ≡ true → (w ≡ m + 1 → ⊥) → B.JOINS ≡ false }
+        requires tracked { IsTracked a (state_of P.timeline W.sets W.moves R.rules B.store self.old) }
+        requires writings { AreWritings (state_of P.timeline W.sets W.moves R.rules B.store self.old) }
+        requires open { self.old.complete ≡ false }
+        ensures grows { Grows (state_of P.timeline W.sets W.moves R.rules B.store self.old) (state_of P.timeline W.sets W.moves R.rules B.store self.new) }
+        ensures drew { IfOk result (λ learnt. Drew (state_of P.timeline W.sets W.moves R.rules B.store self.old) (state_of P.timeline W.sets W.moves R.rules B.store self.new) learnt (AreLinks a m)) }
+        ensures halt { IfErr result (λ h. IsHalt (state_of P.timeline W.sets W.moves R.rules B.store self.new) h) }
+    {
+        let end = self.end();
+        let mut learnt = false;
+        let mut least = 0;
+        while least <= end {
+            let Some(next) = self.next_from(m, least) else {
+                return Ok(learnt);
+            };
+            let new = self.carry_link(a, m, next)?;
+            learnt = learnt | new;
+            least = next + 1;
+        }
+        Ok(learnt)
+    }
+
+    /// The value of a byte over all that may not write it: strip by strip, and from the last number of each to those next to it.
     fn carry_address(&mut self, a: u32) -> Result<bool, Halt>
+        requires tracked { IsTracked a (state_of P.timeline W.sets W.moves R.rules B.store self.old) }
         requires writings { AreWritings (state_of P.timeline W.sets W.moves R.rules B.store self.old) }
         requires open { self.old.complete ≡ false }
         ensures grows { Grows (state_of P.timeline W.sets W.moves R.rules B.store self.old) (state_of P.timeline W.sets W.moves R.rules B.store self.new) }
         ensures drew { IfOk result (λ learnt. Drew (state_of P.timeline W.sets W.moves R.rules B.store self.old) (state_of P.timeline W.sets W.moves R.rules B.store self.new) learnt (IsCarriedAlong a)) }
         ensures halt { IfErr result (λ h. IsHalt (state_of P.timeline W.sets W.moves R.rules B.store self.new) h) }
     {
-        self.held();
-        let rows = self.count();
+        let end = self.end();
         let mut learnt = false;
         let mut from = 0;
-        while from <= rows {
-            let Some(stretch) = self.stretch(a, from) else {
-                return Ok(learnt);
-            };
-            let point = edge(&stretch, from);
-            if point > rows {
-                return Ok(learnt);
-            }
-            let beside = self.carry_beside(a, point)?;
-            learnt = learnt | beside.0;
-            from = beside.1 + 1;
+        while from <= end {
+            self.held();
+            let strip = self.strip(from);
+            let inside = self.carry_strip(a, strip)?;
+            let links = self.carry_links(a, strip.last)?;
+            learnt = learnt | inside | links;
+            from = strip.last + 1;
         }
         Ok(learnt)
     }
@@ -431,7 +807,7 @@ impl<'a, P: Paths + Drop, B: ByteFacts, W: Transfer, R: RowRules> Analysis<'a, P
     /// Adds a row to it.
     fn add_writing(&mut self, writing: Writing)
         requires open { self.old.complete ≡ false }
-        requires room { length self.old.work.writing < (P.timeline self.old.paths).legs.count }
+        requires room { length self.old.work.writing ≤ (P.timeline self.old.paths).moments.end }
         ensures { (state_of P.timeline W.sets W.moves R.rules B.store self.new) ≡ with_writing (state_of P.timeline W.sets W.moves R.rules B.store self.old) (self.old.work.writing ++ writing ∷ []) }
     {
         self.writing.add(writing);
@@ -445,39 +821,69 @@ impl<'a, P: Paths + Drop, B: ByteFacts, W: Transfer, R: RowRules> Analysis<'a, P
         self.writing.index();
     }
 
-    /// Adds row i, if there is one and it may write, by the facts of which the sets are.
-    fn list_row(&mut self, i: u32)
+    /// The row before which a moment lies, if there is one.
+    fn row_at(&self, number: u32) -> Option<u32>
+        ensures { IsRowAt (P.timeline self.now.paths) number result }
+    {
+        self.paths.row_at(number)
+    }
+
+    /// Adds the row before which a moment lies, if there is one and it may write, by the facts of which the sets are.
+    fn list_at(&mut self, number: u32)
         requires open { self.old.complete ≡ false }
-        requires inside { i < (P.timeline self.old.paths).legs.count }
-        requires room { length self.old.work.writing ≤ i }
+        requires inside { number ≤ (P.timeline self.old.paths).moments.end }
+        requires room { length self.old.work.writing ≤ number }
         requires fitted { IsFitted (state_of P.timeline W.sets W.moves R.rules B.store self.old) }
-        requires before { AreWritingsBefore i self.old.work.writing (state_of P.timeline W.sets W.moves R.rules B.store self.old) }
+        requires before { AreWritingsBefore number self.old.work.writing (state_of P.timeline W.sets W.moves R.rules B.store self.old) }
         ensures same { (state_of P.timeline W.sets W.moves R.rules B.store self.new) ≡ with_writing (state_of P.timeline W.sets W.moves R.rules B.store self.old) self.new.work.writing }
-        ensures room { length self.new.work.writing ≤ i + 1 }
-        ensures listed { AreWritingsBefore (i + 1) self.new.work.writing (state_of P.timeline W.sets W.moves R.rules B.store self.old) }
+        ensures room { length self.new.work.writing ≤ number + 1 }
+        ensures listed { AreWritingsBefore (number + 1) self.new.work.writing (state_of P.timeline W.sets W.moves R.rules B.store self.old) }
+    {
+        match self.row_at(number) {
+            None => {}
+            Some(i) => self.list_row(number, i),
+        }
+    }
+
+    /// Adds the row that leads from a point, if it may write.
+    fn list_row(&mut self, number: u32, i: u32)
+        requires open { self.old.complete ≡ false }
+        requires inside { number ≤ (P.timeline self.old.paths).moments.end }
+        requires row { IsRowAt (P.timeline self.old.paths) number (Some i) }
+        requires room { length self.old.work.writing ≤ number }
+        requires fitted { IsFitted (state_of P.timeline W.sets W.moves R.rules B.store self.old) }
+        requires before { AreWritingsBefore number self.old.work.writing (state_of P.timeline W.sets W.moves R.rules B.store self.old) }
+        ensures same { (state_of P.timeline W.sets W.moves R.rules B.store self.new) ≡ with_writing (state_of P.timeline W.sets W.moves R.rules B.store self.old) self.new.work.writing }
+        ensures room { length self.new.work.writing ≤ number + 1 }
+        ensures listed { AreWritingsBefore (number + 1) self.new.work.writing (state_of P.timeline W.sets W.moves R.rules B.store self.old) }
     {
         match self.row(i) {
             None => {}
-            Some(row) => self.list_there(i, &row),
+            Some(row) => self.list_there(number, i, &row),
         }
     }
 
     /// Adds this row, if it may write.
-    fn list_there(&mut self, i: u32, row: &StepRow)
+    fn list_there(&mut self, number: u32, i: u32, row: &StepRow)
         requires open { self.old.complete ≡ false }
-        requires inside { i < (P.timeline self.old.paths).legs.count }
+        requires inside { number ≤ (P.timeline self.old.paths).moments.end }
+        requires point { i < (P.timeline self.old.paths).legs.count }
+        requires at { IsRowAt (P.timeline self.old.paths) number (Some i) }
         requires row { (P.timeline self.old.paths).legs.row i ≡ Some row.now }
-        requires room { length self.old.work.writing ≤ i }
+        requires room { length self.old.work.writing ≤ number }
         requires fitted { IsFitted (state_of P.timeline W.sets W.moves R.rules B.store self.old) }
-        requires before { AreWritingsBefore i self.old.work.writing (state_of P.timeline W.sets W.moves R.rules B.store self.old) }
+        requires before { AreWritingsBefore number self.old.work.writing (state_of P.timeline W.sets W.moves R.rules B.store self.old) }
         ensures same { (state_of P.timeline W.sets W.moves R.rules B.store self.new) ≡ with_writing (state_of P.timeline W.sets W.moves R.rules B.store self.old) self.new.work.writing }
-        ensures room { length self.new.work.writing ≤ i + 1 }
-        ensures listed { AreWritingsBefore (i + 1) self.new.work.writing (state_of P.timeline W.sets W.moves R.rules B.store self.old) }
+        ensures room { length self.new.work.writing ≤ number + 1 }
+        ensures listed { AreWritingsBefore (number + 1) self.new.work.writing (state_of P.timeline W.sets W.moves R.rules B.store self.old) }
     {
         let access = self.access(i, row);
-        let at = self.moment_at(i, When::Before);
         if !is_none(&access) {
-            self.add_writing(Writing { row: i, at, access });
+            self.add_writing(Writing {
+                row: i,
+                at: number,
+                access,
+            });
         }
     }
 
@@ -490,10 +896,10 @@ impl<'a, P: Paths + Drop, B: ByteFacts, W: Transfer, R: RowRules> Analysis<'a, P
         ensures exact { AreExact (state_of P.timeline W.sets W.moves R.rules B.store self.new) }
     {
         self.held();
-        let count = self.count();
+        let count = self.end() + 1;
         self.clear_writing();
-        for i in 0..count {
-            self.list_row(i);
+        for number in 0..count {
+            self.list_at(number);
         }
         self.index_writing();
     }

@@ -1,67 +1,65 @@
-use Rattle.std.proofs.Common.{◌+◌, ◌<◌, Some, None, refl, false, arith}
-use Rattle.rept_versions.specs.Facts.{Nexts}
+use Rattle.std.proofs.Common.{◌+◌, ◌||◌, arith}
 use Rattle.rept_analysis.specs.State.{State, state_of}
-use Rattle.rept_analysis.specs.Drawing.{IsCarriedBeside, IsCarriedAlong}
-use Rattle.rept_analysis.proofs.Drawn.{Drew_as, Drew_both, Drew_first, Drew_same, Grows_itself, Grows_trans}
-use Rattle.rept_analysis.proofs.Listing.{IsCarriedBelow, below_beside, below_edge, below_free, below_all, nexts_none}
+use Rattle.rept_report.specs.Timeline.{IsStrip}
+use Rattle.rept_analysis.specs.Drawing.{IsCarriedIn, AreLinks, IsCarriedUpTo, IsCarriedAlong}
+use Rattle.rept_analysis.proofs.Along.{one_link}
+use Rattle.rept_analysis.proofs.Drawn.{Drew_as, Drew_both, Drew_same, Grows_itself, Grows_trans}
+use Rattle.rept_analysis.proofs.Listing.{writings_after, timeline_of}
+use Rattle.rept_analysis.proofs.Going.{strip_at, next_before, up_to_none, up_to_more, up_to_all}
 use Rattle.rept_analysis.proofs.analysis.Analysis.carry_address.Goals as goal
 
 pub loop-from-init : goal.loop-from-init
-loop-from-init g c = record { grows = Grows_itself _; drew = Drew_same _ _ (λ exact i lt inside. absurd (omega (arith, lt))); rows = c.count-rows.ensures.value; near = omega arith }
+loop-from-init g c = record { grows = Grows_itself _; drew = Drew_same _ _ (up_to_none _ c.args.a); end_is = c.end-end.ensures.value }
 
-pub returns-in_default-clause-drew : goal.returns-in_default-clause-drew
-returns-in_default-clause-drew g c =
-    let s = state_of g.P.Paths.timeline g.W.Partial.sets g.W.Transfer.moves g.R.RowRules.rules g.B.ByteFacts.store c.args.self.now in
-    let t = state_of g.P.Paths.timeline g.W.Partial.sets g.W.Transfer.moves g.R.RowRules.rules g.B.ByteFacts.store c.loop-from.self in
-    let a = c.args.a in
-    let from = c.loop-from.from in
-    let Q : State g.row.W.Denot → Type 0 = λ x. Nexts x.known.store.fact a from None in
-    Drew_first s t t c.loop-from.learnt false (IsCarriedBelow a from) Q (IsCarriedAlong a) (Grows_itself t) refl c.loop-from.invariant.drew (Drew_same t Q (nexts_none t.known.store.fact a from c.stretch.result c.in_default.not-Some c.stretch.ensures)) (λ p q. below_free s c.held.ensures.line a from q p)
+pub carry_strip-requires-clause-strip : goal.carry_strip-requires-clause-strip
+carry_strip-requires-clause-strip g c = let its = c.strip-strip.ensures in strip_at _ c.loop-from.from c.strip-strip.result.first c.strip-strip.result its (omega arith) (let low = its.from in let high = its.to in omega (arith, low, high))
 
-pub returns-then-point-rows-clause-drew : goal.returns-then-point-rows-clause-drew
-returns-then-point-rows-clause-drew g c =
-    let s = state_of g.P.Paths.timeline g.W.Partial.sets g.W.Transfer.moves g.R.RowRules.rules g.B.ByteFacts.store c.args.self.now in
-    let t = state_of g.P.Paths.timeline g.W.Partial.sets g.W.Transfer.moves g.R.RowRules.rules g.B.ByteFacts.store c.loop-from.self in
-    let a = c.args.a in
-    let from = c.loop-from.from in
-    let Q : State g.row.W.Denot → Type 0 = λ x. Nexts x.known.store.fact a from (Some c.in-Some.stretch) in
-    let rows = c.loop-from.invariant.rows in
-    let after = c.if-point-rows.true in
-    let far : s.path.given.legs.count < c.edge-point.result = omega (arith, rows, after) in
-    Drew_first s t t c.loop-from.learnt false (IsCarriedBelow a from) Q (IsCarriedAlong a) (Grows_itself t) refl c.loop-from.invariant.drew (Drew_same t Q (rw c.in-Some.is at c.stretch.ensures)) (λ p q. below_edge s a from c.edge-point.result c.in-Some.stretch q c.edge-point.ensures c.held.ensures.line far p)
+pub carry_strip-requires-clause-writings : goal.carry_strip-requires-clause-writings
+carry_strip-requires-clause-writings g c = writings_after (state_of g.P.Paths.timeline g.W.Partial.sets g.W.Transfer.moves g.R.RowRules.rules g.B.ByteFacts.store c.args.self.now) (state_of g.P.Paths.timeline g.W.Partial.sets g.W.Transfer.moves g.R.RowRules.rules g.B.ByteFacts.store c.loop-from.self) c.loop-from.invariant.grows c.requires.writings
 
-pub returns-in_err-beside-clause-grows : goal.returns-in_err-beside-clause-grows
-returns-in_err-beside-clause-grows g c = Grows_trans _ _ _ c.loop-from.invariant.grows c.carry_beside.ensures.grows
+pub carry_links-requires-clause-writings : goal.carry_links-requires-clause-writings
+carry_links-requires-clause-writings g c =
+    let s = (state_of g.P.Paths.timeline g.W.Partial.sets g.W.Transfer.moves g.R.RowRules.rules g.B.ByteFacts.store c.args.self.now) in
+    let t = (state_of g.P.Paths.timeline g.W.Partial.sets g.W.Transfer.moves g.R.RowRules.rules g.B.ByteFacts.store c.loop-from.self) in
+    let u = (state_of g.P.Paths.timeline g.W.Partial.sets g.W.Transfer.moves g.R.RowRules.rules g.B.ByteFacts.store c.carry_strip.new.self) in
+    writings_after s u (Grows_trans s t u c.loop-from.invariant.grows c.in_ok-inside.ensures.grows) c.requires.writings
+
+pub carry_links-requires-clause-room : goal.carry_links-requires-clause-room
+carry_links-requires-clause-room g c = λ w next other.
+    let t = (state_of g.P.Paths.timeline g.W.Partial.sets g.W.Transfer.moves g.R.RowRules.rules g.B.ByteFacts.store c.loop-from.self) in
+    absurd (other (one_link t.path.given c.held.ensures.line c.strip-strip.result.last w (next_before t (state_of g.P.Paths.timeline g.W.Partial.sets g.W.Transfer.moves g.R.RowRules.rules g.B.ByteFacts.store c.carry_strip.new.self) c.in_ok-inside.ensures.grows c.strip-strip.result.last w next)))
+
+pub returns-in_err-inside-clause-grows : goal.returns-in_err-inside-clause-grows
+returns-in_err-inside-clause-grows g c = Grows_trans _ _ _ c.loop-from.invariant.grows c.carry_strip.ensures.grows
+
+pub returns-in_err-links-clause-grows : goal.returns-in_err-links-clause-grows
+returns-in_err-links-clause-grows g c = Grows_trans _ _ _ (Grows_trans _ _ _ c.loop-from.invariant.grows c.in_ok-inside.ensures.grows) c.carry_links.ensures.grows
 
 pub loop-from-preserved : goal.loop-from-preserved
 loop-from-preserved g c =
-    let s = state_of g.P.Paths.timeline g.W.Partial.sets g.W.Transfer.moves g.R.RowRules.rules g.B.ByteFacts.store c.args.self.now in
-    let t = state_of g.P.Paths.timeline g.W.Partial.sets g.W.Transfer.moves g.R.RowRules.rules g.B.ByteFacts.store c.loop-from.self in
-    let u = state_of g.P.Paths.timeline g.W.Partial.sets g.W.Transfer.moves g.R.RowRules.rules g.B.ByteFacts.store c.carry_beside.new.self in
+    let s = (state_of g.P.Paths.timeline g.W.Partial.sets g.W.Transfer.moves g.R.RowRules.rules g.B.ByteFacts.store c.args.self.now) in
+    let t = (state_of g.P.Paths.timeline g.W.Partial.sets g.W.Transfer.moves g.R.RowRules.rules g.B.ByteFacts.store c.loop-from.self) in
+    let u = (state_of g.P.Paths.timeline g.W.Partial.sets g.W.Transfer.moves g.R.RowRules.rules g.B.ByteFacts.store c.carry_strip.new.self) in
+    let v = (state_of g.P.Paths.timeline g.W.Partial.sets g.W.Transfer.moves g.R.RowRules.rules g.B.ByteFacts.store c.carry_links.new.self) in
     let a = c.args.a in
     let from = c.loop-from.from in
-    let point = c.edge-point.result in
-    let to = c.in_ok-beside.beside.1 in
+    let strip = c.strip-strip.result in
     let i = c.loop-from.invariant in
-    let e = c.in_ok-beside.ensures in
-    let P : State g.row.W.Denot → Type 0 = λ x. Nexts x.known.store.fact a from (Some c.in-Some.stretch) × IsCarriedBeside a point to x in
-    let rows = i.rows in
-    let same = i.grows.count in
-    let onward = e.onward.1 in
+    let P : State g.row.W.Denot → Type 0 = λ x. IsStrip (timeline_of x) from strip × IsCarriedIn a strip x in
+    let R : State g.row.W.Denot → Type 0 = λ x. IsCarriedUpTo a from x × P x in
+    let inside = Drew_both s t u c.loop-from.learnt c.in_ok-inside.inside (IsCarriedUpTo a from) P R i.grows c.in_ok-inside.ensures.grows i.drew
+    (Drew_as t u c.in_ok-inside.inside (IsCarriedIn a strip) P c.in_ok-inside.ensures.drew (λ h. (c.strip-strip.ensures, h))) (λ p q. (p, q)) in
     record {
-      grows = Grows_trans s t u i.grows e.grows;
-      drew = Drew_both s t u c.loop-from.learnt c.in_ok-beside.beside.0 (IsCarriedBelow a from) P (IsCarriedBelow a (to + 1)) i.grows e.grows i.drew
-          (Drew_as t u c.in_ok-beside.beside.0 (IsCarriedBeside a point to) P e.drew (λ h. (rw c.in-Some.is at c.stretch.ensures, h)))
-          (λ p q. below_beside s a from point c.in-Some.stretch q.0 c.edge-point.ensures to p q.1);
-      rows = rows;
-      near = omega (arith, onward, rows, same);
+      grows = Grows_trans s u v (Grows_trans s t u i.grows c.in_ok-inside.ensures.grows) c.in_ok-links.ensures.grows;
+      drew = Drew_both s u v (c.loop-from.learnt || c.in_ok-inside.inside) c.in_ok-links.links R (AreLinks a strip.last) (IsCarriedUpTo a (strip.last + 1)) (Grows_trans s t u i.grows c.in_ok-inside.ensures.grows) c.in_ok-links.ensures.grows inside c.in_ok-links.ensures.drew
+          (λ p q. up_to_more s a from from strip p.1.0 (p.1.0).from p.0 p.1.1 q);
+      end_is = i.end_is;
     }
 
 pub returns-clause-drew : goal.returns-clause-drew
 returns-clause-drew g c =
-    let s = state_of g.P.Paths.timeline g.W.Partial.sets g.W.Transfer.moves g.R.RowRules.rules g.B.ByteFacts.store c.args.self.now in
-    let t = state_of g.P.Paths.timeline g.W.Partial.sets g.W.Transfer.moves g.R.RowRules.rules g.B.ByteFacts.store c.loop-from.self in
-    let rows = c.loop-from.invariant.rows in
+    let s = (state_of g.P.Paths.timeline g.W.Partial.sets g.W.Transfer.moves g.R.RowRules.rules g.B.ByteFacts.store c.args.self.now) in
+    let t = (state_of g.P.Paths.timeline g.W.Partial.sets g.W.Transfer.moves g.R.RowRules.rules g.B.ByteFacts.store c.loop-from.self) in
+    let end = c.loop-from.invariant.end_is in
     let ended = c.loop-from-test.false in
-    let far : s.path.given.legs.count < c.loop-from.from = omega (arith, rows, ended) in
-    Drew_as s t c.loop-from.learnt (IsCarriedBelow c.args.a c.loop-from.from) (IsCarriedAlong c.args.a) c.loop-from.invariant.drew (λ p. below_all s c.held.ensures.line c.args.a c.loop-from.from far p)
+    Drew_as s t c.loop-from.learnt (IsCarriedUpTo c.args.a c.loop-from.from) (IsCarriedAlong c.args.a) c.loop-from.invariant.drew (λ p. up_to_all s c.args.a c.loop-from.from (g.met.P.Paths.lawful c.args.self.now.paths).moments.inside (omega (arith, end, ended)) p)

@@ -1,7 +1,6 @@
-use Rattle.std.proofs.Common.{◌≡◌, ◌+◌, ◌-◌, ◌≤◌}
+use Rattle.std.proofs.Common.{◌≡◌, ◌+◌, ◌-◌}
 use Rattle.rept_analysis.specs.State.{state_of}
-use Rattle.rept_analysis.specs.Drawing.{Grows, Drew}
-use Rattle.rept_analysis.proofs.Listing.{IsCarriedBelow}
+use Rattle.rept_analysis.specs.Drawing.{Grows, Drew, IsCarriedUpTo}
 use Rattle.rept_analysis.proofs.analysis.Analysis.carry_address.Given as goal
 
 abbrev pub invariant-loop-from : goal.invariant-loop-from
@@ -9,10 +8,9 @@ invariant-loop-from g l =
     let st = state_of g.P.Paths.timeline g.W.Partial.sets g.W.Transfer.moves g.R.RowRules.rules g.B.ByteFacts.store in
     record {
       grows : Grows (st l.fn.self) (st l.self);
-      drew : Drew (st l.fn.self) (st l.self) l.learnt (IsCarriedBelow l.a l.from);
-      rows : l.rows ≡ (st l.fn.self).path.given.legs.count;
-      near : l.from ≤ l.rows + 1;
+      drew : Drew (st l.fn.self) (st l.self) l.learnt (IsCarriedUpTo l.a l.from);
+      end_is : l.end ≡ (st l.fn.self).path.given.moments.end;
     }
 
 abbrev pub decreases-loop-from : goal.decreases-loop-from
-decreases-loop-from g l = l.rows + 1 - l.from
+decreases-loop-from g l = l.end + 1 - l.from

@@ -1,27 +1,57 @@
-use Rattle.std.proofs.Common.{ℕ, subst, arith}
-use Rattle.rept_analysis.specs.State.{state_of}
-use Rattle.rept_analysis.specs.Drawing.{IsCarriedFrom, IsCarriedBeside}
-use Rattle.rept_analysis.proofs.Drawn.{Drew_as}
-use Rattle.rept_analysis.proofs.Barriers.{stands_at, barriers_ordered}
-use Rattle.rept_analysis.proofs.Listing.{beside_closed, beside_onward}
+use Rattle.std.proofs.Common.{◌≡◌, ◌+◌, ◌||◌, ℕ, Some, inl, inr, arith}
+use Rattle.rept_report.specs.Spots.{passage}
+use Rattle.rept_analysis.specs.State.{State, state_of}
+use Rattle.rept_analysis.specs.Drawing.{IsCarriedFrom, IsCarriedIf, IsCarriedBeside}
+use Rattle.rept_analysis.proofs.Drawn.{Drew_both, Grows_trans}
+use Rattle.rept_analysis.proofs.Listing.{writings_after}
+use Rattle.rept_analysis.proofs.Going.{beside_closed, next_after}
 use Rattle.rept_analysis.proofs.analysis.Analysis.carry_beside.Goals as goal
 
-pub carry_segment-requires-clause-spared : goal.carry_segment-requires-clause-spared
-carry_segment-requires-clause-spared g c = rw c.row_past-from.ensures c.next_writer-to.ensures.spared
-
 pub carry_segment-requires-clause-order : goal.carry_segment-requires-clause-order
-carry_segment-requires-clause-order g c = rw c.row_past-from.ensures c.next_writer-to.ensures.order
+carry_segment-requires-clause-order g c = let low = c.piece-piece.ensures.low in let high = c.piece-piece.ensures.high in omega (arith, low, high)
+
+pub carry_segment-requires-clause-to : goal.carry_segment-requires-clause-to
+carry_segment-requires-clause-to g c = let within = c.piece-piece.ensures.within in let inside = c.requires.strip.inside in omega (arith, within, inside)
+
+pub carry_end-requires-clause-writings : goal.carry_end-requires-clause-writings
+carry_end-requires-clause-writings g c = writings_after (state_of g.P.Paths.timeline g.W.Partial.sets g.W.Transfer.moves g.R.RowRules.rules g.B.ByteFacts.store c.args.self.now) (state_of g.P.Paths.timeline g.W.Partial.sets g.W.Transfer.moves g.R.RowRules.rules g.B.ByteFacts.store c.carry_segment.new.self) c.in_ok-inside.ensures.grows c.requires.writings
+
+pub carry_end-requires-clause-next : goal.carry_end-requires-clause-next
+carry_end-requires-clause-next g c = λ i is. next_after (state_of g.P.Paths.timeline g.W.Partial.sets g.W.Transfer.moves g.R.RowRules.rules g.B.ByteFacts.store c.args.self.now) (state_of g.P.Paths.timeline g.W.Partial.sets g.W.Transfer.moves g.R.RowRules.rules g.B.ByteFacts.store c.carry_segment.new.self) c.in_ok-inside.ensures.grows i (i + 1) (c.piece-piece.ensures.ends i (inl is))
+
+pub carry_end-requires-2-clause-writings : goal.carry_end-requires-2-clause-writings
+carry_end-requires-2-clause-writings g c =
+    let s = (state_of g.P.Paths.timeline g.W.Partial.sets g.W.Transfer.moves g.R.RowRules.rules g.B.ByteFacts.store c.args.self.now) in
+    let t = (state_of g.P.Paths.timeline g.W.Partial.sets g.W.Transfer.moves g.R.RowRules.rules g.B.ByteFacts.store c.carry_segment.new.self) in
+    let u = (state_of g.P.Paths.timeline g.W.Partial.sets g.W.Transfer.moves g.R.RowRules.rules g.B.ByteFacts.store c.carry_end.new.self) in
+    writings_after s u (Grows_trans s t u c.in_ok-inside.ensures.grows c.in_ok-before.ensures.grows) c.requires.writings
+
+pub carry_end-requires-2-clause-next : goal.carry_end-requires-2-clause-next
+carry_end-requires-2-clause-next g c =
+    let s = (state_of g.P.Paths.timeline g.W.Partial.sets g.W.Transfer.moves g.R.RowRules.rules g.B.ByteFacts.store c.args.self.now) in
+    let t = (state_of g.P.Paths.timeline g.W.Partial.sets g.W.Transfer.moves g.R.RowRules.rules g.B.ByteFacts.store c.carry_segment.new.self) in
+    let u = (state_of g.P.Paths.timeline g.W.Partial.sets g.W.Transfer.moves g.R.RowRules.rules g.B.ByteFacts.store c.carry_end.new.self) in
+    λ i is. next_after s u (Grows_trans s t u c.in_ok-inside.ensures.grows c.in_ok-before.ensures.grows) i (i + 1) (c.piece-piece.ensures.ends i (inr is))
+
+pub returns-in_err-before-clause-grows : goal.returns-in_err-before-clause-grows
+returns-in_err-before-clause-grows g c = Grows_trans _ _ _ c.in_ok-inside.ensures.grows c.carry_end.ensures.grows
+
+pub returns-in_err-after-clause-grows : goal.returns-in_err-after-clause-grows
+returns-in_err-after-clause-grows g c = Grows_trans _ _ _ (Grows_trans _ _ _ c.in_ok-inside.ensures.grows c.in_ok-before.ensures.grows) c.carry_end-2.ensures.grows
+
+pub returns-clause-grows : goal.returns-clause-grows
+returns-clause-grows g c = Grows_trans _ _ _ (Grows_trans _ _ _ c.in_ok-inside.ensures.grows c.in_ok-before.ensures.grows) c.in_ok-after.ensures.grows
 
 pub returns-clause-drew : goal.returns-clause-drew
 returns-clause-drew g c =
     let s = (state_of g.P.Paths.timeline g.W.Partial.sets g.W.Transfer.moves g.R.RowRules.rules g.B.ByteFacts.store c.args.self.now) in
-    let from = c.row_past-from.result in
-    let to = c.next_writer-to.result in
-    let last = c.past_hit-k.ensures.past (barriers_ordered s.work.writing s c.held.ensures.line c.requires.writings.barriers) in
-    Drew_as s _ c.in_ok-learnt.learnt (IsCarriedFrom c.args.a from to) (IsCarriedBeside c.args.a c.args.point to) c.in_ok-learnt.ensures.drew (λ h. beside_closed s c.held.ensures.line c.args.a c.args.point c.past_hit-k.result to (omega arith) (stands_at s.work.writing s c.held.ensures.line c.requires.writings.barriers) last c.next_writer-to.ensures.stop (subst (λ (n : ℕ). IsCarriedFrom c.args.a n to s) c.row_past-from.ensures h))
-
-pub returns-clause-onward : goal.returns-clause-onward
-returns-clause-onward g c =
-    let s = (state_of g.P.Paths.timeline g.W.Partial.sets g.W.Transfer.moves g.R.RowRules.rules g.B.ByteFacts.store c.args.self.now) in
-    let last = c.past_hit-k.ensures.past (barriers_ordered s.work.writing s c.held.ensures.line c.requires.writings.barriers) in
-    (beside_onward s c.held.ensures.line c.args.a c.args.point c.past_hit-k.result c.next_writer-to.result (omega arith) (stands_at s.work.writing s c.held.ensures.line c.requires.writings.barriers) last c.next_writer-to.ensures.stop c.requires.point, c.next_writer-to.ensures.last)
+    let t = (state_of g.P.Paths.timeline g.W.Partial.sets g.W.Transfer.moves g.R.RowRules.rules g.B.ByteFacts.store c.carry_segment.new.self) in
+    let u = (state_of g.P.Paths.timeline g.W.Partial.sets g.W.Transfer.moves g.R.RowRules.rules g.B.ByteFacts.store c.carry_end.new.self) in
+    let v = (state_of g.P.Paths.timeline g.W.Partial.sets g.W.Transfer.moves g.R.RowRules.rules g.B.ByteFacts.store c.carry_end-2.new.self) in
+    let a = c.args.a in
+    let piece = c.piece-piece.result in
+    let P : State g.row.W.Denot → Type 0 = λ x. (i : ℕ) → piece.before ≡ Some i → IsCarriedIf (passage a i (i + 1)) x in
+    let Q : State g.row.W.Denot → Type 0 = λ x. (i : ℕ) → piece.after ≡ Some i → IsCarriedIf (passage a i (i + 1)) x in
+    let R : State g.row.W.Denot → Type 0 = λ x. IsCarriedFrom a piece.from piece.to x × P x in
+    let both = Drew_both s t u c.in_ok-inside.inside c.in_ok-before.before (IsCarriedFrom a piece.from piece.to) P R c.in_ok-inside.ensures.grows c.in_ok-before.ensures.grows c.in_ok-inside.ensures.drew c.in_ok-before.ensures.drew (λ p q. (p, q)) in
+    Drew_both s u v (c.in_ok-inside.inside || c.in_ok-before.before) c.in_ok-after.after R Q (IsCarriedBeside a c.args.strip c.args.point piece.to) (Grows_trans s t u c.in_ok-inside.ensures.grows c.in_ok-before.ensures.grows) c.in_ok-after.ensures.grows both c.in_ok-after.ensures.drew (λ p q. beside_closed s a c.args.point c.args.strip piece c.piece-piece.ensures p.0 p.1 q)

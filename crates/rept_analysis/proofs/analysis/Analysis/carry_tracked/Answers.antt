@@ -1,7 +1,7 @@
 use Rattle.std.proofs.Common.{◌≡◌, ◌+◌, ◌≤◌, length, Some, arith, slice_get}
 use Rattle.rept_analysis.specs.State.{state_of}
 use Rattle.rept_analysis.specs.Drawing.{IsCarriedAlong, CarriedAlongBelow, AllCarried}
-use Rattle.rept_analysis.proofs.Drawn.{Drew_both, Drew_as, Grows_trans, tracked_more, tracked_all}
+use Rattle.rept_analysis.proofs.Drawn.{Drew_both, Drew_as, Grows_trans, tracked_more, tracked_all, read_tracked}
 use Rattle.rept_analysis.proofs.Listing.{writings_after}
 use Rattle.rept_analysis.proofs.analysis.Analysis.carry_tracked.Goals as goal
 
@@ -32,3 +32,6 @@ returns-clause-drew g c =
     let count = c.tracked_count-count.ensures in
     let passed : length s.known.store.tracked ≤ c.loop-k.k = omega (arith, count) in
     Drew_as s _ c.loop-k.learnt (CarriedAlongBelow c.loop-k.k) AllCarried c.loop-k.invariant.drew (λ h. tracked_all s (λ b x. IsCarriedAlong b x) c.loop-k.k passed h)
+
+pub carry_address-requires-clause-tracked : goal.carry_address-requires-clause-tracked
+carry_address-requires-clause-tracked g c = read_tracked (state_of g.P.Paths.timeline g.W.Partial.sets g.W.Transfer.moves g.R.RowRules.rules g.B.ByteFacts.store c.loop-k.self) c.loop-k.k c.address-a.result c.address-a.ensures

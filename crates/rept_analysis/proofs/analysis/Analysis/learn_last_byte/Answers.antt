@@ -1,4 +1,4 @@
-use Rattle.std.proofs.Common.{◌<◌, ◌≤◌, ◌^◌, sym, arith, ◌∙◌}
+use Rattle.std.proofs.Common.{inl, ◌<◌, ◌≤◌, ◌^◌, sym, arith, ◌∙◌}
 use Rattle.rept_reason.specs.declared.fact.Cell.TheVariants.{Byte}
 use Rattle.rept_analysis.specs.State.{state_of}
 use Rattle.rept_analysis.specs.Drawing.{Knows, LastByteKnown}
@@ -25,4 +25,4 @@ pub returns-in-None-clause-drew : goal.returns-in-None-clause-drew
 returns-in-None-clause-drew g c = Drew_same (state_of g.P.Paths.timeline g.W.Partial.sets g.W.Transfer.moves g.R.RowRules.rules g.B.ByteFacts.store c.args.self.now) (LastByteKnown c.args.a) (no_last_byte (state_of g.P.Paths.timeline g.W.Partial.sets g.W.Transfer.moves g.R.RowRules.rules g.B.ByteFacts.store c.args.self.now) c.args.a (sym c.requires.byte ∙ c.in-None.is))
 
 pub learn_byte-requires-clause-place : goal.learn_byte-requires-clause-place
-learn_byte-requires-clause-place g c = c.end-point.ensures.value
+learn_byte-requires-clause-place g c = inl c.end-point.ensures.value

@@ -1,0 +1,250 @@
+-- A byte's value is carried number by number, strip by strip and over the links between them.
+use Rattle.std.proofs.Common.{◌≡◌, ℕ, ◌+◌, ◌-◌, ◌<◌, ◌≤◌, ◌^◌, ◌⊎◌, true, false, Option, Some, None, inl, inr, refl, sym, ap, subst, ◌∙◌, arith}
+use Rattle.std.proofs.lemmas.Bool.{cases_lt, cases_order}
+use Rattle.rept_versions.specs.declared.facts.Stretch.{Stretch}
+use Rattle.rept_versions.specs.Facts.{Told, Nexts}
+use Rattle.rept_reason.specs.declared.fact.Cell.TheVariants.{Byte}
+use Rattle.rept_report.specs.declared.paths.Strip.{Strip}
+use Rattle.rept_report.specs.Moments.{Moments}
+use Rattle.rept_report.specs.Timeline.{Timeline, IsNextFrom, IsStrip}
+use Rattle.rept_report.specs.Spots.{Passage, passage}
+use Rattle.rept_report.proofs.Told.{same_some, none_some}
+use Rattle.rept_analysis.specs.declared.piece.Piece.{Piece}
+use Rattle.rept_report.specs.Setting.{HasLaws}
+use Rattle.rept_analysis.specs.Kept.{IsKept}
+use Rattle.rept_analysis.specs.State.{State, Path, along}
+use Rattle.rept_analysis.proofs.Listing.{timeline_of}
+use Rattle.rept_analysis.proofs.Spreading.{bridged_still}
+use Rattle.rept_analysis.specs.Drawing.{Knows, Grows, IsCalm, IsCarriedFrom, IsCarriedIf, IsBridged, IsSparedBetween, IsBlocked, IsEnd, IsPiece, IsCarriedBeside, IsCarriedBelow, IsCarriedIn, IsCarriedAlong, AreLinksBelow, AreLinks, IsCarriedUpTo}
+
+module _ {W : Type 0} (s : State W) where
+  pub blocked_if : (x : Passage) → IsBlocked x s → IsCarriedIf x s
+  blocked_if x blocked exact = record { onward = λ v carries h. absurd (blocked exact carries); back = λ v carries h. absurd (blocked exact carries) }
+
+  -- where the same is known at both
+  pub same_if : (x : Passage) (v : ℕ) → Knows x.from (Byte x.address) v s → Knows x.to (Byte x.address) v s → IsCarriedIf x s
+  same_if x v here there exact = record {
+    onward = λ w carries h. there ∙ ap Some (same_some (sym here ∙ h));
+    back = λ w carries h. here ∙ ap Some (same_some (sym there ∙ h));
+  }
+
+  -- where nothing is known at either
+  pub free_if : (x : Passage) → s.known.store.fact x.from x.address ≡ None → s.known.store.fact x.to x.address ≡ None → IsCarriedIf x s
+  free_if x here there exact = record {
+    onward = λ w carries h. absurd (none_some (sym here ∙ h));
+    back = λ w carries h. absurd (none_some (sym there ∙ h));
+  }
+
+  -- where they aren't next to one another
+  pub apart_if : (x : Passage) → s.path.given.moments.next x.from x.to ≡ false → IsCarriedIf x s
+  apart_if x none exact = record { onward = λ w carries h. absurd (differs (sym none ∙ carries.next)); back = λ w carries h. absurd (differs (sym none ∙ carries.next)) }
+    where
+      differs : false ≡ true → ⊥
+      differs e = cc
+
+  pub step_if : (a m : ℕ) → IsCarriedFrom a m (m + 1) s → IsCarriedIf (passage a m (m + 1)) s
+  step_if a m carried exact = carried m (omega arith) (omega arith)
+
+  pub spared_one : (a m : ℕ) → IsBridged (passage a m (m + 1)) s → IsSparedBetween m (m + 1) a s
+  spared_one a m h i (inl x) = let up = x.0 in let down = x.1 in let same : m ≡ i = omega (arith, up, down) in subst (λ (n : ℕ). IsBridged (passage a n (n + 1)) s) same h
+  spared_one a m h i (inr x) = let up = x.0 in let down = x.1 in absurd (omega (arith, up, down))
+
+  -- a piece, and the numbers at its two ends
+  module _ (a point : ℕ) (strip : Strip) (piece : Piece) (its : IsPiece a strip point piece s) where
+    abbrev IsEndDone : Option ℕ → Type 0
+    IsEndDone m = (i : ℕ) → m ≡ Some i → IsCarriedIf (passage a i (i + 1)) s
+
+    end_done : (i : ℕ) → IsEndDone piece.before → IsEndDone piece.after → IsBlocked (passage a i (i + 1)) s ⊎ IsEnd piece i → IsCarriedIf (passage a i (i + 1)) s
+    end_done i before after (inl blocked) = blocked_if (passage a i (i + 1)) blocked
+    end_done i before after (inr (inl is)) = before i is
+    end_done i before after (inr (inr is)) = after i is
+
+    pub beside_closed : IsCarriedFrom a piece.from piece.to s → IsEndDone piece.before → IsEndDone piece.after → IsCarriedBeside a strip point piece.to s
+    beside_closed carried before after = record {
+      first = piece.from - 1;
+      low = let low = its.low in omega (arith, low);
+      closed = λ i least most up down.
+          elim (cases_lt i piece.from) [
+            | inl lt ↦ let next : i + 1 ≡ piece.from = omega (arith, lt, least) in end_done i before after (its.below i next up)
+            | inr ge ↦
+                elim (cases_lt i piece.to) [
+                  | inl inside ↦ λ exact. carried i ge inside
+                  | inr past ↦
+                      let same : i ≡ piece.to = omega (arith, past, most) in
+                      subst (λ (n : ℕ). IsCarriedIf (passage a n (n + 1)) s) (sym same) (end_done piece.to before after (its.above (omega (arith, same, down))))
+                ]
+          ];
+    }
+
+-- a strip is one of each of its numbers
+pub strip_at : (t : Timeline) (m n : ℕ) (strip : Strip) → IsStrip t m strip → strip.first ≤ n → n ≤ strip.last → IsStrip t n strip
+strip_at t m n strip its low high = record { from = low; to = high; inside = its.inside; joined = its.joined; alike = its.alike; pause = its.pause; ends = its.ends }
+
+-- where more is known rows and moments are the same
+pub next_after : {W : Type 0} (s t : State W) → Grows s t → (m w : ℕ) → s.path.given.moments.next m w ≡ true → t.path.given.moments.next m w ≡ true
+next_after s t g m w next = rw g.path next
+
+pub strip_after : {W : Type 0} (s t : State W) → Grows s t → (m : ℕ) (strip : Strip) → IsStrip (timeline_of s) m strip → IsStrip (timeline_of t) m strip
+strip_after s t g m strip its = subst (λ (P : Path _). IsStrip (record { legs = P.given.legs; moments = P.given.moments }) m strip) (sym g.path) its
+
+pub calm_after : {W : Type 0} (s t : State W) → HasLaws (along s.path) → IsKept t → Grows s t → (a : ℕ) → a < 2 ^ 32 → (strip : Strip) → IsCalm a strip s → IsCalm a strip t
+calm_after s t laws kept g a small strip calm p is = bridged_still s t laws kept g (passage a p (p + 1)) small (calm p is)
+
+pub none_found : (o : Option ℕ) → ((y : ℕ) → o ≡ Some y → ⊥) → o ≡ None
+none_found None never = refl
+none_found (Some y) never = absurd (never y refl)
+
+-- a stretch that wasn't found
+pub nexts_none : (f : Told) (a p : ℕ) (x : Option Stretch) → ((y : Stretch) → x ≡ Some y → ⊥) → Nexts f a p x → Nexts f a p None
+nexts_none f a p None never h = h
+nexts_none f a p (Some y) never h = absurd (never y refl)
+
+-- where a value begins after a number, or where it ends if it begins there or before
+abbrev pub IsEdge : ℕ → Stretch → ℕ → Type 0
+IsEdge from stretch point = ((from < stretch.first) × (point ≡ stretch.first)) ⊎ ((stretch.first ≤ from) × (point ≡ stretch.last))
+
+-- the number before which it begins, or at which it ends
+abbrev pub IsBorder : ℕ → Stretch → ℕ → Type 0
+IsBorder from stretch m = ((from < stretch.first) × (m + 1 ≡ stretch.first)) ⊎ ((stretch.first ≤ from) × (m ≡ stretch.last))
+
+module _ {W : Type 0} (s : State W) (a from : ℕ) (stretch : Stretch) (next : Nexts s.known.store.fact a from (Some stretch)) where
+  pub border_onward : (m : ℕ) → IsBorder from stretch m → from ≤ m
+  border_onward m (inl (later, is)) = omega (arith, later, is)
+  border_onward m (inr (begun, is)) = let reaches = next.reaches in omega (arith, reaches, is)
+
+  pub edge_onward : (point : ℕ) → IsEdge from stretch point → from ≤ point
+  edge_onward point (inl (later, is)) = omega (arith, later, is)
+  edge_onward point (inr (begun, is)) = let reaches = next.reaches in omega (arith, reaches, is)
+
+module _ {W : Type 0} (s : State W) (a from : ℕ) (strip : Strip) (below : IsCarriedBelow a strip from s) where
+  -- nothing is known from a number on
+  pub in_free : Nexts s.known.store.fact a from None → IsCarriedIn a strip s
+  in_free none i up down =
+      elim (cases_lt i from) [
+        | inl less ↦ below i up less down
+        | inr more ↦ free_if s (passage a i (i + 1)) (none i more) (none (i + 1) (omega (arith, more)))
+      ]
+
+  pub in_all : strip.last ≤ from → IsCarriedIn a strip s
+  in_all far i up down = below i up (omega (arith, far, down)) down
+
+  module _ (stretch : Stretch) (next : Nexts s.known.store.fact a from (Some stretch)) where
+    -- from each number before the one at which something begins or ends
+    before_border : (m : ℕ) → IsBorder from stretch m → (i : ℕ) → from ≤ i → i < m → IsCarriedIf (passage a i (i + 1)) s
+    before_border m (inl (later, is)) i low lt = free_if s (passage a i (i + 1)) (next.free i low (omega (arith, is, lt))) (next.free (i + 1) (omega (arith, low)) (omega (arith, is, lt)))
+    before_border m (inr (begun, is)) i low lt = same_if s (passage a i (i + 1)) stretch.value (next.run.value i (omega (arith, begun, low)) (omega (arith, is, lt))) (next.run.value (i + 1) (omega (arith, begun, low)) (omega (arith, is, lt)))
+
+    before_edge : (point : ℕ) → IsEdge from stretch point → (i : ℕ) → from ≤ i → i + 1 < point → IsCarriedIf (passage a i (i + 1)) s
+    before_edge point (inl (later, is)) i low lt = before_border (point - 1) (inl (later, omega (arith, is, later))) i low (omega (arith, lt))
+    before_edge point (inr (begun, is)) i low lt = before_border point (inr (begun, is)) i low (omega (arith, lt))
+
+    -- from those around the edge too
+    pub below_beside : (point to : ℕ) → IsEdge from stretch point → IsCarriedBeside a strip point to s → IsCarriedBelow a strip (to + 1) s
+    below_beside point to edge beside i up lt down =
+        elim (cases_lt i from) [
+          | inl less ↦ below i up less down
+          | inr more ↦
+              elim (cases_lt i beside.first) [
+                | inl early ↦ let low = beside.low in before_edge point edge i more (omega (arith, early, low))
+                | inr late ↦ beside.closed i late (omega (arith, lt)) up down
+              ]
+        ]
+
+    -- from the border too
+    pub below_border : (m : ℕ) → IsBorder from stretch m → IsCarriedIf (passage a m (m + 1)) s → IsCarriedBelow a strip (m + 1) s
+    below_border m border here i up lt down =
+        elim (cases_order i m) [
+          | inl same ↦ subst (λ (n : ℕ). IsCarriedIf (passage a n (n + 1)) s) (sym same) here
+          | inr (inl low) ↦
+              elim (cases_lt i from) [
+                | inl less ↦ below i up less down
+                | inr more ↦ before_border m border i more low
+              ]
+          | inr (inr over) ↦ absurd (omega (arith, lt, over))
+        ]
+
+    pub in_edge : (point : ℕ) → IsEdge from stretch point → strip.last < point → IsCarriedIn a strip s
+    in_edge point edge far i up down =
+        elim (cases_lt i from) [
+          | inl less ↦ below i up less down
+          | inr more ↦ before_edge point edge i more (omega (arith, far, down))
+        ]
+
+    pub in_border : (m : ℕ) → IsBorder from stretch m → strip.last ≤ m → IsCarriedIn a strip s
+    in_border m border far i up down =
+        elim (cases_lt i from) [
+          | inl less ↦ below i up less down
+          | inr more ↦ before_border m border i more (omega (arith, far, down))
+        ]
+
+-- nothing is below the first number
+pub below_first : {W : Type 0} (s : State W) (a : ℕ) (strip : Strip) → IsCarriedBelow a strip strip.first s
+below_first s a strip i up lt down = absurd (omega (arith, up, lt))
+
+pub next_none : (M : Moments) (m least : ℕ) (o : Option ℕ) → ((y : ℕ) → o ≡ Some y → ⊥) → IsNextFrom M m least o → IsNextFrom M m least None
+next_none M m least None never h = h
+next_none M m least (Some y) never h = absurd (never y refl)
+
+pub next_before : {W : Type 0} (s t : State W) → Grows s t → (m w : ℕ) → t.path.given.moments.next m w ≡ true → s.path.given.moments.next m w ≡ true
+next_before s t g m w next = subst (λ (P : Path _). P.given.moments.next m w ≡ true) g.path next
+
+-- no number is linked to the end or one after it
+pub links_first : {W : Type 0} (s : State W) (a m : ℕ) → AreLinksBelow a m 0 s
+links_first s a m w lt = absurd (omega (arith, lt))
+
+-- the links of a number
+module _ {W : Type 0} (s : State W) (a m least : ℕ) (below : AreLinksBelow a m least s) where
+  pub links_more : (w : ℕ) → IsNextFrom s.path.given.moments m least (Some w) → IsCarriedIf (passage a m w) s → AreLinksBelow a m (w + 1) s
+  links_more w next here v lt =
+      elim (cases_order v w) [
+        | inl same ↦ subst (λ (n : ℕ). IsCarriedIf (passage a m n) s) (sym same) here
+        | inr (inl low) ↦
+            elim (cases_lt v least) [
+              | inl early ↦ below v early
+              | inr late ↦ apart_if s (passage a m v) (next.2 v late low)
+            ]
+        | inr (inr over) ↦ absurd (omega (arith, lt, over))
+      ]
+
+  pub links_none : IsNextFrom s.path.given.moments m least None → AreLinks a m s
+  links_none none w =
+      elim (cases_lt w least) [
+        | inl early ↦ below w early
+        | inr late ↦ apart_if s (passage a m w) (none w late)
+      ]
+
+  pub links_end : ((m w : ℕ) → s.path.given.moments.next m w ≡ true → (m ≤ s.path.given.moments.end) × (w ≤ s.path.given.moments.end)) → s.path.given.moments.end < least → AreLinks a m s
+  links_end inside far w exact = record {
+    onward = λ v carries h. (below w (let most = (inside m w carries.next).1 in omega (arith, most, far)) exact).onward v carries h;
+    back = λ v carries h. (below w (let most = (inside m w carries.next).1 in omega (arith, most, far)) exact).back v carries h;
+  }
+
+-- strip by strip
+module _ {W : Type 0} (s : State W) (a from number : ℕ) (strip : Strip) (its : IsStrip (record { legs = s.path.given.legs; moments = s.path.given.moments }) number strip) (least : strip.first ≤ from) where
+  pub up_to_more : IsCarriedUpTo a from s → IsCarriedIn a strip s → AreLinks a strip.last s → IsCarriedUpTo a (strip.last + 1) s
+  up_to_more before inside links m w lt =
+      elim (cases_lt m from) [
+        | inl early ↦ before m w early
+        | inr late ↦
+            elim (cases_lt m strip.last) [
+              | inl low ↦ λ exact. record {
+                onward = λ v carries h. (at m w late low carries.next exact).onward v carries h;
+                back = λ v carries h. (at m w late low carries.next exact).back v carries h;
+              }
+              | inr past ↦ let same : m ≡ strip.last = omega (arith, past, lt) in subst (λ (n : ℕ). IsCarriedIf (passage a n w) s) (sym same) (links w)
+            ]
+      ]
+    where
+      at : (m w : ℕ) → from ≤ m → m < strip.last → s.path.given.moments.next m w ≡ true → IsCarriedIf (passage a m w) s
+      at m w late low next =
+          let joined = its.joined m (omega (arith, least, late)) low in
+          subst (λ (n : ℕ). IsCarriedIf (passage a m n) s) (sym (joined.only w next)) (inside m (omega (arith, least, late)) low)
+
+pub up_to_none : {W : Type 0} (s : State W) (a : ℕ) → IsCarriedUpTo a 0 s
+up_to_none s a m w lt = absurd (omega (arith, lt))
+
+pub up_to_all : {W : Type 0} (s : State W) (a from : ℕ) → ((m w : ℕ) → s.path.given.moments.next m w ≡ true → (m ≤ s.path.given.moments.end) × (w ≤ s.path.given.moments.end)) → s.path.given.moments.end < from → IsCarriedUpTo a from s → IsCarriedAlong a s
+up_to_all s a from inside far h exact m w = record {
+  onward = λ v carries k. (h m w (let most = (inside m w carries.next).0 in omega (arith, most, far)) exact).onward v carries k;
+  back = λ v carries k. (h m w (let most = (inside m w carries.next).0 in omega (arith, most, far)) exact).back v carries k;
+}

@@ -1,0 +1,16 @@
+use Rattle.std.proofs.Common.{◌≡◌, ◌+◌, ◌-◌}
+use Rattle.rept_analysis.specs.State.{state_of}
+use Rattle.rept_analysis.specs.Drawing.{Grows, Drew, AreLinksBelow}
+use Rattle.rept_analysis.proofs.analysis.Analysis.carry_links.Given as goal
+
+abbrev pub invariant-loop-least : goal.invariant-loop-least
+invariant-loop-least g l =
+    let st = state_of g.P.Paths.timeline g.W.Partial.sets g.W.Transfer.moves g.R.RowRules.rules g.B.ByteFacts.store in
+    record {
+      grows : Grows (st l.fn.self) (st l.self);
+      drew : Drew (st l.fn.self) (st l.self) l.learnt (AreLinksBelow l.a l.m l.least);
+      end_is : l.end ≡ (st l.fn.self).path.given.moments.end;
+    }
+
+abbrev pub decreases-loop-least : goal.decreases-loop-least
+decreases-loop-least g l = l.end + 1 - l.least

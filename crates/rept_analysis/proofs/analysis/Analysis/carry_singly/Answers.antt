@@ -1,0 +1,72 @@
+use Rattle.std.proofs.Common.{◌+◌, Some, None, refl, false, arith}
+use Rattle.rept_versions.specs.Facts.{Nexts}
+use Rattle.rept_report.specs.Spots.{passage}
+use Rattle.rept_analysis.specs.State.{State, state_of}
+use Rattle.rept_analysis.specs.Drawing.{IsCarriedIf, IsCarriedBelow, IsCarriedIn}
+use Rattle.rept_analysis.proofs.Drawn.{Drew_as, Drew_both, Drew_first, Drew_same, Grows_itself, Grows_trans}
+use Rattle.rept_analysis.proofs.Listing.{writings_after}
+use Rattle.rept_analysis.proofs.Going.{nexts_none, below_first, in_free, in_border, in_all, below_border, border_onward, next_after}
+use Rattle.rept_analysis.proofs.analysis.Analysis.carry_singly.Goals as goal
+
+pub loop-from-init : goal.loop-from-init
+loop-from-init g c = record { grows = Grows_itself _; drew = Drew_same _ _ (below_first _ c.args.a c.args.strip); least = omega arith }
+
+pub returns-in_default-clause-drew : goal.returns-in_default-clause-drew
+returns-in_default-clause-drew g c =
+    let s = (state_of g.P.Paths.timeline g.W.Partial.sets g.W.Transfer.moves g.R.RowRules.rules g.B.ByteFacts.store c.args.self.now) in
+    let t = (state_of g.P.Paths.timeline g.W.Partial.sets g.W.Transfer.moves g.R.RowRules.rules g.B.ByteFacts.store c.loop-from.self) in
+    let a = c.args.a in
+    let from = c.loop-from.from in
+    let Q : State g.row.W.Denot → Type 0 = λ x. Nexts x.known.store.fact a from None in
+    Drew_first s t t c.loop-from.learnt false (IsCarriedBelow a c.args.strip from) Q (IsCarriedIn a c.args.strip) (Grows_itself t) refl c.loop-from.invariant.drew (Drew_same t Q (nexts_none t.known.store.fact a from c.stretch.result c.in_default.not-Some c.stretch.ensures)) (λ p q. in_free s a from c.args.strip p q)
+
+pub returns-then-m-strip-clause-drew : goal.returns-then-m-strip-clause-drew
+returns-then-m-strip-clause-drew g c =
+    let s = (state_of g.P.Paths.timeline g.W.Partial.sets g.W.Transfer.moves g.R.RowRules.rules g.B.ByteFacts.store c.args.self.now) in
+    let t = (state_of g.P.Paths.timeline g.W.Partial.sets g.W.Transfer.moves g.R.RowRules.rules g.B.ByteFacts.store c.loop-from.self) in
+    let a = c.args.a in
+    let from = c.loop-from.from in
+    let Q : State g.row.W.Denot → Type 0 = λ x. Nexts x.known.store.fact a from (Some c.in-Some.stretch) in
+    Drew_first s t t c.loop-from.learnt false (IsCarriedBelow a c.args.strip from) Q (IsCarriedIn a c.args.strip) (Grows_itself t) refl c.loop-from.invariant.drew (Drew_same t Q (rw c.in-Some.is at c.stretch.ensures)) (λ p q. in_border s a from c.args.strip p c.in-Some.stretch q c.border-m.result c.border-m.ensures c.if-m-strip.true)
+
+pub carry_step-requires-clause-next : goal.carry_step-requires-clause-next
+carry_step-requires-clause-next g c =
+    let t = (state_of g.P.Paths.timeline g.W.Partial.sets g.W.Transfer.moves g.R.RowRules.rules g.B.ByteFacts.store c.loop-from.self) in
+    let onward = border_onward t c.args.a c.loop-from.from c.in-Some.stretch (rw c.in-Some.is at c.stretch.ensures) c.border-m.result c.border-m.ensures in
+    let least = c.loop-from.invariant.least in
+    let inside = c.if-m-strip.false in
+    next_after (state_of g.P.Paths.timeline g.W.Partial.sets g.W.Transfer.moves g.R.RowRules.rules g.B.ByteFacts.store c.args.self.now) t c.loop-from.invariant.grows c.border-m.result (c.border-m.result + 1) ((c.requires.strip.joined c.border-m.result (omega (arith, onward, least)) inside).next)
+
+pub carry_step-requires-clause-writings : goal.carry_step-requires-clause-writings
+carry_step-requires-clause-writings g c = writings_after (state_of g.P.Paths.timeline g.W.Partial.sets g.W.Transfer.moves g.R.RowRules.rules g.B.ByteFacts.store c.args.self.now) (state_of g.P.Paths.timeline g.W.Partial.sets g.W.Transfer.moves g.R.RowRules.rules g.B.ByteFacts.store c.loop-from.self) c.loop-from.invariant.grows c.requires.writings
+
+pub returns-in_err-new-clause-grows : goal.returns-in_err-new-clause-grows
+returns-in_err-new-clause-grows g c = Grows_trans _ _ _ c.loop-from.invariant.grows c.carry_step.ensures.grows
+
+pub loop-from-preserved : goal.loop-from-preserved
+loop-from-preserved g c =
+    let s = (state_of g.P.Paths.timeline g.W.Partial.sets g.W.Transfer.moves g.R.RowRules.rules g.B.ByteFacts.store c.args.self.now) in
+    let t = (state_of g.P.Paths.timeline g.W.Partial.sets g.W.Transfer.moves g.R.RowRules.rules g.B.ByteFacts.store c.loop-from.self) in
+    let u = (state_of g.P.Paths.timeline g.W.Partial.sets g.W.Transfer.moves g.R.RowRules.rules g.B.ByteFacts.store c.carry_step.new.self) in
+    let a = c.args.a in
+    let from = c.loop-from.from in
+    let m = c.border-m.result in
+    let i = c.loop-from.invariant in
+    let e = c.in_ok-new.ensures in
+    let P : State g.row.W.Denot → Type 0 = λ x. Nexts x.known.store.fact a from (Some c.in-Some.stretch) × IsCarriedIf (passage a m (m + 1)) x in
+    let least = i.least in
+    let next = border_onward t a from c.in-Some.stretch (rw c.in-Some.is at c.stretch.ensures) m c.border-m.ensures in
+    record {
+      grows = Grows_trans s t u i.grows e.grows;
+      drew = Drew_both s t u c.loop-from.learnt c.in_ok-new.new (IsCarriedBelow a c.args.strip from) P (IsCarriedBelow a c.args.strip (m + 1)) i.grows e.grows i.drew
+          (Drew_as t u c.in_ok-new.new (IsCarriedIf (passage a m (m + 1))) P e.drew (λ h. (rw c.in-Some.is at c.stretch.ensures, h)))
+          (λ p q. below_border s a from c.args.strip p c.in-Some.stretch q.0 m c.border-m.ensures q.1);
+      least = omega (arith, least, next);
+    }
+
+pub returns-clause-drew : goal.returns-clause-drew
+returns-clause-drew g c =
+    let s = (state_of g.P.Paths.timeline g.W.Partial.sets g.W.Transfer.moves g.R.RowRules.rules g.B.ByteFacts.store c.args.self.now) in
+    let t = (state_of g.P.Paths.timeline g.W.Partial.sets g.W.Transfer.moves g.R.RowRules.rules g.B.ByteFacts.store c.loop-from.self) in
+    let ended = c.loop-from-test.false in
+    Drew_as s t c.loop-from.learnt (IsCarriedBelow c.args.a c.args.strip c.loop-from.from) (IsCarriedIn c.args.a c.args.strip) c.loop-from.invariant.drew (λ p. in_all s c.args.a c.loop-from.from c.args.strip p ended)
