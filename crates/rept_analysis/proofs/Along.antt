@@ -1,11 +1,11 @@
 -- What the definitions for several threads say of the path of one.
-use Rattle.std.proofs.Common.{◌≡◌, ℕ, ◌+◌, ◌<◌, ◌≤◌, true, false, Option, Some, None, IfSome, refl, sym, ap, subst, arith}
+use Rattle.std.proofs.Common.{◌≡◌, ℕ, ◌+◌, ◌<◌, ◌≤◌, true, false, Option, Some, None, IfSome, refl, sym, ap, arith}
 use Rattle.rept_reason.specs.declared.fact.Cell.{Cell}
 use Rattle.rept_reason.specs.Facts.{Knowledge}
 use Rattle.rept_view.specs.declared.drawn.When.{When}
 use Rattle.rept_report.specs.Setting.{IsLast}
-use Rattle.rept_report.specs.Spots.{spot, passage}
-use Rattle.rept_report.specs.Views.{moment_of, point_of, instant_of, may_write, Carries}
+use Rattle.rept_report.specs.Spots.{spot}
+use Rattle.rept_report.specs.Views.{moment_of, point_of, instant_of, may_write}
 use Rattle.rept_report.specs.Implied.{is_settled}
 use Rattle.rept_report.specs.Moments.{Moments}
 use Rattle.rept_report.specs.Timeline.{Timeline, IsTimeline, IsLastFrom}
@@ -15,7 +15,7 @@ use Rattle.rept_view.specs.declared.drawn.When.TheVariants.{Before, After}
 use Rattle.rept_report.specs.Given.{Given}
 use Rattle.rept_report.specs.OneThread.{IsLine}
 use Rattle.rept_isa.specs.declared.row.StepRow.{StepRow}
-use Rattle.rept_report.proofs.Line.{next_is, last_is, instant_is, CarriesBefore, carries_is_before, before_carries, settled_is, is_settled_from}
+use Rattle.rept_report.proofs.Line.{last_is, instant_is, settled_is, is_settled_from}
 use Rattle.rept_analysis.specs.State.{Path, along}
 
 -- of one path the end is the last point
@@ -27,10 +27,6 @@ point_early g line p few = let same = end_is g line in omega (arith, few, same)
 
 pub end_early : (g : Given) → IsLine g → (p : ℕ) → p ≤ g.moments.end → p ≤ g.legs.count
 end_early g line p few = let same = end_is g line in omega (arith, few, same)
-
--- of one path the one next moment is that of the next number
-pub one_link : (g : Given) → IsLine g → (m w : ℕ) → g.moments.next m w ≡ true → w ≡ m + 1
-one_link g line m w next = (next_is g.legs.count m w (subst (λ (t : Moments). t.next m w ≡ true) line.moments next)).1
 
 -- a row isn't both there and not
 pub no_row : (o : Option StepRow) (row : StepRow) → o ≡ None → o ≡ Some row → ⊥
@@ -61,13 +57,6 @@ module _ {W : Type 0} (P : Path W) (line : IsLine P.given) where
 
   pub point_is : (i : ℕ) (w : When) (c : Cell) → instant_of (along P).moments i w c ≡ point_of i w
   point_is i w c = instant_is P.sets P.moves P.rules P.given line i w c
-
-  -- a byte is carried over a row that may not write it
-  pub carried_over : (K : Knowledge) (a i : ℕ) → i < P.given.legs.count → may_write (along P) K i a ≡ false → Carries (along P) K (passage a i (i + 1))
-  carried_over K a i inside spared = before_carries P.sets P.moves P.rules P.given line K a i (i + 1) (record { inside = inside; next = refl; spared = spared })
-
-  pub over_carried : (K : Knowledge) (a p q : ℕ) → Carries (along P) K (passage a p q) → CarriesBefore P.sets P.moves P.rules P.given line K a p q
-  over_carried K a p q h = carries_is_before P.sets P.moves P.rules P.given line K a p q h
 
   -- all that may write a byte lies before a point exactly where no row from it on may
   pub settled_at : (K : Knowledge) (p a : ℕ) → is_settled (along P) K (spot p a) ≡ true → (i : ℕ) → p ≤ i → i < P.given.legs.count → may_write (along P) K i a ≡ false

@@ -1,5 +1,6 @@
 -- Steps on the way to an end.
-use Rattle.std.proofs.Common.{◌≡◌, ◌+◌, ◌⊎◌, ℕ, ◌≤◌, List, length, Some, inl, inr, refl, sym, subst, ◌∙◌, arith}
+use Rattle.std.specs.Prelude.{⊤}
+use Rattle.std.proofs.Common.{◌≡◌, ◌+◌, ◌⊎◌, ℕ, ◌≤◌, List, length, Some, Result, Err, inl, inr, refl, sym, subst, ◌∙◌, arith}
 use Rattle.std.proofs.lemmas.Bool.{cases_lt}
 use Rattle.rept_reason.specs.declared.fact.Fact.{Fact}
 use Rattle.rept_reason.specs.declared.fact.Cell.TheVariants.{Register}
@@ -20,6 +21,9 @@ use Rattle.rept_analysis.specs.Refined.{KeepsAnswers, KeepsKnown, IsClashOf, Sho
 use Rattle.rept_analysis.specs.declared.stop.Stop.{Stop}
 use Rattle.rept_analysis.specs.declared.stop.Stop.TheVariants.{Conflict, OutOfMemory}
 use Rattle.rept_analysis.specs.Measure.{measure}
+
+pub same_stop : {x : Stop} → ◌≡◌ {A = Result ⊤ Stop} (Err x) (Err OutOfMemory) → x ≡ OutOfMemory
+same_stop e = cc
 
 pub Same_itself : {W : Type 0} (a : State W) → SameFacts a a
 Same_itself a = record { path = refl; known = refl; shown = refl; complete = refl; conflict = refl; draws = refl; drawn = refl }

@@ -26,11 +26,9 @@ use Rattle.rept_view.specs.Seen.{Seen, KnowsMore, seen_cell}
 use Rattle.rept_view.specs.Rules.{offset_of, IsRowByte, IsRowCell, Rules}
 use Rattle.rept_log.specs.Around.{around, around_lawful}
 use Rattle.rept_report.specs.Setting.{HasLaws, IsLast, IsInstant, way_of}
-use Rattle.rept_report.specs.OneThread.{IsLine}
 use Rattle.rept_report.specs.Timeline.{IsLastFrom}
 use Rattle.rept_report.specs.Moments.{Moments}
-use Rattle.rept_report.specs.Spots.{passage}
-use Rattle.rept_report.specs.Views.{point_of, instant_of, all_words, bounds, register_range, known_or, seen_at, registers_at, may_write, Carries}
+use Rattle.rept_report.specs.Views.{point_of, instant_of, all_words, bounds, register_range, known_or, seen_at, registers_at, may_write}
 use Rattle.rept_report.specs.Conclusions.{IsWordOf, HasWords, Concludes}
 use Rattle.rept_report.specs.Conclusions.IsCarried.{last_byte, onward, back}
 use Rattle.rept_report.specs.Conclusions.Follows.{last_value, kept_onward, kept_back, carried, drawn, only_value}
@@ -39,7 +37,7 @@ use Rattle.rept_report.specs.Log.{oldest, OnceEach}
 use Rattle.rept_report.proofs.Told.{same_some, none_some}
 use Rattle.rept_report.proofs.Places.{oldest_less}
 use Rattle.rept_report.proofs.ViewLaws.{LiesIn, known_fact, known_more, known_word, seen_at_lawful, registers_at_lawful, seen_more, ranges_lie}
-use Rattle.rept_report.proofs.Monotony.{quiet_less, spared_more, single_value_more, Concludes_more}
+use Rattle.rept_report.proofs.Monotony.{quiet_less, single_value_more, Concludes_more}
 use Rattle.rept_analysis.specs.Cells.{bytes_from, bytes_known, base_known}
 use Rattle.rept_log.specs.Known.{Known as LogKnown}
 use Rattle.rept_analysis.specs.State.{State, all_known, Path, along}
@@ -47,8 +45,7 @@ use Rattle.rept_analysis.specs.Moments.{filled_range, moment, moment_lawful}
 use Rattle.rept_analysis.specs.Room.{IsDrawable, own_at, IsOwnByte}
 use Rattle.rept_analysis.proofs.Reserve.{drawable_more, own_byte_more}
 use Rattle.rept_report.specs.Why.{fact_of}
-use Rattle.rept_analysis.specs.Drawing.{Knows, IsTracked, Grows, IsFollowing, IsBrought, IsLearntAt, IsKeptAt, LastKnownAt, LastPointKnown, LastKnownBelow, IsFitted, IsAccess, IsCarriedAt, AreTrackedFrom, IsRowTracked, IsConclusion, IsBroughtTo, KeptBelow, DrawnKnown, IsRowDrawn, IsRowClosed, LastByteKnown, SingleKnown, AreRowAddresses}
-use Rattle.rept_analysis.proofs.Along.{carried_over}
+use Rattle.rept_analysis.specs.Drawing.{Knows, IsTracked, Grows, IsFollowing, IsBrought, IsLearntAt, IsKeptAt, LastKnownAt, LastPointKnown, LastKnownBelow, IsFitted, IsAccess, AreTrackedFrom, IsRowTracked, IsConclusion, KeptBelow, DrawnKnown, IsRowDrawn, IsRowClosed, LastByteKnown, SingleKnown, AreRowAddresses}
 
 pub flat_known : (x : Option ℕ) (v : ℕ) → flat x ≡ Known v → x ≡ Some v
 flat_known None v e = cc
@@ -239,22 +236,8 @@ module _ {W : Type 0} (s : State W) (i : ℕ) (inside : i < s.path.given.legs.co
         | inr t ↦ rw found t
       ]
 
--- what a row may not write is carried over it
-module _ {W : Type 0} (s : State W) (line : IsLine s.path.given) (laws : HasLaws (along s.path)) (words : HasWords (all_known s)) (once : OnceEach s.known.log) (i a v : ℕ) (inside : i < s.path.given.legs.count) (small : a < 2 ^ 32) (access : CallAccess) (is_access : IsAccess i access s) (spared : call_hits access a ≡ false) where
-  carries : IsQuiet (along s.path) (all_known s) → Carries (along s.path) (all_known s) (passage a i (i + 1))
-  carries quiet = carried_over s.path line (all_known s) a i inside (spared_more (along s.path) laws (told (oldest s.filled s.known.log)) (all_known s) (λ p r w e. oldest_less s.filled s.known.log once p (Register r) w e) words quiet i a small (sym (is_access a small) ∙ spared))
-
-  pub onward_brought : Knows i (Byte a) v s → IsBrought s (fact_of (i + 1) (Byte a) v)
-  onward_brought h quiet = onward a i (i + 1) refl refl (carries quiet) h
-
-  pub back_brought : Knows (i + 1) (Byte a) v s → IsBrought s (fact_of i (Byte a) v)
-  back_brought h quiet = back a i (i + 1) refl refl (carries quiet) h
-
 pub brought_follows : {W : Type 0} (s : State W) (p a v : ℕ) → p ≤ s.path.given.moments.end → a < 2 ^ 32 → IsBrought s (fact_of p (Byte a) v) → IsFollowing s (fact_of p (Byte a) v)
 brought_follows s p a v h small brought quiet = record { early = h; cell = small; word = tt; by = carried (brought quiet) }
-
-pub access_after : {W : Type 0} (s t : State W) (i : ℕ) (access : CallAccess) → Grows s t → IsAccess i access s → IsAccess i access t
-access_after s t i access g h a small = rw (g.path, g.older) (h a small)
 
 pub fitted_after : {W : Type 0} (s t : State W) → Grows s t → IsFitted s → IsFitted t
 fitted_after s t g h = rw (g.path, g.spans, g.older) h
@@ -262,12 +245,6 @@ fitted_after s t g h = rw (g.path, g.spans, g.older) h
 -- an element that was read
 pub slice_read : (xs : List Drawn) (k : ℕ) (d : Drawn) → k < length xs → d ≡ get_or xs k d → slice_get xs k ≡ Some d
 slice_read xs k d lt read = slice_get-get_or xs k d lt ∙ ap Some (sym read)
-
-pub brought_to : {W : Type 0} (s : State W) (from to a w : ℕ) → Knows from (Byte a) w s → Knows to (Byte a) w s → IsBroughtTo from to a s
-brought_to s from to a w at h v e = h ∙ ap Some (same_some (sym at ∙ e))
-
-pub carried_both : {W : Type 0} (s : State W) (i a : ℕ) → IsBroughtTo i (i + 1) a s → IsBroughtTo (i + 1) i a s → IsCarriedAt i a s
-carried_both s i a p q = record { onward = λ v spared h. p v h; back = λ v spared h. q v h }
 
 pub row_closed : {W : Type 0} (s : State W) (i : ℕ) (row : StepRow) → s.path.given.legs.row i ≡ Some row → KeptBelow 32 row i s → IsRowTracked row i s → DrawnKnown row i s → IsRowClosed i s
 row_closed s i row found registers tracked drawn_ row' found' =

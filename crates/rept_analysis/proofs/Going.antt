@@ -12,8 +12,7 @@ use Rattle.rept_report.proofs.Told.{same_some, none_some}
 use Rattle.rept_analysis.specs.declared.piece.Piece.{Piece}
 use Rattle.rept_report.specs.Setting.{HasLaws}
 use Rattle.rept_analysis.specs.Kept.{IsKept}
-use Rattle.rept_analysis.specs.State.{State, Path, along}
-use Rattle.rept_analysis.proofs.Listing.{timeline_of}
+use Rattle.rept_analysis.specs.State.{State, Path, timeline_of, along}
 use Rattle.rept_analysis.proofs.Spreading.{bridged_still}
 use Rattle.rept_analysis.specs.Drawing.{Knows, Grows, IsCalm, IsCarriedFrom, IsCarriedIf, IsBridged, IsSparedBetween, IsBlocked, IsEnd, IsPiece, IsCarriedBeside, IsCarriedBelow, IsCarriedIn, IsCarriedAlong, AreLinksBelow, AreLinks, IsCarriedUpTo}
 

@@ -9,6 +9,7 @@ use Rattle.rept_reason.specs.declared.fact.Fact.{Fact}
 use Rattle.rept_reason.specs.declared.fact.Cell.{Cell}
 use Rattle.rept_reason.specs.declared.fact.Cell.TheVariants.{Register, Byte}
 use Rattle.rept_reason.specs.Facts.{Knowledge, IsCell, told, speaks}
+use Rattle.rept_span.specs.Ranges.{AreLegs}
 use Rattle.rept_report.specs.Setting.{HasLaws, IsInstant}
 use Rattle.rept_report.specs.OneThread.{IsLine}
 use Rattle.rept_report.specs.Conclusions.{IsWordOf, HasWords}
@@ -21,7 +22,7 @@ use Rattle.rept_versions.specs.Facts.{ByteFact}
 use Rattle.rept_log.specs.declared.answer.Answer.{Answer}
 use Rattle.rept_log.specs.declared.answer.Answer.TheVariants.{Old, New, Clash}
 use Rattle.rept_log.specs.Known.{Known, knows, known_change, with_entry, IsNew, LearnsRegister, AddsByte, LearnsByte, HasNoRoom, TracksMore, TracksByte}
-use Rattle.rept_analysis.specs.State.{State, all_known, along}
+use Rattle.rept_analysis.specs.State.{State, IsRoomy, all_known, along}
 use Rattle.rept_report.specs.Why.{fact_of}
 use Rattle.rept_analysis.specs.Drawing.{IsTracked, Grows, IsFollowing, IsBrought, IsRowAddress, HasPlace}
 use Rattle.rept_analysis.specs.Sums.{sum_to}
@@ -84,7 +85,7 @@ pub record IsNext {W : Type 0} (s : State W) (kept : IsKept s) (f : Fact) (keep 
   pub once : OnceEach k.log
   pub tracked : k.store.tracked ≡ s.known.store.tracked
   pub listed : (p a v : ℕ) → knows k p (Byte a) ≡ Some v → Contains s.known.store.tracked a
-  pub roomy : ((p : ℕ) (c : Cell) (v : ℕ) → all_known s p c ≡ Some v → knows k p c ≡ Some v) → s.work.joins ≡ true → HasRoom s.path k
+  pub roomy : ((p : ℕ) (c : Cell) (v : ℕ) → all_known s p c ≡ Some v → knows k p c ≡ Some v) → IsRoomy s → HasRoom s.path k
   pub agree : (p : ℕ) (c : Cell) → told (f ∷ facts_of kept.traced.entries) p c ≡ knows k p c
 
 module _ {W : Type 0} (s : State W) (kept : IsKept s) (f : Fact) (keep : Bool) (k : Known) (n : IsNext s kept f keep k) where
@@ -254,7 +255,7 @@ module _ {W : Type 0} (s : State W) (kept : IsKept s) (joins : Bool) (p a v : �
           | inr elsewhere ↦ kept.listed q b w (sym (kept.traced.agree q (Byte b)) ∙ sym (told_old f (facts_of kept.traced.entries) q (Byte b) elsewhere) ∙ byte_agrees q (Byte b) ∙ e)
         ]
 
-    byte_next : OnceEach k.log → (((q : ℕ) (c : Cell) (w : ℕ) → all_known s q c ≡ Some w → knows k q c ≡ Some w) → s.work.joins ≡ true → HasRoom s.path k) → IsNext s kept f keep k
+    byte_next : OnceEach k.log → (((q : ℕ) (c : Cell) (w : ℕ) → all_known s q c ≡ Some w → knows k q c ≡ Some w) → IsRoomy s → HasRoom s.path k) → IsNext s kept f keep k
     byte_next once roomy = record {
       early = early;
       cell = small;
@@ -273,7 +274,7 @@ module _ {W : Type 0} (s : State W) (kept : IsKept s) (joins : Bool) (p a v : �
     }
 
     -- it is new
-    pub new_byte : OnceEach k.log → (((q : ℕ) (c : Cell) (w : ℕ) → all_known s q c ≡ Some w → knows k q c ≡ Some w) → s.work.joins ≡ true → HasRoom s.path k) → IsKept (with_known s k) × IsTold s (with_known s k) f
+    pub new_byte : OnceEach k.log → (((q : ℕ) (c : Cell) (w : ℕ) → all_known s q c ≡ Some w → knows k q c ≡ Some w) → IsRoomy s → HasRoom s.path k) → IsKept (with_known s k) × IsTold s (with_known s k) f
     new_byte once roomy = let n = byte_next once roomy in (next_kept s kept f keep k n, next_told s kept f keep k n)
 
 -- a byte for which there is room
@@ -284,15 +285,15 @@ module _ {W : Type 0} (s : State W) (laws : HasLaws (along s.path)) (kept : IsKe
   abbrev byte_learnt : ByteFact
   byte_learnt = record { point = p; address = a; value = v }
 
-  byte_room : (keep : Bool) → HasPlace keep p a s → (k : Known) → AddsByte (known_change joins s.known k) byte_learnt keep → ((q : ℕ) (c : Cell) (w : ℕ) → all_known s q c ≡ Some w → knows k q c ≡ Some w) → s.work.joins ≡ true → HasRoom s.path k
+  byte_room : (keep : Bool) → HasPlace keep p a s → (k : Known) → AddsByte (known_change joins s.known k) byte_learnt keep → ((q : ℕ) (c : Cell) (w : ℕ) → all_known s q c ≡ Some w → knows k q c ≡ Some w) → IsRoomy s → HasRoom s.path k
   byte_room true place k adds more j = room_drawn s.path laws s.known k more joins p a v place adds (kept.roomy j)
   byte_room false (inl place) k adds more j = room_last s.path s.known k more joins p a v place tracked adds (kept.roomy j)
-  byte_room false (inr plain) k adds more j = absurd (false≢true (sym plain ∙ j))
+  byte_room false (inr plain) k adds more j = absurd (plain j)
 
-  byte_full : (keep : Bool) → HasPlace keep p a s → HasNoRoom s.known p a keep → s.work.joins ≡ false
-  byte_full true place full = false_from_ne_true s.work.joins (λ j. room_to_draw s.path laws s.known (kept.roomy j) p a place full)
-  byte_full false (inl place) full = false_from_ne_true s.work.joins (λ j. room_to_read s.path s.known (kept.roomy j) p a place tracked full)
-  byte_full false (inr plain) full = plain
+  byte_full : (keep : Bool) → HasPlace keep p a s → HasNoRoom s.known p a keep → IsRoomy s → ⊥
+  byte_full true place full j = room_to_draw s.path laws s.known (kept.roomy j) p a place full
+  byte_full false (inl place) full j = room_to_read s.path s.known (kept.roomy j) p a place tracked full
+  byte_full false (inr plain) full j = plain j
 
   pub told_byte : (keep : Bool) → (keep ≡ false → IsBrought s g) → HasPlace keep p a s → (k : Known) → OnceEach k.log → (r : Result Answer AllocError) → LearnsByte (known_change joins s.known k) byte_learnt keep r → IsKept (with_known s k) × TellsByte s (with_known s k) g r
   told_byte keep brought place k once (Err e) (same, full) = (kept_same s k same kept, (same_known s k same, byte_full keep place full))
@@ -301,7 +302,7 @@ module _ {W : Type 0} (s : State W) (laws : HasLaws (along s.path)) (kept : IsKe
   told_byte keep brought place k once (Ok New) adds = new_byte s kept joins p a v early small tracked open_ follows keep brought k adds once (byte_room keep place k adds)
 
 -- one more address is tracked
-module _ {W : Type 0} (s : State W) (kept : IsKept s) (a : ℕ) (small : a < 2 ^ 32) (open_ : s.complete ≡ false) (row : IsRowAddress a s) where
+module _ {W : Type 0} (s : State W) (legs : AreLegs s.path.given.legs) (kept : IsKept s) (a : ℕ) (small : a < 2 ^ 32) (open_ : s.complete ≡ false) (row : IsRowAddress a s) where
   module _ (k : Known) (h : TracksMore s.known k a) where
     same_knows : (p : ℕ) (c : Cell) → all_known s p c ≡ knows k p c
     same_knows p (Register r) = rw h.log refl
@@ -328,7 +329,7 @@ module _ {W : Type 0} (s : State W) (kept : IsKept s) (a : ℕ) (small : a < 2 ^
       room = kept.room;
       rows = kept.rows;
       drawn = passes_more s (with_known s k) refl (λ p c v e. sym (same_knows p c) ∙ e) refl kept.drawn;
-      roomy = λ j. room_tracked s.path (record { inside = kept.line.inside }) s.known (kept.roomy j) row.0 row.1 a row.2 h.was_not k h;
+      roomy = λ j. room_tracked s.path legs s.known (kept.roomy j) row.0 row.1 a row.2 h.was_not k h;
     }
 
     track_grows : Grows s (with_known s k)
@@ -355,8 +356,8 @@ module _ {W : Type 0} (s : State W) (kept : IsKept s) (a : ℕ) (small : a < 2 ^
     now_tracked : Contains k.store.tracked a
     now_tracked = rw h.tracked (Contains-push s.known.store.tracked a)
 
-  never_full : (IsTracked a s → ⊥) → (s.work.joins ≡ true → s.known.store.places ≤ length s.known.store.tracked) → s.work.joins ≡ false
-  never_full was_not full = false_from_ne_true s.work.joins (λ j. let free = room_to_track s.path (record { inside = kept.line.inside }) s.known (kept.roomy j) row.0 row.1 a row.2 was_not in let none = full j in omega (arith, free, none))
+  never_full : (IsTracked a s → ⊥) → (s.work.joins ≡ true → s.known.store.places ≤ length s.known.store.tracked) → IsRoomy s → ⊥
+  never_full was_not full j = let free = room_to_track s.path legs s.known (kept.roomy j) row.0 row.1 a row.2 was_not in let none = full j.0 in omega (arith, free, none)
 
   pub tracked_byte : (k : Known) (r : Result Bool AllocError) → TracksByte (known_change s.work.joins s.known k) a r → IsKept (with_known s k) × Tracks s (with_known s k) a r
   tracked_byte k (Err e) (same, was_not, full) = (kept_same s k same kept, (same_known s k same, never_full was_not full))
@@ -382,7 +383,7 @@ fresh_kept s bytes line sum few registers new sized filled shown open_ calm_ roo
   room = room;
   rows = rows;
   drawn = λ i row x at is. never_pass s row i x (never i x is);
-  roomy = λ j. let places = new.made.places j in let spare = new.made.spare j in room_new s.path s.known bytes sum new.made.tracked new.left (omega (arith, places)) (omega (arith, spare));
+  roomy = λ j. let places = new.made.places j.0 in let spare = new.made.spare j.0 in room_new s.path s.known bytes sum new.made.tracked new.left (omega (arith, places)) (omega (arith, spare));
 }
   where
     differs : {kind : ConflictKind} → None ≡ Some kind → ⊥

@@ -16,7 +16,7 @@ use Rattle.rept_report.specs.Timeline.{Timeline, IsFallingFrom, IsClear, IsLike,
 use Rattle.rept_report.specs.declared.paths.Strip.{Strip}
 use Rattle.rept_report.specs.Spots.{Passage, passage}
 use Rattle.rept_report.specs.Log.{oldest}
-use Rattle.rept_analysis.specs.State.{State, with_writing}
+use Rattle.rept_analysis.specs.State.{State, timeline_of, with_writing, along}
 use Rattle.rept_analysis.specs.declared.piece.Piece.{Piece}
 use Rattle.rept_analysis.specs.Drawing.{Grows, IsAccess, IsSpared, IsBridged, IsSparedBetween, IsSilent, IsListed, past, IsWriting, AreWritingsBefore, AreBarriers, AreWritings, AreExact, SameFacts, IsFitted, IsBlocked, IsCalm, IsLooseEnd, IsLooseBefore, IsEnd, IsPiece}
 use Rattle.rept_analysis.proofs.Barriers.{past_at}
@@ -289,10 +289,6 @@ calm_none s a strip none p some = absurd (none_pause (sym none ∙ some))
 
 pub calm_some : {W : Type 0} (s : State W) (a p : ℕ) (strip : Strip) → strip.pause ≡ Some p → IsBridged (passage a p (p + 1)) s → IsCalm a strip s
 calm_some s a p strip is h q some = subst (λ (n : ℕ). IsBridged (passage a n (n + 1)) s) (some_pause (sym is ∙ some)) h
-
--- the rows and moments of a state
-abbrev pub timeline_of : {W : Type 0} → State W → Timeline
-timeline_of s = record { legs = s.path.given.legs; moments = s.path.given.moments }
 
 -- of a strip in which nothing else may write the byte
 module _ {W : Type 0} (s : State W) (h : AreWritings s) (a : ℕ) (small : a < 2 ^ 32) (strip : Strip) (number : ℕ) (its : IsStrip (timeline_of s) number strip) (calm : IsCalm a strip s) where

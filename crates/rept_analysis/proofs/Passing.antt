@@ -81,7 +81,7 @@ kept_work s kept open_ w room rows passes joins = record {
   room = room;
   rows = rows;
   drawn = λ i row pass at is. pass_more s (with_work s w) refl (λ p c v e. e) row i pass (passes i row pass at is);
-  roomy = λ j. kept.roomy (sym joins ∙ j);
+  roomy = λ j. kept.roomy (sym joins ∙ j.0, j.1);
 }
 
 pub same_pass : {x y : Pass} → Some x ≡ Some y → x ≡ y
@@ -218,7 +218,7 @@ drawn_with s b n i cells row items words grows is_cells is_items known = record 
 -- a halt is one whatever the work
 pub halt_work : {W : Type 0} (s : State W) (w : Work) (h : Halt) → w.joins ≡ s.work.joins → IsHalt s h → IsHalt (with_work s w) h
 halt_work s w (Clash p c known value) joins h = record { is_known = h.is_known; differs = h.differs; follows = h.follows }
-halt_work s w OutOfMemory joins h = joins ∙ h
+halt_work s w OutOfMemory joins h = λ j. h (sym joins ∙ j.0, j.1)
 
 -- with other sets
 pub kept_filled : {W : Type 0} (s : State W) → IsKept s → s.complete ≡ false → (spans : View W) (filled : ℕ) → spans.points ≡ s.path.given.legs.count + 1 → filled ≤ length s.known.log → IsKept (record { path = s.path; known = s.known; spans = spans; filled = filled; shown = s.shown; complete = s.complete; conflict = s.conflict; work = s.work })

@@ -22,7 +22,7 @@ use Rattle.rept_versions.specs.declared.facts.Stretch.{Stretch}
 use Rattle.rept_versions.specs.Facts.{Told, Store, change, Between, Spreads, Carries as StoreCarries, Nexts}
 use Rattle.rept_log.proofs.Stores.{stays_same}
 use Rattle.rept_log.specs.Known.{Known, knows, known_change, AddsByte, SameLog}
-use Rattle.rept_analysis.specs.State.{State, all_known, Path, along}
+use Rattle.rept_analysis.specs.State.{State, IsRoomy, all_known, Path, along}
 use Rattle.rept_report.specs.Why.{fact_of}
 use Rattle.rept_analysis.specs.Drawing.{Knows, IsTracked, Grows, IsBrought, IsSpared, IsBridged, IsSparedBetween, IsSpreadTo, IsCarriedFrom}
 use Rattle.rept_analysis.specs.Drawing.HasNews.{fact}
@@ -37,7 +37,7 @@ use Rattle.rept_analysis.proofs.Reserve.{room_like}
 use Rattle.rept_analysis.specs.Room.{HasRoom}
 
 -- the same log, facts and addresses
-pub kept_like : {W : Type 0} (s : State W) (k k' : Known) → k'.last ≡ k.last → k'.log ≡ k.log → k'.store.fact ≡ k.store.fact → k'.store.tracked ≡ k.store.tracked → s.complete ≡ false → (s.work.joins ≡ true → HasRoom s.path k') → IsKept (with_known s k) → IsKept (with_known s k')
+pub kept_like : {W : Type 0} (s : State W) (k k' : Known) → k'.last ≡ k.last → k'.log ≡ k.log → k'.store.fact ≡ k.store.fact → k'.store.tracked ≡ k.store.tracked → s.complete ≡ false → (IsRoomy s → HasRoom s.path k') → IsKept (with_known s k) → IsKept (with_known s k')
 kept_like s k k' last log facts tracked open_ roomy kept = record {
   line = kept.line;
   few = kept.few;
@@ -211,7 +211,7 @@ module _ {W : Type 0} (s : State W) (laws : HasLaws (along s.path)) (kept : IsKe
         let g : Grows s (with_known s (chain pt D).known) = subst (λ (x : State W). Grows s x) (chain_is pt D) t.1 in
         let facts : k.store.fact ≡ (chain pt D).known.store.fact = fun_ext (λ (q : ℕ). fun_ext (λ (b : ℕ). same q b)) in
         let k_log = log ∙ sym (chain_log pt D) in
-        let roomy : s.work.joins ≡ true → HasRoom s.path k = λ j. room_like s.path s.known k (λ p c w e. more_of p c w (g.more p c w e) facts k_log) (spare j) (omega (arith, left)) same_tracked places (kept.roomy j) in (
+        let roomy : IsRoomy s → HasRoom s.path k = λ j. room_like s.path s.known k (λ p c w e. more_of p c w (g.more p c w e) facts k_log) (spare j.0) (omega (arith, left)) same_tracked places (kept.roomy j) in (
           kept_like s (chain pt D).known k (last ∙ sym (chain_last pt D)) k_log facts (same_tracked ∙ sym (chain_tracked pt D)) open_ roomy at,
           record {
             path = refl;
@@ -366,7 +366,7 @@ module _ {W : Type 0} (s : State W) (laws : HasLaws (along s.path)) (kept : IsKe
           subst (λ (p : ℕ). IsBrought (with_known s k) (fact_of p (Byte a) v)) next (up_brought (with_known s k) laws kept_t before a v small (bridged_after s (with_known s k) laws kept_t g before a small (up_spared before stop next at within_)) h)
       next_brought k kept_t g before stop (inr next) at within_ h =
           down_brought (with_known s k) laws kept_t stop a v small (bridged_after s (with_known s k) laws kept_t g stop a small (down_spared before stop next at within_)) (subst (λ (p : ℕ). k.store.fact p a ≡ Some v) (sym next) h)
-  sent k log (Err e) h = let both = spread k log h.reaches.before h.reaches.toward h.reaches.spreads in (both.0, (both.1, h.plain))
+  sent k log (Err e) h = let both = spread k log h.reaches.before h.reaches.toward h.reaches.spreads in (both.0, (both.1, λ j. false≢true (sym h.plain ∙ j.0)))
 
 -- a segment in which no row may write the byte
 pub segment_spread : {W : Type 0} (s : State W) (a from to at v : ℕ) → from ≤ at → at ≤ to → IsSpreadTo (record { address = a; from = at; to = to; value = v }) s → IsSpreadTo (record { address = a; from = at; to = from; value = v }) s → IsCarriedFrom a from to s

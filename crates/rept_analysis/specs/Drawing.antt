@@ -33,7 +33,7 @@ use Rattle.rept_analysis.specs.declared.piece.Piece.{Piece}
 use Rattle.rept_analysis.specs.declared.pass.Pass.TheVariants.{Cut}
 use Rattle.rept_analysis.specs.Work.{left, number_past}
 use Rattle.rept_analysis.specs.Room.{IsDrawable, IsDrawnAt, own_at, IsOwnByte}
-use Rattle.rept_analysis.specs.State.{State, all_known, along}
+use Rattle.rept_analysis.specs.State.{State, IsRoomy, all_known, along}
 
 -- the cell is known to have the value
 abbrev pub Knows : {W : Type 0} → ℕ → Cell → ℕ → State W → Type 0
@@ -147,7 +147,7 @@ pub record IsClash {W : Type 0} (s : State W) (f : Fact) (known : ℕ) : Type 0 
 -- Why a conclusion wasn't learnt is so: memory runs out only where not all was taken at first.
 abbrev pub IsHalt : {W : Type 0} → State W → Halt → Type 0
 IsHalt s (Clash p c known value) = IsClash s (fact_of p c value) known
-IsHalt s OutOfMemory = s.work.joins ≡ false
+IsHalt s OutOfMemory = IsRoomy s → ⊥
 
 -- a register has one value before and after row i
 pub record IsKeptAt {W : Type 0} (i r : ℕ) (s : State W) : Type 0 where
@@ -285,7 +285,7 @@ AreRowAddresses start n s = (k : ℕ) → k < n → IsRowAddress (beside start k
 -- There is room for the byte at a moment: a row lets one conclude it, and the log keeps it, or it is the end; or room isn't promised.
 abbrev pub HasPlace : {W : Type 0} → Bool → ℕ → ℕ → State W → Type 0
 HasPlace true p a s = IsDrawnAt s.path s.known.log p a
-HasPlace false p a s = (p ≡ s.path.given.moments.end) ⊎ (s.work.joins ≡ false)
+HasPlace false p a s = (p ≡ s.path.given.moments.end) ⊎ (IsRoomy s → ⊥)
 
 -- a conclusion that follows, on a cell that can be learnt
 pub record IsConclusion {W : Type 0} (i : ℕ) (d : Drawn) (s : State W) : Type 0 where
@@ -297,10 +297,6 @@ pub record IsConclusion {W : Type 0} (i : ℕ) (d : Drawn) (s : State W) : Type 
 
 abbrev pub AreConclusions : {W : Type 0} → ℕ → List Drawn → State W → Type 0
 AreConclusions i list s = (k : ℕ) (d : Drawn) → slice_get list k ≡ Some d → IsConclusion i d s
-
--- what is known of a byte at the one point is known at the other
-abbrev pub IsBroughtTo : {W : Type 0} → ℕ → ℕ → ℕ → State W → Type 0
-IsBroughtTo from to a s = (v : ℕ) → Knows from (Byte a) v s → Knows to (Byte a) v s
 
 abbrev pub RowsClosed : {W : Type 0} → State W → Type 0
 RowsClosed s = RowsClosedBelow (s.path.given.legs.count) s

@@ -18,7 +18,7 @@ use Rattle.rept_analysis.specs.declared.pass.Pass.{Pass}
 use Rattle.rept_analysis.specs.declared.pass.Pass.TheVariants.{Never, With, Cut}
 use Rattle.rept_analysis.specs.Cells.{cells_known}
 use Rattle.rept_analysis.specs.Room.{HasRoom}
-use Rattle.rept_analysis.specs.State.{State, all_known, along}
+use Rattle.rept_analysis.specs.State.{State, IsRoomy, all_known, along}
 use Rattle.rept_analysis.specs.Drawing.{IsTracked, IsSettled, Knows, KnowsDrawn}
 
 -- whether an address is one of these
@@ -78,4 +78,4 @@ pub record IsKept {W : Type 0} (s : State W) : Type 0 where
   pub room : s.path.given.moments.end < s.work.room
   pub rows : length s.work.drawn ≡ s.path.given.legs.count
   pub drawn : (i : ℕ) (row : StepRow) (pass : Pass) → s.path.given.legs.row i ≡ Some row → slice_get s.work.drawn i ≡ Some pass → IsPass row i pass s
-  pub roomy : s.work.joins ≡ true → HasRoom s.path s.known
+  pub roomy : IsRoomy s → HasRoom s.path s.known

@@ -1,5 +1,5 @@
 -- An analysis, as its callers see it, and what definitions speak of in it. This project's own.
-use Rattle.std.specs.Prelude.{◌≡◌, ℕ, Bool, List, [], Option}
+use Rattle.std.specs.Prelude.{◌≡◌, ◌+◌, ℕ, Bool, true, List, [], length, Option}
 use Rattle.rept_isa.specs.declared.row.StepRow.{StepRow}
 use Rattle.rept_elf.specs.Segments.{ElfSegment}
 use Rattle.rept_dump.specs.declared.status.Status.{Status}
@@ -17,7 +17,7 @@ use Rattle.rept_report.specs.Setting.{Setting}
 use Rattle.rept_report.specs.Given.{Given, setting_by}
 use Rattle.rept_report.specs.OneThread.{IsLine}
 use Rattle.rept_report.specs.Timeline.{Timeline, time_alone}
-use Rattle.rept_report.proofs.Line.{is_line}
+use Rattle.rept_report.proofs.Line.{is_line, next_is}
 use Rattle.rept_reason.specs.Facts.{Knowledge}
 use Rattle.rept_writing.specs.declared.list.Writing.{Writing}
 use Rattle.rept_analysis.specs.declared.pass.Pass.{Pass}
@@ -51,10 +51,17 @@ pub record Path (W : Type 0) : Type 0 where
 abbrev pub IsOneLine : Timeline → Type 0
 IsOneLine t = (last : ℕ → List ℕ) (dump : ℕ → Option ℕ) (image_end : ℕ) → IsLine (record { legs = t.legs; moments = t.moments; last = last; dump = dump; image_end = image_end })
 
+-- a byte is carried from each moment to the one of the next number alone
+abbrev pub IsLined : Timeline → Type 0
+IsLined t = (m w : ℕ) → t.moments.next m w ≡ true → w ≡ m + 1
+
 pub alone_is : (rows : List StepRow) → IsOneLine (time_alone rows)
 alone_is rows last dump image_end =
     let line = is_line (record { rows = rows; last = []; dump = dump; image_end = image_end }) in
     record { rows = line.rows; inside = line.inside; moments = line.moments }
+
+pub alone_lined : (rows : List StepRow) → IsLined (time_alone rows)
+alone_lined rows m w next = (next_is (length rows) m w next).1
 
 -- the setting of which a report speaks
 abbrev pub along : {W : Type 0} → Path W → Setting W
@@ -123,6 +130,15 @@ with_drawn s passes = with_work s (record { joins = s.work.joins; writing = s.wo
 -- the same but for how often rules were drawn
 abbrev pub but_draws : {W : Type 0} → State W → State W
 but_draws s = with_draws s 0
+
+-- the rows and moments
+abbrev pub timeline_of : {W : Type 0} → State W → Timeline
+timeline_of s = record { legs = s.path.given.legs; moments = s.path.given.moments }
+
+-- The room that was taken at first is enough: the store joins what stands side by side, and a value is carried to the next number alone,
+-- so that it takes no place.
+abbrev pub IsRoomy : {W : Type 0} → State W → Type 0
+IsRoomy s = (s.work.joins ≡ true) × IsLined (timeline_of s)
 
 -- all that is known
 abbrev pub all_known : {W : Type 0} → State W → Knowledge

@@ -5,7 +5,7 @@ use Rattle.rept_reason.specs.declared.fact.Fact.{Fact}
 use Rattle.rept_reason.specs.declared.fact.Cell.TheVariants.{Byte}
 use Rattle.rept_log.specs.declared.answer.Answer.{Answer}
 use Rattle.rept_log.specs.declared.answer.Answer.TheVariants.{Old, New, Clash}
-use Rattle.rept_analysis.specs.State.{State}
+use Rattle.rept_analysis.specs.State.{State, IsRoomy}
 use Rattle.rept_versions.specs.declared.facts.Carried.{Carried}
 use Rattle.rept_versions.specs.declared.facts.Carried.TheVariants.{Same, More, Stop}
 use Rattle.rept_versions.specs.Facts.{Course}
@@ -28,17 +28,17 @@ Tells old new f (Clash w) = (new ≡ old) × Knows f.point f.cell w old × (w �
 -- the same of a fact on a byte, for which memory may run out
 abbrev pub TellsByte : {W : Type 0} → State W → State W → Fact → Result Answer AllocError → Type 0
 TellsByte old new f (Ok answer) = Tells old new f answer
-TellsByte old new f (Err e) = (new ≡ old) × (new.work.joins ≡ false)
+TellsByte old new f (Err e) = (new ≡ old) × (IsRoomy new → ⊥)
 
 -- the address is tracked now
 abbrev pub Tracks : {W : Type 0} → State W → State W → ℕ → Result Bool AllocError → Type 0
 Tracks old new a (Ok true) = Grows old new × HasNews old new × IsTracked a new × (new.known.log ≡ old.known.log) × (new.known.store.fact ≡ old.known.store.fact) × (new.work ≡ old.work)
 Tracks old new a (Ok false) = (new ≡ old) × IsTracked a old
-Tracks old new a (Err e) = (new ≡ old) × (new.work.joins ≡ false)
+Tracks old new a (Err e) = (new ≡ old) × (IsRoomy new → ⊥)
 
 -- what carrying a byte's value from a point to another one does, by the answer
 abbrev pub Sends : {W : Type 0} → State W → State W → Course → Result Carried AllocError → Type 0
 Sends old new course (Ok Same) = (new ≡ old) × IsSpreadTo course old
 Sends old new course (Ok More) = Grows old new × HasNews old new × (new.work ≡ old.work)
 Sends old new course (Ok (Stop p known found)) = Grows old new × IsClash new (fact_of p (Byte course.address) course.value) found × (known ≡ course.value)
-Sends old new course (Err e) = Grows old new × (new.work.joins ≡ false)
+Sends old new course (Err e) = Grows old new × (IsRoomy new → ⊥)

@@ -9,7 +9,7 @@ ghost use Rattle.rept_span.specs.Filled.{entry_at};
 ghost use Rattle.rept_dump.specs.Memory.{byte_at};
 ghost use Rattle.rept_dump.specs.Program.{contents};
 ghost use Rattle.rept_report.specs.declared.conflict.ConflictKind.{ConflictKind};
-ghost use Rattle.rept_analysis.specs.State.{HasRegisters, IsOneLine, given_of, path_of, setting_of, state_of};
+ghost use Rattle.rept_analysis.specs.State.{HasRegisters, IsLined, IsOneLine, given_of, path_of, setting_of, state_of};
 ghost use Rattle.rept_report.specs.Views.{moment_of};
 ghost use Rattle.rept_report.specs.Why.{fact_of};
 ghost use Rattle.rept_analysis.specs.Kept.{IsKept, register_answer, answers};
@@ -173,7 +173,6 @@ impl<'a, P: Paths + Drop, B: ByteFacts, W: Transfer, R: RowRules> Analysis<'a, P
     /// The number of the end.
     fn end(&self) -> u32
         ensures value { result ≡ (P.timeline self.now.paths).moments.end }
-        ensures point { result ≡ (P.timeline self.now.paths).legs.count }
     {
         self.paths.end()
     }
@@ -283,7 +282,8 @@ impl<'a, P: Paths + Drop, B: ByteFacts, W: Transfer, R: RowRules> Analysis<'a, P
     /// the closure, which has no conflict; another call changes nothing. `Stop::Conflict`: the closure has this conflict, and
     /// another call answers the same one; `reg` and `byte` then answer the oldest facts that show the conflict, of which no fewer show any.
     /// `Stop::OutOfMemory`: memory ran out, all that was learnt is answered, and another call goes on from there; this never comes where the
-    /// store joins bytes that stand side by side, since `prepare` took all memory. So it is then Ok exactly where the closure has no conflict.
+    /// store joins bytes that stand side by side and the moments are one line, since `prepare` took all memory. So it is then Ok exactly where the
+    /// closure has no conflict.
     /// What was known is known still, and what was answered of registers is answered still.
     pub fn refine(&mut self) -> Result<(), Stop>
         ensures path { (path_of P.timeline W.sets W.moves R.rules self.new) ≡ (path_of P.timeline W.sets W.moves R.rules self.old) }
@@ -299,10 +299,10 @@ impl<'a, P: Paths + Drop, B: ByteFacts, W: Transfer, R: RowRules> Analysis<'a, P
         ensures whole { result ≡ Err Stop.OutOfMemory → self.new.shown ≡ length self.new.known.log }
         ensures shown { self.old.conflict ≡ None → (kind : ConflictKind) → result ≡ Err (Stop.Conflict kind) → ShowsTo (state_of P.timeline W.sets W.moves R.rules B.store self.new) self.new.shown kind }
 
-        // Where the store joins bytes, no memory is taken: it is Ok exactly where the closure has no conflict.
-        ensures joins { B.JOINS ≡ true → result ≡ Err Stop.OutOfMemory → ⊥ }
-        ensures exact { B.JOINS ≡ true → IsConsistent (setting_of P.timeline W.sets W.moves R.rules self.old) → IsOk result }
-        ensures refused { B.JOINS ≡ true → (kind : ConflictKind) → ClosureHas (setting_of P.timeline W.sets W.moves R.rules self.old) kind → (named : ConflictKind) × (result ≡ Err (Stop.Conflict named)) }
+        // Where the store joins bytes and the moments are one line, no memory is taken: it is Ok exactly where the closure has no conflict.
+        ensures joins { B.JOINS ≡ true → IsLined (P.timeline self.old.paths) → result ≡ Err Stop.OutOfMemory → ⊥ }
+        ensures exact { B.JOINS ≡ true → IsLined (P.timeline self.old.paths) → IsConsistent (setting_of P.timeline W.sets W.moves R.rules self.old) → IsOk result }
+        ensures refused { B.JOINS ≡ true → IsLined (P.timeline self.old.paths) → (kind : ConflictKind) → ClosureHas (setting_of P.timeline W.sets W.moves R.rules self.old) kind → (named : ConflictKind) × (result ≡ Err (Stop.Conflict named)) }
 
         // Over all executions of the path that end in the dump.
         ensures sound { OnOk result (IsSound (setting_of P.timeline W.sets W.moves R.rules self.new) (answers (state_of P.timeline W.sets W.moves R.rules B.store self.new))) }

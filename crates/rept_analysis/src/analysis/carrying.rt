@@ -4,7 +4,7 @@ ghost use Rattle.std.specs.Prelude.{◌≡◌, ◌↔◌, ◌∷◌, ◌++◌, [
 ghost use Rattle.rept_alias.specs.Accesses.{call_hits};
 ghost use Rattle.rept_reason.specs.declared.fact.Cell.TheVariants.{Byte};
 ghost use Rattle.rept_versions.specs.Facts.{Nexts};
-ghost use Rattle.rept_analysis.specs.State.{setting_of, state_of, with_writing};
+ghost use Rattle.rept_analysis.specs.State.{IsLined, setting_of, state_of, with_writing};
 ghost use Rattle.rept_analysis.specs.Drawing.{Knows, IsTracked, past, Grows, Drew, IsHalt, IsFitted, IsAccess, AreWritings, AreWritingsBefore, AreExact, IsUncut, IsBridged, IsBlocked, IsSparedBetween, IsSpreadTo, IsCarriedFrom, IsCalm, IsLooseEnd, IsLooseBefore, IsPiece, IsCarriedIf, IsCarriedBeside, IsCarriedIn, AreLinks, IsBrought, IsCarriedAlong, AllCarried};
 ghost use Rattle.rept_analysis.specs.Told.{Sends};
 ghost use Rattle.rept_isa.specs.declared.row.StepRow.{StepRow};
@@ -655,13 +655,12 @@ impl<'a, P: Paths + Drop, B: ByteFacts, W: Transfer, R: RowRules> Analysis<'a, P
         requires to { to ≤ (P.timeline self.old.paths).moments.end }
         requires tracked { IsTracked a (state_of P.timeline W.sets W.moves R.rules B.store self.old) }
         requires brought { IsBrought (state_of P.timeline W.sets W.moves R.rules B.store self.old) (fact_of to (Byte a) value) }
-        requires room { B.JOINS ≡ false }
+        requires room { IsLined (P.timeline self.old.paths) → ⊥ }
         requires open { self.old.complete ≡ false }
         ensures grows { Grows (state_of P.timeline W.sets W.moves R.rules B.store self.old) (state_of P.timeline W.sets W.moves R.rules B.store self.new) }
         ensures drew { IfOk result (λ learnt. Drew (state_of P.timeline W.sets W.moves R.rules B.store self.old) (state_of P.timeline W.sets W.moves R.rules B.store self.new) learnt (Knows to (Byte a) value)) }
         ensures halt { IfErr result (λ h. IsHalt (state_of P.timeline W.sets W.moves R.rules B.store self.new) h) }
     {
-        self.counted();
         let learnt = self.learn_byte(to, a, value, false)?;
         Ok(learnt)
     }
@@ -671,7 +670,7 @@ impl<'a, P: Paths + Drop, B: ByteFacts, W: Transfer, R: RowRules> Analysis<'a, P
         requires tracked { IsTracked a (state_of P.timeline W.sets W.moves R.rules B.store self.old) }
         requires bridged { IsBridged (record { address = a; from = m; to = w }) (state_of P.timeline W.sets W.moves R.rules B.store self.old) }
         requires unknown { (B.store self.old.known.bytes).fact m a ≡ None }
-        requires room { B.JOINS ≡ false }
+        requires room { IsLined (P.timeline self.old.paths) → ⊥ }
         requires open { self.old.complete ≡ false }
         ensures grows { Grows (state_of P.timeline W.sets W.moves R.rules B.store self.old) (state_of P.timeline W.sets W.moves R.rules B.store self.new) }
         ensures drew { IfOk result (λ learnt. Drew (state_of P.timeline W.sets W.moves R.rules B.store self.old) (state_of P.timeline W.sets W.moves R.rules B.store self.new) learnt (IsCarriedIf (record { address = a; from = m; to = w }))) }
@@ -689,7 +688,7 @@ impl<'a, P: Paths + Drop, B: ByteFacts, W: Transfer, R: RowRules> Analysis<'a, P
     fn tell_either(&mut self, a: u32, m: u32, w: u32) -> Result<bool, Halt>
         requires tracked { IsTracked a (state_of P.timeline W.sets W.moves R.rules B.store self.old) }
         requires bridged { IsBridged (record { address = a; from = m; to = w }) (state_of P.timeline W.sets W.moves R.rules B.store self.old) }
-        requires room { B.JOINS ≡ false }
+        requires room { IsLined (P.timeline self.old.paths) → ⊥ }
         requires open { self.old.complete ≡ false }
         ensures grows { Grows (state_of P.timeline W.sets W.moves R.rules B.store self.old) (state_of P.timeline W.sets W.moves R.rules B.store self.new) }
         ensures drew { IfOk result (λ learnt. Drew (state_of P.timeline W.sets W.moves R.rules B.store self.old) (state_of P.timeline W.sets W.moves R.rules B.store self.new) learnt (IsCarriedIf (record { address = a; from = m; to = w }))) }
@@ -712,7 +711,6 @@ impl<'a, P: Paths + Drop, B: ByteFacts, W: Transfer, R: RowRules> Analysis<'a, P
     fn carry_link(&mut self, a: u32, m: u32, w: u32) -> Result<bool, Halt>
         requires tracked { IsTracked a (state_of P.timeline W.sets W.moves R.rules B.store self.old) }
         requires next { (P.timeline self.old.paths).moments.next m w ≡ true }
-        requires room { (w ≡ m + 1 → ⊥) → B.JOINS ≡ false }
         requires writings { AreWritings (state_of P.timeline W.sets W.moves R.rules B.store self.old) }
         requires open { self.old.complete ≡ false }
         ensures grows { Grows (state_of P.timeline W.sets W.moves R.rules B.store self.old) (state_of P.timeline W.sets W.moves R.rules B.store self.new) }
@@ -733,7 +731,6 @@ impl<'a, P: Paths + Drop, B: ByteFacts, W: Transfer, R: RowRules> Analysis<'a, P
     /// The value of a byte from a number to all that are next to it, and back.
     fn carry_links(&mut self, a: u32, m: u32) -> Result<bool, Halt>
         requires inside { m ≤ (P.timeline self.old.paths).moments.end }
-        requires room { (w : ℕ) → (P.timeline self.old.paths).moments.next m w ≡ true → (w ≡ m + 1 → ⊥) → B.JOINS ≡ false }
         requires tracked { IsTracked a (state_of P.timeline W.sets W.moves R.rules B.store self.old) }
         requires writings { AreWritings (state_of P.timeline W.sets W.moves R.rules B.store self.old) }
         requires open { self.old.complete ≡ false }

@@ -4,7 +4,7 @@ ghost use Rattle.std.specs.Prelude.{◌≡◌, ◌<◌, ◌+◌, ◌*◌, ◌≤
 ghost use Rattle.rept_reason.specs.Facts.{told};
 ghost use Rattle.rept_report.specs.Conflicts.{IsQuiet};
 ghost use Rattle.rept_report.specs.declared.conflict.ConflictKind.{ConflictKind};
-ghost use Rattle.rept_analysis.specs.State.{setting_of, state_of};
+ghost use Rattle.rept_analysis.specs.State.{IsLined, setting_of, state_of};
 ghost use Rattle.rept_analysis.specs.Drawing.{IsHalt, IsSettled, IsFitted, SameFacts, Continues, AreWritings, AreExact, IsUncut};
 ghost use Rattle.rept_analysis.specs.Work.{left};
 ghost use Rattle.rept_report.specs.Log.{oldest};
@@ -96,7 +96,7 @@ impl<'a, P: Paths + Drop, B: ByteFacts, W: Transfer, R: RowRules> Analysis<'a, P
         requires open { self.old.complete ≡ false }
         requires calm { self.old.conflict ≡ None }
         ensures outcome { Outcome (state_of P.timeline W.sets W.moves R.rules B.store self.old) (state_of P.timeline W.sets W.moves R.rules B.store self.new) result }
-        ensures plain { result ≡ Err Stop.OutOfMemory → B.JOINS ≡ false }
+        ensures plain { result ≡ Err Stop.OutOfMemory → B.JOINS ≡ true → IsLined (P.timeline self.old.paths) → ⊥ }
         ensures draws { self.new.work.draws ≤ self.old.work.draws + 12 * (P.timeline self.old.paths).legs.count }
     {
         self.restart();
@@ -113,7 +113,7 @@ impl<'a, P: Paths + Drop, B: ByteFacts, W: Transfer, R: RowRules> Analysis<'a, P
     /// Learns all that follows. A second call answers as the first did, but where memory ran out it goes on.
     pub(super) fn outcome(&mut self) -> Result<(), Stop>
         ensures outcome { Outcome (state_of P.timeline W.sets W.moves R.rules B.store self.old) (state_of P.timeline W.sets W.moves R.rules B.store self.new) result }
-        ensures plain { result ≡ Err Stop.OutOfMemory → B.JOINS ≡ false }
+        ensures plain { result ≡ Err Stop.OutOfMemory → B.JOINS ≡ true → IsLined (P.timeline self.old.paths) → ⊥ }
         ensures draws { self.new.work.draws ≤ self.old.work.draws + 12 * (P.timeline self.old.paths).legs.count }
         ensures again { (kind : ConflictKind) → self.old.conflict ≡ Some kind → (result ≡ Err (Stop.Conflict kind)) × ((state_of P.timeline W.sets W.moves R.rules B.store self.new) ≡ (state_of P.timeline W.sets W.moves R.rules B.store self.old)) }
         ensures settled { self.old.complete ≡ true → self.old.conflict ≡ None → IsOk result × ((state_of P.timeline W.sets W.moves R.rules B.store self.new) ≡ (state_of P.timeline W.sets W.moves R.rules B.store self.old)) }

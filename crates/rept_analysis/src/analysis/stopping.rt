@@ -1,12 +1,12 @@
 //! What is answered after a conflict, and where memory ran out.
 
-ghost use Rattle.std.specs.Prelude.{◌≡◌, ◌+◌, ◌<◌, ◌≤◌, length, false, Some};
+ghost use Rattle.std.specs.Prelude.{◌≡◌, ◌+◌, ◌<◌, ◌≤◌, length, true, false, Some};
 ghost use Rattle.rept_reason.specs.declared.fact.Cell.{Cell};
 ghost use Rattle.rept_reason.specs.Facts.{told};
 ghost use Rattle.rept_report.specs.Conflicts.{IsQuiet};
 ghost use Rattle.rept_report.specs.declared.conflict.ConflictKind.{ConflictKind};
 ghost use Rattle.rept_report.specs.Log.{oldest};
-ghost use Rattle.rept_analysis.specs.State.{setting_of, state_of};
+ghost use Rattle.rept_analysis.specs.State.{IsLined, setting_of, state_of};
 ghost use Rattle.rept_report.specs.Why.{fact_of};
 ghost use Rattle.rept_analysis.specs.Drawing.{IsHalt, SameFacts, IsClash};
 ghost use Rattle.rept_analysis.specs.Refined.{QuietBelow, ShowsTo, IsStopped, IsPaused, IsHalted, clash_kind};
@@ -149,7 +149,7 @@ impl<'a, P: Paths + Drop, B: ByteFacts, W: Transfer, R: RowRules> Analysis<'a, P
         requires halt { IsHalt (state_of P.timeline W.sets W.moves R.rules B.store self.old) halt.now }
         ensures ended { IsHalted (state_of P.timeline W.sets W.moves R.rules B.store self.old) (state_of P.timeline W.sets W.moves R.rules B.store self.new) result }
         ensures still { self.new.work.draws ≡ self.old.work.draws }
-        ensures plain { result ≡ Stop.OutOfMemory → B.JOINS ≡ false }
+        ensures plain { result ≡ Stop.OutOfMemory → B.JOINS ≡ true → IsLined (P.timeline self.old.paths) → ⊥ }
     {
         self.counted();
         match halt {

@@ -1,11 +1,10 @@
-use Rattle.std.proofs.Common.{◌+◌, ◌||◌, arith}
-use Rattle.rept_analysis.specs.State.{State, state_of}
+use Rattle.std.proofs.Common.{◌≡◌, ◌+◌, ◌<◌, ◌≤◌, ◌||◌, ℕ, Some, None, refl, false, arith}
+use Rattle.rept_analysis.specs.State.{State, timeline_of, state_of}
 use Rattle.rept_report.specs.Timeline.{IsStrip}
 use Rattle.rept_analysis.specs.Drawing.{IsCarriedIn, AreLinks, IsCarriedUpTo, IsCarriedAlong}
-use Rattle.rept_analysis.proofs.Along.{one_link}
 use Rattle.rept_analysis.proofs.Drawn.{Drew_as, Drew_both, Drew_same, Grows_itself, Grows_trans}
-use Rattle.rept_analysis.proofs.Listing.{writings_after, timeline_of}
-use Rattle.rept_analysis.proofs.Going.{strip_at, next_before, up_to_none, up_to_more, up_to_all}
+use Rattle.rept_analysis.proofs.Listing.{writings_after}
+use Rattle.rept_analysis.proofs.Going.{strip_at, up_to_none, up_to_more, up_to_all}
 use Rattle.rept_analysis.proofs.analysis.Analysis.carry_address.Goals as goal
 
 pub loop-from-init : goal.loop-from-init
@@ -23,11 +22,6 @@ carry_links-requires-clause-writings g c =
     let t = (state_of g.P.Paths.timeline g.W.Partial.sets g.W.Transfer.moves g.R.RowRules.rules g.B.ByteFacts.store c.loop-from.self) in
     let u = (state_of g.P.Paths.timeline g.W.Partial.sets g.W.Transfer.moves g.R.RowRules.rules g.B.ByteFacts.store c.carry_strip.new.self) in
     writings_after s u (Grows_trans s t u c.loop-from.invariant.grows c.in_ok-inside.ensures.grows) c.requires.writings
-
-pub carry_links-requires-clause-room : goal.carry_links-requires-clause-room
-carry_links-requires-clause-room g c = λ w next other.
-    let t = (state_of g.P.Paths.timeline g.W.Partial.sets g.W.Transfer.moves g.R.RowRules.rules g.B.ByteFacts.store c.loop-from.self) in
-    absurd (other (one_link t.path.given c.held.ensures.line c.strip-strip.result.last w (next_before t (state_of g.P.Paths.timeline g.W.Partial.sets g.W.Transfer.moves g.R.RowRules.rules g.B.ByteFacts.store c.carry_strip.new.self) c.in_ok-inside.ensures.grows c.strip-strip.result.last w next)))
 
 pub returns-in_err-inside-clause-grows : goal.returns-in_err-inside-clause-grows
 returns-in_err-inside-clause-grows g c = Grows_trans _ _ _ c.loop-from.invariant.grows c.carry_strip.ensures.grows

@@ -20,4 +20,4 @@ returns-then-not-is_carried-clause-drew g c =
     Drew_same s (IsCarriedIf (passage c.args.a c.args.m c.args.w)) (blocked_if s (passage c.args.a c.args.m c.args.w) (c.is_carried.ensures.no c.if-not-is_carried.true))
 
 pub tell_either-requires-clause-room : goal.tell_either-requires-clause-room
-tell_either-requires-clause-room g c = c.requires.room (c.is_after.ensures.no c.if-is_after.false)
+tell_either-requires-clause-room g c = λ lined. c.is_after.ensures.no c.if-is_after.false (lined c.args.m c.args.w c.requires.next)

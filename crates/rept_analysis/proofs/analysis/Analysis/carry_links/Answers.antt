@@ -5,7 +5,7 @@ use Rattle.rept_analysis.specs.State.{State, state_of}
 use Rattle.rept_analysis.specs.Drawing.{IsCarriedIf, AreLinksBelow, AreLinks}
 use Rattle.rept_analysis.proofs.Drawn.{Drew_as, Drew_both, Drew_first, Drew_same, Grows_itself, Grows_trans}
 use Rattle.rept_analysis.proofs.Listing.{writings_after}
-use Rattle.rept_analysis.proofs.Going.{next_none, next_before, links_first, links_more, links_none, links_end}
+use Rattle.rept_analysis.proofs.Going.{next_none, links_first, links_more, links_none, links_end}
 use Rattle.rept_analysis.proofs.analysis.Analysis.carry_links.Goals as goal
 
 pub loop-least-init : goal.loop-least-init
@@ -21,9 +21,6 @@ returns-in_default-clause-drew g c =
 
 pub carry_link-requires-clause-next : goal.carry_link-requires-clause-next
 carry_link-requires-clause-next g c = (rw c.in-Some.is at c.next_from.ensures).0
-
-pub carry_link-requires-clause-room : goal.carry_link-requires-clause-room
-carry_link-requires-clause-room g c = c.requires.room c.in-Some.next (next_before (state_of g.P.Paths.timeline g.W.Partial.sets g.W.Transfer.moves g.R.RowRules.rules g.B.ByteFacts.store c.args.self.now) (state_of g.P.Paths.timeline g.W.Partial.sets g.W.Transfer.moves g.R.RowRules.rules g.B.ByteFacts.store c.loop-least.self) c.loop-least.invariant.grows c.args.m c.in-Some.next (rw c.in-Some.is at c.next_from.ensures).0)
 
 pub carry_link-requires-clause-writings : goal.carry_link-requires-clause-writings
 carry_link-requires-clause-writings g c = writings_after (state_of g.P.Paths.timeline g.W.Partial.sets g.W.Transfer.moves g.R.RowRules.rules g.B.ByteFacts.store c.args.self.now) (state_of g.P.Paths.timeline g.W.Partial.sets g.W.Transfer.moves g.R.RowRules.rules g.B.ByteFacts.store c.loop-least.self) c.loop-least.invariant.grows c.requires.writings

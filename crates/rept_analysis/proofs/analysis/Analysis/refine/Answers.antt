@@ -1,5 +1,3 @@
-use Rattle.std.proofs.Common.{sym, ◌∙◌}
-use Rattle.std.proofs.lemmas.Bool.{true≢false}
 use Rattle.rept_analysis.specs.State.{state_of}
 use Rattle.rept_analysis.proofs.Refining.{path_of, kept_of, report_of, complete_of, consistent_of, stopped_of, sound_of, impossible_of, exact_of, refused_of, more_of, paused_of}
 use Rattle.rept_analysis.proofs.analysis.Analysis.refine.Goals as goal
@@ -41,10 +39,10 @@ pub returns-clause-impossible : goal.returns-clause-impossible
 returns-clause-impossible g c = λ kind e. impossible_of (state_of g.P.Paths.timeline g.W.Partial.sets g.W.Transfer.moves g.R.RowRules.rules g.B.ByteFacts.store c.args.self.now) (state_of g.P.Paths.timeline g.W.Partial.sets g.W.Transfer.moves g.R.RowRules.rules g.B.ByteFacts.store c.outcome-outcome.new.self) (record { sets = g.met.W.Partial.lawful; moves = g.met.W.Transfer.covers; rules = g.met.R.RowRules.lawful; legs = (g.met.P.Paths.lawful _).legs; moments = (g.met.P.Paths.lawful _).moments }) c.outcome-outcome.result kind c.outcome-outcome.ensures.outcome e
 
 pub returns-clause-joins : goal.returns-clause-joins
-returns-clause-joins g c = λ joins e. true≢false (sym joins ∙ c.outcome-outcome.ensures.plain e)
+returns-clause-joins g c = λ joins lined e. c.outcome-outcome.ensures.plain e joins lined
 
 pub returns-clause-exact : goal.returns-clause-exact
-returns-clause-exact g c = λ joins. exact_of (state_of g.P.Paths.timeline g.W.Partial.sets g.W.Transfer.moves g.R.RowRules.rules g.B.ByteFacts.store c.args.self.now) (state_of g.P.Paths.timeline g.W.Partial.sets g.W.Transfer.moves g.R.RowRules.rules g.B.ByteFacts.store c.outcome-outcome.new.self) c.outcome-outcome.result c.outcome-outcome.ensures.outcome (λ e. true≢false (sym joins ∙ c.outcome-outcome.ensures.plain e))
+returns-clause-exact g c = λ joins lined. exact_of (state_of g.P.Paths.timeline g.W.Partial.sets g.W.Transfer.moves g.R.RowRules.rules g.B.ByteFacts.store c.args.self.now) (state_of g.P.Paths.timeline g.W.Partial.sets g.W.Transfer.moves g.R.RowRules.rules g.B.ByteFacts.store c.outcome-outcome.new.self) c.outcome-outcome.result c.outcome-outcome.ensures.outcome (λ e. c.outcome-outcome.ensures.plain e joins lined)
 
 pub returns-clause-refused : goal.returns-clause-refused
-returns-clause-refused g c = λ joins. refused_of (state_of g.P.Paths.timeline g.W.Partial.sets g.W.Transfer.moves g.R.RowRules.rules g.B.ByteFacts.store c.args.self.now) (state_of g.P.Paths.timeline g.W.Partial.sets g.W.Transfer.moves g.R.RowRules.rules g.B.ByteFacts.store c.outcome-outcome.new.self) c.outcome-outcome.result c.outcome-outcome.ensures.outcome (λ e. true≢false (sym joins ∙ c.outcome-outcome.ensures.plain e))
+returns-clause-refused g c = λ joins lined. refused_of (state_of g.P.Paths.timeline g.W.Partial.sets g.W.Transfer.moves g.R.RowRules.rules g.B.ByteFacts.store c.args.self.now) (state_of g.P.Paths.timeline g.W.Partial.sets g.W.Transfer.moves g.R.RowRules.rules g.B.ByteFacts.store c.outcome-outcome.new.self) c.outcome-outcome.result c.outcome-outcome.ensures.outcome (λ e. c.outcome-outcome.ensures.plain e joins lined)

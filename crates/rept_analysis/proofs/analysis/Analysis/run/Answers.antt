@@ -1,7 +1,7 @@
-use Rattle.std.proofs.Common.{ap, arith}
-use Rattle.rept_analysis.specs.State.{state_of}
+use Rattle.std.proofs.Common.{◌≡◌, ◌+◌, ℕ, true, Err, ap, sym, subst, arith}
+use Rattle.rept_analysis.specs.State.{Path, state_of}
 use Rattle.rept_log.specs.Known.{known_of}
-use Rattle.rept_analysis.proofs.Ending.{Continues_trans, ended_after, stopped_after, halted_after, known_like, known_after}
+use Rattle.rept_analysis.proofs.Ending.{same_stop, Continues_trans, ended_after, stopped_after, halted_after, known_like, known_after}
 use Rattle.rept_analysis.proofs.Passing.{left_most}
 use Rattle.rept_analysis.proofs.analysis.Analysis.run.Goals as goal
 
@@ -40,3 +40,11 @@ returns-in-Err-clause-draws g c =
     let spent = c.settle.ensures.spent in
     let still = c.stop.ensures.still in
     omega (arith, most, rows, draws, spent, still)
+
+pub returns-in-Err-clause-plain : goal.returns-in-Err-clause-plain
+returns-in-Err-clause-plain g c =
+    let s = (state_of g.P.Paths.timeline g.W.Partial.sets g.W.Transfer.moves g.R.RowRules.rules g.B.ByteFacts.store c.args.self.now) in
+    let t = (state_of g.P.Paths.timeline g.W.Partial.sets g.W.Transfer.moves g.R.RowRules.rules g.B.ByteFacts.store c.restart.new.self) in
+    let u = (state_of g.P.Paths.timeline g.W.Partial.sets g.W.Transfer.moves g.R.RowRules.rules g.B.ByteFacts.store c.settle.new.self) in
+    let both = Continues_trans s t u c.restart.ensures.continues c.settle.ensures.continues in
+    λ e joins lined. c.stop.ensures.plain (same_stop e) joins (subst (λ (P : Path g.row.W.Denot). (m w : ℕ) → P.given.moments.next m w ≡ true → w ≡ m + 1) (sym both.path) lined)

@@ -10,4 +10,4 @@ pub learn_byte-requires-clause-brought : goal.learn_byte-requires-clause-brought
 learn_byte-requires-clause-brought g c = λ _. c.requires.brought
 
 pub learn_byte-requires-clause-place : goal.learn_byte-requires-clause-place
-learn_byte-requires-clause-place g c = inr (c.counted.ensures.joins ∙ c.requires.room)
+learn_byte-requires-clause-place g c = inr (λ roomy. c.requires.room roomy.1)
