@@ -4,9 +4,7 @@ use Rattle.rept_reason.specs.declared.fact.Cell.{Cell}
 use Rattle.rept_reason.specs.Facts.{Knowledge}
 use Rattle.rept_view.specs.declared.drawn.When.{When}
 use Rattle.rept_report.specs.Setting.{IsLast}
-use Rattle.rept_report.specs.Spots.{spot}
-use Rattle.rept_report.specs.Views.{moment_of, point_of, instant_of, may_write}
-use Rattle.rept_report.specs.Implied.{is_settled}
+use Rattle.rept_report.specs.Views.{moment_of, point_of, instant_of}
 use Rattle.rept_report.specs.Moments.{Moments}
 use Rattle.rept_report.specs.Timeline.{Timeline, IsTimeline, IsLastFrom}
 use Rattle.rept_span.specs.Ranges.{Legs, AreLegs}
@@ -15,7 +13,7 @@ use Rattle.rept_view.specs.declared.drawn.When.TheVariants.{Before, After}
 use Rattle.rept_report.specs.Given.{Given}
 use Rattle.rept_report.specs.OneThread.{IsLine}
 use Rattle.rept_isa.specs.declared.row.StepRow.{StepRow}
-use Rattle.rept_report.proofs.Line.{last_is, instant_is, settled_is, is_settled_from}
+use Rattle.rept_report.proofs.Line.{last_is, instant_is}
 use Rattle.rept_analysis.specs.State.{Path, along}
 
 -- of one path the end is the last point
@@ -57,10 +55,3 @@ module _ {W : Type 0} (P : Path W) (line : IsLine P.given) where
 
   pub point_is : (i : ℕ) (w : When) (c : Cell) → instant_of (along P).moments i w c ≡ point_of i w
   point_is i w c = instant_is P.sets P.moves P.rules P.given line i w c
-
-  -- all that may write a byte lies before a point exactly where no row from it on may
-  pub settled_at : (K : Knowledge) (p a : ℕ) → is_settled (along P) K (spot p a) ≡ true → (i : ℕ) → p ≤ i → i < P.given.legs.count → may_write (along P) K i a ≡ false
-  settled_at K p a e = settled_is P.sets P.moves P.rules P.given line K p a e
-
-  pub at_settled : (K : Knowledge) (p a : ℕ) → ((i : ℕ) → p ≤ i → i < P.given.legs.count → may_write (along P) K i a ≡ false) → is_settled (along P) K (spot p a) ≡ true
-  at_settled K p a h = is_settled_from P.sets P.moves P.rules P.given line K p a h

@@ -1,5 +1,5 @@
 -- How many of the first numbers pass a test, and what is counted of an analysis.
-use Rattle.std.proofs.Common.{◌≡◌, ℕ, suc, ◌+◌, ◌≤◌, Bool, true, false, None, refl, subst, arith}
+use Rattle.std.proofs.Common.{◌≡◌, ℕ, zero, suc, ◌+◌, ◌<◌, ◌≤◌, Bool, true, false, None, refl, subst, arith}
 use mathlib.Core.Path.{fun_ext}
 use Rattle.rept_reason.specs.declared.fact.Cell.{Cell}
 use Rattle.rept_reason.specs.declared.fact.Cell.TheVariants.{Register, Byte}
@@ -24,6 +24,15 @@ count_hit P n e = let next = count_next P n in let one : one_if (P n) ≡ 1 = rw
 
 pub count_miss : (P : ℕ → Bool) (n : ℕ) → P n ≡ false → count_true P (n + 1) ≡ count_true P n
 count_miss P n e = let next = count_next P n in let none : one_if (P n) ≡ 0 = rw e refl in omega (arith, next, none)
+
+-- where all numbers pass, all are counted
+pub count_full : (P : ℕ → Bool) (n : ℕ) → ((i : ℕ) → i < n → P i ≡ true) → count_true P n ≡ n
+count_full P zero h = count_none P
+count_full P (suc n) h =
+    let e : suc n ≡ n + 1 = omega arith in
+    let here = count_hit P n (h n (omega arith)) in
+    let rest = count_full P n (λ i below. h i (omega (arith, below))) in
+    rw e (omega (arith, here, rest))
 
 pub sum_none : (f : ℕ → ℕ) → sum_to f 0 ≡ 0
 unfolding sum_to

@@ -16,6 +16,7 @@ pub mod Refining
 pub mod Reported
 pub mod Reserve
 pub mod Stopping
+pub mod Settled
 pub mod Spreading
 pub mod Explaining
 pub mod Fronts

@@ -32,6 +32,10 @@ abbrev pub row_is : Option StepRow → (Instr → Bool) → Bool
 row_is None test = false
 row_is (Some row) test = test row.instr
 
+-- from how many of the first n points a row leads
+abbrev pub rows_below : Legs → ℕ → ℕ
+rows_below legs n = count_true (λ i. is_some (legs.row i)) n
+
 -- how many of the first n rows are environment calls
 abbrev pub calls_below : Legs → ℕ → ℕ
 calls_below legs n = count_true (λ i. row_is (legs.row i) is_call) n
@@ -50,7 +54,7 @@ known_below K n = sum_to (λ p. known_at K p 32) n
 
 -- these are the numbers of a path along which so much is known
 pub record IsCounted {W : Type 0} (S : Setting W) (K : Knowledge) (counts : Counts) : Type 0 where
-  pub steps : counts.steps ≡ S.legs.count
+  pub steps : counts.steps ≡ rows_below S.legs S.legs.count
   pub calls : counts.calls ≡ calls_below S.legs S.legs.count
   pub registers : counts.registers ≡ known_below K (S.legs.count + 1)
   pub exact : counts.exact ≡ stores_below S.legs K true S.legs.count

@@ -1,6 +1,6 @@
 -- What an analysis answers is what is shown of its report.
 use Rattle.std.proofs.Common.{◌≡◌, ℕ, zero, suc, ◌+◌, ◌<◌, ◌≤◌, Bool, true, false, cond, ap, subst, sym, ◌∙◌, arith, refl, inl, inr}
-use Rattle.std.specs.Prelude.{Option, Some, None}
+use Rattle.std.specs.Prelude.{Option, Some, None, is_some}
 use Rattle.std.proofs.lemmas.Bool.{cases_lt}
 use Rattle.rept_reason.specs.Facts.{Knowledge}
 use Rattle.rept_report.specs.declared.counts.Counts.{Counts}
@@ -11,7 +11,8 @@ use Rattle.rept_report.specs.Spots.{spot, passage}
 use Rattle.rept_report.specs.Views.{may_write, is_sure}
 use Rattle.rept_report.specs.Writers.{IsWriter}
 use Rattle.rept_report.proofs.WriterLaws.{one_writer}
-use Rattle.rept_analysis.specs.Counts.{IsCounted}
+use Rattle.rept_analysis.specs.Counts.{IsCounted, rows_below}
+use Rattle.rept_analysis.proofs.Counting.{count_full}
 use Rattle.rept_analysis.specs.Answers.{NoneMayWrite}
 use Rattle.rept_report.specs.OneThread.{Path, along, given_alone}
 use Rattle.rept_report.proofs.Line.{is_line}
@@ -120,10 +121,15 @@ module _ {W : Type 0} (P : Path W) (K : Knowledge) (a : ℕ) where
       back : (p : ℕ) → last_writer (along P) K p a ≡ writers.None → last_writer (along P) K (0 + p) a ≡ writers.None
       back p e = let same : p ≡ 0 + p = omega arith in subst (λ n. last_writer (along P) K n a ≡ writers.None) same e
 
+-- a row leads from each point of a path but the last one
+rows_all : {W : Type 0} (P : Path W) → rows_below (along P).legs (along P).legs.count ≡ (along P).legs.count
+rows_all P = count_full (λ i. is_some ((along P).legs.row i)) (along P).legs.count (λ i below. ap is_some ((is_line P.given).rows i below).1)
+
 -- counts by their equations
-pub counted : {W : Type 0} (S : Setting W) (K : Knowledge) (c : Counts) → IsCounted S K c → c ≡ counts_of S K
-counted S K c h =
-    ap (λ n. record { steps = n; calls = c.calls; registers = c.registers; exact = c.exact; inexact = c.inexact }) h.steps
+pub counted : {W : Type 0} (P : Path W) (K : Knowledge) (c : Counts) → IsCounted (along P) K c → c ≡ counts_of (along P) K
+counted P K c h =
+    let S = along P in
+    ap (λ n. record { steps = n; calls = c.calls; registers = c.registers; exact = c.exact; inexact = c.inexact }) (h.steps ∙ rows_all P)
     ∙ ap (λ n. record { steps = (counts_of S K).steps; calls = n; registers = c.registers; exact = c.exact; inexact = c.inexact }) h.calls
     ∙ ap (λ n. record { steps = (counts_of S K).steps; calls = (counts_of S K).calls; registers = n; exact = c.exact; inexact = c.inexact }) h.registers
     ∙ ap (λ n. record { steps = (counts_of S K).steps; calls = (counts_of S K).calls; registers = (counts_of S K).registers; exact = n; inexact = c.inexact }) h.exact

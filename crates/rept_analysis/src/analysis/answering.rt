@@ -1,6 +1,6 @@
 //! What an analysis answers of ranges, bytes, writers and numbers.
 
-ghost use Rattle.std.specs.Prelude.{◌≡◌, ◌+◌, ◌<◌, ◌≤◌, ◌==◌, if◌then◌else◌, ℕ, length, true, false, Some, None, slice_get, is_some};
+ghost use Rattle.std.specs.Prelude.{◌≡◌, ◌+◌, ◌<◌, ◌≤◌, ◌==◌, if◌then◌else◌, ℕ, length, true, false, Some, None, IfSome, slice_get, is_some};
 ghost use Rattle.rept_dump.specs.Memory.{byte_at};
 ghost use Rattle.rept_dump.specs.Program.{contents};
 ghost use Rattle.rept_reason.specs.declared.fact.Cell.TheVariants.{Byte};
@@ -13,6 +13,7 @@ ghost use Rattle.rept_report.specs.Closure.{InClosure};
 ghost use Rattle.rept_report.specs.Soundness.{AlwaysHolds};
 ghost use Rattle.rept_report.specs.Implied.{is_settled, implied};
 ghost use Rattle.rept_report.specs.Spots.{spot};
+ghost use Rattle.rept_report.specs.Timeline.{IsLeastFrom, IsOpen};
 ghost use Rattle.rept_report.specs.Writers.{IsWriter};
 ghost use Rattle.rept_report.specs.Log.{oldest};
 ghost use Rattle.rept_analysis.specs.State.{setting_of, state_of};
@@ -85,30 +86,51 @@ impl<'a, P: Paths + Drop, B: ByteFacts, W: Transfer, R: RowRules> Analysis<'a, P
         }
     }
 
-    /// Whether no row from a point on may write a byte, by these facts.
-    fn is_untouched(&self, point: u32, a: u32) -> bool
-        requires point { point ≤ (P.timeline self.now.paths).moments.end }
-        requires fitted { IsFitted (state_of P.timeline W.sets W.moves R.rules B.store self.now) }
-        ensures { result ≡ is_settled (setting_of P.timeline W.sets W.moves R.rules self.now) (told (oldest self.now.filled self.now.known.log)) (spot point a) }
+    /// The least row from one on that doesn't lie wholly before a moment, if there is one.
+    fn open_from(&self, moment: u32, least: u32) -> Option<u32>
+        requires { moment ≤ (P.timeline self.now.paths).moments.end }
+        ensures row { IsLeastFrom (IsOpen (P.timeline self.now.paths) moment) least result }
+        ensures order { IfSome result (λ i. least ≤ i) }
+        ensures inside { IfSome result (λ i. i < (P.timeline self.now.paths).legs.count) }
+        ensures few { (P.timeline self.now.paths).legs.count ≤ 65536 }
     {
-        self.held();
-        let count = self.count();
-        for i in point..count {
+        let _count = self.count();
+        self.paths.open_from(moment, least)
+    }
+
+    /// Whether writers that aren't told, if there are any, lie wholly before a moment.
+    fn is_dark_past(&self, moment: u32) -> bool
+        ensures { result ≡ (P.timeline self.now.paths).moments.dark_past moment }
+    {
+        self.paths.is_dark_past(moment)
+    }
+
+    /// Whether all that may write a byte lies wholly before a moment, by these facts.
+    fn is_untouched(&self, moment: u32, a: u32) -> bool
+        requires moment { moment ≤ (P.timeline self.now.paths).moments.end }
+        requires fitted { IsFitted (state_of P.timeline W.sets W.moves R.rules B.store self.now) }
+        ensures { result ≡ is_settled (setting_of P.timeline W.sets W.moves R.rules self.now) (told (oldest self.now.filled self.now.known.log)) (spot moment a) }
+    {
+        let mut least = 0;
+        loop {
+            let Some(i) = self.open_from(moment, least) else {
+                return self.is_dark_past(moment);
+            };
             if self.may_write(i, a) {
                 return false;
             }
+            least = i + 1;
         }
-        true
     }
 
-    /// The byte of the dump, where it is carried back to a point, by these facts.
-    fn implied(&self, point: u32, a: u32) -> Option<u8>
-        requires point { point ≤ (P.timeline self.now.paths).moments.end }
+    /// The byte of the dump, where it is carried back to a moment, by these facts.
+    fn implied(&self, moment: u32, a: u32) -> Option<u8>
+        requires moment { moment ≤ (P.timeline self.now.paths).moments.end }
         requires fitted { IsFitted (state_of P.timeline W.sets W.moves R.rules B.store self.now) }
-        ensures { result ≡ implied (setting_of P.timeline W.sets W.moves R.rules self.now) (told (oldest self.now.filled self.now.known.log)) point a }
+        ensures { result ≡ implied (setting_of P.timeline W.sets W.moves R.rules self.now) (told (oldest self.now.filled self.now.known.log)) moment a }
     {
         let byte = self.dump_byte(a)?;
-        if self.is_untouched(point, a) {
+        if self.is_untouched(moment, a) {
             Some(byte)
         } else {
             None

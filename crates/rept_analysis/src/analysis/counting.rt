@@ -5,7 +5,7 @@ ghost use Rattle.rept_reason.specs.Facts.{told, register_known, register_fact};
 ghost use Rattle.rept_report.specs.Log.{oldest};
 ghost use Rattle.rept_analysis.specs.State.{setting_of, state_of};
 ghost use Rattle.rept_analysis.specs.Kept.{answers};
-ghost use Rattle.rept_analysis.specs.Counts.{is_call, base_of, is_store, row_is, calls_below, stores_below, known_at, known_below, IsCounted};
+ghost use Rattle.rept_analysis.specs.Counts.{is_call, base_of, is_store, row_is, rows_below, calls_below, stores_below, known_at, known_below, IsCounted};
 
 use super::{Analysis, register};
 use rept_isa::{Instr, Reg, reads};
@@ -65,6 +65,27 @@ impl<'a, P: Paths + Drop, B: ByteFacts, W: Transfer, R: RowRules> Analysis<'a, P
         let mut sum = 0;
         for point in 0..count + 1 {
             sum += self.told_at(point);
+        }
+        sum
+    }
+
+    /// Whether a row leads from a point.
+    fn is_row(&self, i: u32) -> bool
+        ensures { result ≡ is_some ((P.timeline self.now.paths).legs.row i) }
+    {
+        self.row(i).is_some()
+    }
+
+    /// How many rows there are.
+    fn steps(&self) -> u32
+        ensures { result ≡ rows_below (P.timeline self.now.paths).legs ((P.timeline self.now.paths).legs.count) }
+    {
+        let count = self.count();
+        let mut sum = 0;
+        for i in 0..count {
+            if self.is_row(i) {
+                sum += 1;
+            }
         }
         sum
     }
@@ -140,7 +161,7 @@ impl<'a, P: Paths + Drop, B: ByteFacts, W: Transfer, R: RowRules> Analysis<'a, P
     {
         let _ended = self.ended();
         Counts {
-            steps: self.count(),
+            steps: self.steps(),
             calls: self.calls(),
             registers: self.told(),
             exact: self.stores(true),

@@ -9,4 +9,4 @@ use Rattle.rept_analysis.proofs.analysis.Analysis.counts.Goals as goal
 pub returns-clause-ended : goal.returns-clause-ended
 returns-clause-ended g c = λ complete.
     let s : State g.row.W.Denot = state_of g.P.Paths.timeline g.W.Partial.sets g.W.Transfer.moves g.R.RowRules.rules g.B.ByteFacts.store c.args.self.now in
-    counted_same (along s.path) (told (oldest s.shown s.known.log)) (answers s) (shown_answers s (c.ended-ended.ensures.kept.finished complete)) _ (record { steps = c.count.ensures.value; calls = c.calls.ensures; registers = c.told.ensures; exact = c.stores.ensures; inexact = c.stores-2.ensures })
+    counted_same (along s.path) (told (oldest s.shown s.known.log)) (answers s) (shown_answers s (c.ended-ended.ensures.kept.finished complete)) _ (record { steps = c.steps.ensures; calls = c.calls.ensures; registers = c.told.ensures; exact = c.stores.ensures; inexact = c.stores-2.ensures })

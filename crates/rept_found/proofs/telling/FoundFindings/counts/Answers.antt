@@ -9,5 +9,5 @@ use Rattle.rept_found.proofs.telling.FoundFindings.counts.Goals as goal
 
 pub returns : goal.returns
 returns g c =
-    counted (along (path_in (means g.W.Partial.sets g.W.Transfer.moves g.R.RowRules.rules) c.args.self.now)) (answers (state_in (means g.W.Partial.sets g.W.Transfer.moves g.R.RowRules.rules) c.args.self.now)) c.counts.result
+    counted (path_in (means g.W.Partial.sets g.W.Transfer.moves g.R.RowRules.rules) c.args.self.now) (answers (state_in (means g.W.Partial.sets g.W.Transfer.moves g.R.RowRules.rules) c.args.self.now)) c.counts.result
     (subst (λ (v : View g.row.W.Denot g.row.R.Denot). IsCounted (along (path_in (means g.W.Partial.sets g.W.Transfer.moves g.R.RowRules.rules) v)) (answers (state_in (means g.W.Partial.sets g.W.Transfer.moves g.R.RowRules.rules) v)) c.counts.result) c.self.view_is (c.counts.ensures.ended c.self.invariant.0))
