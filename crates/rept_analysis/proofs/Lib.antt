@@ -8,6 +8,7 @@ pub mod Drawn
 pub mod Ending
 pub mod Following
 pub mod Going
+pub mod Latest
 pub mod Learning
 pub mod Listing
 pub mod Measure

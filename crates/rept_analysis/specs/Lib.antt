@@ -11,5 +11,6 @@ pub mod Told
 pub mod Measure
 pub mod Counts
 pub mod Answers
+pub mod Latest
 pub mod Refined
 pub mod Reasoned

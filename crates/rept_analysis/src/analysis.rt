@@ -26,6 +26,7 @@ mod cells;
 mod counting;
 mod drawing;
 mod fronts;
+mod latest;
 mod learning;
 mod looking;
 mod refining;

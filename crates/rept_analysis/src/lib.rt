@@ -8,6 +8,7 @@ mod moment;
 mod offset;
 mod pass;
 mod piece;
+mod sought;
 pub mod stop;
 mod trail;
 mod turns;

@@ -1,6 +1,6 @@
 //! What an analysis answers of ranges, bytes, writers and numbers.
 
-ghost use Rattle.std.specs.Prelude.{◌≡◌, ◌+◌, ◌<◌, ◌≤◌, ◌==◌, if◌then◌else◌, ℕ, length, true, false, Some, None, IfSome, slice_get, is_some};
+ghost use Rattle.std.specs.Prelude.{◌≡◌, ◌+◌, ◌<◌, ◌≤◌, ◌==◌, if◌then◌else◌, ℕ, length, true, false, Some, None, IfSome, IsSome, slice_get, is_some};
 ghost use Rattle.rept_dump.specs.Memory.{byte_at};
 ghost use Rattle.rept_dump.specs.Program.{contents};
 ghost use Rattle.rept_reason.specs.declared.fact.Cell.TheVariants.{Byte};
@@ -14,16 +14,18 @@ ghost use Rattle.rept_report.specs.Soundness.{AlwaysHolds};
 ghost use Rattle.rept_report.specs.Implied.{is_settled, implied};
 ghost use Rattle.rept_report.specs.Spots.{spot};
 ghost use Rattle.rept_report.specs.Timeline.{IsLeastFrom, IsOpen};
-ghost use Rattle.rept_report.specs.Writers.{IsWriter};
+ghost use Rattle.rept_report.specs.Writers.{is_certain, IsWriter};
 ghost use Rattle.rept_report.specs.Log.{oldest};
 ghost use Rattle.rept_analysis.specs.State.{setting_of, state_of};
 ghost use Rattle.rept_report.specs.Why.{fact_of};
 ghost use Rattle.rept_analysis.specs.Drawing.{IsFitted};
 ghost use Rattle.rept_analysis.specs.Kept.{IsKept, answers};
-ghost use Rattle.rept_analysis.specs.Answers.{unsaid, byte_answer};
+ghost use Rattle.rept_analysis.specs.Answers.{byte_answer};
+ghost use Rattle.rept_analysis.specs.Latest.{IsBegun, IsPossibleWriter};
 
 use super::Analysis;
 use crate::moment::Moment;
+use crate::sought::Sought;
 use rept_isa::Reg;
 use rept_report::{Paths, Writer};
 use rept_span::Transfer;
@@ -51,7 +53,7 @@ impl<'a, P: Paths + Drop, B: ByteFacts, W: Transfer, R: RowRules> Analysis<'a, P
     }
 
     /// Whether row i, if there is one, may write a byte, by the facts of which the sets are.
-    fn may_write(&self, i: u32, a: u32) -> bool
+    pub(super) fn may_write(&self, i: u32, a: u32) -> bool
         requires inside { i < (P.timeline self.now.paths).legs.count }
         requires fitted { IsFitted (state_of P.timeline W.sets W.moves R.rules B.store self.now) }
         ensures { result ≡ may_write (setting_of P.timeline W.sets W.moves R.rules self.now) (told (oldest self.now.filled self.now.known.log)) i a }
@@ -137,24 +139,40 @@ impl<'a, P: Paths + Drop, B: ByteFacts, W: Transfer, R: RowRules> Analysis<'a, P
         }
     }
 
-    /// What is said of the step that last wrote a byte before a point, by these facts.
-    fn last_writer(&self, point: u32, a: u32) -> Writer
-        requires point { point ≤ (P.timeline self.now.paths).moments.end }
-        requires fitted { IsFitted (state_of P.timeline W.sets W.moves R.rules B.store self.now) }
-        ensures { IsWriter (setting_of P.timeline W.sets W.moves R.rules self.now) (told (oldest self.now.filled self.now.known.log)) (spot point a) result }
+    /// Whether a row lies wholly before a moment.
+    fn is_past(&self, row: u32, moment: u32) -> bool
+        requires { IsSome ((P.timeline self.now.paths).legs.row row) }
+        ensures { result ≡ (P.timeline self.now.paths).moments.past row moment }
     {
-        self.held();
-        let _end = self.end();
-        for i in (0..point).rev() {
-            if self.may_write(i, a) {
-                return if self.is_sure(i) {
-                    Writer::Writes(i)
+        self.paths.is_past(row, moment)
+    }
+
+    /// Whether a row writes each byte that it may write, and lies wholly before a moment, by these facts.
+    fn is_certain(&self, row: u32, moment: u32) -> bool
+        requires row { IsSome ((P.timeline self.now.paths).legs.row row) }
+        requires inside { row < (P.timeline self.now.paths).legs.count }
+        requires fitted { IsFitted (state_of P.timeline W.sets W.moves R.rules B.store self.now) }
+        ensures { (a : ℕ) → result ≡ is_certain (setting_of P.timeline W.sets W.moves R.rules self.now) (told (oldest self.now.filled self.now.known.log)) (spot moment a) row }
+    {
+        self.is_sure(row) && self.is_past(row, moment)
+    }
+
+    /// What is said of the row that last wrote a byte before a moment, by these facts.
+    fn last_writer(&self, moment: u32, a: u32) -> Writer
+        requires fitted { IsFitted (state_of P.timeline W.sets W.moves R.rules B.store self.now) }
+        ensures { IsWriter (setting_of P.timeline W.sets W.moves R.rules self.now) (told (oldest self.now.filled self.now.known.log)) (spot moment a) result }
+    {
+        let address = Some(a);
+        match self.possible_writer(Sought { moment, address }) {
+            Writer::MayWrite(row) => {
+                if self.is_certain(row, moment) {
+                    Writer::Writes(row)
                 } else {
-                    Writer::MayWrite(i)
-                };
+                    Writer::MayWrite(row)
+                }
             }
+            other => other,
         }
-        Writer::None
     }
 
     /// The set of values of a register at a point: all words, unless all is learnt.
@@ -233,20 +251,16 @@ impl<'a, P: Paths + Drop, B: ByteFacts, W: Transfer, R: RowRules> Analysis<'a, P
         }
     }
 
-    /// What is said of the step that last wrote a byte before a point: that the step before the point may write it, unless all
-    /// is learnt.
-    pub fn writer(&self, point: u32, a: u32) -> Writer
-        requires { point ≤ (P.timeline self.now.paths).moments.end }
-        ensures ended { self.now.complete ≡ true → IsWriter (setting_of P.timeline W.sets W.moves R.rules self.now) (answers (state_of P.timeline W.sets W.moves R.rules B.store self.now)) (spot point a) result }
-        ensures open { self.now.complete ≡ false → result ≡ unsaid point }
+    /// What is said of the row that last wrote a byte before a moment. Unless all is learnt, each row may have written it.
+    pub fn writer(&self, moment: u32, a: u32) -> Writer
+        requires { moment ≤ (P.timeline self.now.paths).moments.end }
+        ensures ended { self.now.complete ≡ true → IsWriter (setting_of P.timeline W.sets W.moves R.rules self.now) (answers (state_of P.timeline W.sets W.moves R.rules B.store self.now)) (spot moment a) result }
+        ensures open { self.now.complete ≡ false → IsPossibleWriter (P.timeline self.now.paths).moments (IsBegun (setting_of P.timeline W.sets W.moves R.rules self.now) moment) result }
     {
         if self.ended() {
-            return self.last_writer(point, a);
+            return self.last_writer(moment, a);
         }
-        if point == 0 {
-            Writer::None
-        } else {
-            Writer::MayWrite(point - 1)
-        }
+        let address = None;
+        self.possible_writer(Sought { moment, address })
     }
 }

@@ -1,0 +1,52 @@
+-- Which of some rows is the last one. This project's own.
+use Rattle.std.specs.Prelude.{◌≡◌, ℕ, ◌<◌, true, false, Option, Some, None}
+use Rattle.std.specs.Option.{IsSome}
+use Rattle.rept_reason.specs.Facts.{Knowledge}
+use Rattle.rept_report.specs.Moments.{Moments}
+use Rattle.rept_report.specs.Setting.{Setting}
+use Rattle.rept_report.specs.Spots.{spot}
+use Rattle.rept_report.specs.Writers.{IsCandidate}
+use Rattle.rept_report.specs.declared.writer.Writer.{Writer}
+use Rattle.rept_report.specs.declared.writer.Writer as writers
+use Rattle.rept_analysis.specs.declared.sought.Sought.{Sought}
+
+-- a row that doesn't lie wholly after a moment
+pub record IsBegun {W : Type 0} (S : Setting W) (m i : ℕ) : Type 0 where
+  pub row : IsSome (S.legs.row i)
+  pub reaches : S.moments.ahead i m ≡ false
+
+abbrev sought_by : {W : Type 0} → Setting W → Knowledge → ℕ → Option ℕ → ℕ → Type 0
+sought_by S K m None i = IsBegun S m i
+sought_by S K m (Some a) i = IsCandidate S K (spot m a) i
+
+-- one of the rows of which the last one is sought, by what is known
+abbrev pub IsSought : {W : Type 0} → Setting W → Knowledge → Sought → ℕ → Type 0
+IsSought S K x i = sought_by S K x.moment x.address i
+
+-- a row lies wholly before another one, and not after it
+pub record IsBefore (moments : Moments) (i j : ℕ) : Type 0 where
+  pub later : moments.later j i ≡ true
+  pub apart : moments.later i j ≡ false
+
+-- the one of some rows that lies wholly after all others, and after the writers that aren't traced
+pub record IsLatest (moments : Moments) (Is : ℕ → Type 0) (j : ℕ) : Type 0 where
+  pub one : Is j
+  pub after : (k : ℕ) → Is k → (k ≡ j → ⊥) → IsBefore moments k j
+  pub dark : moments.is_dark ≡ true → moments.dark_before j ≡ true
+
+-- there is none of them, and each writer is traced
+pub record HasNone (moments : Moments) (Is : ℕ → Type 0) : Type 0 where
+  pub rows : (k : ℕ) → Is k → ⊥
+  pub light : moments.is_dark ≡ false
+
+-- what is said of the row that last wrote, where each of some rows may have written and no other did: exactly one of the three fits
+abbrev pub IsPossibleWriter : Moments → (ℕ → Type 0) → Writer → Type 0
+IsPossibleWriter moments Is (writers.TheVariants.Writes j) = ⊥
+IsPossibleWriter moments Is (writers.TheVariants.MayWrite j) = IsLatest moments Is j
+IsPossibleWriter moments Is writers.TheVariants.Several = ((j : ℕ) → IsLatest moments Is j → ⊥) × (HasNone moments Is → ⊥)
+IsPossibleWriter moments Is writers.TheVariants.None = HasNone moments Is
+
+-- the greatest number of some, or that there is none
+abbrev pub IsGreatest : (ℕ → Type 0) → Option ℕ → Type 0
+IsGreatest Is None = (k : ℕ) → Is k → ⊥
+IsGreatest Is (Some j) = Is j × ((k : ℕ) → j < k → Is k → ⊥)
