@@ -1,30 +1,12 @@
--- What the definitions for several threads say of the path of one.
-use Rattle.std.proofs.Common.{◌≡◌, ℕ, ◌+◌, ◌<◌, ◌≤◌, true, false, Option, Some, None, IfSome, refl, sym, ap, arith}
-use Rattle.rept_reason.specs.declared.fact.Cell.{Cell}
-use Rattle.rept_reason.specs.Facts.{Knowledge}
+-- What is known of rows and moments.
+use Rattle.std.proofs.Common.{◌≡◌, ℕ, ◌+◌, ◌<◌, ◌≤◌, Option, Some, None, IfSome, refl, sym, arith}
 use Rattle.rept_view.specs.declared.drawn.When.{When}
-use Rattle.rept_report.specs.Setting.{IsLast}
-use Rattle.rept_report.specs.Views.{moment_of, point_of, instant_of}
-use Rattle.rept_report.specs.Moments.{Moments}
+use Rattle.rept_report.specs.Views.{moment_of}
 use Rattle.rept_report.specs.Timeline.{Timeline, IsTimeline, IsLastFrom}
 use Rattle.rept_span.specs.Ranges.{Legs, AreLegs}
 use Rattle.std.specs.Option.{IsSome}
 use Rattle.rept_view.specs.declared.drawn.When.TheVariants.{Before, After}
-use Rattle.rept_report.specs.Given.{Given}
-use Rattle.rept_report.specs.OneThread.{IsLine}
 use Rattle.rept_isa.specs.declared.row.StepRow.{StepRow}
-use Rattle.rept_report.proofs.Line.{last_is, instant_is}
-use Rattle.rept_analysis.specs.State.{Path, along}
-
--- of one path the end is the last point
-pub end_is : (g : Given) → IsLine g → g.moments.end ≡ g.legs.count
-end_is g line = ap (λ (m : Moments). m.end) line.moments
-
-pub point_early : (g : Given) → IsLine g → (p : ℕ) → p ≤ g.legs.count → p ≤ g.moments.end
-point_early g line p few = let same = end_is g line in omega (arith, few, same)
-
-pub end_early : (g : Given) → IsLine g → (p : ℕ) → p ≤ g.moments.end → p ≤ g.legs.count
-end_early g line p few = let same = end_is g line in omega (arith, few, same)
 
 -- a row isn't both there and not
 pub no_row : (o : Option StepRow) (row : StepRow) → o ≡ None → o ≡ Some row → ⊥
@@ -47,11 +29,3 @@ row_inside legs laws i (Some row) is = laws.inside i row (sym is)
 pub last_few : (legs : Legs) (least : ℕ) (o : Option ℕ) → legs.count ≤ 65536 → IsLastFrom legs least o → IfSome o (λ p. p ≤ 65536)
 last_few legs least None few its = tt
 last_few legs least (Some p) few its = let early = its.1 in omega (arith, few, early)
-
-module _ {W : Type 0} (P : Path W) (line : IsLine P.given) where
-  -- the last point is the one after all rows
-  pub last_at : (p : ℕ) → IsLast (along P) p → p ≡ P.given.legs.count
-  last_at p h = last_is P.sets P.moves P.rules P.given line p h
-
-  pub point_is : (i : ℕ) (w : When) (c : Cell) → instant_of (along P).moments i w c ≡ point_of i w
-  point_is i w c = instant_is P.sets P.moves P.rules P.given line i w c

@@ -1,7 +1,7 @@
 -- What an analysis that has ended answers of registers, ranges, bytes and writers.
-use Rattle.std.proofs.Common.{◌≡◌, ℕ, zero, suc, ◌+◌, ◌<◌, ◌≤◌, ◌^◌, nat_lt, nat_le, leb, if◌then◌else◌, Bool, true, false, ◌&&◌, cond, List, [], ◌∷◌, Option, Some, None, inl, inr, refl, sym, ap, subst, ◌∙◌, arith}
+use Rattle.std.proofs.Common.{◌≡◌, ℕ, zero, suc, ◌+◌, ◌<◌, ◌≤◌, ◌^◌, nat_lt, nat_le, if◌then◌else◌, Bool, true, false, ◌&&◌, List, [], ◌∷◌, Option, Some, None, inl, inr, refl, sym, ap, ◌∙◌, arith}
 use mathlib.Core.Path.{fun_ext}
-use Rattle.std.proofs.lemmas.Bool.{cases_eq, cases_lt, cases_Bool, cond-true, cond-false, lt-ltb, le-leb, false_from_ne_true, false≢true}
+use Rattle.std.proofs.lemmas.Bool.{cases_eq, cases_Bool, cond-true, cond-false, false_from_ne_true, false≢true}
 use Rattle.rept_isa.specs.declared.row.StepRow.{StepRow}
 use Rattle.rept_reason.specs.declared.fact.Fact.{Fact}
 use Rattle.rept_reason.specs.declared.fact.Cell.{Cell}
@@ -23,16 +23,12 @@ use Rattle.rept_report.specs.Writers.{IsCandidate, IsLastCandidate, is_certain, 
 use Rattle.rept_report.proofs.Told.{none_some}
 use Rattle.rept_report.proofs.Places.{oldest_all}
 use Rattle.rept_report.proofs.Registers.{range_same, may_write_same, is_sure_same}
-use Rattle.rept_report.specs.Moments.{Moments}
-use Rattle.rept_report.specs.OneThread.{IsLine}
 use Rattle.rept_report.proofs.Implied.{ImpliedAt, implied_at, implied_next, implied_carries}
-use Rattle.rept_report.proofs.Line.{last_candidate}
 use Rattle.rept_analysis.specs.State.{State, all_known, Path, along}
 use Rattle.rept_analysis.specs.Moments.{moment}
 use Rattle.rept_report.specs.Why.{fact_of}
 use Rattle.rept_analysis.specs.Drawing.{Knows, IsTracked, IsFitted, IsSettled}
 use Rattle.rept_analysis.specs.Kept.{is_among, register_answer, answers, IsFinished}
-use Rattle.rept_analysis.specs.Answers.{NoneMayWrite}
 use Rattle.rept_analysis.proofs.Following.{moment_is}
 use Rattle.rept_analysis.proofs.Reported.{among_contains, contains_among}
 
@@ -82,32 +78,6 @@ module _ {W : Type 0} (S : Setting W) (K L : Knowledge) (same : SameRegisters K 
   writer_same (writers.TheVariants.MayWrite j) h = (last_same j h.0, certain_same j false h.1)
   writer_same writers.TheVariants.Several h = (λ j last. h.0 j (same_last j last), λ none. h.1 (record { rows = λ k c. none.rows k (candidate_same k c); light = none.light }))
   writer_same writers.TheVariants.None h = record { rows = λ k c. h.rows k (same_candidate k c); light = h.light }
-
-module _ {W : Type 0} (P : Path W) (line : IsLine P.given) (K : Knowledge) (p a : ℕ) where
-  -- one step less to look at
-  pub spared_too : (j : ℕ) → NoneMayWrite (along P) K (passage a (j + 1) p) → may_write (along P) K j a ≡ false → NoneMayWrite (along P) K (passage a j p)
-  spared_too j h out k low high = elim (cases_eq k j) [ inl is ↦ rw is out | inr later ↦ h k (omega (arith, low, later)) high ]
-
-  pub spared_none : NoneMayWrite (along P) K (passage a p p)
-  spared_none k low high = absurd (omega (arith, low, high))
-
-  -- no step was found
-  pub none_found : NoneMayWrite (along P) K (passage a 0 p) → IsWriter (along P) K (spot p a) writers.TheVariants.None
-  none_found h = record { rows = λ k c. false≢true (sym (h k (omega arith) (before k (subst (λ (t : Moments). t.ahead k p ≡ false) line.moments c.reaches))) ∙ c.may); light = ap (λ (t : Moments). t.is_dark) line.moments }
-    where
-      before : (k : ℕ) → leb p k ≡ false → k < p
-      before k e = elim (cases_lt k p) [ inl low ↦ low | inr high ↦ absurd (false≢true (sym e ∙ le-leb p k high)) ]
-
-  -- the step that was found
-  pub writer_found : (j : ℕ) → j < p → NoneMayWrite (along P) K (passage a (j + 1) p) → may_write (along P) K j a ≡ true → (sure : Bool) → is_sure (along P) K j ≡ sure → IsWriter (along P) K (spot p a) (cond sure (writers.TheVariants.Writes j) (writers.TheVariants.MayWrite j))
-  writer_found j inside h may sure is = of sure is
-    where
-      last : IsLastCandidate (along P) K (spot p a) j
-      last = last_candidate P.sets P.moves P.rules P.given line K p a j (record { earlier = inside; may = may; later = λ k low high. h k (omega (arith, low)) high })
-
-      of : (b : Bool) → is_sure (along P) K j ≡ b → IsWriter (along P) K (spot p a) (cond b (writers.TheVariants.Writes j) (writers.TheVariants.MayWrite j))
-      of true e = (last, rw e (subst (λ (t : Moments). t.past j p ≡ true) (sym line.moments) (lt-ltb j p inside)))
-      of false e = (last, rw e refl)
 
 pub implied_same : {W : Type 0} (P : Path W) (K L : Knowledge) → SameRegisters K L → (p a : ℕ) → implied (along P) K p a ≡ implied (along P) L p a
 implied_same P K L same p a = ap (λ (may : ℕ → ℕ → Bool). if nat_lt a (2 ^ 32) && nat_le p P.given.moments.end && (P.given.moments.dark_past p && all_past P.given.moments may (spot p a) P.given.legs.count) then P.given.dump a else None) (fun_ext (λ i. fun_ext (λ b. may_write_same (along P) K L same i b)))

@@ -239,7 +239,6 @@ module _ {W : Type 0} (s : State W) (kept : IsKept s) (n : ℕ) where
 
   pub kept_redrawn : IsKept (with_draws s n)
   kept_redrawn = record {
-    line = kept.line;
     few = kept.few;
     registers = kept.registers;
     last_is = kept.last_is;

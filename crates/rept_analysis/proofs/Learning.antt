@@ -11,7 +11,6 @@ use Rattle.rept_reason.specs.declared.fact.Cell.TheVariants.{Register, Byte}
 use Rattle.rept_reason.specs.Facts.{Knowledge, IsCell, told, speaks}
 use Rattle.rept_span.specs.Ranges.{AreLegs}
 use Rattle.rept_report.specs.Setting.{HasLaws, IsInstant}
-use Rattle.rept_report.specs.OneThread.{IsLine}
 use Rattle.rept_report.specs.Conclusions.{IsWordOf, HasWords}
 use Rattle.rept_report.specs.Log.{oldest, OnceEach, Entry, facts_of, add_if, logged_of, IsByte, IsLearnt, IsTrace}
 use Rattle.rept_report.specs.declared.conflict.ConflictKind.{ConflictKind}
@@ -131,7 +130,6 @@ module _ {W : Type 0} (s : State W) (kept : IsKept s) (f : Fact) (keep : Bool) (
       let filled = kept.filled in
       let shown = kept.shown in
       record {
-        line = kept.line;
         few = kept.few;
         registers = kept.registers;
         last_is = n.last ∙ kept.last_is;
@@ -313,7 +311,6 @@ module _ {W : Type 0} (s : State W) (legs : AreLegs s.path.given.legs) (kept : I
 
     track_kept : IsKept (with_known s k)
     track_kept = record {
-      line = kept.line;
       few = kept.few;
       registers = kept.registers;
       last_is = h.last ∙ kept.last_is;
@@ -365,9 +362,8 @@ module _ {W : Type 0} (s : State W) (legs : AreLegs s.path.given.legs) (kept : I
   tracked_byte k (Ok true) h = (track_kept k h, (track_grows k h, address a small h.was_not (now_tracked k h), now_tracked k h, h.log, h.fact, refl))
 
 -- a new analysis
-pub fresh_kept : {W : Type 0} (s : State W) (bytes : ℕ) → IsLine s.path.given → bytes ≡ sum_to (places_at s.path) (s.path.given.legs.count) → s.path.given.legs.count ≤ 65536 → ((p : ℕ) → length (s.path.given.last p) ≡ 32) → IsNew s.work.joins s.known (s.path.given.legs.count) bytes → s.spans.points ≡ s.path.given.legs.count + 1 → s.filled ≡ 0 → s.shown ≡ 0 → s.complete ≡ false → s.conflict ≡ None → s.path.given.moments.end < s.work.room → length s.work.drawn ≡ s.path.given.legs.count → ((i : ℕ) (x : Pass) → slice_get s.work.drawn i ≡ Some x → x ≡ Never) → IsKept s
-fresh_kept s bytes line sum few registers new sized filled shown open_ calm_ room rows never = record {
-  line = line;
+pub fresh_kept : {W : Type 0} (s : State W) (bytes : ℕ) → bytes ≡ sum_to (places_at s.path) (s.path.given.legs.count) → s.path.given.legs.count ≤ 65536 → ((p : ℕ) → length (s.path.given.last p) ≡ 32) → IsNew s.work.joins s.known (s.path.given.legs.count) bytes → s.spans.points ≡ s.path.given.legs.count + 1 → s.filled ≡ 0 → s.shown ≡ 0 → s.complete ≡ false → s.conflict ≡ None → s.path.given.moments.end < s.work.room → length s.work.drawn ≡ s.path.given.legs.count → ((i : ℕ) (x : Pass) → slice_get s.work.drawn i ≡ Some x → x ≡ Never) → IsKept s
+fresh_kept s bytes sum few registers new sized filled shown open_ calm_ room rows never = record {
   few = few;
   registers = registers;
   last_is = new.last_is;

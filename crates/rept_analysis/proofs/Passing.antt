@@ -65,7 +65,6 @@ never_pass s row i x e = subst (λ (y : Pass). IsPass row i y s) (sym e) tt
 -- other work
 pub kept_work : {W : Type 0} (s : State W) → IsKept s → s.complete ≡ false → (w : Work) → s.path.given.moments.end < w.room → length w.drawn ≡ s.path.given.legs.count → ((i : ℕ) (row : StepRow) (pass : Pass) → s.path.given.legs.row i ≡ Some row → slice_get w.drawn i ≡ Some pass → IsPass row i pass s) → w.joins ≡ s.work.joins → IsKept (with_work s w)
 kept_work s kept open_ w room rows passes joins = record {
-  line = kept.line;
   few = kept.few;
   registers = kept.registers;
   last_is = kept.last_is;
@@ -223,7 +222,6 @@ halt_work s w OutOfMemory joins h = λ j. h (sym joins ∙ j.0, j.1)
 -- with other sets
 pub kept_filled : {W : Type 0} (s : State W) → IsKept s → s.complete ≡ false → (spans : View W) (filled : ℕ) → spans.points ≡ s.path.given.legs.count + 1 → filled ≤ length s.known.log → IsKept (record { path = s.path; known = s.known; spans = spans; filled = filled; shown = s.shown; complete = s.complete; conflict = s.conflict; work = s.work })
 kept_filled s kept open_ spans filled sized within = record {
-  line = kept.line;
   few = kept.few;
   registers = kept.registers;
   last_is = kept.last_is;

@@ -39,7 +39,6 @@ use Rattle.rept_analysis.specs.Room.{HasRoom}
 -- the same log, facts and addresses
 pub kept_like : {W : Type 0} (s : State W) (k k' : Known) → k'.last ≡ k.last → k'.log ≡ k.log → k'.store.fact ≡ k.store.fact → k'.store.tracked ≡ k.store.tracked → s.complete ≡ false → (IsRoomy s → HasRoom s.path k') → IsKept (with_known s k) → IsKept (with_known s k')
 kept_like s k k' last log facts tracked open_ roomy kept = record {
-  line = kept.line;
   few = kept.few;
   registers = kept.registers;
   last_is = last ∙ kept.last_is;

@@ -114,7 +114,6 @@ module _ {W : Type 0} (s : State W) (laws : HasLaws (along s.path)) (kept : IsKe
   -- an analysis that stops at a place
   pub kept_stopped : s.complete ≡ false → (limit : ℕ) (kind : ConflictKind) → limit ≤ length s.known.log → ((u : ℕ) → u < limit → IsQuiet (along s.path) (told (oldest u s.known.log))) → ClosureHas (along s.path) kind → IsKept (stopped_at limit kind)
   kept_stopped open_ limit kind within quiet found = record {
-    line = kept.line;
     few = kept.few;
     registers = kept.registers;
     last_is = kept.last_is;
@@ -142,7 +141,6 @@ module _ {W : Type 0} (s : State W) (laws : HasLaws (along s.path)) (kept : IsKe
   -- one that answers more
   pub kept_shown : s.complete ≡ false → (limit : ℕ) → limit ≤ length s.known.log → ((u : ℕ) → u < limit → IsQuiet (along s.path) (told (oldest u s.known.log))) → IsKept (shown_to limit)
   kept_shown open_ limit within quiet = record {
-    line = kept.line;
     few = kept.few;
     registers = kept.registers;
     last_is = kept.last_is;
@@ -174,7 +172,6 @@ module _ {W : Type 0} (s : State W) (laws : HasLaws (along s.path)) (kept : IsKe
   -- one that has ended
   pub kept_finished : IsSettled s → IsKept finished_at
   kept_finished settled = record {
-    line = kept.line;
     few = kept.few;
     registers = kept.registers;
     last_is = kept.last_is;

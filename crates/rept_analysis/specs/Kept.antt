@@ -4,7 +4,6 @@ use Rattle.rept_reason.specs.declared.fact.Cell.{Cell}
 use Rattle.rept_reason.specs.declared.fact.Cell.TheVariants.{Byte}
 use Rattle.rept_reason.specs.Facts.{Knowledge, told, register_known}
 use Rattle.rept_report.specs.declared.conflict.ConflictKind.{ConflictKind}
-use Rattle.rept_report.specs.OneThread.{IsLine}
 use Rattle.rept_report.specs.Conflicts.{IsQuiet}
 use Rattle.rept_report.specs.Closure.{ClosureHas, IsReport}
 use Rattle.rept_report.specs.Log.{oldest, Entry, facts_of, logged_of, IsTrace, OnceEach}
@@ -62,7 +61,6 @@ IsPass row i (With k) s = IsDrawnWith row i k s
 IsPass row i Cut s = Unit {0}
 
 pub record IsKept {W : Type 0} (s : State W) : Type 0 where
-  pub line : IsLine s.path.given
   pub few : s.path.given.legs.count ≤ 65536
   pub registers : (p : ℕ) → length (s.path.given.last p) ≡ 32
   pub last_is : s.known.last ≡ s.path.given.legs.count

@@ -15,9 +15,8 @@ use Rattle.rept_log.specs.Known.{Held, Known, known_of, knows}
 use Rattle.rept_report.specs.declared.conflict.ConflictKind.{ConflictKind}
 use Rattle.rept_report.specs.Setting.{Setting}
 use Rattle.rept_report.specs.Given.{Given, setting_by}
-use Rattle.rept_report.specs.OneThread.{IsLine}
 use Rattle.rept_report.specs.Timeline.{Timeline, time_alone}
-use Rattle.rept_report.proofs.Line.{is_line, next_is}
+use Rattle.rept_report.proofs.Line.{next_is}
 use Rattle.rept_reason.specs.Facts.{Knowledge}
 use Rattle.rept_writing.specs.declared.list.Writing.{Writing}
 use Rattle.rept_analysis.specs.declared.pass.Pass.{Pass}
@@ -47,18 +46,9 @@ pub record Path (W : Type 0) : Type 0 where
   pub rules : Rules
   pub given : Given
 
--- these rows and moments are those of one path of which each row is traced, whatever its end
-abbrev pub IsOneLine : Timeline → Type 0
-IsOneLine t = (last : ℕ → List ℕ) (dump : ℕ → Option ℕ) (image_end : ℕ) → IsLine (record { legs = t.legs; moments = t.moments; last = last; dump = dump; image_end = image_end })
-
 -- a byte is carried from each moment to the one of the next number alone
 abbrev pub IsLined : Timeline → Type 0
 IsLined t = (m w : ℕ) → t.moments.next m w ≡ true → w ≡ m + 1
-
-pub alone_is : (rows : List StepRow) → IsOneLine (time_alone rows)
-alone_is rows last dump image_end =
-    let line = is_line (record { rows = rows; last = []; dump = dump; image_end = image_end }) in
-    record { rows = line.rows; inside = line.inside; moments = line.moments }
 
 pub alone_lined : (rows : List StepRow) → IsLined (time_alone rows)
 alone_lined rows m w next = (next_is (length rows) m w next).1

@@ -9,7 +9,7 @@ ghost use Rattle.rept_span.specs.Filled.{entry_at};
 ghost use Rattle.rept_dump.specs.Memory.{byte_at};
 ghost use Rattle.rept_dump.specs.Program.{contents};
 ghost use Rattle.rept_report.specs.declared.conflict.ConflictKind.{ConflictKind};
-ghost use Rattle.rept_analysis.specs.State.{HasRegisters, IsLined, IsOneLine, given_of, path_of, setting_of, state_of};
+ghost use Rattle.rept_analysis.specs.State.{HasRegisters, IsLined, given_of, path_of, setting_of, state_of};
 ghost use Rattle.rept_report.specs.Views.{moment_of};
 ghost use Rattle.rept_report.specs.Why.{fact_of};
 ghost use Rattle.rept_analysis.specs.Kept.{IsKept, register_answer, answers};
@@ -127,7 +127,6 @@ impl<'a, P: Paths + Drop, B: ByteFacts, W: Transfer, R: RowRules> Analysis<'a, P
         dump: &'a Dump<'a>,
         rules: R,
     ) -> Result<Analysis<'a, P, B, W, R>, OutOfMemory>
-        requires line { IsOneLine (P.timeline paths) }
         requires few { (P.timeline paths).legs.count ≤ 65536 }
         requires registers { length last.items ≡ 32 }
         ensures path { IfOk result (λ a. (a.paths ≡ paths) × (a.last ≡ last.items)) }
@@ -357,15 +356,14 @@ impl<'a, P: Paths + Drop, B: ByteFacts, W: Transfer, R: RowRules> Analysis<'a, P
         &self.paths
     }
 
-    /// An analysis of these rows and moments, which end in this dump, by these rules. They are to be those of one path of at most 65,536 rows.
-    /// Nothing is known yet. `OutOfMemory` says that its room can't be had.
+    /// An analysis of these rows and moments, of at most 65,536 points, which end in this dump, by these rules. The registers of the dump are those at
+    /// each last point. Nothing is known yet. `OutOfMemory` says that its room can't be had.
     pub fn prepare(
         alloc: Global,
         paths: P,
         dump: &'a Dump<'a>,
         rules: R,
     ) -> Result<Analysis<'a, P, B, W, R>, OutOfMemory>
-        requires line { IsOneLine (P.timeline paths) }
         requires few { (P.timeline paths).legs.count ≤ 65536 }
         ensures path { IfOk result (λ a. a.paths ≡ paths) }
         ensures last { IfOk result (λ a. HasRegisters (registers_of dump.now) a.last) }

@@ -2,13 +2,9 @@ use Rattle.std.proofs.Common.{ℕ, ◌∙◌, ap}
 use Rattle.rept_dump.specs.Dump.{exe_of, registers_of}
 use Rattle.rept_elf.specs.Header.{word_at}
 use Rattle.rept_line.specs.declared.line.OnePath.{OnePath}
-use Rattle.rept_analysis.specs.State.{alone_is}
 use Rattle.rept_found.specs.Crash.{crash_of, means}
 use Rattle.rept_found.proofs.Settings.{route_is}
 use Rattle.rept_found.proofs.prepared.prepare.Goals as goal
-
-pub prepare-requires-clause-line : goal.prepare-requires-clause-line
-prepare-requires-clause-line g c = alone_is _
 
 pub returns : goal.returns
 returns g c = record {

@@ -7,4 +7,4 @@ invariant_of-result g c =
     let count = c.last_point-count.ensures in
     let room = c.in_ok-writing.ensures.room in
     let end = c.end.ensures in
-    fresh_kept _ c.access_bytes-bytes.result (c.requires.line _ _ _) c.access_bytes-bytes.ensures.sum c.requires.few (λ p. c.requires.registers) (rw count at c.in_ok-known.ensures) (rw count at c.in_ok-spans.ensures.points) refl refl refl refl (omega (arith, room, end)) (rw count at c.in_ok-drawn.ensures.length) c.in_ok-drawn.ensures.never
+    fresh_kept _ c.access_bytes-bytes.result c.access_bytes-bytes.ensures.sum c.requires.few (λ p. c.requires.registers) (rw count at c.in_ok-known.ensures) (rw count at c.in_ok-spans.ensures.points) refl refl refl refl (omega (arith, room, end)) (rw count at c.in_ok-drawn.ensures.length) c.in_ok-drawn.ensures.never
