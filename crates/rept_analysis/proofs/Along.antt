@@ -1,5 +1,5 @@
 -- What is known of rows and moments.
-use Rattle.std.proofs.Common.{◌≡◌, ℕ, ◌+◌, ◌<◌, ◌≤◌, Option, Some, None, IfSome, refl, sym, arith}
+use Rattle.std.proofs.Common.{◌≡◌, ℕ, ◌<◌, ◌≤◌, Option, Some, None, IfSome, refl, sym, arith}
 use Rattle.rept_view.specs.declared.drawn.When.{When}
 use Rattle.rept_report.specs.Views.{moment_of}
 use Rattle.rept_report.specs.Timeline.{Timeline, IsTimeline, IsLastFrom}

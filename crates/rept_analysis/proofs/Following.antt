@@ -30,7 +30,7 @@ use Rattle.rept_report.specs.Timeline.{IsLastFrom}
 use Rattle.rept_report.specs.Moments.{Moments}
 use Rattle.rept_report.specs.Views.{point_of, instant_of, all_words, bounds, register_range, known_or, seen_at, registers_at, may_write}
 use Rattle.rept_report.specs.Conclusions.{IsWordOf, HasWords, Concludes}
-use Rattle.rept_report.specs.Conclusions.IsCarried.{last_byte, onward, back}
+use Rattle.rept_report.specs.Conclusions.IsCarried.{last_byte}
 use Rattle.rept_report.specs.Conclusions.Follows.{last_value, kept_onward, kept_back, carried, drawn, only_value}
 use Rattle.rept_report.specs.Conflicts.{IsQuiet}
 use Rattle.rept_report.specs.Log.{oldest, OnceEach}

@@ -12,9 +12,9 @@ use Rattle.rept_report.specs.Moments.{Moments}
 use Rattle.rept_report.specs.Setting.{Setting}
 use Rattle.rept_report.specs.Spots.{spot}
 use Rattle.rept_report.specs.Views.{may_write, registers_at, touched_by}
-use Rattle.rept_report.specs.Writers.{IsCandidate, IsLastCandidate, is_certain, IsWriter}
+use Rattle.rept_report.specs.Writers.{IsLastCandidate, is_certain, IsWriter}
 use Rattle.rept_analysis.specs.declared.sought.Sought.{Sought}
-use Rattle.rept_analysis.specs.Latest.{IsBegun, IsSought, IsBefore, IsLatest, HasNone, IsPossibleWriter}
+use Rattle.rept_analysis.specs.Latest.{IsBegun, IsSought, IsBefore, IsLatest, IsPossibleWriter}
 
 module _ (moments : Moments) (Is : ℕ → Type 0) where
   -- where one of them is the last one and has a number between these, it is this one

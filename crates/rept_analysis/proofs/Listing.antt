@@ -16,7 +16,7 @@ use Rattle.rept_report.specs.Timeline.{Timeline, IsFallingFrom, IsClear, IsLike,
 use Rattle.rept_report.specs.declared.paths.Strip.{Strip}
 use Rattle.rept_report.specs.Spots.{Passage, passage}
 use Rattle.rept_report.specs.Log.{oldest}
-use Rattle.rept_analysis.specs.State.{State, timeline_of, with_writing, along}
+use Rattle.rept_analysis.specs.State.{State, timeline_of, with_writing}
 use Rattle.rept_analysis.specs.declared.piece.Piece.{Piece}
 use Rattle.rept_analysis.specs.Drawing.{Grows, IsAccess, IsSpared, IsBridged, IsSparedBetween, IsSilent, IsListed, past, IsWriting, AreWritingsBefore, AreBarriers, AreWritings, AreExact, SameFacts, IsFitted, IsBlocked, IsCalm, IsLooseEnd, IsLooseBefore, IsEnd, IsPiece}
 use Rattle.rept_analysis.proofs.Barriers.{past_at}

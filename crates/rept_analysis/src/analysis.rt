@@ -183,7 +183,6 @@ impl<'a, P: Paths + Drop, B: ByteFacts, W: Transfer, R: RowRules> Analysis<'a, P
         ensures value { result ≡ moment_of (P.timeline self.now.paths).moments row when }
         ensures early { result ≤ (P.timeline self.now.paths).moments.end }
     {
-        let _end = self.end();
         match when {
             When::Before => self.paths.before(row),
             When::After => self.paths.after(row),

@@ -17,7 +17,7 @@ use Rattle.rept_analysis.specs.State.{Path as Read, Whole, HasRegisters, path_of
 use Rattle.rept_analysis.specs.Kept.{answers}
 use Rattle.rept_analysis.specs.Logged.{IsLogOf}
 use Rattle.rept_analysis.specs.declared.stop.Stop.{Stop}
-use Rattle.rept_analysis.specs.declared.stop.Stop.TheVariants.{Conflict}
+use Rattle.rept_analysis.specs.declared.stop.Stop.TheVariants.{Conflict, OutOfMemory}
 use Rattle.rept_found.specs.Crash.{Crash, Means, Scene, last_value, last_values, route}
 use Rattle.rept_line.specs.declared.line.OnePath.{OnePath}
 use Rattle.rept_found.specs.View.{View, time_of, alone_of, IsFoundIn, IsPreparedFor, state_in, path_in}
@@ -94,3 +94,7 @@ conflict_of {W} P Q kind e h = subst (λ (R : Path W). ClosureHas (along R) kind
 -- a stop that is the conflict is told by a result of it
 pub stop_is : {A : Type 0} (r : Result A Stop) (stop : Stop) (kind : ConflictKind) → r ≡ Err stop → stop ≡ Conflict kind → r ≡ Err (Conflict kind)
 stop_is {A} r stop kind e f = let at : Stop → Result A Stop = λ x. Err x in e ∙ ap at f
+
+-- so is one for want of memory
+pub memory_is : {A : Type 0} (r : Result A Stop) (stop : Stop) → r ≡ Err stop → stop ≡ OutOfMemory → r ≡ Err OutOfMemory
+memory_is {A} r stop e f = let at : Stop → Result A Stop = λ x. Err x in e ∙ ap at f

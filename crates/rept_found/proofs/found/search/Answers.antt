@@ -1,12 +1,13 @@
-use Rattle.std.proofs.Common.{◌∙◌, ap, subst, sym}
+use Rattle.std.proofs.Common.{◌∙◌, ap, refl, subst, sym}
 use Rattle.rept_dump.specs.Dump.{exe_of}
 use Rattle.rept_report.specs.Closure.{ClosureHas}
 use Rattle.rept_report.specs.OneThread.{Path, along}
 use Rattle.rept_report.specs.Soundness.{HasNoExecution}
 use Rattle.rept_report.specs.declared.conflict.ConflictKind.{ConflictKind}
+use Rattle.rept_analysis.specs.State.{alone_lined}
 use Rattle.rept_found.specs.Crash.{means}
 use Rattle.rept_found.specs.View.{View, path_in}
-use Rattle.rept_found.proofs.Settings.{conflict_of, found_in, path_back, stop_is}
+use Rattle.rept_found.proofs.Settings.{conflict_of, found_in, memory_is, path_back, stop_is}
 use Rattle.rept_found.proofs.Truths.{no_execution}
 use Rattle.rept_found.proofs.found.search.Goals as goal
 
@@ -39,3 +40,6 @@ returns-in-Err-Conflict-clause-exact g c = λ consistent.
     (consistent c.in-Err-Conflict.kind
     (subst (λ (P : Path g.row.W.Denot). ClosureHas (along P) c.in-Err-Conflict.kind) here
     (c.refine.ensures.conflict c.in-Err-Conflict.kind (stop_is c.refine.result c.in-Err-Conflict.field-0 c.in-Err-Conflict.kind c.in-Err-Conflict.is c.in-Err-Conflict.field-0-is))))
+
+pub unreachable-requires : goal.unreachable-requires
+unreachable-requires g c = c.refine.ensures.joins refl (alone_lined _) (memory_is c.refine.result c.in-Err-OutOfMemory.field-0 c.in-Err-OutOfMemory.is c.in-Err-OutOfMemory.field-0-is)

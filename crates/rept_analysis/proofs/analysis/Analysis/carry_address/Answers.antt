@@ -1,4 +1,4 @@
-use Rattle.std.proofs.Common.{◌≡◌, ◌+◌, ◌<◌, ◌≤◌, ◌||◌, ℕ, Some, None, refl, false, arith}
+use Rattle.std.proofs.Common.{◌+◌, ◌||◌, arith}
 use Rattle.rept_analysis.specs.State.{State, timeline_of, state_of}
 use Rattle.rept_report.specs.Timeline.{IsStrip}
 use Rattle.rept_analysis.specs.Drawing.{IsCarriedIn, AreLinks, IsCarriedUpTo, IsCarriedAlong}

@@ -1,4 +1,3 @@
-use Rattle.std.proofs.Common.{ℕ}
 use Rattle.rept_reason.specs.Facts.{told}
 use Rattle.rept_report.specs.Log.{oldest}
 use Rattle.rept_analysis.specs.State.{setting_of}

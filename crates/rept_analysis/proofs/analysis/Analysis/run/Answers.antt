@@ -1,4 +1,4 @@
-use Rattle.std.proofs.Common.{◌≡◌, ◌+◌, ℕ, true, Err, ap, sym, subst, arith}
+use Rattle.std.proofs.Common.{◌≡◌, ◌+◌, ℕ, true, ap, sym, subst, arith}
 use Rattle.rept_analysis.specs.State.{Path, state_of}
 use Rattle.rept_log.specs.Known.{known_of}
 use Rattle.rept_analysis.proofs.Ending.{same_stop, Continues_trans, ended_after, stopped_after, halted_after, known_like, known_after}

@@ -1,4 +1,4 @@
-use Rattle.std.proofs.Common.{inr, ◌∙◌, arith}
+use Rattle.std.proofs.Common.{inr, arith}
 use Rattle.rept_analysis.specs.State.{state_of}
 use Rattle.rept_analysis.proofs.Following.{brought_follows}
 use Rattle.rept_analysis.proofs.analysis.Analysis.tell_across.Goals as goal
