@@ -1,3 +1,4 @@
+pub mod Backward
 pub mod Settings
 pub mod Tellings
 pub mod Truths

@@ -13,11 +13,10 @@ use Rattle.rept_report.specs.Writers.{IsWriter}
 use Rattle.rept_report.proofs.WriterLaws.{one_writer}
 use Rattle.rept_analysis.specs.Counts.{IsCounted, rows_below}
 use Rattle.rept_analysis.proofs.Counting.{count_full}
-use Rattle.rept_analysis.specs.Answers.{NoneMayWrite}
 use Rattle.rept_report.specs.OneThread.{Path, along, given_alone}
 use Rattle.rept_report.proofs.Line.{is_line}
 use Rattle.rept_analysis.specs.State.{Path as Read}
-use Rattle.rept_analysis.proofs.Answering.{none_found, spared_none, spared_too, writer_found}
+use Rattle.rept_found.proofs.Backward.{NoneMayWrite, none_found, spared_none, spared_too, writer_found}
 use Rattle.rept_session.specs.LastWriters.{AreLastWriters, named_row}
 use Rattle.rept_found.specs.Crash.{Scene}
 use Rattle.rept_found.specs.Telling.{writer_at, last_writer, counts_of, shown_of}
