@@ -1,26 +1,24 @@
 -- How the bytes of the files end the call.
-use Rattle.std.proofs.Common.{◌≡◌, ◌≢◌, ◌⊎◌, ℕ, List, length, Option, None, Some, Result, Ok, Err, MatchOption, inl, inr, refl, sym, ap, subst, ◌∙◌}
-use Rattle.rept_elf.specs.Segments.{segments}
+use Rattle.std.proofs.Common.{◌≡◌, ◌≢◌, ◌⊎◌, ℕ, Bool, List, Option, None, Some, Result, Ok, Err, MatchOption, inl, inr, refl, sym, ap, subst, ◌∙◌}
 use Rattle.rept_elf.specs.declared.fault.ElfFault.{ElfFault}
-use Rattle.rept_dump.specs.Registers.{Says as NotesSay}
 use Rattle.rept_dump.specs.declared.fault.CoreFault.{CoreFault}
 use Rattle.rept_path.specs.declared.fault.PathFault.{PathFault}
 use Rattle.rept_path.specs.declared.fault.PathFault.TheVariants as fault
 use Rattle.rept_path.specs.declared.rebuilding.Path.{Path}
+use Rattle.rept_runs.specs.Kind.{is_several}
 use Rattle.rept_ports.specs.Port.{Port, Move}
 use Rattle.rept_found.specs.Truth.{HasNoExecution}
-use Rattle.rept_found.specs.Crash.{Crash}
 use Rattle.rept_serve.specs.Serving.{Reading}
 use Rattle.rept_app.specs.Delivered.{Says, Tells}
 use Rattle.rept_app.specs.Ends.{Stopped, Yields, PortsEnd}
 use Rattle.rept_app.specs.Examine.{Walks, Examines, PathYields, WalkYields, NoteYields, FilesEnd, FilesHold, IsPathStatus, IsWalkStatus, IsWalked, IsExamined, PathExcludes, FilesExclude, WalkHolds}
-use Rattle.rept_app.specs.Forms.{executable_fault, program_fault, core_image_fault, crash_in}
+use Rattle.rept_app.specs.Forms.{executable_fault, program_fault, core_image_fault}
 use Rattle.rept_app.specs.Lines.{status_of}
-use Rattle.rept_app.specs.Path.{IsTracePath, HasNoPath}
+use Rattle.rept_app.specs.Path.{IsPathOf, HasNoPathOf}
 use Rattle.rept_app.specs.Reading.{HasNoCrash, HasNoDump, NotesRefuse}
 use Rattle.rept_app.specs.Study.{Studies, IsStudied, StudyHolds}
 use Rattle.rept_app.specs.Loading.{CrashBytes}
-use Rattle.rept_app.specs.Told.{CrashTrace, trace_in, path_in, route_of, Examined, NotesTold, Reads}
+use Rattle.rept_app.specs.Told.{CoreSays, CrashTrace, trace_in, path_in, route_of, Examined, NotesTold, Reads}
 use Rattle.rept_app.specs.declared.refusal.Refusal.{Refusal}
 use Rattle.rept_app.specs.declared.refusal.Refusal.TheVariants as refusal
 use Rattle.rept_app.specs.declared.status.Status.{Status}
@@ -131,28 +129,28 @@ module _ (t : CrashTrace) (status : Status) where
       stops (inl h) = inr h
       stops (inr h) = h
 
-  module _ (f : PathFault) (none : (path : Path) → IsTracePath t.crash t.trace t.manner.from path → f ≡ fault.OutOfMemory) (one : (g : PathFault) → HasNoPath t.crash t.trace t.manner.from g → (f ≡ fault.OutOfMemory) ⊎ (f ≡ g)) (no_memory : (g : PathFault) → HasNoPath t.crash t.trace t.manner.from g → g ≢ fault.OutOfMemory) where
-    pub refused_told : (f ≡ fault.OutOfMemory) ⊎ HasNoPath t.crash t.trace t.manner.from f → Yields (status_of (refusal.Path f)) status → WalkTold status
+  module _ (f : PathFault) (none : (path : Path) → IsPathOf t.crash t.trace t.manner.from path → f ≡ fault.OutOfMemory) (one : (g : PathFault) → HasNoPathOf t.crash t.trace t.manner.from g → (f ≡ fault.OutOfMemory) ⊎ (f ≡ g)) (no_memory : (g : PathFault) → HasNoPathOf t.crash t.trace t.manner.from g → g ≢ fault.OutOfMemory) where
+    pub refused_told : (f ≡ fault.OutOfMemory) ⊎ HasNoPathOf t.crash t.trace t.manner.from f → Yields (status_of (refusal.Path f)) status → WalkTold status
     refused_told (inl e) so = inr (memory_stops f e so)
     refused_told (inr has) so = trace_told f status (no_memory f has) so
 
-    pub refused_yields : (f ≡ fault.OutOfMemory) ⊎ HasNoPath t.crash t.trace t.manner.from f → Yields (status_of (refusal.Path f)) status → WalkYields t status
+    pub refused_yields : (f ≡ fault.OutOfMemory) ⊎ HasNoPathOf t.crash t.trace t.manner.from f → Yields (status_of (refusal.Path f)) status → WalkYields t status
     refused_yields why so = record {
       refused = λ g has. same g has (one g has);
       walked = λ path is. stopped_rows (memory_stops f (none path is) so) path;
       only = λ e. which e why;
     }
       where
-        same : (g : PathFault) → HasNoPath t.crash t.trace t.manner.from g → (f ≡ fault.OutOfMemory) ⊎ (f ≡ g) → Yields ends.Trace status
+        same : (g : PathFault) → HasNoPathOf t.crash t.trace t.manner.from g → (f ≡ fault.OutOfMemory) ⊎ (f ≡ g) → Yields ends.Trace status
         same g has (inl e) = inr (memory_stops f e so)
         same g has (inr e) = trace_told g status (no_memory g has) (subst (λ (x : PathFault). Yields (status_of (refusal.Path x)) status) e so)
 
-        which : status ≡ ends.Trace → (f ≡ fault.OutOfMemory) ⊎ HasNoPath t.crash t.trace t.manner.from f → (g : PathFault) × HasNoPath t.crash t.trace t.manner.from g
+        which : status ≡ ends.Trace → (f ≡ fault.OutOfMemory) ⊎ HasNoPathOf t.crash t.trace t.manner.from f → (g : PathFault) × HasNoPathOf t.crash t.trace t.manner.from g
         which e (inl m) = absurd (no_trace status (stopped_path status (memory_stops f m so)) e)
         which e (inr has) = (f, has)
 
   -- where it has a path
-  module _ (path : Path) (only : (others : Path) → IsTracePath t.crash t.trace t.manner.from others → path ≡ others) (none : (f : PathFault) → HasNoPath t.crash t.trace t.manner.from f → ⊥) where
+  module _ (path : Path) (only : (others : Path) → IsPathOf t.crash t.trace t.manner.from others → path ≡ others) (none : (f : PathFault) → HasNoPathOf t.crash t.trace t.manner.from f → ⊥) where
     path_yields : PathYields (path_in t path) status → (status ≡ ends.Trace → ⊥) → WalkYields t status
     path_yields yields never = record {
       refused = λ f has. absurd (none f has);
@@ -174,27 +172,27 @@ module _ (t : CrashTrace) (reading : Reading) (text : List ℕ) (status : Status
       plain : Says (refusal.Path fault.OutOfMemory) text status → Says refusal.OutOfMemory text status
       plain s = record { line = s.line; ending = s.ending }
 
-  pub refused_walks : (f : PathFault) → (f ≡ fault.OutOfMemory) ⊎ HasNoPath t.crash t.trace t.manner.from f → Tells (refusal.Path f) text status → Walks t reading text status
+  pub refused_walks : (f : PathFault) → (f ≡ fault.OutOfMemory) ⊎ HasNoPathOf t.crash t.trace t.manner.from f → Tells (refusal.Path f) text status → Walks t reading text status
   refused_walks f (inl e) (inl h) = inr (inl (as_memory f e h))
   refused_walks f (inr has) (inl h) = inl (inl (f, has, h))
   refused_walks f why (inr h) = inr (inl h)
 
-  pub studies_walk : (path : Path) → IsTracePath t.crash t.trace t.manner.from path → Studies (path_in t path) reading text status → Walks t reading text status
+  pub studies_walk : (path : Path) → IsPathOf t.crash t.trace t.manner.from path → Studies (path_in t path) reading text status → Walks t reading text status
   studies_walk path is (inl h) = inl (inr (path, is, inl h))
   studies_walk path is (inr (inl (a, account, inl h))) = inl (inr (path, is, inr (a, account, h)))
   studies_walk path is (inr (inl (a, account, inr h))) = inr (inr (path, a, is, account, h))
   studies_walk path is (inr (inr h)) = inr (inl h)
 
-pub path_excludes : (t : CrashTrace) (path : Path) → ((others : Path) → IsTracePath t.crash t.trace t.manner.from others → path ≡ others) → HasNoExecution (route_of (path_in t path)) → PathExcludes t
+pub path_excludes : (t : CrashTrace) (path : Path) → ((others : Path) → IsPathOf t.crash t.trace t.manner.from others → path ≡ others) → HasNoExecution (route_of (path_in t path)) → PathExcludes t
 path_excludes t path only none others is = subst (λ (p : Path). HasNoExecution (route_of (path_in t p))) (only others is) none
 
 -- where a session may have been held over a path, so it may over its trace and its files
-pub study_holds : {P : Type 0} (t : CrashTrace) (path : Path) (status : Status) → IsTracePath t.crash t.trace t.manner.from path → P ⊎ StudyHolds (path_in t path) status → P ⊎ WalkHolds t status
+pub study_holds : {P : Type 0} (t : CrashTrace) (path : Path) (status : Status) → IsPathOf t.crash t.trace t.manner.from path → P ⊎ StudyHolds (path_in t path) status → P ⊎ WalkHolds t status
 study_holds t path status is (inl p) = inl p
 study_holds t path status is (inr (consistent, so)) = inr ((path, is, consistent), so)
 
 -- the files are accepted, and this is what the note holds
-pub reads_here : (bytes : CrashBytes) (note : List ℕ) → None ≡ program_fault bytes.program → None ≡ core_image_fault bytes.core → NotesSay (length bytes.core) (segments bytes.core) (Ok note) → Reads bytes note
+pub reads_here : (bytes : CrashBytes) (note : List ℕ) → None ≡ program_fault bytes.program → None ≡ core_image_fault bytes.core → CoreSays bytes (Ok note) → Reads bytes note
 reads_here bytes note e k says = record { program_accepted = sym e; core_accepted = sym k; noted = says }
 
 pub walk_holds : {P : Type 0} (bytes : CrashBytes) (note : List ℕ) (status : Status) → Reads bytes note → P ⊎ WalkHolds (trace_in bytes note) status → P ⊎ FilesHold bytes status
@@ -204,25 +202,25 @@ walk_holds bytes note status read (inr ((path, is, consistent), so)) = inr ((not
 -- the files of the examination
 module _ (bytes : CrashBytes) (status : Status) where
   abbrev AfterExe : Option ElfFault → Type 0
-  AfterExe o = MatchOption o (MatchOption (core_image_fault bytes.core) ((said : Result (List ℕ) CoreFault) → NotesSay (length bytes.core) (segments bytes.core) said → NoteYields bytes said status) (λ _. Yields ends.Core status)) (λ _. Yields ends.Executable status)
+  AfterExe o = MatchOption o (MatchOption (core_image_fault bytes.core) ((said : Result (List ℕ) CoreFault) → CoreSays bytes said → NoteYields bytes said status) (λ _. Yields ends.Core status)) (λ _. Yields ends.Executable status)
 
   abbrev AfterCore : Option ElfFault → Type 0
-  AfterCore o = MatchOption o ((said : Result (List ℕ) CoreFault) → NotesSay (length bytes.core) (segments bytes.core) said → NoteYields bytes said status) (λ _. Yields ends.Core status)
+  AfterCore o = MatchOption o ((said : Result (List ℕ) CoreFault) → CoreSays bytes said → NoteYields bytes said status) (λ _. Yields ends.Core status)
 
   -- a refusal of the files ends the call with its status
-  pub refused_ends : (r : Refusal) → HasNoCrash bytes r → Yields (status_of r) status → FilesEnd bytes status
+  pub refused_ends : (r : Refusal) → HasNoCrash (is_several bytes.trace) bytes r → Yields (status_of r) status → FilesEnd bytes status
   refused_ends r why so = at (program_fault bytes.program) (core_image_fault bytes.core) why
     where
       named : (s : Refusal) → r ≡ s → Yields (status_of s) status
       named s e = subst (λ (x : Refusal). Yields (status_of x) status) e so
 
-      at : (a b : Option ElfFault) → MatchOption a (MatchOption b (NotesRefuse bytes.core r) (λ f. r ≡ refusal.CoreImage f)) (λ f. r ≡ refusal.Executable f)
-          → MatchOption a (MatchOption b ((said : Result (List ℕ) CoreFault) → NotesSay (length bytes.core) (segments bytes.core) said → NoteYields bytes said status) (λ _. Yields ends.Core status)) (λ _. Yields ends.Executable status)
+      at : (a b : Option ElfFault) → MatchOption a (MatchOption b (NotesRefuse (is_several bytes.trace) bytes.core r) (λ f. r ≡ refusal.CoreImage f)) (λ f. r ≡ refusal.Executable f)
+          → MatchOption a (MatchOption b ((said : Result (List ℕ) CoreFault) → CoreSays bytes said → NoteYields bytes said status) (λ _. Yields ends.Core status)) (λ _. Yields ends.Executable status)
       at (Some f) b e = named (refusal.Executable f) e
       at None (Some f) e = named (refusal.CoreImage f) e
       at None None (f, says, only, e) = λ said says'. subst (λ (x : Result (List ℕ) CoreFault). NoteYields bytes x status) (sym (only said says')) (named (refusal.Core f) e)
 
-  module _ (e : None ≡ program_fault bytes.program) (k : None ≡ core_image_fault bytes.core) (here : Result (List ℕ) CoreFault) (only : (said : Result (List ℕ) CoreFault) → NotesSay (length bytes.core) (segments bytes.core) said → said ≡ here) where
+  module _ (e : None ≡ program_fault bytes.program) (k : None ≡ core_image_fault bytes.core) (here : Result (List ℕ) CoreFault) (only : (said : Result (List ℕ) CoreFault) → CoreSays bytes said → said ≡ here) where
     pub notes_end : NoteYields bytes here status → FilesEnd bytes status
     notes_end yields = subst AfterExe e (subst AfterCore k (λ said says. subst (λ s. NoteYields bytes s status) (sym (only said says)) yields))
 
@@ -234,7 +232,7 @@ module _ (bytes : CrashBytes) (status : Status) where
       note (Err fault) = inr s
       note (Ok n) = memory_yields (trace_in bytes n) status s
 
-      at : (a b : Option ElfFault) → MatchOption a (MatchOption b ((said : Result (List ℕ) CoreFault) → NotesSay (length bytes.core) (segments bytes.core) said → NoteYields bytes said status) (λ _. Yields ends.Core status)) (λ _. Yields ends.Executable status)
+      at : (a b : Option ElfFault) → MatchOption a (MatchOption b ((said : Result (List ℕ) CoreFault) → CoreSays bytes said → NoteYields bytes said status) (λ _. Yields ends.Core status)) (λ _. Yields ends.Executable status)
       at (Some f) b = inr s
       at None (Some f) = inr s
       at None None = λ said says. note said
@@ -259,14 +257,14 @@ module _ (bytes : CrashBytes) (reading : Reading) (text : List ℕ) (status : St
   TextCore o = MatchOption o (NotesTold bytes reading.input text status) (λ fault. Says (refusal.CoreImage fault) text status)
 
   -- what is told of a refusal of the files
-  pub refused_examines : (r : Refusal) → HasNoCrash bytes r → Tells r text status → Examines bytes reading text status
+  pub refused_examines : (r : Refusal) → HasNoCrash (is_several bytes.trace) bytes r → Tells r text status → Examines bytes reading text status
   refused_examines r why (inr h) = inr (inl h)
   refused_examines r why (inl h) = inl (at (program_fault bytes.program) (core_image_fault bytes.core) why)
     where
       named : (s : Refusal) → r ≡ s → Says s text status
       named s e = subst (λ (x : Refusal). Says x text status) e h
 
-      at : (a b : Option ElfFault) → MatchOption a (MatchOption b (NotesRefuse bytes.core r) (λ f. r ≡ refusal.CoreImage f)) (λ f. r ≡ refusal.Executable f)
+      at : (a b : Option ElfFault) → MatchOption a (MatchOption b (NotesRefuse (is_several bytes.trace) bytes.core r) (λ f. r ≡ refusal.CoreImage f)) (λ f. r ≡ refusal.Executable f)
           → MatchOption a (MatchOption b (NotesTold bytes reading.input text status) (λ f. Says (refusal.CoreImage f) text status)) (λ f. Says (refusal.Executable f) text status)
       at (Some f) b e = named (refusal.Executable f) e
       at None (Some f) e = named (refusal.CoreImage f) e
@@ -276,7 +274,7 @@ module _ (bytes : CrashBytes) (reading : Reading) (text : List ℕ) (status : St
     notes_examine : NotesTold bytes reading.input text status → Examined bytes reading.input text status
     notes_examine h = subst TextExe e (subst TextCore k h)
 
-    module _ (note : List ℕ) (says : NotesSay (length bytes.core) (segments bytes.core) (Ok note)) where
+    module _ (note : List ℕ) (says : CoreSays bytes (Ok note)) where
       pub walks_examine : Walks (trace_in bytes note) reading text status → Examines bytes reading text status
       walks_examine (inl h) = inl (notes_examine (Ok note, says, h))
       walks_examine (inr (inl h)) = inr (inl h)
@@ -285,7 +283,7 @@ module _ (bytes : CrashBytes) (reading : Reading) (text : List ℕ) (status : St
 abbrev pub said_ok : List ℕ → Result (List ℕ) CoreFault
 said_ok n = Ok n
 
-module _ (bytes : CrashBytes) (note : List ℕ) (only : (said : Result (List ℕ) CoreFault) → NotesSay (length bytes.core) (segments bytes.core) said → said ≡ Ok note) where
+module _ (bytes : CrashBytes) (note : List ℕ) (only : (said : Result (List ℕ) CoreFault) → CoreSays bytes said → said ≡ Ok note) where
   same_note : (n : List ℕ) → said_ok n ≡ said_ok note → n ≡ note
   same_note n e = cc
 
@@ -295,10 +293,10 @@ module _ (bytes : CrashBytes) (note : List ℕ) (only : (said : Result (List ℕ
       subst (λ m. PathExcludes (trace_in bytes m)) (sym same) none
 
 -- the status of a refusal of the files
-pub refused_status : (exe core : List ℕ) (r : Refusal) → HasNoDump exe core r → (status_of r ≡ ends.Executable) ⊎ (status_of r ≡ ends.Core)
-refused_status exe core r why = at (executable_fault exe) (core_image_fault core) why
+pub refused_status : (many : Bool) (exe core : List ℕ) (r : Refusal) → HasNoDump many exe core r → (status_of r ≡ ends.Executable) ⊎ (status_of r ≡ ends.Core)
+refused_status many exe core r why = at (executable_fault exe) (core_image_fault core) why
   where
-    at : (a b : Option ElfFault) → MatchOption a (MatchOption b (NotesRefuse core r) (λ f. r ≡ refusal.CoreImage f)) (λ f. r ≡ refusal.Executable f) → (status_of r ≡ ends.Executable) ⊎ (status_of r ≡ ends.Core)
+    at : (a b : Option ElfFault) → MatchOption a (MatchOption b (NotesRefuse many core r) (λ f. r ≡ refusal.CoreImage f)) (λ f. r ≡ refusal.Executable f) → (status_of r ≡ ends.Executable) ⊎ (status_of r ≡ ends.Core)
     at (Some f) b e = inl (ap status_of e)
     at None (Some f) e = inr (ap status_of e)
     at None None (f, says, only, e) = inr (ap status_of e)

@@ -10,6 +10,7 @@ pub mod MadeLemmas
 pub mod WordsLemmas
 pub mod PromiseLemmas
 pub mod ReadingLemmas
+pub mod SharedLemmas
 pub mod Counted
 pub mod Failing
 pub mod MappedLemmas

@@ -1,14 +1,12 @@
 -- What is written of a made run, and how it ends the call.
-use Rattle.std.proofs.Common.{◌≡◌, ℕ, zero, suc, ◌+◌, ◌*◌, ◌<◌, ◌≤◌, eqb, List, [], ◌∷◌, length, map, slice_index, get_or, Option, None, Some, Result, Ok, Err, MatchOption, inl, inr, refl, sym, ap, subst, ◌∙◌, arith, false}
+use Rattle.std.proofs.Common.{◌≡◌, ℕ, zero, suc, ◌+◌, ◌*◌, ◌<◌, ◌≤◌, eqb, List, [], ◌∷◌, length, map, slice_index, get_or, Option, None, Some, Result, Ok, Err, MatchOption, inl, inr, refl, sym, ap, subst, ◌∙◌, arith, Bool, false}
 use Rattle.std.specs.List.{range_with_len}
 use Rattle.std.proofs.lemmas.Bool.{cond-false, ne_eqb}
 use Rattle.std.proofs.lemmas.List.FromFn.{length-range_with_len, get_or-range_with_len}
 use Rattle.rept_elf.specs.Header.{word_at}
-use Rattle.rept_elf.specs.Segments.{segments}
 use Rattle.rept_elf.specs.declared.fault.ElfFault.{ElfFault}
 use Rattle.rept_dump.specs.Memory.{of_executable}
 use Rattle.rept_dump.specs.Program.Program.{OneFile}
-use Rattle.rept_dump.specs.Registers.{Says as NotesSay}
 use Rattle.rept_dump.specs.declared.fault.CoreFault.{CoreFault}
 use Rattle.rept_isa.specs.declared.row.StepRow.{StepRow}
 use Rattle.rept_machine.specs.State.{State}
@@ -18,6 +16,7 @@ use Rattle.rept_path.specs.Traced.{IsTraced}
 use Rattle.rept_path.specs.declared.fault.PathFault.{PathFault}
 use Rattle.rept_path.specs.declared.fault.PathFault.TheVariants as fault
 use Rattle.rept_path.specs.declared.rebuilding.Path.{Path}
+use Rattle.rept_runs.specs.Kind.{is_several}
 use Rattle.rept_ports.specs.Causes.{OneFault}
 use Rattle.rept_ports.specs.Port.{Port, Move, move}
 use Rattle.rept_reason.specs.Facts.{Knowledge}
@@ -37,12 +36,14 @@ use Rattle.rept_app.specs.Examine.{Examines, WalkYields, NoteYields, FilesEnd}
 use Rattle.rept_app.specs.Forms.{program_fault, core_image_fault, crash_in}
 use Rattle.rept_app.specs.Lines.{status_of}
 use Rattle.rept_app.specs.MadeRun.{Sums}
-use Rattle.rept_app.specs.Path.{IsTracePath}
+use Rattle.rept_app.specs.Path.{IsTracePath, IsSharedPath, IsPathOf}
+use Rattle.rept_app.specs.Reading.{NotesSay}
 use Rattle.rept_app.specs.Loading.{CrashBytes}
-use Rattle.rept_app.specs.Told.{CrashTrace, trace_in, NotesTold, Walked, Reads, Opening, OpensMade, MadeHolds, made_bytes, summary_line}
+use Rattle.rept_app.specs.Told.{CoreSays, CrashTrace, trace_in, NotesTold, Walked, Reads, Opening, OpensMade, MadeHolds, made_bytes, summary_line}
 use Rattle.rept_app.specs.declared.refusal.Refusal.TheVariants as refusal
 use Rattle.rept_app.specs.declared.status.Status.{Status}
 use Rattle.rept_app.specs.declared.status.Status.TheVariants as ends
+use Rattle.rept_app.proofs.SharedLemmas.{one_stream_file, to_one}
 use Rattle.rept_app.proofs.DeliveredLemmas.{delivers_as, ends_told, told_ports}
 
 -- the registers that an analysis begins from are those of the note
@@ -77,11 +78,21 @@ module _ (seed steps : ℕ) (made : Made) (m : IsMade seed steps made) where
   abbrev pub crash_made : Crash
   crash_made = crash_in (OneFile made.exe) made.core m.status
 
-  reads_made : Reads (made_bytes made) m.status
-  reads_made = record { program_accepted = m.exe_read; core_accepted = m.core_read; noted = m.notes }
+  -- the trace is one of one stream
+  one_made : is_several made.trace ≡ false
+  one_made = one_stream_file made.trace (record { halves = false; bytes = m.rest }) m.layout
 
-  path_made : IsTracePath crash_made made.trace 0 (path_of m.rows)
-  path_made = (record { halves = false; bytes = m.rest }, m.layout, subst (λ (p : ℕ). IsTraced (record { code = words (of_executable made.exe); stream = plain false m.rest; from = 0; pc = p }) 0 m.rows) (sym m.last_pc) m.path)
+  says_made : CoreSays (made_bytes made) (Ok m.status)
+  says_made = subst (λ (b : Bool). NotesSay b made.core (Ok m.status)) (sym one_made) m.notes
+
+  reads_made : Reads (made_bytes made) m.status
+  reads_made = record { program_accepted = m.exe_read; core_accepted = m.core_read; noted = says_made }
+
+  traced_made : IsTracePath crash_made made.trace 0 (path_of m.rows)
+  traced_made = (record { halves = false; bytes = m.rest }, m.layout, subst (λ (p : ℕ). IsTraced (record { code = words (of_executable made.exe); stream = plain false m.rest; from = 0; pc = p }) 0 m.rows) (sym m.last_pc) m.path)
+
+  path_made : IsPathOf crash_made made.trace 0 (path_of m.rows)
+  path_made = to_one (IsSharedPath crash_made made.trace 0 (path_of m.rows)) (is_several made.trace) one_made traced_made
 
   abbrev run_made : ℕ → State
   run_made = λ i. laid (bytes_of_words m.words) (m.run i)
@@ -100,16 +111,16 @@ module _ (seed steps : ℕ) (made : Made) (m : IsMade seed steps made) where
   consistent_made none kind has = none kind has run_made runs_made
 
   abbrev AfterCore : Status → Option ElfFault → Type 0
-  AfterCore status o = MatchOption o ((said : Result (List ℕ) CoreFault) → NotesSay (length made.core) (segments made.core) said → NoteYields (made_bytes made) said status) (λ _. Yields ends.Core status)
+  AfterCore status o = MatchOption o ((said : Result (List ℕ) CoreFault) → CoreSays (made_bytes made) said → NoteYields (made_bytes made) said status) (λ _. Yields ends.Core status)
 
   abbrev AfterExe : Status → Option ElfFault → Type 0
   AfterExe status o = MatchOption o (AfterCore status (core_image_fault made.core)) (λ _. Yields ends.Executable status)
 
   pub session_made : ((kind : ConflictKind) → ClosureHas (setting (means_of domain.Ranges) crash_made m.rows) kind → HasNoExecution (route (means_of domain.Ranges) crash_made m.rows)) → (status : Status) → FilesEnd (made_bytes made) status → EndsSession status
   session_made none status h =
-      let notes : (said : Result (List ℕ) CoreFault) → NotesSay (length made.core) (segments made.core) said → NoteYields (made_bytes made) said status =
+      let notes : (said : Result (List ℕ) CoreFault) → CoreSays (made_bytes made) said → NoteYields (made_bytes made) said status =
       subst (AfterCore status) m.core_read (subst (AfterExe status) m.exe_read h) in
-      let walk : WalkYields (trace_in (made_bytes made) m.status) status = notes (Ok m.status) m.notes in
+      let walk : WalkYields (trace_in (made_bytes made) m.status) status = notes (Ok m.status) says_made in
       (walk.walked (path_of m.rows) path_made).report (consistent_made none)
 
 pub made_holds : (seed steps : ℕ) → ((crash : Crash) (rows : List StepRow) (known : Knowledge) → IsReport (setting (means_of domain.Ranges) crash rows) known → IsTrueReport (route (means_of domain.Ranges) crash rows) known) → MadeHolds seed steps

@@ -1,5 +1,5 @@
 -- The exits of the call that loads the files of a core file's list.
-use Rattle.std.proofs.Common.{◌≡◌, ◌⊎◌, ℕ, suc, ◌+◌, ◌<◌, ◌≤◌, List, length, Option, None, Some, IfSome, Result, Ok, inl, inr, refl, sym, ap, subst, ◌∙◌, arith}
+use Rattle.std.proofs.Common.{◌≡◌, ◌⊎◌, ℕ, suc, ◌+◌, ◌<◌, ◌≤◌, List, length, Option, None, Some, IfSome, Result, Ok, inl, inr, refl, sym, subst, ◌∙◌, arith}
 use Rattle.std.specs.Prelude.{slice_get}
 use Rattle.rept_maps.specs.declared.fault.MapFault.{MapFault}
 use Rattle.rept_mapped.specs.Mapped.{Mapping}
@@ -7,13 +7,12 @@ use Rattle.rept_mapfiles.specs.Kept.{asked_names, loads_after}
 use Rattle.rept_ports.specs.Causes.{Rose}
 use Rattle.rept_ports.specs.Port.{Port, Move, move}
 use Rattle.rept_ports.specs.Shelves.{Files, Shelved}
-use Rattle.rept_serve.specs.Serving.{Reading}
 use Rattle.rept_app.specs.Delivered.{Delivers, Says}
 use Rattle.rept_app.specs.Ends.{EndsSession, Stopped}
 use Rattle.rept_app.specs.Examine.{Examines, FilesEnd, FilesExclude, FilesHold, IsExamined}
 use Rattle.rept_app.specs.Forms.{core_image_fault}
 use Rattle.rept_app.specs.Loading.{CoreBytes, parts_bytes}
-use Rattle.rept_app.specs.Mapped.{AreAsked, ListSays, NamesLoaded, mapped_bytes, mapped_crash, mapped_files}
+use Rattle.rept_app.specs.Mapped.{ListSays, NamesLoaded, mapped_crash, mapped_files}
 use Rattle.rept_app.specs.MappedEnds.{ExaminesMapped, IsExaminedMapped, MappedCall, MappedEnd, MappedExcludes, MappedHolds, TellsName, mapped_call, moves}
 use Rattle.rept_app.specs.declared.refusal.Refusal.TheVariants as refusal
 use Rattle.rept_app.specs.declared.status.Status.{Status}

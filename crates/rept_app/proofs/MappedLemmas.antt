@@ -1,13 +1,14 @@
 -- How a core file that lists the files of its program ends the call, and what is written of it.
 use Rattle.std.proofs.Common.{◌≡◌, ◌⊎◌, ℕ, zero, suc, ◌+◌, ◌-◌, ◌<◌, ◌≤◌, List, [], ◌∷◌, length, map, min, Bool, true, false, ◌&&◌, cond, get_or, nat_le, Option, None, Some, IfErr, IfSome, MatchOption, Result, Ok, Err, MatchResult, inl, inr, refl, sym, ap, subst, ◌∙◌, arith}
-use Rattle.std.specs.Prelude.{slice_get}
+use Rattle.std.specs.Prelude.{slice_get, MatchBool}
 use Rattle.std.specs.Option.{option_and_then, option_map}
 use Rattle.std.proofs.lemmas.Option.{slice_get-get_or, slice_get-map}
 use Rattle.std.proofs.lemmas.List.{length-map}
 use Rattle.rept_elf.specs.Segments.{segments}
 use Rattle.rept_elf.specs.declared.fault.ElfFault.{ElfFault}
 use Rattle.rept_dump.specs.Program.Program.{MappedFiles}
-use Rattle.rept_dump.specs.Registers.{Says as NotesSay}
+use Rattle.rept_dump.specs.Dump.{said_of, AreRead, AreReadOfAll}
+use Rattle.rept_dump.specs.declared.dump.Dump.{Dump}
 use Rattle.rept_dump.specs.declared.fault.CoreFault.{CoreFault}
 use Rattle.rept_found.specs.Crash.{Crash}
 use Rattle.rept_maps.specs.declared.fault.MapFault.{MapFault}
@@ -19,22 +20,20 @@ use Rattle.rept_mapfiles.specs.Kept.{as_image, asked_names, image_at, is_image, 
 use Rattle.rept_ports.specs.Causes.{Rose, OneFault}
 use Rattle.rept_ports.specs.Port.{Port, Move, move}
 use Rattle.rept_ports.specs.Shelves.{Files, Shelved}
-use Rattle.rept_serve.specs.Serving.{Reading}
+use Rattle.rept_runs.specs.Kind.{is_several}
 use Rattle.rept_app.specs.Delivered.{Delivers, Says, Tells}
-use Rattle.rept_app.specs.Ends.{EndsSession, FaultEnds, PortsEnd, Stopped, Yields}
-use Rattle.rept_app.specs.Examine.{Examines, FilesEnd, FilesExclude, FilesHold, IsExamined, IsWalkStatus}
+use Rattle.rept_app.specs.Ends.{FaultEnds, PortsEnd, Stopped, Yields}
+use Rattle.rept_app.specs.Examine.{Examines, FilesExclude, FilesHold, IsWalkStatus}
 use Rattle.rept_app.specs.Forms.{core_image_fault, crash_in}
-use Rattle.rept_app.specs.Lines.{status_of}
-use Rattle.rept_app.specs.Loading.{CoreBytes, CrashBytes, parts_bytes}
-use Rattle.rept_app.specs.Mapped.{AreAsked, IsMappedAs, ListSays, MappedCrash, NameFails, NamesLoaded, NamesMove, kept_of, mapped_bytes, mapped_crash, mapped_files, mapped_part, parts_from}
-use Rattle.rept_app.specs.MappedEnds.{ExaminesMapped, IsExaminedMapped, ListEnds, MappedCall, MappedEnd, MappedExcludes, MappedHolds, Moves, TellsName, mapped_call, moves}
+use Rattle.rept_app.specs.Loading.{CoreBytes, parts_bytes}
+use Rattle.rept_app.specs.Mapped.{ListSays, MappedCrash, NamesLoaded, NamesMove, kept_of, mapped_bytes, mapped_crash, mapped_files, mapped_part, parts_from}
+use Rattle.rept_app.specs.MappedEnds.{ExaminesMapped, ListEnds, MappedCall, MappedEnd, MappedExcludes, MappedHolds, TellsName}
 use Rattle.rept_app.specs.Reading.{HasNoCrash, NotesRefuse}
-use Rattle.rept_app.specs.Told.{CrashTrace, MappedTold, Examined, crash_trace, trace_in}
-use Rattle.rept_app.specs.declared.refusal.Refusal.{Refusal}
+use Rattle.rept_app.specs.Told.{Examined, crash_trace, trace_in}
 use Rattle.rept_app.specs.declared.refusal.Refusal.TheVariants as refusal
 use Rattle.rept_app.specs.declared.status.Status.{Status}
 use Rattle.rept_app.specs.declared.status.Status.TheVariants as ends
-use Rattle.rept_app.proofs.DeliveredLemmas.{ends_told}
+use Rattle.rept_app.proofs.ReadingLemmas.{AreSaid, said_by}
 use Rattle.rept_app.proofs.ExamineLemmas.{all_walks, stopped_end}
 use Rattle.rept_app.proofs.Counted.{counted}
 
@@ -59,11 +58,18 @@ pub parts_trace : (crash : Crash) (ms : List Mapping) (c : CoreBytes) (trace : L
 parts_trace crash ms c trace e k t =
     ap (λ (x : Crash). crash_trace x trace c.manner) (parts_crash crash ms c.core e k) ∙ ap (λ (x : List ℕ). crash_trace (crash_in (MappedFiles ms) c.core crash.note) x c.manner) t
 
-pub parts_refused : (ms : List Mapping) (c : CoreBytes) (f : CoreFault) → core_image_fault c.core ≡ None → NotesSay (length c.core) (segments c.core) (Err f)
-    → ((said : Result (List ℕ) CoreFault) → NotesSay (length c.core) (segments c.core) said → said ≡ Err f) → HasNoCrash (parts_bytes ms c) (refusal.Core f)
-parts_refused ms c f accepted says only =
-    let P : Option ElfFault → Type 0 = λ o. MatchOption o (NotesRefuse c.core (refusal.Core f)) (λ g. refusal.Core f ≡ refusal.CoreImage g) in
-    subst P (sym accepted) (f, says, only, refl)
+-- the kind of a trace is that of the slice of it
+pub kind_is : (many : Bool) (slice trace : List ℕ) → many ≡ is_several slice → slice ≡ trace → many ≡ is_several trace
+kind_is many slice trace e t = e ∙ ap is_several t
+
+-- what was read of the notes, as the trace asks for it
+pub parts_said : (c : CoreBytes) (many : Bool) (r : Result Dump CoreFault) → many ≡ is_several c.trace → MatchBool many (AreReadOfAll (length c.core) (segments c.core) r) (AreRead (length c.core) (segments c.core) r) → AreSaid (is_several c.trace) c.core (said_of r)
+parts_said c many r e h = subst (λ (b : Bool). AreSaid b c.core (said_of r)) e (said_by c.core many r h)
+
+pub parts_refused : (ms : List Mapping) (c : CoreBytes) (f : CoreFault) → core_image_fault c.core ≡ None → AreSaid (is_several c.trace) c.core (Err f) → HasNoCrash (is_several c.trace) (parts_bytes ms c) (refusal.Core f)
+parts_refused ms c f accepted says =
+    let P : Option ElfFault → Type 0 = λ o. MatchOption o (NotesRefuse (is_several c.trace) c.core (refusal.Core f)) (λ g. refusal.Core f ≡ refusal.CoreImage g) in
+    subst P (sym accepted) (f, says.said, says.only, refl)
 
 -- a trace that is walked isn't ended by its executable
 pub not_executable : (status : Status) → IsWalkStatus status → status ≡ ends.Executable → ⊥

@@ -1,18 +1,18 @@
 -- How the top call ends on words that ask for mapped files, from how its parts end.
-use Rattle.std.proofs.Common.{◌≡◌, ◌⊎◌, ℕ, ◌≤◌, List, length, Option, None, Some, IfSome, MatchOption, Result, Ok, IfOk, inl, inr, refl, sym, ap, subst, ◌∙◌, arith}
+use Rattle.std.proofs.Common.{◌≡◌, ◌⊎◌, ℕ, ◌≤◌, List, Option, None, Some, IfSome, MatchOption, Result, Ok, IfOk, inl, inr, refl, sym, subst, ◌∙◌, arith}
 use Rattle.rept_ports.specs.Causes.{Rose, OneFault}
 use Rattle.rept_ports.specs.Port.{Port, Move, move}
 use Rattle.rept_ports.specs.Shelves.{Files, Shelved}
 use Rattle.rept_serve.specs.Serving.{Reading}
 use Rattle.rept_app.specs.Ends.{EndsSession, FaultEnds, Stopped}
 use Rattle.rept_app.specs.Examine.{IsWalkStatus}
-use Rattle.rept_app.specs.Loading.{CoreBytes, core_bytes, CrashBytes, Loading, loading, LoadsBoth, NamesNone, IsAsked, core_loads_to}
+use Rattle.rept_app.specs.Loading.{CoreBytes, CrashBytes, Loading, loading, LoadsBoth, NamesNone, IsAsked, core_loads_to}
 use Rattle.rept_app.specs.Loading.Loading.{LoadedCore}
-use Rattle.rept_app.specs.Mapped.{IsMappedAs, MappedCrash, NameFails, NamesLoaded, mapped_crash}
+use Rattle.rept_app.specs.Mapped.{IsMappedAs, NameFails, NamesLoaded, mapped_crash}
 use Rattle.rept_app.specs.MappedEnds.{ExaminesMapped, IsExaminedMapped, MappedEnd, MappedExcludes, MappedHolds, mapped_call, moves}
 use Rattle.rept_app.specs.Told.{Given, given, ComeToReport, IsCrashOf, NoExecution, ToldOf, Writes}
 use Rattle.rept_app.specs.Top.{AskedEnds, EndsAt, EndsByFiles, FaultsEnd, LacksFile, LoadEnds, LoadsOf, ShelfCauses, TopCauses}
-use Rattle.rept_words.specs.Words.{CoreNames, Meaning, meaning_of}
+use Rattle.rept_words.specs.Words.{Meaning}
 use Rattle.rept_words.specs.Words.Meaning.{Open, Maps, Made}
 use Rattle.rept_app.specs.declared.load.Asked.{Asked}
 use Rattle.rept_app.specs.declared.load.Asked.TheVariants as asked

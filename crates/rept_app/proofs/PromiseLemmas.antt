@@ -1,5 +1,5 @@
 -- The promise of the whole program, from what is written, what the files say, and what is true of every report.
-use Rattle.std.proofs.Common.{◌≡◌, ◌⊎◌, ℕ, List, [], length, Bool, true, false, Option, None, Some, MatchOption, Result, Ok, Err, MatchResult, inl, inr, refl, sym, ap, subst, ◌∙◌, cond, nat_lt}
+use Rattle.std.proofs.Common.{◌≡◌, ◌⊎◌, ℕ, List, [], length, Bool, true, false, Option, None, Some, MatchOption, Result, Ok, Err, MatchResult, inl, inr, refl, sym, subst, ◌∙◌, cond, nat_lt}
 use Rattle.std.specs.Io.KnownBytes.{Appends}
 use Rattle.rept_ports.specs.Port.{Port, Move}
 use Rattle.rept_ports.specs.Shelves.{Files}
@@ -15,8 +15,8 @@ use Rattle.rept_app.specs.Loading.{CrashBytes, crash_bytes, CoreBytes, core_byte
 use Rattle.rept_app.specs.Loading.Loading.{Refused, Loaded, LoadedCore, MadeRun}
 use Rattle.rept_app.specs.Mapped.{mapped_crash, mapped_bytes, ListSays}
 use Rattle.rept_app.specs.Promise.{IsOpened, IsAnswered, IsImpossible, Promise}
-use Rattle.rept_app.specs.Told.{Given, Opening, Reads, Analysed, Walked, NotesTold, Examined, Summed, Told, ToldOf, IsCrashOf, Writes, NoExecution, crash_at, domain_at, path_at, trace_in, made_bytes, summary_line}
-use Rattle.rept_app.specs.Path.{IsTracePath}
+use Rattle.rept_app.specs.Told.{Given, Opening, Reads, Analysed, Walked, NotesTold, Examined, Told, ToldOf, IsCrashOf, Writes, NoExecution, crash_at, domain_at, path_at, trace_in, made_bytes, summary_line}
+use Rattle.rept_app.specs.Path.{IsPathOf}
 use Rattle.rept_app.specs.Top.{EndsAt, EndsByFiles}
 use Rattle.rept_app.specs.declared.refusal.FileKind.{FileKind}
 use Rattle.rept_app.specs.declared.refusal.FileKind.TheVariants as file
@@ -108,7 +108,7 @@ pub record Analyses (bytes : CrashBytes) (lines text : List ℕ) (status : Statu
   pub opening : Opening
   pub same : opening.bytes ≡ bytes
   pub read : Reads opening.bytes opening.note
-  pub path : IsTracePath (crash_at opening) opening.bytes.trace opening.bytes.manner.from opening.path
+  pub path : IsPathOf (crash_at opening) opening.bytes.trace opening.bytes.manner.from opening.path
   pub analysed : Analysed (path_at opening) lines text status
 
 module _ (lines text : List ℕ) (status : Status) (promised : (status ≡ ends.Ok) ⊎ (status ≡ ends.Inconsistent)) where

@@ -1,5 +1,5 @@
 -- How the top call ends, from how its parts end.
-use Rattle.std.proofs.Common.{◌≡◌, ◌⊎◌, ℕ, ◌+◌, ◌<◌, ◌≤◌, List, length, Bool, true, false, Option, None, Some, MatchOption, IfSome, Result, Ok, IfOk, OnOk, inl, inr, refl, sym, ap, subst, ◌∙◌, arith, cond, nat_lt, nat_eq}
+use Rattle.std.proofs.Common.{◌≡◌, ◌⊎◌, ℕ, ◌+◌, ◌<◌, ◌≤◌, List, length, Bool, true, false, Option, None, Some, MatchOption, IfSome, Result, Ok, IfOk, OnOk, inl, inr, refl, sym, ap, subst, ◌∙◌, arith, cond, nat_lt}
 use Rattle.std.proofs.lemmas.Bool.Decides.{nat_tests}
 use Rattle.rept_ports.specs.Causes.{Rose, OneFault}
 use Rattle.rept_ports.specs.Port.{Port, Move, move}
@@ -30,9 +30,9 @@ use Rattle.rept_serve.specs.Serving.{Reading}
 use Rattle.rept_app.specs.Delivered.{Delivers, Says, Tells}
 use Rattle.rept_app.specs.Ends.{Stopped, Yields, EndsSession, FaultEnds, PortsEnd}
 use Rattle.rept_app.specs.Held.{CutOff}
-use Rattle.rept_app.specs.Examine.{Examines, FilesEnd, IsExamined, IsWalkStatus, FilesExclude, FilesHold}
+use Rattle.rept_app.specs.Examine.{Examines, IsExamined, IsWalkStatus, FilesExclude, FilesHold}
 use Rattle.rept_app.specs.Lines.{status_of}
-use Rattle.rept_app.specs.Loading.{CrashBytes, crash_bytes, CoreBytes, core_bytes, Loading, loading, loading_by, fetched, fetched_all, fetched_core, limit_of, Fits, FitBefore, CoreFitBefore, name_of, core_name_of, loads_to, core_loads_to, ComesTo, ComesToCore, LoadRefuses, MeaningStops, LoadingStops, LoadsAll, LoadsBoth, NamesNone, IsAsked, manner_of}
+use Rattle.rept_app.specs.Loading.{CrashBytes, crash_bytes, core_bytes, Loading, loading, loading_by, fetched, fetched_all, fetched_core, limit_of, Fits, FitBefore, CoreFitBefore, name_of, core_name_of, loads_to, core_loads_to, ComesTo, ComesToCore, LoadRefuses, MeaningStops, LoadingStops, LoadsAll, NamesNone, IsAsked, manner_of}
 use Rattle.rept_app.specs.Loading.Loading.{Refused, Loaded, LoadedCore, MadeRun}
 use Rattle.rept_app.specs.Mapped.{mapped_crash}
 use Rattle.rept_app.specs.MadeRun.{Sums}

@@ -1,7 +1,5 @@
 -- What is written of the bytes of a crash.
-use Rattle.std.specs.Prelude.{◌≡◌, ◌⊎◌, ℕ, List, length, Result, MatchOption, MatchResult}
-use Rattle.rept_elf.specs.Segments.{segments}
-use Rattle.rept_dump.specs.Registers.{Says as NotesSay}
+use Rattle.std.specs.Prelude.{◌≡◌, ◌⊎◌, ℕ, List, Result, MatchOption, MatchResult}
 use Rattle.rept_dump.specs.declared.fault.CoreFault.{CoreFault}
 use Rattle.rept_path.specs.declared.fault.PathFault.{PathFault}
 use Rattle.rept_path.specs.declared.rebuilding.Path.{Path}
@@ -15,9 +13,9 @@ use Rattle.rept_app.specs.Delivered.{Says}
 use Rattle.rept_app.specs.Ends.{Yields, EndsSession, PortsEnd}
 use Rattle.rept_app.specs.Forms.{program_fault, core_image_fault, crash_in}
 use Rattle.rept_app.specs.Held.{CutOff}
-use Rattle.rept_app.specs.Path.{IsTracePath, HasNoPath}
+use Rattle.rept_app.specs.Path.{IsPathOf, HasNoPathOf}
 use Rattle.rept_app.specs.Loading.{CrashBytes}
-use Rattle.rept_app.specs.Told.{CrashPath, route_of, setting_of, CrashTrace, trace_in, path_in, Walked, Examined, Reads, IsAccountOf}
+use Rattle.rept_app.specs.Told.{CrashPath, CoreSays, route_of, setting_of, CrashTrace, trace_in, path_in, Walked, Examined, Reads, IsAccountOf}
 use Rattle.rept_app.specs.declared.refusal.Refusal.TheVariants as refusal
 use Rattle.rept_app.specs.declared.status.Status.{Status}
 use Rattle.rept_app.specs.declared.status.Status.TheVariants as ends
@@ -25,7 +23,7 @@ use Rattle.rept_app.specs.declared.status.Status.TheVariants as ends
 -- the session over the path's report was cut short
 abbrev pub WalkCut : CrashTrace → Reading → List ℕ → Status → Type 0
 WalkCut t reading text status =
-    (path : Path) × (a : Account) × IsTracePath t.crash t.trace t.manner.from path × IsAccountOf (path_in t path) a × CutOff (told_of (route_of (path_in t path)) a) reading text status
+    (path : Path) × (a : Account) × IsPathOf t.crash t.trace t.manner.from path × IsAccountOf (path_in t path) a × CutOff (told_of (route_of (path_in t path)) a) reading text status
 
 -- all of it; or memory ran out; or the session was cut short
 abbrev pub Walks : CrashTrace → Reading → List ℕ → Status → Type 0
@@ -43,9 +41,9 @@ pub record PathYields {W : Type 0} (p : CrashPath W) (status : Status) : Type 0 
 
 -- How a trace ends the call, whatever the input is. Its status comes only where it has no path.
 pub record WalkYields (t : CrashTrace) (status : Status) : Type 0 where
-  pub refused : (fault : PathFault) → HasNoPath t.crash t.trace t.manner.from fault → Yields ends.Trace status
-  pub walked : (path : Path) → IsTracePath t.crash t.trace t.manner.from path → PathYields (path_in t path) status
-  pub only : status ≡ ends.Trace → (fault : PathFault) × HasNoPath t.crash t.trace t.manner.from fault
+  pub refused : (fault : PathFault) → HasNoPathOf t.crash t.trace t.manner.from fault → Yields ends.Trace status
+  pub walked : (path : Path) → IsPathOf t.crash t.trace t.manner.from path → PathYields (path_in t path) status
+  pub only : status ≡ ends.Trace → (fault : PathFault) × HasNoPathOf t.crash t.trace t.manner.from fault
 
 -- how what the notes say ends the call
 abbrev pub NoteYields : CrashBytes → Result (List ℕ) CoreFault → Status → Type 0
@@ -55,7 +53,7 @@ NoteYields bytes said status = MatchResult said (λ note. WalkYields (trace_in b
 abbrev pub FilesEnd : CrashBytes → Status → Type 0
 FilesEnd bytes status =
     MatchOption (program_fault bytes.program)
-    (MatchOption (core_image_fault bytes.core) ((said : Result (List ℕ) CoreFault) → NotesSay (length bytes.core) (segments bytes.core) said → NoteYields bytes said status) (λ _. Yields ends.Core status))
+    (MatchOption (core_image_fault bytes.core) ((said : Result (List ℕ) CoreFault) → CoreSays bytes said → NoteYields bytes said status) (λ _. Yields ends.Core status))
     (λ _. Yields ends.Executable status)
 
 -- the statuses of a path that is told
@@ -80,17 +78,17 @@ pub record IsExamined (bytes : CrashBytes) (source sink : Move Port) (status : S
 
 -- a session may have been held, since the trace has a path whose closure has no conflict
 abbrev pub WalkHolds : CrashTrace → Status → Type 0
-WalkHolds t status = ((path : Path) × IsTracePath t.crash t.trace t.manner.from path × IsConsistent (setting_of (path_in t path))) × EndsSession status
+WalkHolds t status = ((path : Path) × IsPathOf t.crash t.trace t.manner.from path × IsConsistent (setting_of (path_in t path))) × EndsSession status
 
 -- the same of the files
 abbrev pub FilesHold : CrashBytes → Status → Type 0
 FilesHold bytes status =
-    ((note : List ℕ) × (path : Path) × Reads bytes note × IsTracePath (crash_in bytes.program bytes.core note) bytes.trace bytes.manner.from path × IsConsistent (setting_of (path_in (trace_in bytes note) path)))
+    ((note : List ℕ) × (path : Path) × Reads bytes note × IsPathOf (crash_in bytes.program bytes.core note) bytes.trace bytes.manner.from path × IsConsistent (setting_of (path_in (trace_in bytes note) path)))
     × EndsSession status
 
 -- no execution of the path ends in the crash
 abbrev pub PathExcludes : CrashTrace → Type 0
-PathExcludes t = (path : Path) → IsTracePath t.crash t.trace t.manner.from path → HasNoExecution (route_of (path_in t path))
+PathExcludes t = (path : Path) → IsPathOf t.crash t.trace t.manner.from path → HasNoExecution (route_of (path_in t path))
 
 abbrev pub FilesExclude : CrashBytes → Type 0
 FilesExclude bytes = (note : List ℕ) → Reads bytes note → PathExcludes (trace_in bytes note)

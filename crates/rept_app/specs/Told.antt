@@ -1,11 +1,10 @@
 -- What the program writes, and with which status.
-use Rattle.std.specs.Prelude.{◌≡◌, ◌⊎◌, ℕ, List, [], ◌∷◌, ◌++◌, length, Option, None, Some, Result, Ok, MatchOption, MatchResult, codes}
-use Rattle.rept_elf.specs.Segments.{segments}
-use Rattle.rept_dump.specs.Registers.{Says as NotesSay}
+use Rattle.std.specs.Prelude.{◌≡◌, ◌⊎◌, ℕ, Bool, List, [], ◌∷◌, ◌++◌, Option, None, Some, Result, Ok, MatchOption, MatchResult, codes}
 use Rattle.rept_dump.specs.declared.fault.CoreFault.{CoreFault}
 use Rattle.rept_maps.specs.declared.fault.MapFault.{MapFault}
 use Rattle.rept_path.specs.declared.fault.PathFault.{PathFault}
 use Rattle.rept_path.specs.declared.rebuilding.Path.{Path}
+use Rattle.rept_runs.specs.Kind.{is_several}
 use Rattle.rept_ports.specs.Port.{Move, move}
 use Rattle.rept_ports.specs.Shelves.{Files, Shelved}
 use Rattle.rept_machine.specs.State.{State}
@@ -33,7 +32,8 @@ use Rattle.rept_app.specs.Held.{Replies, CutOff}
 use Rattle.rept_app.specs.Loading.{CrashBytes, crash_bytes, CoreBytes, Loading, loading, ComesTo, ComesToCore, loads_to, core_loads_to}
 use Rattle.rept_app.specs.Loading.Loading.{Refused, Loaded, LoadedCore, MadeRun}
 use Rattle.rept_app.specs.Mapped.{MappedCrash, mapped_crash, mapped_bytes, IsMappedAs, ListSays, NameFails}
-use Rattle.rept_app.specs.Path.{IsTracePath, HasNoPath}
+use Rattle.rept_app.specs.Path.{IsPathOf, HasNoPathOf}
+use Rattle.rept_app.specs.Reading.{NotesSay}
 use Rattle.rept_app.specs.declared.load.Manner.{Manner}
 use Rattle.rept_app.specs.declared.refusal.FileKind.{FileKind}
 use Rattle.rept_app.specs.declared.refusal.FileKind.TheVariants as file
@@ -91,13 +91,17 @@ trace_in bytes note = crash_trace (crash_in bytes.program bytes.core note) bytes
 -- The trace has no path, for a reason that the line tells; or the one that it has is analysed.
 abbrev pub Walked : CrashTrace → List ℕ → List ℕ → Status → Type 0
 Walked t input text status =
-    ((fault : PathFault) × HasNoPath t.crash t.trace t.manner.from fault × Says (refusal.Path fault) text status)
-    ⊎ ((path : Path) × IsTracePath t.crash t.trace t.manner.from path × Analysed (path_in t path) input text status)
+    ((fault : PathFault) × HasNoPathOf t.crash t.trace t.manner.from fault × Says (refusal.Path fault) text status)
+    ⊎ ((path : Path) × IsPathOf t.crash t.trace t.manner.from path × Analysed (path_in t path) input text status)
+
+-- what the core file's notes say: of each thread, where the trace is one of several streams, of which the first one's descriptor is told; else of the only one
+abbrev pub CoreSays : CrashBytes → Result (List ℕ) CoreFault → Type 0
+CoreSays bytes said = NotesSay (is_several bytes.trace) bytes.core said
 
 -- The core file's notes are refused; or they give the registers, and the trace is walked.
 abbrev pub NotesTold : CrashBytes → List ℕ → List ℕ → Status → Type 0
 NotesTold bytes input text status =
-    (said : Result (List ℕ) CoreFault) × NotesSay (length bytes.core) (segments bytes.core) said
+    (said : Result (List ℕ) CoreFault) × CoreSays bytes said
     × MatchResult said (λ note. Walked (trace_in bytes note) input text status) (λ fault. Says (refusal.Core fault) text status)
 
 -- The program's executable is refused; or the core file is refused as an image; or its notes are read.
@@ -125,11 +129,15 @@ made_bytes made = crash_bytes made.exe made.core made.trace (record { from = 0; 
 abbrev pub Summed : ℕ → ℕ → List ℕ → Status → Type 0
 Summed seed steps text status = (made : Made) × IsMade seed steps made × Examined (made_bytes made) summary_line text status
 
--- the program's files and the core file are accepted, and this is the descriptor of the register note
-pub record Reads (bytes : CrashBytes) (note : List ℕ) : Type 0 where
+-- the program's files and the core file are accepted, which may have many threads or has one, and this is the descriptor of the (first) register note
+pub record ReadsAs (many : Bool) (bytes : CrashBytes) (note : List ℕ) : Type 0 where
   pub program_accepted : program_fault bytes.program ≡ None
   pub core_accepted : core_image_fault bytes.core ≡ None
-  pub noted : NotesSay (length bytes.core) (segments bytes.core) (Ok note)
+  pub noted : NotesSay many bytes.core (Ok note)
+
+-- as the trace asks for it
+abbrev pub Reads : CrashBytes → List ℕ → Type 0
+Reads bytes note = ReadsAs (is_several bytes.trace) bytes note
 
 -- the bytes of a crash, the descriptor of the register note, and a path
 pub record Opening : Type 0 where
@@ -164,13 +172,13 @@ IsCrashOf files (MadeRun seed steps) bytes = ⊥
 pub record Opens (words : List (List ℕ)) (files : Files) (o : Opening) : Type 0 where
   pub loaded : IsCrashOf files (loading words files) o.bytes
   pub read : Reads o.bytes o.note
-  pub path : IsTracePath (crash_at o) o.bytes.trace o.bytes.manner.from o.path
+  pub path : IsPathOf (crash_at o) o.bytes.trace o.bytes.manner.from o.path
 
 -- the files of a made crash come to it
 pub record OpensMade (made : Made) (o : Opening) : Type 0 where
   pub bytes : o.bytes ≡ made_bytes made
   pub read : Reads o.bytes o.note
-  pub path : IsTracePath (crash_at o) o.bytes.trace o.bytes.manner.from o.path
+  pub path : IsPathOf (crash_at o) o.bytes.trace o.bytes.manner.from o.path
 
 -- the session over the report of a made run was cut short
 abbrev pub SumCut : ℕ → ℕ → List ℕ → Status → Type 0

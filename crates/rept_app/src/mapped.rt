@@ -26,6 +26,7 @@ use rept_elf::{Image, Want};
 use rept_mapfiles::{LoadStop, asked_names, images_of, load_names};
 use rept_maps::{Images, Maps};
 use rept_ports::{Shelf, Sink, Source};
+use rept_runs::is_several;
 use rept_word::{OutOfMemory, Text};
 use std::alloc::Global;
 
@@ -109,15 +110,9 @@ fn examine_images<S: Source, K: Sink>(
     ensures stays { (input.new ≡ input.old) ⊎ FilesHold (parts_bytes (mappings (desc_of maps.entry) images.now) (core_bytes (file_of core.entry) files.now.trace.items files.now.manner)) result }
     ensures impossible { result ≡ Status.Inconsistent → FilesExclude (parts_bytes (mappings (desc_of maps.entry) images.now) (core_bytes (file_of core.entry) files.now.trace.items files.now.manner)) }
 {
-    match Dump::mapped(maps, images, core, false) {
-        Ok(dump) => walk(
-            alloc,
-            &dump,
-            files.trace.as_slice(),
-            files.manner,
-            input,
-            out,
-        ),
+    let trace = files.trace.as_slice();
+    match Dump::mapped(maps, images, core, is_several(trace)) {
+        Ok(dump) => walk(alloc, &dump, trace, files.manner, input, out),
         Err(fault) => tell(alloc, out, &Refusal::Core(fault)),
     }
 }

@@ -36,7 +36,7 @@ pub enum Refusal {
     Executable(ElfFault),
     /// The core file is no image that is read.
     CoreImage(ElfFault),
-    /// The core file's notes don't give the registers of one thread.
+    /// The core file's notes don't give the registers of its threads.
     Core(CoreFault),
     /// The core file's list of mapped files is refused.
     Maps(MapFault),

@@ -1,5 +1,5 @@
 -- From an analysis that has ended to the dialog over it.
-use Rattle.std.proofs.Common.{◌≡◌, ℕ, List, length, inl, inr, refl, subst}
+use Rattle.std.proofs.Common.{◌≡◌, ℕ, false, List, length, inl, inr, refl, subst}
 use Rattle.rept_elf.specs.Header.{half_at}
 use Rattle.rept_dump.specs.Dump.{registers_of}
 use Rattle.rept_dump.specs.declared.dump.Dump.{Dump}
@@ -40,13 +40,13 @@ pub refused_conflict : {W : Type 0} (p : CrashPath W) (kind : ConflictKind) → 
 refused_conflict p kind has none = inl (kind, has, none, refl)
 
 -- what was held over the trace of a dump was held over its files
-pub held_at : (exe core trace : List ℕ) (manner : Manner) (dump : Dump) → IsDumpOf exe core dump → (io : Streams) (talk : Talk) → IsHeldTrace (crash_trace (crash_of dump) trace manner) io talk → IsHeld (crash_bytes exe core trace manner) io talk
+pub held_at : (exe core trace : List ℕ) (manner : Manner) (dump : Dump) → IsDumpOf false exe core dump → (io : Streams) (talk : Talk) → IsHeldTrace (crash_trace (crash_of dump) trace manner) io talk → IsHeld (crash_bytes exe core trace manner) io talk
 held_at exe core trace manner dump is io talk h = record {
   note = registers_of dump;
   read = record { program_accepted = is.exe_accepted; core_accepted = is.core_accepted; noted = is.noted };
   held = subst (λ (s : Crash). IsHeldTrace (crash_trace s trace manner) io talk) is.crash h;
 }
 
-pub refused_at : (exe core trace : List ℕ) (manner : Manner) (dump : Dump) → IsDumpOf exe core dump → (r : Refusal) → IsRefusedTrace (crash_trace (crash_of dump) trace manner) r → IsRefusedCrash (crash_bytes exe core trace manner) r
+pub refused_at : (exe core trace : List ℕ) (manner : Manner) (dump : Dump) → IsDumpOf false exe core dump → (r : Refusal) → IsRefusedTrace (crash_trace (crash_of dump) trace manner) r → IsRefusedCrash (crash_bytes exe core trace manner) r
 refused_at exe core trace manner dump is r h =
     inr (registers_of dump, record { program_accepted = is.exe_accepted; core_accepted = is.core_accepted; noted = is.noted }, subst (λ (s : Crash). IsRefusedTrace (crash_trace s trace manner) r) is.crash h)

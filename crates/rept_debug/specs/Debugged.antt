@@ -1,5 +1,5 @@
 -- A dialog over the report of a crash, and why there is none. This project's own.
-use Rattle.std.specs.Prelude.{◌≡◌, ◌⊎◌, ℕ, List, [], ◌∷◌, ◌++◌, codes}
+use Rattle.std.specs.Prelude.{◌≡◌, ◌⊎◌, ℕ, false, List, [], ◌∷◌, ◌++◌, codes}
 use Rattle.std.specs.Fmt.{decimal}
 use Rattle.std.specs.Io.KnownBytes.{Appends}
 use Rattle.rept_elf.specs.Header.{half_at}
@@ -19,7 +19,7 @@ use Rattle.rept_app.specs.Loading.{CrashBytes, ComesTo, ComesToCore, Loading, co
 use Rattle.rept_app.specs.Loading.Loading.{Loaded, LoadedCore, MadeRun, Refused}
 use Rattle.rept_app.specs.Path.{IsTracePath}
 use Rattle.rept_app.specs.Reading.{HasNoCrash}
-use Rattle.rept_app.specs.Told.{CrashPath, CrashTrace, IsAccountOf, Reads, path_in, route_of, setting_of, trace_in}
+use Rattle.rept_app.specs.Told.{CrashPath, CrashTrace, IsAccountOf, ReadsAs, path_in, route_of, setting_of, trace_in}
 use Rattle.rept_app.specs.declared.refusal.FileKind.{FileKind}
 use Rattle.rept_app.specs.declared.refusal.Refusal.{Refusal}
 use Rattle.rept_app.specs.declared.refusal.Refusal.TheVariants as refusal
@@ -89,12 +89,12 @@ IsRefusedTrace t r =
 -- the files are accepted, and their trace was answered
 pub record IsHeld (bytes : CrashBytes) (io : Streams) (talk : Talk) : Type 0 where
   pub note : List ℕ
-  pub read : Reads bytes note
+  pub read : ReadsAs false bytes note
   pub held : IsHeldTrace (trace_in bytes note) io talk
 
 -- the files are refused; or their trace is
 abbrev pub IsRefusedCrash : CrashBytes → Refusal → Type 0
-IsRefusedCrash bytes r = HasNoCrash bytes r ⊎ ((note : List ℕ) × Reads bytes note × IsRefusedTrace (trace_in bytes note) r)
+IsRefusedCrash bytes r = HasNoCrash false bytes r ⊎ ((note : List ℕ) × ReadsAs false bytes note × IsRefusedTrace (trace_in bytes note) r)
 
 -- the words and the files come to a crash; what arrived was answered over its report; and all that the report tells holds in every execution of
 -- the path that ends in the crash

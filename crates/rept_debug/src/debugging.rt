@@ -37,7 +37,7 @@ pub struct Talk {
 }
 
 /// Opens the crash that the words name, as a session does, and answers a debugger over its report: `open EXE CORE TRACE` (or `bits`) and maybe the
-/// number of a packet. From the first packet, where that path has too many steps, it begins from a later one. The refusals are those of a session,
+/// number of a packet, of a trace of one stream. From the first packet, where that path has too many steps, it begins from a later one. The refusals are those of a session,
 /// in its order, and words that ask for mapped files or a made run are refused as usage. At a refusal nothing was read or written.
 pub fn debug<H: Shelf, S: Source, K: Sink, E: Sink>(
     alloc: Global,
@@ -82,7 +82,7 @@ fn debug_files<S: Source, K: Sink, E: Sink>(
     ensures unread { IfErr result (λ _. (input.new ≡ input.old) × (out.new ≡ out.old)) }
     ensures noticed { IfErr result (λ _. Notices (move (E.port errors.old) (E.port errors.new))) }
 {
-    let dump = match read_dump(files.exe.as_slice(), files.core.as_slice()) {
+    let dump = match read_dump(files.exe.as_slice(), files.core.as_slice(), false) {
         Ok(dump) => dump,
         Err(refusal) => return Err(refusal),
     };

@@ -1,12 +1,11 @@
-use Rattle.std.proofs.Common.{◌≡◌, ◌⊎◌, List, ℕ, Ok, Err, None, Some, IfSome, inl, inr, refl, sym, ap, subst, ◌∙◌}
+use Rattle.std.proofs.Common.{◌≡◌, ◌⊎◌, List, ℕ, Err, IfSome, inl, refl, sym, ap, subst, ◌∙◌}
 use Rattle.rept_elf.specs.Image.{file_of}
-use Rattle.rept_maps.specs.Views.{desc_of}
 use Rattle.rept_ports.specs.Port.{move}
 use Rattle.rept_app.specs.Delivered.{Delivers}
 use Rattle.rept_app.specs.Ends.{EndsSession}
 use Rattle.rept_app.specs.Forms.{core_image_fault}
 use Rattle.rept_app.specs.Loading.{core_bytes}
-use Rattle.rept_app.specs.Mapped.{ListSays, mapped_crash}
+use Rattle.rept_app.specs.Mapped.{mapped_crash}
 use Rattle.rept_app.specs.MappedEnds.{ExaminesMapped, IsExaminedMapped, MappedExcludes, MappedHolds, mapped_call, moves}
 use Rattle.rept_app.specs.declared.refusal.Refusal.TheVariants as refusal
 use Rattle.rept_app.specs.declared.status.Status.TheVariants as ends

@@ -1,4 +1,4 @@
-use Rattle.std.proofs.Common.{◌≡◌, ◌⊎◌, ℕ, zero, suc, ◌≤◌, List, length, map, Option, None, Some, IfSome, Ok, inl, inr, refl, sym, ap, subst, ◌∙◌, arith}
+use Rattle.std.proofs.Common.{◌≡◌, suc, length, map, inl, inr, refl, sym, ap, ◌∙◌, arith}
 use Rattle.rept_elf.specs.Image.{file_of}
 use Rattle.rept_maps.specs.Views.{desc_of}
 use Rattle.rept_mapped.specs.Mapped.{mappings}

@@ -3,6 +3,7 @@ use Rattle.rept_found.specs.Crash.{crash_of}
 use Rattle.rept_ports.specs.Port.{move}
 use Rattle.rept_words.specs.declared.request.Domain.TheVariants as domain
 use Rattle.rept_app.specs.Delivered.{Delivers}
+use Rattle.rept_app.specs.Path.{path_with}
 use Rattle.rept_app.specs.Study.{Studies, IsStudied, StudyHolds}
 use Rattle.rept_app.proofs.StudyLemmas.{in_domain}
 use Rattle.rept_app.proofs.ToldLemmas.{reading_of}
@@ -11,29 +12,29 @@ use Rattle.rept_app.proofs.study.study.Goals as goal
 pub returns-in-Ranges-clause-text : goal.returns-in-Ranges-clause-text
 returns-in-Ranges-clause-text g c =
     in_domain (λ d p. IfSome (g.S.Source.port c.args.input.now).bytes (λ bytes. Delivers (Studies p (reading_of bytes (g.S.Source.port c.study_by.new.input).bytes)) (move (g.K.Sink.port c.args.out.now) (g.K.Sink.port c.study_by.new.out)) c.study_by.result))
-    c.args.domain domain.Ranges (crash_of c.args.dump.now) c.args.path.now c.in-Ranges.is c.study_by.ensures.text
+    c.args.domain domain.Ranges (crash_of c.args.dump.now) (path_with c.args.steps.now c.args.skipped) c.in-Ranges.is c.study_by.ensures.text
 
 pub returns-in-Ranges-clause-causes : goal.returns-in-Ranges-clause-causes
 returns-in-Ranges-clause-causes g c =
     in_domain (λ d p. IsStudied p (move (g.S.Source.port c.args.input.now) (g.S.Source.port c.study_by.new.input)) (move (g.K.Sink.port c.args.out.now) (g.K.Sink.port c.study_by.new.out)) c.study_by.result)
-    c.args.domain domain.Ranges (crash_of c.args.dump.now) c.args.path.now c.in-Ranges.is c.study_by.ensures.causes
+    c.args.domain domain.Ranges (crash_of c.args.dump.now) (path_with c.args.steps.now c.args.skipped) c.in-Ranges.is c.study_by.ensures.causes
 
 pub returns-in-Ranges-clause-stays : goal.returns-in-Ranges-clause-stays
 returns-in-Ranges-clause-stays g c =
     in_domain (λ d p. (c.study_by.new.input ≡ c.args.input.now) ⊎ StudyHolds p c.study_by.result)
-    c.args.domain domain.Ranges (crash_of c.args.dump.now) c.args.path.now c.in-Ranges.is c.study_by.ensures.stays
+    c.args.domain domain.Ranges (crash_of c.args.dump.now) (path_with c.args.steps.now c.args.skipped) c.in-Ranges.is c.study_by.ensures.stays
 
 pub returns-in-KnownBits-clause-text : goal.returns-in-KnownBits-clause-text
 returns-in-KnownBits-clause-text g c =
     in_domain (λ d p. IfSome (g.S.Source.port c.args.input.now).bytes (λ bytes. Delivers (Studies p (reading_of bytes (g.S.Source.port c.study_by-in-KnownBits.new.input).bytes)) (move (g.K.Sink.port c.args.out.now) (g.K.Sink.port c.study_by-in-KnownBits.new.out)) c.study_by-in-KnownBits.result))
-    c.args.domain domain.KnownBits (crash_of c.args.dump.now) c.args.path.now c.in-KnownBits.is c.study_by-in-KnownBits.ensures.text
+    c.args.domain domain.KnownBits (crash_of c.args.dump.now) (path_with c.args.steps.now c.args.skipped) c.in-KnownBits.is c.study_by-in-KnownBits.ensures.text
 
 pub returns-in-KnownBits-clause-causes : goal.returns-in-KnownBits-clause-causes
 returns-in-KnownBits-clause-causes g c =
     in_domain (λ d p. IsStudied p (move (g.S.Source.port c.args.input.now) (g.S.Source.port c.study_by-in-KnownBits.new.input)) (move (g.K.Sink.port c.args.out.now) (g.K.Sink.port c.study_by-in-KnownBits.new.out)) c.study_by-in-KnownBits.result)
-    c.args.domain domain.KnownBits (crash_of c.args.dump.now) c.args.path.now c.in-KnownBits.is c.study_by-in-KnownBits.ensures.causes
+    c.args.domain domain.KnownBits (crash_of c.args.dump.now) (path_with c.args.steps.now c.args.skipped) c.in-KnownBits.is c.study_by-in-KnownBits.ensures.causes
 
 pub returns-in-KnownBits-clause-stays : goal.returns-in-KnownBits-clause-stays
 returns-in-KnownBits-clause-stays g c =
     in_domain (λ d p. (c.study_by-in-KnownBits.new.input ≡ c.args.input.now) ⊎ StudyHolds p c.study_by-in-KnownBits.result)
-    c.args.domain domain.KnownBits (crash_of c.args.dump.now) c.args.path.now c.in-KnownBits.is c.study_by-in-KnownBits.ensures.stays
+    c.args.domain domain.KnownBits (crash_of c.args.dump.now) (path_with c.args.steps.now c.args.skipped) c.in-KnownBits.is c.study_by-in-KnownBits.ensures.stays

@@ -1,4 +1,4 @@
-use Rattle.std.proofs.Common.{List, ℕ, inl, subst}
+use Rattle.std.proofs.Common.{List, ℕ, false, inl, subst}
 use Rattle.std.proofs.lemmas.Result.{IfErr-weaker, IfOk-weaker}
 use Rattle.rept_found.specs.Crash.{crash_of}
 use Rattle.rept_ports.specs.Port.{move}
@@ -12,8 +12,8 @@ use Rattle.rept_debug.proofs.debugging.debug_files.Goals as goal
 
 pub returns-in-Err-clause-refused : goal.returns-in-Err-clause-refused
 returns-in-Err-clause-refused g c =
-    inl (subst (λ (exe : List ℕ). HasNoDump exe c.args.files.now.core.items c.in-Err.refusal) c.as_slice.ensures.value
-    (subst (λ (core : List ℕ). HasNoDump c.as_slice.result.now core c.in-Err.refusal) c.as_slice-2.ensures.value c.in-Err.ensures.refused))
+    inl (subst (λ (exe : List ℕ). HasNoDump false exe c.args.files.now.core.items c.in-Err.refusal) c.as_slice.ensures.value
+    (subst (λ (core : List ℕ). HasNoDump false c.as_slice.result.now core c.in-Err.refusal) c.as_slice-2.ensures.value c.in-Err.ensures.refused))
 
 pub returns-clause-held : goal.returns-clause-held
 returns-clause-held g c =
