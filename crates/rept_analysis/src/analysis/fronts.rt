@@ -4,7 +4,7 @@ ghost use Rattle.std.specs.Prelude.{◌≡◌, ◌+◌, ◌<◌, ◌≤◌, leng
 ghost use Rattle.rept_reason.specs.declared.fact.Cell.TheVariants.{Register, Byte};
 ghost use Rattle.rept_report.specs.Log.{oldest};
 ghost use Rattle.rept_report.specs.Why.{Because, IsDrawnBecause, IsKnownBecause, IsCarriedBecause};
-ghost use Rattle.rept_log.specs.Fronts.{stands, told_by, setting_in};
+ghost use Rattle.rept_log.specs.Fronts.{IsInPlace, stands, told_by, setting_in};
 ghost use Rattle.rept_analysis.specs.State.{setting_of, state_of};
 ghost use Rattle.rept_analysis.specs.Reasoned.{front_below, AreSetsOf, KeepsAll};
 
@@ -91,6 +91,7 @@ impl<'a, P: Paths + Drop, B: ByteFacts, W: Transfer, R: RowRules> Analysis<'a, P
         requires complete { self.old.complete ≡ true }
         ensures found { IfOk result (λ found. IfSome found (λ reason. IsKnownBecause (setting_in (front_below P.timeline W.sets W.moves R.rules self.old limit)) (stands (front_below P.timeline W.sets W.moves R.rules self.old limit)) fact.now (told_by reason))) }
         ensures none { IfOk result (λ found. IfNone found ((why : Because) → IsKnownBecause (setting_in (front_below P.timeline W.sets W.moves R.rules self.old limit)) (stands (front_below P.timeline W.sets W.moves R.rules self.old limit)) fact.now why → ⊥)) }
+        ensures room { IfOk result (λ found. IfSome found IsInPlace) }
         ensures same { KeepsAll (state_of P.timeline W.sets W.moves R.rules B.store self.old) (state_of P.timeline W.sets W.moves R.rules B.store self.new) }
     {
         let _len = self.known.len();
@@ -114,6 +115,7 @@ impl<'a, P: Paths + Drop, B: ByteFacts, W: Transfer, R: RowRules> Analysis<'a, P
         requires complete { self.old.complete ≡ true }
         ensures found { IfOk result (λ found. IfSome found (λ reason. IsDrawnBecause (setting_in (front_below P.timeline W.sets W.moves R.rules self.old limit)) (stands (front_below P.timeline W.sets W.moves R.rules self.old limit)) fact.now (told_by reason))) }
         ensures none { IfOk result (λ found. IfNone found ((why : Because) → IsDrawnBecause (setting_in (front_below P.timeline W.sets W.moves R.rules self.old limit)) (stands (front_below P.timeline W.sets W.moves R.rules self.old limit)) fact.now why → ⊥)) }
+        ensures room { IfOk result (λ found. IfSome found IsInPlace) }
         ensures same { KeepsAll (state_of P.timeline W.sets W.moves R.rules B.store self.old) (state_of P.timeline W.sets W.moves R.rules B.store self.new) }
     {
         let _len = self.known.len();
@@ -138,6 +140,7 @@ impl<'a, P: Paths + Drop, B: ByteFacts, W: Transfer, R: RowRules> Analysis<'a, P
         requires complete { self.now.complete ≡ true }
         ensures found { IfOk result (λ found. IfSome found (λ reason. IsCarriedBecause (setting_in (front_below P.timeline W.sets W.moves R.rules self.now limit)) (front_below P.timeline W.sets W.moves R.rules self.now limit).facts fact.now (told_by reason))) }
         ensures none { IfOk result (λ found. IfNone found ((why : Because) → IsCarriedBecause (setting_in (front_below P.timeline W.sets W.moves R.rules self.now limit)) (front_below P.timeline W.sets W.moves R.rules self.now limit).facts fact.now why → ⊥)) }
+        ensures room { IfOk result (λ found. IfSome found IsInPlace) }
     {
         let _len = self.known.len();
         let last = OneEnd::new(self.last.as_slice());

@@ -5,7 +5,7 @@ ghost use Rattle.rept_reason.specs.declared.fact.Cell.TheVariants.{Register, Byt
 ghost use Rattle.rept_report.specs.Log.{entry, place_of, oldest};
 ghost use Rattle.rept_report.specs.Reasons.{StandsIn};
 ghost use Rattle.rept_report.specs.Why.{because, IsReason, IsLeastFront};
-ghost use Rattle.rept_log.specs.Fronts.{told_by};
+ghost use Rattle.rept_log.specs.Fronts.{IsInPlace, told_by};
 ghost use Rattle.rept_analysis.specs.State.{setting_of, state_of};
 ghost use Rattle.rept_analysis.specs.Kept.{answers};
 ghost use Rattle.rept_analysis.specs.Reasoned.{AreSetsOf, KeepsAll, IsNotLast};
@@ -72,6 +72,7 @@ impl<'a, P: Paths + Drop, B: ByteFacts, W: Transfer, R: RowRules> Analysis<'a, P
         requires complete { self.old.complete ≡ true }
         ensures none { IfOk result (λ found. IfNone found (answers (state_of P.timeline W.sets W.moves R.rules B.store self.old) fact.now.point fact.now.cell ≢ Some fact.now.value)) }
         ensures reason { IfOk result (λ found. IfSome found (λ reason. IsReason (setting_of P.timeline W.sets W.moves R.rules self.old) self.old.known.log fact.now (told_by reason))) }
+        ensures room { IfOk result (λ found. IfSome found IsInPlace) }
         ensures same { KeepsAll (state_of P.timeline W.sets W.moves R.rules B.store self.old) (state_of P.timeline W.sets W.moves R.rules B.store self.new) }
     {
         self.held();
@@ -152,6 +153,7 @@ impl<'a, P: Paths + Drop, B: ByteFacts, W: Transfer, R: RowRules> Analysis<'a, P
         requires entry { entry self.old.known.log place ≡ Some fact.now }
         ensures none { IfOk result (λ found. IfNone found (answers (state_of P.timeline W.sets W.moves R.rules B.store self.old) fact.now.point fact.now.cell ≢ Some fact.now.value)) }
         ensures reason { IfOk result (λ found. IfSome found (λ reason. IsReason (setting_of P.timeline W.sets W.moves R.rules self.old) self.old.known.log fact.now (told_by reason))) }
+        ensures room { IfOk result (λ found. IfSome found IsInPlace) }
         ensures same { KeepsAll (state_of P.timeline W.sets W.moves R.rules B.store self.old) (state_of P.timeline W.sets W.moves R.rules B.store self.new) }
     {
         self.held();
@@ -177,6 +179,7 @@ impl<'a, P: Paths + Drop, B: ByteFacts, W: Transfer, R: RowRules> Analysis<'a, P
         requires other { IsNotLast self.now.known.log fact.now limit }
         ensures none { IfOk result (λ found. IfNone found (answers (state_of P.timeline W.sets W.moves R.rules B.store self.now) fact.now.point fact.now.cell ≢ Some fact.now.value)) }
         ensures reason { IfOk result (λ found. IfSome found (λ reason. IsReason (setting_of P.timeline W.sets W.moves R.rules self.now) self.now.known.log fact.now (told_by reason))) }
+        ensures room { IfOk result (λ found. IfSome found IsInPlace) }
     {
         self.held();
         self.fill_sets(spans, limit);
@@ -217,6 +220,7 @@ impl<'a, P: Paths + Drop, B: ByteFacts, W: Transfer, R: RowRules> Analysis<'a, P
         requires complete { self.old.complete ≡ true }
         ensures none { IfOk result (λ found. IfNone found (answers (state_of P.timeline W.sets W.moves R.rules B.store self.old) fact.now.point fact.now.cell ≢ Some fact.now.value)) }
         ensures reason { IfOk result (λ found. IfSome found (λ reason. IsReason (setting_of P.timeline W.sets W.moves R.rules self.old) self.old.known.log fact.now (told_by reason))) }
+        ensures room { IfOk result (λ found. IfSome found IsInPlace) }
         ensures same { KeepsAll (state_of P.timeline W.sets W.moves R.rules B.store self.old) (state_of P.timeline W.sets W.moves R.rules B.store self.new) }
     {
         if !self.is_answered(fact, a) {
@@ -239,6 +243,7 @@ impl<'a, P: Paths + Drop, B: ByteFacts, W: Transfer, R: RowRules> Analysis<'a, P
         requires complete { self.old.complete ≡ true }
         ensures none { IfOk result (λ found. IfNone found (answers (state_of P.timeline W.sets W.moves R.rules B.store self.old) fact.point fact.cell ≢ Some fact.value)) }
         ensures reason { IfOk result (λ found. IfSome found (λ reason. IsReason (setting_of P.timeline W.sets W.moves R.rules self.old) self.old.known.log fact (because reason.rule reason.premises.items reason.ranges.items))) }
+        ensures room { IfOk result (λ found. IfSome found IsInPlace) }
         ensures same { KeepsAll (state_of P.timeline W.sets W.moves R.rules B.store self.old) (state_of P.timeline W.sets W.moves R.rules B.store self.new) }
     {
         match &fact.cell {
