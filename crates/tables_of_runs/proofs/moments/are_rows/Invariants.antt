@@ -1,7 +1,7 @@
 use Rattle.std.proofs.Common.{IsSome, drop}
 use Rattle.std.specs.List.{All}
 use Rattle.rept_moments.specs.Courses.{seen_in}
-use Rattle.test_moments.proofs.tests.are_rows.Given as goal
+use Rattle.tables_of_runs.proofs.moments.are_rows.Given as goal
 
 -- those that are left decide
 abbrev pub invariant-loop-row : goal.invariant-loop-row

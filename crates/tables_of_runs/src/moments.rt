@@ -1,0 +1,53 @@
+//! Which moments are next to one another, and over which of them a byte is carried.
+
+ghost use Rattle.std.specs.Prelude.{◌≡◌, true, IsSome};
+ghost use Rattle.std.specs.List.{All};
+ghost use Rattle.rept_moments.specs.Courses.{seen_in};
+
+use rept_carry::Ways;
+use std::alloc::{AllocError, Global};
+use test_lines::Numbers;
+
+/// Whether a number is next to another one, whether it is the next one from itself on, and whether the other one comes before it, looked for from the other one on.
+pub fn next(alloc: Global, ways: &Ways<'_>, m: u32, w: u32) -> Result<String, AllocError> {
+    if m > ways.course().end() {
+        return String::from_str(alloc, "past the end");
+    }
+    let told = ways.course().is_next(m, w);
+    let found = ways.course().next_from(m, w) == Some(w);
+    let back = ways.previous_from(w, m) == Some(m);
+    format!(in alloc; "{told} {found} {back}")
+}
+
+/// Whether each of them is a row.
+fn are_rows(ways: &Ways<'_>, rows: &[u32]) -> bool
+    ensures { result ≡ true → All (λ i. IsSome ((seen_in ways.now).legs.row i)) rows.now }
+{
+    for row in rows {
+        if ways.course().row(*row).is_none() {
+            return false;
+        }
+    }
+    true
+}
+
+/// The numbers of a line after the first two.
+fn rest(alloc: Global, n: &Numbers) -> Result<Vec<u32>, AllocError> {
+    let mut rows = Vec::new(alloc);
+    for k in 2..n.count() {
+        rows.push(n.word(k))?;
+    }
+    Ok(rows)
+}
+
+/// Whether a byte that these rows may write is carried from a number to another one, and from that one back.
+pub fn carried(alloc: Global, ways: &Ways<'_>, n: &Numbers) -> Result<String, AllocError> {
+    let (m, w) = (n.word(0), n.word(1));
+    let rows = rest(alloc, n)?;
+    if m > ways.course().end() || !are_rows(ways, rows.as_slice()) {
+        return String::from_str(alloc, "no such moment or row");
+    }
+    let onward = ways.carried_from(rows.as_slice(), m, w) == Some(w);
+    let back = ways.carried_back_from(rows.as_slice(), w, m) == Some(m);
+    format!(in alloc; "{onward} {back}")
+}
