@@ -1,10 +1,6 @@
-//! The worked crashes, crashes of mapped files, each refusal, damaged files and each fault of a port, through the top call and the process. There are tests alone.
+//! The top call and the process, where a line of a table can't ask: sizes, the order of reads and writes, made runs, statuses and words. There are tests alone.
 #![tactic(auto)]
 
-#[cfg(test)]
-mod hostile;
-#[cfg(test)]
-mod mapped;
 #[cfg(test)]
 mod process;
 #[cfg(test)]

@@ -1,0 +1,116 @@
+//! The files of a crash, an input, and what comes of them.
+
+use crate::fails::Fails;
+use rept_app::rept;
+use rept_ports::{MemShelf, MemSink, MemSource};
+use std::alloc::{AllocError, Global};
+use test_files::{core_file, core_with_word, executable};
+use test_lines::Numbers;
+
+/// Files with their names, a file that is being made, an input that is being made, and the calls that fail.
+#[derive(Drop)]
+pub struct Crash {
+    files: Vec<(String, Vec<u8>)>,
+    file: Vec<u8>,
+    input: Vec<u8>,
+    fails: Fails,
+}
+
+impl Crash {
+    /// No file and an empty input.
+    pub fn new(alloc: Global) -> Crash {
+        Crash {
+            files: Vec::new(alloc),
+            file: Vec::new(alloc),
+            input: Vec::new(alloc),
+            fails: Fails::new(alloc),
+        }
+    }
+
+    /// Takes a line that makes a file, an input or a fault.
+    pub fn take(&mut self, alloc: Global, line: &str) -> Result<(), AllocError> {
+        if let Some(text) = line.strip_prefix("> ") {
+            self.input.extend_from_slice(text.as_bytes())?;
+            self.input.push(b'\n')?;
+            return Ok(());
+        }
+        let mut words = line.split_whitespace();
+        let Some(asked) = words.next() else {
+            return Ok(());
+        };
+        if asked == "keep" {
+            return self.keep(alloc, words.next().unwrap_or(""));
+        }
+        let mut numbers = Numbers::new();
+        for word in words {
+            numbers.take(word);
+        }
+        self.make(alloc, asked, &numbers)
+    }
+
+    /// Gives the file that was made a name: a later one of a name stands in the place of an earlier one.
+    fn keep(&mut self, alloc: Global, name: &str) -> Result<(), AllocError> {
+        let name = String::from_str(alloc, name)?;
+        let bytes = Vec::from_slice(alloc, self.file.as_slice())?;
+        self.files.push((name, bytes))?;
+        Ok(())
+    }
+
+    fn make(&mut self, alloc: Global, asked: &str, n: &Numbers) -> Result<(), AllocError> {
+        let registers = [n.word(1), n.word(2), n.word(3)];
+        match asked {
+            "exe" => self.file = program(alloc, n)?,
+            "core" => self.file = core_file(alloc, n.word(0), registers)?,
+            "saved" => {
+                self.file = core_with_word(alloc, n.word(0), registers, n.word(4), n.word(5))?
+            }
+            "input" => self.input.extend_from_slice(self.file.as_slice())?,
+            "none" => self.files.clear(),
+            _ => {
+                let _is_fault = self.fails.take(asked, n)?;
+                let _is_file = test_bytes::make(alloc, &mut self.file, asked, n)?;
+            }
+        }
+        Ok(())
+    }
+
+    /// A shelf with the files, of which some loads fail.
+    fn shelf(&self, alloc: Global) -> Result<MemShelf, AllocError> {
+        let mut shelf = MemShelf::new(alloc, self.fails.loads.as_slice())?;
+        for (name, bytes) in &self.files {
+            shelf.put(name.as_str(), bytes.as_slice())?;
+        }
+        Ok(shelf)
+    }
+
+    /// The words, the number of the status and what was written, where the program is given these words and the input. After it the input is
+    /// empty and no call fails.
+    pub fn run(&mut self, alloc: Global, line: &str) -> Result<String, AllocError> {
+        let words = word_list(alloc, line)?;
+        let mut shelf = self.shelf(alloc)?;
+        let mut source = MemSource::new(alloc, self.input.as_slice(), self.fails.reads.as_slice())?;
+        let mut sink = MemSink::new(alloc, 4000, self.fails.writes.as_slice())?;
+        let status = rept(alloc, words.as_slice(), &mut shelf, &mut source, &mut sink);
+        self.input = Vec::new(alloc);
+        self.fails = Fails::new(alloc);
+        let text = String::from_utf8_lossy(alloc, sink.bytes())?;
+        format!(in alloc; "run{line}: {}\n{text}", status.number())
+    }
+}
+
+/// An executable at the first number of a line, of the words after it.
+fn program(alloc: Global, n: &Numbers) -> Result<Vec<u8>, AllocError> {
+    let mut code = Vec::new(alloc);
+    for k in 1..n.count() {
+        code.push(n.word(k))?;
+    }
+    executable(alloc, n.word(0), code.as_slice())
+}
+
+fn word_list(alloc: Global, line: &str) -> Result<Vec<String>, AllocError> {
+    let mut list = Vec::new(alloc);
+    for word in line.split_whitespace() {
+        list.push(String::from_str(alloc, word)?)?;
+    }
+    Ok(list)
+}
