@@ -1,0 +1,4 @@
+pub mod Trip
+pub mod Alone
+pub mod Executed
+pub mod Last
