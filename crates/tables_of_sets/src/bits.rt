@@ -8,11 +8,11 @@ use test_lines::Numbers;
 
 pub fn answer(alloc: Global, asked: &str, n: &Numbers) -> Result<String, AllocError> {
     match asked {
-        "common" => set(alloc, range_at(n, 0).meet(range_at(n, 2))),
-        "value" => set(alloc, flat(n.known(0)).meet(flat(n.known(1)))),
-        "bits" => show_bits(alloc, bits_at(n, 0).meet(bits_at(n, 2))),
-        "least" => format!(in alloc; "{}", Value(least_from(bits_at(n, 0), n.word(2)))),
-        "reduced" => show_both(alloc, Both::new(range_at(n, 0), bits_at(n, 2))),
+        "set-range" => set(alloc, range_at(n, 0).meet(range_at(n, 2))),
+        "set-value" => set(alloc, flat(n.known(0)).meet(flat(n.known(1)))),
+        "set-bits" => show_bits(alloc, bits_at(n, 0).meet(bits_at(n, 2))),
+        "set-least" => format!(in alloc; "{}", Value(least_from(bits_at(n, 0), n.word(2)))),
+        "set-reduced" => show_both(alloc, Both::new(range_at(n, 0), bits_at(n, 2))),
         _ => show_both(alloc, word_or_any(n.known(0)).meet(word_or_any(n.known(1)))),
     }
 }
@@ -34,24 +34,24 @@ fn word_or_any(value: Option<u32>) -> Both {
     }
 }
 
-/// The bits that are set and those that are open, and then bounds and the only value; or that there is none.
+/// The bits that are set and those that are open, the bounds and the only value.
 pub fn show_bits(alloc: Global, found: Option<Bits>) -> Result<String, AllocError> {
-    let bounds = set(alloc, found)?;
     match found {
-        None => Ok(bounds),
-        Some(bits) => format!(in alloc; "{:#x} open {:#x}, {bounds}", bits.value(), bits.loose()),
+        None => String::from_str(alloc, "none"),
+        Some(bits) => format!(in alloc;
+            "{bits:?} {:#x} to {:#x}, {:?}",
+            bits.lo(),
+            bits.hi(),
+            bits.as_exact()
+        ),
     }
 }
 
-/// The same of a range and bits.
+/// A range and bits, and the only value.
 pub fn show_both(alloc: Global, found: Option<Both>) -> Result<String, AllocError> {
-    let bounds = set(alloc, found)?;
-    match found {
-        None => Ok(bounds),
-        Some(both) => format!(in alloc;
-            "{:#x} open {:#x}, {bounds}",
-            both.bits().value(),
-            both.bits().loose()
-        ),
-    }
+    let exact = match found {
+        None => None,
+        Some(both) => both.as_exact(),
+    };
+    format!(in alloc; "{found:?} {exact:?}")
 }

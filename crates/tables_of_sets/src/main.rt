@@ -36,16 +36,22 @@ impl Table for Sets {
             "calls" => calls::changed_of_ranges(alloc, n),
             "path" => paths::answer(alloc, n),
             "reason" => reasons::answer(alloc, n),
-            "store" | "learn" | "known" | "carry" | "next" | "track" | "small" => self
-                .stores
-                .answer(alloc, asked, n),
-            "rows" | "add" | "replace" | "index" | "clear" | "from" | "below" => self
-                .rows
-                .answer(alloc, asked, n),
-            "common" | "value" | "bits" | "least" | "reduced" | "both" => bits::answer(
-                alloc, asked, n,
-            ),
-            _ => moves::answer(alloc, asked, n),
+            "room" => stores::room(alloc, n),
+            _ => self.others(alloc, asked, n),
+        }
+    }
+}
+
+impl Sets {
+    fn others(&mut self, alloc: Global, asked: &str, n: &Numbers) -> Result<String, AllocError> {
+        if asked.starts_with("store-") {
+            self.stores.answer(alloc, asked, n)
+        } else if asked.starts_with("rows-") {
+            self.rows.answer(alloc, asked, n)
+        } else if asked.starts_with("set-") {
+            bits::answer(alloc, asked, n)
+        } else {
+            moves::answer(alloc, asked, n)
         }
     }
 }

@@ -75,14 +75,5 @@ fn second(left: Option<(Bits, Bits)>) -> Option<Bits> {
 
 /// What is left of two ranges.
 fn left(alloc: Global, left: Option<(Range, Range)>) -> Result<String, AllocError> {
-    match left {
-        None => String::from_str(alloc, "none"),
-        Some((a, b)) => format!(in alloc;
-            "{:#x} to {:#x} and {:#x} to {:#x}",
-            a.lo(),
-            a.hi(),
-            b.lo(),
-            b.hi()
-        ),
-    }
+    format!(in alloc; "{left:?}")
 }

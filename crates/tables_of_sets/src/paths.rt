@@ -1,7 +1,6 @@
 //! The ranges along a path of which one fact is known.
 
 use crate::moves::row_of;
-use crate::shown::set;
 use rept_isa::{Reg, StepRow};
 use rept_partial::{Flat, Range};
 use rept_reason::{Cell, Fact};
@@ -61,10 +60,12 @@ fn filled(alloc: Global, rows: &[StepRow; 4], fact: Fact) -> Result<String, Allo
         Ok(()) => None,
         Err(EmptyAt { point, reg }) => Some((point, reg.number())),
     };
-    let x6 = set(alloc, Some(spans.at(2, reg(6))))?;
-    let x7 = set(alloc, Some(spans.at(4, reg(7))))?;
-    let x8 = set(alloc, Some(spans.at(4, reg(8))))?;
-    format!(in alloc; "{empty:?}; {x6}; {x7}; {x8}")
+    let ranges = [
+        spans.at(2, reg(6)),
+        spans.at(4, reg(7)),
+        spans.at(4, reg(8)),
+    ];
+    format!(in alloc; "{empty:?} {ranges:?}")
 }
 
 /// The register of a number, x0 where there is none.

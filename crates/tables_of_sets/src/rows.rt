@@ -45,16 +45,16 @@ impl Rows {
         let (k, a) = (n.word(0), n.word(1));
         let mut done = 0;
         match asked {
-            "from" => return format!(in alloc; "{:?}", self.writings.next_hit(k as usize, a)),
-            "below" => return format!(in alloc;
+            "rows-from" => return format!(in alloc; "{:?}", self.writings.next_hit(k as usize, a)),
+            "rows-below" => return format!(in alloc;
                 "{} of {}",
                 self.writings.past_hit(k, a),
                 self.writings.before(k)
             ),
-            "rows" => *self = Rows::new(alloc, k)?,
-            "add" => self.add(n),
-            "replace" => done = self.replace(n),
-            "index" => self.writings.index(),
+            "rows-new" => *self = Rows::new(alloc, k)?,
+            "rows-add" => self.add(n),
+            "rows-replace" => done = self.replace(n),
+            "rows-index" => self.writings.index(),
             _ => self.writings.clear(),
         }
         format!(in alloc;

@@ -6,26 +6,9 @@ use rept_amo::Atomic;
 use rept_isa::{Instr, StepRow};
 use rept_partial::Partial;
 use rept_reason::Cell;
-use rept_rules::{Drawn, Need, RowRules, Side, When, forward, solve};
+use rept_rules::{Drawn, RegisterAt, RowRules, Side, When, forward, solve};
 use std::alloc::{AllocError, Global};
-use std::fmt;
 use test_lines::Numbers;
-
-/// A register or a byte before or after a row.
-#[derive(Clone, Copy)]
-struct Place {
-    when: When,
-    cell: Cell,
-}
-
-impl fmt::Display for Place {
-    fn fmt<W: fmt::Write>(&self, f: &mut fmt::Formatter<W>) -> fmt::Result {
-        match self.cell {
-            Cell::Register(r) => write!(f, "{:?} x{}", self.when, r.number()),
-            Cell::Byte(a) => write!(f, "{:?} {a:#x}", self.when),
-        }
-    }
-}
 
 /// What is known of x5 and x6 before a row, of x7 after it, and of the word at 0x20000 before and after it.
 fn view_of(n: &Numbers) -> Sample {
@@ -73,26 +56,15 @@ fn operands(alloc: Global, instr: &Instr, n: &Numbers) -> Result<String, AllocEr
     )
 }
 
-/// What is concluded of a row: a rule, a place, its value, and of a byte which of the row's places for bytes it takes.
+/// What is concluded of a row.
 fn drawn(alloc: Global, row: &StepRow, view: &Sample) -> Result<String, AllocError> {
     let mut rules = Atomic::new();
     let drawn = rules.draw(alloc, row, view);
-    let mut text = format!(in alloc; "{}", drawn.as_slice().len())?;
-    for d in drawn.as_slice() {
-        let place = Place {
-            when: d.when,
-            cell: d.cell,
-        };
-        text.push_str(format!(in alloc;
-            "; by {} {place} is {:#x} ({})",
-            d.rule, d.value, d.slot
-        )?.as_str())?;
-    }
-    Ok(text)
+    format!(in alloc; "{:?}", drawn.as_slice())
 }
 
 /// The value that a rule gives a register, or the word that its four bytes at 0x20000 make.
-fn value_by(drawn: &[Drawn], rule: u8) -> Value {
+fn value_by(drawn: &[Drawn], rule: u8) -> Option<u32> {
     let mut value = 0;
     let mut found = None;
     for d in drawn {
@@ -108,21 +80,24 @@ fn value_by(drawn: &[Drawn], rule: u8) -> Value {
             found = Some(value);
         }
     }
-    Value(found)
+    found
 }
 
-/// What the rules 19 to 24 give, if anything is concluded.
+/// Whether nothing is concluded, and what the rules 19 to 24 give.
 fn by_rules(alloc: Global, row: &StepRow, view: &Sample) -> Result<String, AllocError> {
     let mut rules = Atomic::new();
     let drawn = rules.draw(alloc, row, view);
-    let mut text = String::new(alloc);
-    if !drawn.as_slice().is_empty() {
-        for rule in 19..25u8 {
-            let value = value_by(drawn.as_slice(), rule);
-            text.push_str(format!(in alloc; " {value}")?.as_str())?;
-        }
+    let is_empty = drawn.as_slice().is_empty();
+    let values = six(drawn.as_slice());
+    format!(in alloc; "{is_empty:?} {values:?}")
+}
+
+fn six(drawn: &[Drawn]) -> [Option<u32>; 6] {
+    let mut values = [None; 6];
+    for k in 0..6u8 {
+        values[usize::from(k)] = value_by(drawn, 19 + k);
     }
-    Ok(text)
+    values
 }
 
 /// What the first conclusion by a rule, or by any, rests on.
@@ -136,22 +111,10 @@ fn needs(
     let drawn = rules.draw(alloc, row, view);
     for d in drawn.as_slice() {
         if rule.is_none() || rule == Some(u32::from(d.rule)) {
-            return needed(alloc, Atomic::needs(alloc, row, view, d).as_slice());
+            return format!(in alloc; "{:?}", Atomic::needs(alloc, row, view, d).as_slice());
         }
     }
     String::from_str(alloc, "no conclusion")
-}
-
-fn needed(alloc: Global, needs: &[Need]) -> Result<String, AllocError> {
-    let mut text = format!(in alloc; "{}", needs.len())?;
-    for need in needs {
-        let place = Place {
-            when: need.when,
-            cell: need.cell,
-        };
-        text.push_str(format!(in alloc; "; {place}")?.as_str())?;
-    }
-    Ok(text)
 }
 
 /// Whether the row may write the byte, whether it is sure, and how many places it has.
@@ -161,16 +124,17 @@ fn writes(alloc: Global, row: &StepRow, view: &Sample, a: u32) -> Result<String,
     format!(in alloc; "{hit}, sure {sure}, places {}", Atomic::places(row))
 }
 
-/// The registers that tell what a row writes.
+/// How many registers tell what a row writes, and the first two.
 fn tells(alloc: Global, row: &StepRow) -> Result<String, AllocError> {
     let tells = Atomic::tells(alloc, row);
-    let mut text = format!(in alloc; "{}", tells.as_slice().len())?;
-    for told in tells.as_slice() {
-        let place = Place {
-            when: told.when,
-            cell: Cell::Register(told.register),
-        };
-        text.push_str(format!(in alloc; "; {place}")?.as_str())?;
+    let tells = tells.as_slice();
+    format!(in alloc; "{} {:?} {:?}", tells.len(), told(tells, 0), told(tells, 1))
+}
+
+fn told(tells: &[RegisterAt], k: usize) -> Option<(When, u8)> {
+    if k < tells.len() {
+        Some((tells[k].when, tells[k].register.number()))
+    } else {
+        None
     }
-    Ok(text)
 }

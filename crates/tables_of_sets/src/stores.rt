@@ -5,12 +5,11 @@ use rept_versions::{ByteFacts, PlainFacts, SpanFacts};
 use std::alloc::{AllocError, Global};
 use test_lines::Numbers;
 
-/// Both stores, and one with little room.
+/// Both stores.
 #[derive(Drop)]
 pub struct Stores {
     plain: PlainFacts,
     spans: SpanFacts,
-    small: SpanFacts,
 }
 
 impl Stores {
@@ -18,12 +17,7 @@ impl Stores {
     pub fn new(alloc: Global) -> Result<Stores, AllocError> {
         let plain = PlainFacts::make(alloc, 100, 8)?;
         let spans = SpanFacts::make(alloc, 100, 8)?;
-        let small = SpanFacts::make(alloc, 10, 1)?;
-        Ok(Stores {
-            plain,
-            spans,
-            small,
-        })
+        Ok(Stores { plain, spans })
     }
 
     /// What the plain list answers, and what the spans answer.
@@ -33,9 +27,6 @@ impl Stores {
         asked: &str,
         n: &Numbers,
     ) -> Result<String, AllocError> {
-        if asked == "small" {
-            return room(alloc, &mut self.small, n);
-        }
         let first = ask(alloc, &mut self.plain, asked, n)?;
         let second = ask(alloc, &mut self.spans, asked, n)?;
         format!(in alloc; "{first} and {second}")
@@ -50,10 +41,10 @@ fn ask<B: ByteFacts>(
 ) -> Result<String, AllocError> {
     let (first, second) = (n.word(0), n.word(1));
     match asked {
-        "learn" => format!(in alloc; "{:?}", facts.learn(first, second, n.byte(2))?),
-        "known" => format!(in alloc; "{:?}", facts.known(first, second)),
-        "carry" => carry(alloc, facts, n),
-        "next" => format!(in alloc; "{:?}", facts.next_stretch(first, second)),
+        "store-learn" => format!(in alloc; "{:?}", facts.learn(first, second, n.byte(2))?),
+        "store-known" => format!(in alloc; "{:?}", facts.known(first, second)),
+        "store-carry" => carry(alloc, facts, n),
+        "store-next" => format!(in alloc; "{:?}", facts.next_stretch(first, second)),
         _ => track(alloc, facts, n.known(0), second),
     }
 }
@@ -86,12 +77,15 @@ fn track<B: ByteFacts>(
     format!(in alloc; "{}, {}", facts.count(), Value(address))
 }
 
-/// Learns a fact on the byte at 0x20000, if there is one, and tells the room that is left, or that there was none.
-fn room<B: ByteFacts>(alloc: Global, facts: &mut B, n: &Numbers) -> Result<String, AllocError> {
-    if let Some(point) = n.known(0) {
-        if let Err(_) = facts.learn(point, 0x20000, n.byte(1)) {
-            return String::from_str(alloc, "no room");
+/// Learns facts on the byte at 0x20000 in spans with three places, one after another: whether there was room for the last one, and the
+/// room that is left.
+pub fn room(alloc: Global, n: &Numbers) -> Result<String, AllocError> {
+    let mut facts = SpanFacts::make(alloc, 10, 1)?;
+    let mut had_room = true;
+    for k in 0..12usize {
+        if let Some(point) = n.known(2 * k) {
+            had_room = facts.learn(point, 0x20000, n.byte(2 * k + 1)).is_ok();
         }
     }
-    format!(in alloc; "{}", facts.spare())
+    format!(in alloc; "{had_room}, {}", facts.spare())
 }
