@@ -83,16 +83,21 @@ impl Crash {
         Ok(shelf)
     }
 
-    /// The words, the number of the status and what was written, where the program is given these words and the input. After it the input is
-    /// empty and no call fails.
+    /// What [`Crash::told`] tells. After it the input is empty and no call fails.
     pub fn run(&mut self, alloc: Global, line: &str) -> Result<String, AllocError> {
+        let text = self.told(alloc, line)?;
+        self.input.clear();
+        self.fails = Fails::new(alloc);
+        Ok(text)
+    }
+
+    /// The words, the number of the status and what was written, where the program is given these words and the input.
+    fn told(&self, alloc: Global, line: &str) -> Result<String, AllocError> {
         let words = word_list(alloc, line)?;
         let mut shelf = self.shelf(alloc)?;
         let mut source = MemSource::new(alloc, self.input.as_slice(), self.fails.reads.as_slice())?;
         let mut sink = MemSink::new(alloc, 4000, self.fails.writes.as_slice())?;
         let status = rept(alloc, words.as_slice(), &mut shelf, &mut source, &mut sink);
-        self.input = Vec::new(alloc);
-        self.fails = Fails::new(alloc);
         let text = String::from_utf8_lossy(alloc, sink.bytes())?;
         format!(in alloc; "run{line}: {}\n{text}", status.number())
     }
