@@ -1,3 +1,4 @@
+pub mod ListedLemmas
 pub mod NoticeLemmas
 pub mod OpenLemmas
 pub mod Sought

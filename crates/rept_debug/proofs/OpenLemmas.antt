@@ -1,19 +1,23 @@
 -- What a process opens, from what is opened of the files.
-use Rattle.std.proofs.Common.{◌≡◌, ◌⊎◌, ℕ, List, Result, Ok, Err, IfErr, IfOk, IfSome, inl, inr, refl, sym, ap, subst}
+use Rattle.std.proofs.Common.{◌≡◌, ℕ, List, Result, Ok, Err, IfErr, IfOk, IfSome, inl, inr, refl, sym, ap, subst}
+use Rattle.std.specs.Prelude.{string_bytes}
 use Rattle.rept_ports.specs.Port.{Move, move}
 use Rattle.rept_ports.specs.Shelves.{Files, Shelved}
 use Rattle.rept_ports.specs.declared.arguments.Unreadable.{Unreadable}
 use Rattle.rept_app.proofs.TopLemmas.{ReportsAreTrue, Stops}
 use Rattle.rept_app.specs.Lines.{status_of}
-use Rattle.rept_app.specs.Loading.{CrashBytes, Loading, crash_bytes, loading}
-use Rattle.rept_app.specs.Loading.Loading.{Loaded}
-use Rattle.rept_app.specs.Told.{crash_at, trace_in}
+use Rattle.rept_app.specs.Loading.{CoreBytes, CrashBytes, Loading, core_loads_to, crash_bytes, loading}
+use Rattle.rept_app.specs.Loading.Loading.{Loaded, LoadedCore}
+use Rattle.rept_app.specs.Mapped.{mapped_crash}
+use Rattle.rept_app.specs.Told.{IsCrashOf, trace_in}
+use Rattle.rept_app.specs.declared.refusal.FileKind.TheVariants as file
 use Rattle.rept_app.specs.declared.load.Manner.{Manner}
 use Rattle.rept_app.specs.declared.refusal.Refusal.{Refusal}
-use Rattle.rept_app.specs.declared.refusal.Refusal.TheVariants as refusal
-use Rattle.rept_debug.specs.Debugged.{IsDebugged, IsHeld, IsRefused, IsRefusedLoading, Notices, Streams, streams}
+use Rattle.rept_debug.specs.Debugged.{IsDebugged, IsHeld, IsHeldMapped, IsRefused, IsRefusedLoading, IsUnheld, NameStops, Notices, Streams, streams}
 use Rattle.rept_debug.specs.Process.{IsUntouched, Opens, OpensAs, Process, RefusesAs, session_words}
-use Rattle.rept_debug.specs.declared.debugging.Talk.{Talk}
+use Rattle.rept_debug.specs.declared.no_talk.NoTalk.{NoTalk}
+use Rattle.rept_debug.specs.declared.no_talk.NoTalk.TheVariants as no_talk
+use Rattle.rept_debug.specs.declared.talk.Talk.{Talk}
 
 -- the same bytes
 pub same_bytes : (exe exe' core core' trace trace' : List ℕ) (manner : Manner) (P : CrashBytes → Type 0) → exe' ≡ exe → core' ≡ core → trace' ≡ trace → P (crash_bytes exe' core' trace' manner) → P (crash_bytes exe core trace manner)
@@ -21,7 +25,7 @@ same_bytes exe exe' core core' trace trace' manner P e k t h =
     subst (λ (x : List ℕ). P (crash_bytes x core trace manner)) e (subst (λ (x : List ℕ). P (crash_bytes exe' x trace manner)) k (subst (λ (x : List ℕ). P (crash_bytes exe' core' x manner)) t h))
 
 -- what was held over the files is true
-pub debugged : (words : List (List ℕ)) (files : Files) (bytes : CrashBytes) (io : Streams) (talk : Talk) → ReportsAreTrue → loading words files ≡ Loaded bytes → IsHeld bytes io talk → IsDebugged words files io talk
+pub debugged : (words : List (List ℕ)) (files : Files) (bytes : CrashBytes) (io : Streams) (talk : Talk) → ReportsAreTrue → IsCrashOf files (loading words files) bytes → IsHeld bytes io talk → IsDebugged words files io talk
 debugged words files bytes io talk true_of loaded h = record {
   bytes = bytes;
   loaded = loaded;
@@ -29,15 +33,31 @@ debugged words files bytes io talk true_of loaded h = record {
   holds = true_of bytes.manner.domain (trace_in bytes h.note).crash h.held.path.steps h.held.over.account.known h.held.over.report.report;
 }
 
+pub debugged_files : (words : List (List ℕ)) (files : Files) (bytes : CrashBytes) (io : Streams) (talk : Talk) → ReportsAreTrue → loading words files ≡ Loaded bytes → IsHeld bytes io talk → IsDebugged words files io talk
+debugged_files words files bytes io talk true_of e h = debugged words files bytes io talk true_of (subst (λ (l : Loading). IsCrashOf files l bytes) (sym e) refl) h
+
+pub debugged_mapped : (words : List (List ℕ)) (files : Files) (core : CoreBytes) (io : Streams) (talk : Talk) → ReportsAreTrue → loading words files ≡ LoadedCore core → IsHeldMapped (mapped_crash files core) io talk → IsDebugged words files io talk
+debugged_mapped words files core io talk true_of e h = debugged words files h.bytes io talk true_of (subst (λ (l : Loading). IsCrashOf files l h.bytes) (sym e) h.is) h.held
+
 -- why the words or the files aren't opened
-pub refused_words : (words : List (List ℕ)) (files : Files) (old new : Shelved) (r : Refusal) → Stops words files old new r → IsRefused words files (move old new) r
+pub refused_words : (words : List (List ℕ)) (files : Files) (old new : Shelved) (r : Refusal) → Stops words files old new r → IsRefused words files (move old new) (no_talk.Refused r)
 refused_words words files old new r (inl h) = inr (inl h)
 refused_words words files old new r (inr (inl e)) = inr (inr (ap status_of e))
 refused_words words files old new r (inr (inr e)) =
-    inl (subst (λ (l : Loading). IsRefusedLoading l r) (sym e) refl)
+    inl (subst (λ (l : Loading). IsRefusedLoading files l r) (sym e) refl)
+
+-- why what was loaded isn't
+pub refused_loaded : (words : List (List ℕ)) (files : Files) (shelf : Move Shelved) (l : Loading) (r : Refusal) → loading words files ≡ l → IsRefusedLoading files l r → IsRefused words files shelf (no_talk.Refused r)
+refused_loaded words files shelf l r e h = inl (subst (λ (x : Loading). IsRefusedLoading files x r) (sym e) h)
+
+pub refused_core : (words : List (List ℕ)) (files : Files) (core : CoreBytes) (old between new : Shelved) (why : NoTalk) → loading words files ≡ LoadedCore core → between.loads ≡ core_loads_to file.Trace old.loads
+    → IsUnheld (mapped_crash files core) (move between.loads new.loads) why → IsRefused words files (move old new) why
+refused_core words files core old between new (no_talk.Refused r) e loads (inl h) = refused_loaded words files (move old new) (LoadedCore core) r e h
+refused_core words files core old between new (no_talk.Refused r) e loads (inr h) = inr (inr h)
+refused_core words files core old between new (no_talk.LoadFault name) e loads h = (core, e, subst (λ (n : ℕ). NameStops (mapped_crash files core) (move n new.loads) (string_bytes name)) loads h)
 
 -- the process opens what its words name
-pub opened : (p : Process) (words ws : List (List ℕ)) (r : Result Talk Refusal) → p.words ≡ Ok words → ws ≡ session_words words
+pub opened : (p : Process) (words ws : List (List ℕ)) (r : Result Talk NoTalk) → p.words ≡ Ok words → ws ≡ session_words words
     → IfOk r (λ talk. IfSome p.shelf.before.files (λ files. IsDebugged ws files (streams p.input p.output p.errors) talk))
     → IfErr r (λ x. IfSome p.shelf.before.files (λ files. IsRefused ws files p.shelf x)) → IfErr r (λ _. IsUntouched p) → IfErr r (λ _. Notices p.errors) → Opens p r
 opened p words ws (Ok talk) is same a b u n =

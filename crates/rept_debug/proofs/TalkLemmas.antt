@@ -1,5 +1,5 @@
 -- From an analysis that has ended to the dialog over it.
-use Rattle.std.proofs.Common.{◌≡◌, ℕ, false, List, length, inl, inr, refl, subst}
+use Rattle.std.proofs.Common.{◌≡◌, ℕ, false, List, inl, inr, refl, subst}
 use Rattle.rept_elf.specs.Header.{half_at}
 use Rattle.rept_dump.specs.Dump.{registers_of}
 use Rattle.rept_dump.specs.declared.dump.Dump.{Dump}
@@ -22,7 +22,7 @@ use Rattle.rept_app.specs.declared.load.Manner.{Manner}
 use Rattle.rept_app.specs.declared.refusal.Refusal.{Refusal}
 use Rattle.rept_app.specs.declared.refusal.Refusal.TheVariants as refusal
 use Rattle.rept_debug.specs.Debugged.{IsHeld, IsHeldTrace, IsRefusedCrash, IsRefusedPath, IsRefusedTrace, Streams, TalksOver}
-use Rattle.rept_debug.specs.declared.debugging.Talk.{Talk}
+use Rattle.rept_debug.specs.declared.talk.Talk.{Talk}
 
 module _ {W R : Type 0} (m : Means W) (v : View W R) (crash : Crash) (path : Path) (found : IsFoundIn m (route m crash path.steps) (scene_of crash) v) where
   abbrev parties_on : AnalysedPath W → ℕ → Parties

@@ -1,10 +1,12 @@
 -- A dialog over the report of a crash, and why there is none. This project's own.
-use Rattle.std.specs.Prelude.{◌≡◌, ◌⊎◌, ℕ, false, List, [], ◌∷◌, ◌++◌, codes}
+use Rattle.std.specs.Prelude.{◌≡◌, ◌⊎◌, ℕ, suc, false, List, [], ◌∷◌, ◌++◌, None, Some, Result, Ok, MatchOption, MatchResult, codes, slice_get, string_bytes}
 use Rattle.std.specs.Fmt.{decimal}
 use Rattle.std.specs.Io.KnownBytes.{Appends}
 use Rattle.rept_elf.specs.Header.{half_at}
 use Rattle.rept_ports.specs.Causes.{OneFault, AppendsPrefix}
-use Rattle.rept_ports.specs.Port.{Port, Move}
+use Rattle.rept_maps.specs.declared.fault.MapFault.{MapFault}
+use Rattle.rept_mapfiles.specs.Kept.{asked_names, loads_after}
+use Rattle.rept_ports.specs.Port.{Port, Move, move}
 use Rattle.rept_ports.specs.Shelves.{Files, Shelved}
 use Rattle.rept_path.specs.declared.fault.PathFault.{PathFault}
 use Rattle.rept_path.specs.declared.rebuilding.Path.{Path}
@@ -14,18 +16,24 @@ use Rattle.rept_found.specs.Telling.{Account, told_of}
 use Rattle.rept_found.specs.Truth.{HasNoExecution, IsTrueReport}
 use Rattle.rept_dialog.specs.Converse.{Parties, Converses, parties_over}
 use Rattle.rept_dialog.specs.declared.conversation.Conversed.{Conversed}
+use Rattle.rept_app.specs.Forms.{core_image_fault}
 use Rattle.rept_app.specs.Lines.{status_of}
-use Rattle.rept_app.specs.Loading.{CrashBytes, ComesTo, ComesToCore, Loading, core_loads_to, loading, loads_to}
+use Rattle.rept_app.specs.Loading.{CrashBytes, CoreBytes, ComesTo, ComesToCore, Loading, core_loads_to, loading, loads_to}
 use Rattle.rept_app.specs.Loading.Loading.{Loaded, LoadedCore, MadeRun, Refused}
+use Rattle.rept_app.specs.Mapped.{IsMappedAs, ListSays, MappedCrash, mapped_bytes, mapped_crash}
 use Rattle.rept_app.specs.Path.{IsTracePath}
 use Rattle.rept_app.specs.Reading.{HasNoCrash}
-use Rattle.rept_app.specs.Told.{CrashPath, CrashTrace, IsAccountOf, ReadsAs, path_in, route_of, setting_of, trace_in}
+use Rattle.rept_app.specs.Told.{CrashPath, CrashTrace, IsAccountOf, IsCrashOf, ReadsAs, path_in, route_of, setting_of, trace_in}
 use Rattle.rept_app.specs.declared.refusal.FileKind.{FileKind}
+use Rattle.rept_app.specs.declared.refusal.FileKind.TheVariants as file
 use Rattle.rept_app.specs.declared.refusal.Refusal.{Refusal}
 use Rattle.rept_app.specs.declared.refusal.Refusal.TheVariants as refusal
+use Rattle.rept_app.specs.declared.status.Status.{Status}
 use Rattle.rept_app.specs.declared.status.Status.TheVariants as ends
 use Rattle.rept_debug.specs.Begin.{BeginsAt, NeverBegins}
-use Rattle.rept_debug.specs.declared.debugging.Talk.{Talk}
+use Rattle.rept_debug.specs.declared.no_talk.NoTalk.{NoTalk}
+use Rattle.rept_debug.specs.declared.no_talk.NoTalk.TheVariants as no_talk
+use Rattle.rept_debug.specs.declared.talk.Talk.{Talk}
 
 -- the three streams, before a call and after it
 pub record Streams : Type 0 where
@@ -96,25 +104,64 @@ pub record IsHeld (bytes : CrashBytes) (io : Streams) (talk : Talk) : Type 0 whe
 abbrev pub IsRefusedCrash : CrashBytes → Refusal → Type 0
 IsRefusedCrash bytes r = HasNoCrash false bytes r ⊎ ((note : List ℕ) × ReadsAs false bytes note × IsRefusedTrace (trace_in bytes note) r)
 
+-- the core file and its list are accepted, and the trace was answered over the crash with the files of that list
+pub record IsHeldMapped (m : MappedCrash) (io : Streams) (talk : Talk) : Type 0 where
+  pub bytes : CrashBytes
+  pub is : IsMappedAs m bytes
+  pub held : IsHeld bytes io talk
+
+-- the core file is refused as an image; or its list is; or the crash with the files of that list is
+abbrev pub IsRefusedMapped : MappedCrash → Refusal → Type 0
+IsRefusedMapped m r =
+    MatchOption (core_image_fault m.bytes.core)
+    ((said : Result (List ℕ) MapFault) × ListSays m.bytes.core said × MatchResult said (λ desc. IsRefusedCrash (mapped_bytes m desc) r) (λ fault. r ≡ refusal.Maps fault))
+    (λ fault. r ≡ refusal.CoreImage fault)
+
+-- The load of the file of this name, which is one of those that the core file lists, failed: it was the last.
+pub record NameStops (m : MappedCrash) (asked : Move ℕ) (name : List ℕ) : Type 0 where
+  pub accepted : core_image_fault m.bytes.core ≡ None
+  pub desc : List ℕ
+  pub listed : ListSays m.bytes.core (Ok desc)
+  pub place : ℕ
+  pub named : slice_get (asked_names desc) place ≡ Some name
+  pub loads : asked.after ≡ loads_after (suc place) asked.before
+
+-- why nothing is answered of a core file that lists the files of its program
+abbrev pub IsUnheld : MappedCrash → Move ℕ → NoTalk → Type 0
+IsUnheld m asked (no_talk.Refused r) = IsRefusedMapped m r ⊎ (status_of r ≡ ends.OutOfMemory)
+IsUnheld m asked (no_talk.LoadFault name) = NameStops m asked (string_bytes name)
+
+-- the load of a name failed, or there was no memory to tell it
+abbrev pub IsLoadFault : List ℕ → NoTalk → Type 0
+IsLoadFault name (no_talk.Refused r) = r ≡ refusal.OutOfMemory
+IsLoadFault name (no_talk.LoadFault told) = string_bytes told ≡ name
+
+abbrev pub status_of_no_talk : NoTalk → Status
+status_of_no_talk (no_talk.Refused r) = status_of r
+status_of_no_talk (no_talk.LoadFault name) = ends.LoadFault
+
 -- the words and the files come to a crash; what arrived was answered over its report; and all that the report tells holds in every execution of
 -- the path that ends in the crash
 pub record IsDebugged (words : List (List ℕ)) (files : Files) (io : Streams) (talk : Talk) : Type 0 where
   pub bytes : CrashBytes
-  pub loaded : loading words files ≡ Loaded bytes
+  pub loaded : IsCrashOf files (loading words files) bytes
   pub held : IsHeld bytes io talk
   pub holds : IsTrueReport (route_of (path_in (trace_in bytes held.note) held.held.path)) held.held.over.account.known
 
--- why nothing is answered of what was loaded: it is refused; or the words ask for mapped files or a made run
-abbrev pub IsRefusedLoading : Loading → Refusal → Type 0
-IsRefusedLoading (Refused named) r = r ≡ named
-IsRefusedLoading (Loaded bytes) r = IsRefusedCrash bytes r
-IsRefusedLoading (LoadedCore bytes) r = r ≡ refusal.Usage
-IsRefusedLoading (MadeRun seed steps) r = r ≡ refusal.Usage
+-- why nothing is answered of what was loaded: it is refused; or the words ask for a made run
+abbrev pub IsRefusedLoading : Files → Loading → Refusal → Type 0
+IsRefusedLoading files (Refused named) r = r ≡ named
+IsRefusedLoading files (Loaded bytes) r = IsRefusedCrash bytes r
+IsRefusedLoading files (LoadedCore bytes) r = IsRefusedMapped (mapped_crash files bytes) r
+IsRefusedLoading files (MadeRun seed steps) r = r ≡ refusal.Usage
 
--- Why nothing is answered: the words have no meaning, or ask for mapped files or a made run; a file is missing or too large; the crash is refused; a load failed,
+-- Why nothing is answered: the words have no meaning, or ask for a made run; a file is missing or too large; the crash is refused; a load failed,
 -- after those before it; or memory ran out.
-abbrev pub IsRefused : List (List ℕ) → Files → Move Shelved → Refusal → Type 0
-IsRefused words files shelf r =
-    IsRefusedLoading (loading words files) r
+abbrev pub IsRefused : List (List ℕ) → Files → Move Shelved → NoTalk → Type 0
+IsRefused words files shelf (no_talk.Refused r) =
+    IsRefusedLoading files (loading words files) r
     ⊎ ((kind : FileKind) × (r ≡ refusal.LoadFault kind) × ((ComesTo words files kind × (shelf.after.loads ≡ loads_to kind shelf.before.loads)) ⊎ (ComesToCore words files kind × (shelf.after.loads ≡ core_loads_to kind shelf.before.loads))))
     ⊎ (status_of r ≡ ends.OutOfMemory)
+IsRefused words files shelf (no_talk.LoadFault name) =
+    (core : CoreBytes) × (loading words files ≡ LoadedCore core)
+    × NameStops (mapped_crash files core) (move (core_loads_to file.Trace shelf.before.loads) shelf.after.loads) (string_bytes name)

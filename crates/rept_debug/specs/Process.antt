@@ -1,5 +1,6 @@
 -- A process that opens a crash for a debugger: its words, its ports, and the number that it ends with. This project's own.
-use Rattle.std.specs.Prelude.{◌≡◌, ◌⊎◌, ℕ, List, [], ◌∷◌, ◌++◌, Result, Ok, Err, IfSome, codes, MatchResult}
+use Rattle.std.specs.Prelude.{◌≡◌, ◌⊎◌, ℕ, List, [], ◌∷◌, ◌++◌, Bool, false, Result, Ok, Err, IfSome, codes, string_bytes, MatchResult, if◌then◌else◌}
+use Rattle.std.specs.Str.{bytes_eq}
 use Rattle.rept_ports.specs.Port.{Port, Move, move}
 use Rattle.rept_ports.specs.Shelves.{Shelved}
 use Rattle.rept_ports.specs.declared.arguments.Unreadable.{Unreadable}
@@ -8,14 +9,16 @@ use Rattle.rept_remote.specs.declared.arrival.Ending.TheVariants as ending
 use Rattle.rept_dialog.specs.declared.conversation.Conversed.{Conversed}
 use Rattle.rept_dialog.specs.declared.conversation.Conversed.TheVariants as conversed
 use Rattle.rept_app.specs.Delivered.{Delivers, Tells}
-use Rattle.rept_app.specs.Lines.{status_of}
+use Rattle.rept_app.specs.MappedEnds.{TellsName}
 use Rattle.rept_app.specs.Status.{number_of_status}
 use Rattle.rept_app.specs.declared.refusal.Refusal.{Refusal}
 use Rattle.rept_app.specs.declared.refusal.Refusal.TheVariants as refusal
 use Rattle.rept_app.specs.declared.status.Status.{Status}
 use Rattle.rept_app.specs.declared.status.Status.TheVariants as ends
-use Rattle.rept_debug.specs.Debugged.{IsDebugged, IsRefused, Notices, streams}
-use Rattle.rept_debug.specs.declared.debugging.Talk.{Talk}
+use Rattle.rept_debug.specs.Debugged.{IsDebugged, IsRefused, Notices, status_of_no_talk, streams}
+use Rattle.rept_debug.specs.declared.no_talk.NoTalk.{NoTalk}
+use Rattle.rept_debug.specs.declared.no_talk.NoTalk.TheVariants as no_talk
+use Rattle.rept_debug.specs.declared.talk.Talk.{Talk}
 
 -- the words, or why they can't be read; and the ports before the call and after it
 pub record Process : Type 0 where
@@ -28,9 +31,14 @@ pub record Process : Type 0 where
 abbrev pub process : Result (List (List ℕ)) Unreadable → Move Shelved → Move Port → Move Port → Move Port → Process
 process words shelf input output errors = record { words = words; shelf = shelf; input = input; output = output; errors = errors }
 
--- the words of a session over the same crash
+-- the first word is `maps`
+abbrev pub asks_for_maps : List (List ℕ) → Bool
+asks_for_maps [] = false
+asks_for_maps (first ∷ words) = bytes_eq first (codes "maps")
+
+-- the words of a session over the same crash: these, where the first is `maps`, and else `open` and these
 abbrev pub session_words : List (List ℕ) → List (List ℕ)
-session_words words = codes "open" ∷ words
+session_words words = if asks_for_maps words then words else codes "open" ∷ words
 
 -- the status of a dialog that was held; a debugger that is gone is no fault
 abbrev pub status_of_end : Conversed → Status
@@ -44,8 +52,13 @@ status_of_end conversed.OutOfMemory = ends.OutOfMemory
 
 -- the line of a refusal: that of a session, or, of words, this program's own
 abbrev pub TellsRefusal : Refusal → List ℕ → Status → Type 0
-TellsRefusal refusal.Usage text status = text ≡ codes "usage: rept_gdb EXE CORE TRACE [FROM]" ++ 10 ∷ []
+TellsRefusal refusal.Usage text status = text ≡ codes "usage: rept_gdb EXE CORE TRACE [FROM] | rept_gdb maps CORE TRACE [FROM]" ++ 10 ∷ []
 TellsRefusal r text status = Tells r text status
+
+-- why no dialog is held
+abbrev pub TellsNoTalk : NoTalk → List ℕ → Status → Type 0
+TellsNoTalk (no_talk.Refused r) text status = TellsRefusal r text status
+TellsNoTalk (no_talk.LoadFault name) text status = TellsName (string_bytes name) text status
 
 -- the ports of the debugger are as they were
 abbrev pub IsUntouched : Process → Type 0
@@ -57,19 +70,19 @@ abbrev pub OpensAs : Process → Result (List (List ℕ)) Unreadable → Talk �
 OpensAs p (Ok words) talk = IfSome p.shelf.before.files (λ files. IsDebugged (session_words words) files (streams p.input p.output p.errors) talk)
 OpensAs p (Err why) talk = ⊥
 
-abbrev pub RefusesAs : Process → Result (List (List ℕ)) Unreadable → Refusal → Type 0
-RefusesAs p (Ok words) r = (status_of r ≡ ends.OutOfMemory) ⊎ IfSome p.shelf.before.files (λ files. IsRefused (session_words words) files p.shelf r)
-RefusesAs p (Err NotText) r = r ≡ refusal.Usage
-RefusesAs p (Err OutOfMemory) r = r ≡ refusal.OutOfMemory
+abbrev pub RefusesAs : Process → Result (List (List ℕ)) Unreadable → NoTalk → Type 0
+RefusesAs p (Ok words) why = (status_of_no_talk why ≡ ends.OutOfMemory) ⊎ IfSome p.shelf.before.files (λ files. IsRefused (session_words words) files p.shelf why)
+RefusesAs p (Err NotText) why = why ≡ no_talk.Refused refusal.Usage
+RefusesAs p (Err OutOfMemory) why = why ≡ no_talk.Refused refusal.OutOfMemory
 
-abbrev pub Opens : Process → Result Talk Refusal → Type 0
+abbrev pub Opens : Process → Result Talk NoTalk → Type 0
 Opens p result =
-    MatchResult result (λ talk. OpensAs p p.words talk) (λ r. RefusesAs p p.words r × IsUntouched p × Notices p.errors)
+    MatchResult result (λ talk. OpensAs p p.words talk) (λ why. RefusesAs p p.words why × IsUntouched p × Notices p.errors)
 
--- A dialog was held, and the number is that of its end. Or the crash is refused: its line is written, after what was noticed, and the number is
--- that of the refusal.
+-- A dialog was held, and the number is that of its end. Or there is none: why is written, after what was noticed, and the number is
+-- that of its status.
 abbrev pub Answers : Process → ℕ → Type 0
 Answers p number =
     ((talk : Talk) × OpensAs p p.words talk × (number ≡ number_of_status (status_of_end talk.end)))
-    ⊎ ((r : Refusal) × (noticed : Port) × RefusesAs p p.words r × IsUntouched p × Notices (move p.errors.before noticed)
-    × ((told : Status) × Delivers (TellsRefusal r) (move noticed p.errors.after) told) × (number ≡ number_of_status (status_of r)))
+    ⊎ ((why : NoTalk) × (noticed : Port) × RefusesAs p p.words why × IsUntouched p × Notices (move p.errors.before noticed)
+    × ((told : Status) × Delivers (TellsNoTalk why) (move noticed p.errors.after) told) × (number ≡ number_of_status (status_of_no_talk why)))

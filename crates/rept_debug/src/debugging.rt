@@ -1,44 +1,26 @@
 //! From the words to the end of the dialog.
 
-ghost use Rattle.std.specs.Prelude.{◌≡◌, ◌<◌, ◌^◌, map, length, string_bytes, IfOk, IfErr, IfSome};
-ghost use Rattle.rept_dump.specs.Dump.{registers_of};
-ghost use Rattle.rept_steps.specs.Linked.{EndBefore};
+ghost use Rattle.std.specs.Prelude.{◌≡◌, ◌≤◌, ◌<◌, ◌^◌, map, length, string_bytes, IfOk, IfErr, IfSome};
 ghost use Rattle.rept_ports.specs.Port.{move};
-ghost use Rattle.rept_found.specs.Crash.{crash_of, end_pc, means};
-ghost use Rattle.rept_amo.specs.Atomic.{atomic_rules};
-ghost use Rattle.rept_app.specs.Domains.{means_of};
 ghost use Rattle.rept_app.specs.Loading.{ShelfMoves, crash_bytes};
-ghost use Rattle.rept_app.specs.Told.{crash_path, crash_trace};
-ghost use Rattle.rept_debug.specs.Debugged.{IsDebugged, IsHeld, IsHeldTrace, IsRefused, IsRefusedCrash, IsRefusedPath, IsRefusedTrace, Notices, TalksOver, streams};
+ghost use Rattle.rept_app.specs.Top.{FaultsEnd};
+ghost use Rattle.rept_words.specs.Words.{meaning_of};
+ghost use Rattle.rept_debug.specs.Debugged.{IsDebugged, IsHeld, IsRefused, IsRefusedCrash, Notices, streams};
 
-use crate::begin::begin_path;
-use crate::notice::noticed;
+use crate::mapped::debug_mapped;
+use crate::no_talk::NoTalk;
+use crate::talk::{Talk, debug_trace};
 use rept_amo::Atomic;
-use rept_app::{Asked, CrashFiles, Manner, Refusal, load_files, read_dump};
-use rept_dialog::{Conversed, converse};
-use rept_dump::Dump;
-use rept_found::{prepare, reports_are_true, search};
+use rept_app::{Asked, CrashFiles, Refusal, load_files, read_dump};
+use rept_found::reports_are_true;
 use rept_known::Both;
 use rept_partial::Range;
-use rept_path::Path;
 use rept_ports::{Shelf, Sink, Source};
-use rept_span::Transfer;
-use rept_stub::Setting;
-use rept_words::Domain;
 use std::alloc::Global;
 
-/// A dialog that was held.
-#[derive(Clone, Copy, Debug)]
-pub struct Talk {
-    /// the number of the packet from which the path was rebuilt
-    pub from: u32,
-    /// how it ended
-    pub end: Conversed,
-}
-
-/// Opens the crash that the words name, as a session does, and answers a debugger over its report: `open EXE CORE TRACE` (or `bits`) and maybe the
-/// number of a packet, of a trace of one stream. From the first packet, where that path has too many steps, it begins from a later one. The refusals are those of a session,
-/// in its order, and words that ask for mapped files or a made run are refused as usage. At a refusal nothing was read or written.
+/// Opens the crash that the words name, as a session does, and answers a debugger over its report: `open EXE CORE TRACE` (or `bits`), or `maps CORE TRACE`, and maybe
+/// the number of a packet, of a trace of one stream. From the first packet, where that path has too many steps, it begins from a later one. The refusals are those of a session,
+/// in its order, and words that ask for a made run are refused as usage. At a refusal nothing was read or written.
 pub fn debug<H: Shelf, S: Source, K: Sink, E: Sink>(
     alloc: Global,
     words: &[String],
@@ -46,25 +28,30 @@ pub fn debug<H: Shelf, S: Source, K: Sink, E: Sink>(
     input: &mut S,
     out: &mut K,
     errors: &mut E,
-) -> Result<Talk, Refusal>
+) -> Result<Talk, NoTalk>
     // What arrived was answered over the report of the files, and all that the report tells holds in every execution of the path that ends in the crash.
     ensures debugged { IfOk result (λ talk. IfSome (H.port shelf.old).files (λ files. IsDebugged (map string_bytes words.now) files (streams (move (S.port input.old) (S.port input.new)) (move (K.port out.old) (K.port out.new)) (move (E.port errors.old) (E.port errors.new))) talk)) }
 
     // Why not, where the files are told; the ports are as they were.
-    ensures refused { IfErr result (λ refusal. IfSome (H.port shelf.old).files (λ files. IsRefused (map string_bytes words.now) files (move (H.port shelf.old) (H.port shelf.new)) refusal)) }
+    ensures refused { IfErr result (λ why. IfSome (H.port shelf.old).files (λ files. IsRefused (map string_bytes words.now) files (move (H.port shelf.old) (H.port shelf.new)) why)) }
     ensures unread { IfErr result (λ _. (input.new ≡ input.old) × (out.new ≡ out.old)) }
     ensures noticed { IfErr result (λ _. Notices (move (E.port errors.old) (E.port errors.new))) }
 
-    // The files stay, and at most one fault is counted.
-    ensures shelf { ShelfMoves (move (H.port shelf.old) (H.port shelf.new)) result }
+    // The files stay. At most one fault is counted, and none before a dialog, unless a mapped file that is passed over counts one.
+    ensures files { (H.port shelf.new).files ≡ (H.port shelf.old).files }
+    ensures later { (H.port shelf.old).faults ≤ (H.port shelf.new).faults }
+    ensures shelf { FaultsEnd (meaning_of (map string_bytes words.now)) (H.port shelf.old).files → ShelfMoves (move (H.port shelf.old) (H.port shelf.new)) result }
 {
     reports_are_true::<Range, Atomic>();
     reports_are_true::<Both, Atomic>();
     match load_files(alloc, words, shelf) {
-        Ok(Asked::Files(files)) => debug_files(alloc, &files, input, out, errors),
-        Ok(Asked::Maps(_)) => Err(Refusal::Usage),
-        Ok(Asked::Made { .. }) => Err(Refusal::Usage),
-        Err(refusal) => Err(refusal),
+        Ok(Asked::Files(files)) => match debug_files(alloc, &files, input, out, errors) {
+            Ok(talk) => Ok(talk),
+            Err(refusal) => Err(NoTalk::Refused(refusal)),
+        },
+        Ok(Asked::Maps(files)) => debug_mapped(alloc, shelf, &files, input, out, errors),
+        Ok(Asked::Made { .. }) => Err(NoTalk::Refused(Refusal::Usage)),
+        Err(refusal) => Err(NoTalk::Refused(refusal)),
     }
 }
 
@@ -95,87 +82,4 @@ fn debug_files<S: Source, K: Sink, E: Sink>(
         out,
         errors,
     )
-}
-
-/// The same of a trace, over the dump in which its path ends.
-fn debug_trace<S: Source, K: Sink, E: Sink>(
-    alloc: Global,
-    trace: &[u8],
-    dump: &Dump<'_>,
-    manner: Manner,
-    input: &mut S,
-    out: &mut K,
-    errors: &mut E,
-) -> Result<Talk, Refusal>
-    requires { length trace.now < 2 ^ 32 }
-    ensures held { IfOk result (IsHeldTrace (crash_trace (crash_of dump.now) trace.now manner) (streams (move (S.port input.old) (S.port input.new)) (move (K.port out.old) (K.port out.new)) (move (E.port errors.old) (E.port errors.new)))) }
-    ensures refused { IfErr result (IsRefusedTrace (crash_trace (crash_of dump.now) trace.now manner)) }
-    ensures unread { IfErr result (λ _. (input.new ≡ input.old) × (out.new ≡ out.old)) }
-    ensures noticed { IfErr result (λ _. Notices (move (E.port errors.old) (E.port errors.new))) }
-{
-    let begun = match begin_path(alloc, trace, dump, manner.from) {
-        Ok(begun) => begun,
-        Err(fault) => return Err(Refusal::Path(fault)),
-    };
-    match noticed(alloc, errors, manner.from, begun.from) {
-        Ok(()) => {}
-        Err(_) => return Err(Refusal::OutOfMemory),
-    }
-    match hold(alloc, manner.domain, &begun.path, dump, input, out) {
-        Ok(end) => Ok(Talk {
-            from: begun.from,
-            end,
-        }),
-        Err(refusal) => Err(refusal),
-    }
-}
-
-/// Analyses a path, with values followed in a domain, and answers what arrives over the report.
-fn hold<S: Source, K: Sink>(
-    alloc: Global,
-    domain: Domain,
-    path: &Path,
-    dump: &Dump<'_>,
-    input: &mut S,
-    out: &mut K,
-) -> Result<Conversed, Refusal>
-    requires some { 0 < length path.now.steps }
-    requires ends { EndBefore path.now.steps (end_pc (registers_of dump.now)) }
-    ensures held { IfOk result (TalksOver (crash_path (means_of domain) (crash_of dump.now) path.now) (move (S.port input.old) (S.port input.new)) (move (K.port out.old) (K.port out.new))) }
-    ensures refused { IfErr result (IsRefusedPath (crash_path (means_of domain) (crash_of dump.now) path.now)) }
-    ensures unread { IfErr result (λ _. (input.new ≡ input.old) × (out.new ≡ out.old)) }
-{
-    match domain {
-        Domain::Ranges => hold_by::<Range, S, K>(alloc, path, dump, input, out),
-        Domain::KnownBits => hold_by::<Both, S, K>(alloc, path, dump, input, out),
-    }
-}
-
-/// The same, with values followed as sets of `W`.
-fn hold_by<W: Transfer, S: Source, K: Sink>(
-    alloc: Global,
-    path: &Path,
-    dump: &Dump<'_>,
-    input: &mut S,
-    out: &mut K,
-) -> Result<Conversed, Refusal>
-    requires some { 0 < length path.now.steps }
-    requires ends { EndBefore path.now.steps (end_pc (registers_of dump.now)) }
-    ensures held { IfOk result (TalksOver (crash_path (means W.sets W.moves atomic_rules) (crash_of dump.now) path.now) (move (S.port input.old) (S.port input.new)) (move (K.port out.old) (K.port out.new))) }
-    ensures refused { IfErr result (IsRefusedPath (crash_path (means W.sets W.moves atomic_rules) (crash_of dump.now) path.now)) }
-    ensures unread { IfErr result (λ _. (input.new ≡ input.old) × (out.new ≡ out.old)) }
-{
-    let Ok(prepared) = prepare::<W, Atomic>(alloc, &path.steps, dump, Atomic::new()) else {
-        return Err(Refusal::OutOfMemory);
-    };
-    match search(prepared) {
-        Ok(mut found) => {
-            let setting = Setting {
-                skipped: path.skipped,
-                signal: dump.status().signal,
-            };
-            Ok(converse(alloc, &mut found, setting, input, out))
-        }
-        Err(kind) => Err(Refusal::Inconsistent(kind)),
-    }
 }

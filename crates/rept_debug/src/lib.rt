@@ -3,9 +3,15 @@
 
 mod begin;
 mod debugging;
+mod mapped;
+mod no_talk;
 mod notice;
 mod process;
+mod talk;
+mod telling;
 
 pub use begin::{Begun, begin_path};
-pub use debugging::{Talk, debug};
+pub use debugging::debug;
+pub use no_talk::NoTalk;
 pub use process::{answer, run};
+pub use talk::Talk;

@@ -1,15 +1,16 @@
 //! The words of the process, its streams, and the number that it ends with.
 
-ghost use Rattle.std.specs.Prelude.{◌≡◌, ◌∷◌, codes, map, string_bytes, IfOk};
+ghost use Rattle.std.specs.Prelude.{◌≡◌, map, string_bytes, IfOk};
 ghost use Rattle.std.specs.Process.{exit_status};
 ghost use Rattle.std.specs.Result.{result_map_both};
 ghost use Rattle.rept_ports.specs.Port.{move};
-ghost use Rattle.rept_app.specs.Delivered.{Delivers};
-ghost use Rattle.rept_app.specs.Status.{number_of_status};
-ghost use Rattle.rept_debug.specs.Process.{Answers, Opens, TellsRefusal, process, status_of_end};
+ghost use Rattle.rept_debug.specs.Process.{Answers, Opens, asks_for_maps, process, session_words, status_of_end};
 
-use crate::debugging::{Talk, debug};
-use rept_app::{Refusal, Status, deliver, tell};
+use crate::debugging::debug;
+use crate::no_talk::NoTalk;
+use crate::talk::Talk;
+use crate::telling::tell_no_talk;
+use rept_app::{Refusal, Status};
 use rept_dialog::Conversed;
 use rept_ports::{DiskShelf, Shelf, Sink, Source, StdSink, StdSource, Unreadable, words_of};
 use rept_remote::Ending;
@@ -18,10 +19,23 @@ use std::alloc::Global;
 use std::process::ExitCode;
 use std::{env, io};
 
-/// The words of a session over the crash that these words name: `open`, and these.
-fn session_words(alloc: Global, words: Vec<String>) -> Result<Vec<String>, OutOfMemory>
-    ensures { IfOk result (λ all. map string_bytes all.items ≡ codes "open" ∷ map string_bytes words.items) }
+/// Whether the first word is `maps`.
+fn asks_for_maps(words: &[String]) -> bool
+    ensures { result ≡ asks_for_maps (map string_bytes words.now) }
 {
+    match words {
+        [] => false,
+        [first, ..] => first.as_str() == "maps",
+    }
+}
+
+/// The words of a session over the crash that these words name: these, where the first is `maps`, and else `open` and these.
+fn session_words(alloc: Global, words: Vec<String>) -> Result<Vec<String>, OutOfMemory>
+    ensures { IfOk result (λ all. map string_bytes all.items ≡ session_words (map string_bytes words.items)) }
+{
+    if asks_for_maps(words.as_slice()) {
+        return Ok(words);
+    }
     let open = String::from_str(alloc, "open")?;
     let mut all = words;
     all.insert(0, open)?;
@@ -43,20 +57,6 @@ fn end_status(end: Conversed) -> Status
     }
 }
 
-/// Writes the line of a refusal, which of words is this program's own. Where it can't be written, nothing is made of that.
-fn tell_refusal<E: Sink>(alloc: Global, errors: &mut E, refusal: &Refusal)
-    ensures { (told : Status) × Delivers (TellsRefusal refusal.now) (move (E.port errors.old) (E.port errors.new)) told }
-{
-    let _ = match refusal {
-        Refusal::Usage => deliver(
-            errors,
-            b"usage: rept_gdb EXE CORE TRACE [FROM]\n",
-            Status::Usage,
-        ),
-        _ => tell(alloc, errors, refusal),
-    };
-}
-
 /// Opens the crash that the words name for a debugger.
 fn open<H: Shelf, S: Source, K: Sink, E: Sink>(
     alloc: Global,
@@ -65,17 +65,17 @@ fn open<H: Shelf, S: Source, K: Sink, E: Sink>(
     input: &mut S,
     out: &mut K,
     errors: &mut E,
-) -> Result<Talk, Refusal>
+) -> Result<Talk, NoTalk>
     ensures { Opens (process (result_map_both (λ v. map string_bytes v.items) (λ e. e) words) (move (H.port shelf.old) (H.port shelf.new)) (move (S.port input.old) (S.port input.new)) (move (K.port out.old) (K.port out.new)) (move (E.port errors.old) (E.port errors.new))) result }
 {
     let words = match words {
         Ok(words) => words,
-        Err(Unreadable::NotText) => return Err(Refusal::Usage),
-        Err(Unreadable::OutOfMemory) => return Err(Refusal::OutOfMemory),
+        Err(Unreadable::NotText) => return Err(NoTalk::Refused(Refusal::Usage)),
+        Err(Unreadable::OutOfMemory) => return Err(NoTalk::Refused(Refusal::OutOfMemory)),
     };
     match session_words(alloc, words) {
         Ok(all) => debug(alloc, all.as_slice(), shelf, input, out, errors),
-        Err(_) => Err(Refusal::OutOfMemory),
+        Err(_) => Err(NoTalk::Refused(Refusal::OutOfMemory)),
     }
 }
 
@@ -93,9 +93,9 @@ pub fn answer<H: Shelf, S: Source, K: Sink, E: Sink>(
 {
     match open(alloc, words, shelf, input, out, errors) {
         Ok(talk) => ExitCode::from(end_status(talk.end).number()),
-        Err(refusal) => {
-            tell_refusal(alloc, errors, &refusal);
-            ExitCode::from(refusal.status().number())
+        Err(why) => {
+            tell_no_talk(alloc, errors, &why);
+            ExitCode::from(why.status().number())
         }
     }
 }

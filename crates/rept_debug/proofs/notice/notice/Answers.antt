@@ -1,8 +1,4 @@
-use Rattle.std.proofs.Common.{List, ℕ, subst, ◌∙◌}
-use Rattle.rept_ports.specs.Port.{move}
-use Rattle.std.specs.Io.KnownBytes.{Appends}
-use Rattle.rept_ports.specs.Causes.{AppendsPrefix}
-use Rattle.rept_debug.specs.Debugged.{IsWritten, notice_line}
+use Rattle.std.proofs.Common.{◌∙◌}
 use Rattle.rept_debug.proofs.NoticeLemmas.{line_written}
 use Rattle.rept_debug.proofs.notice.notice.Goals as goal
 

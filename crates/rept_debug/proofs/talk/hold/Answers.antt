@@ -4,7 +4,7 @@ use Rattle.rept_found.specs.Crash.{crash_of}
 use Rattle.rept_ports.specs.Port.{move}
 use Rattle.rept_words.specs.declared.request.Domain.TheVariants as domain
 use Rattle.rept_debug.specs.Debugged.{IsRefusedPath, TalksOver}
-use Rattle.rept_debug.proofs.debugging.hold.Goals as goal
+use Rattle.rept_debug.proofs.talk.hold.Goals as goal
 
 pub returns-in-Ranges-clause-held : goal.returns-in-Ranges-clause-held
 returns-in-Ranges-clause-held g c =

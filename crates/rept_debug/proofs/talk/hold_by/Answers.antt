@@ -8,7 +8,7 @@ use Rattle.rept_found.proofs.Settings.{found_there}
 use Rattle.rept_app.specs.Told.{crash_path}
 use Rattle.rept_ports.specs.Port.{move}
 use Rattle.rept_debug.proofs.TalkLemmas.{refused_conflict, talks_over}
-use Rattle.rept_debug.proofs.debugging.hold_by.Goals as goal
+use Rattle.rept_debug.proofs.talk.hold_by.Goals as goal
 
 pub returns-in-Ok-search-clause-held : goal.returns-in-Ok-search-clause-held
 returns-in-Ok-search-clause-held g c =

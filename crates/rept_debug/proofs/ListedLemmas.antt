@@ -1,0 +1,117 @@
+-- From the files that a core file lists to the dialog over their crash.
+use Rattle.std.proofs.Common.{◌≡◌, ◌≤◌, ◌+◌, ℕ, false, List, length, Option, None, Some, IfSome, MatchOption, Result, Ok, Err, OnOk, MatchResult, inl, inr, refl, sym, ap, subst, ◌∙◌, arith}
+use Rattle.rept_elf.specs.Segments.{segments}
+use Rattle.rept_elf.specs.declared.fault.ElfFault.{ElfFault}
+use Rattle.rept_maps.specs.declared.fault.MapFault.{MapFault}
+use Rattle.rept_mapped.specs.Mapped.{Mapping}
+use Rattle.rept_dump.specs.Program.Program.{MappedFiles}
+use Rattle.rept_dump.specs.Registers.{Says as NotesSay}
+use Rattle.rept_dump.specs.declared.fault.CoreFault.{CoreFault}
+use Rattle.rept_found.specs.Crash.{Crash}
+use Rattle.rept_ports.specs.Port.{Move, move}
+use Rattle.rept_ports.specs.Shelves.{Files, Shelved}
+use Rattle.rept_words.specs.Words.{Meaning}
+use Rattle.rept_words.specs.Words.Meaning.{Open, Maps, Made}
+use Rattle.rept_app.specs.Forms.{core_image_fault}
+use Rattle.rept_app.specs.Lines.{status_of}
+use Rattle.rept_app.specs.Loading.{CoreBytes, LoadsBoth, ShelfMoves, core_loads_to, parts_bytes}
+use Rattle.rept_app.specs.Mapped.{ListSays, MappedCrash, mapped_bytes, mapped_crash, mapped_files}
+use Rattle.rept_app.specs.Reading.{HasNoCrash, NotesRefuse}
+use Rattle.rept_app.specs.Told.{CrashTrace, ReadsAs, crash_trace}
+use Rattle.rept_app.specs.Top.{FaultsEnd}
+use Rattle.rept_app.specs.declared.refusal.FileKind.TheVariants as file
+use Rattle.rept_app.specs.declared.refusal.Refusal.{Refusal}
+use Rattle.rept_app.specs.declared.refusal.Refusal.TheVariants as refusal
+use Rattle.rept_app.proofs.MappedLemmas.{over_files, parts_trace}
+use Rattle.rept_debug.specs.Debugged.{IsHeld, IsHeldMapped, IsHeldTrace, IsLoadFault, IsRefusedCrash, IsRefusedMapped, IsRefusedTrace, IsUnheld, NameStops, Streams}
+use Rattle.rept_debug.specs.declared.no_talk.NoTalk.{NoTalk}
+use Rattle.rept_debug.specs.declared.no_talk.NoTalk.TheVariants as no_talk
+use Rattle.rept_debug.specs.declared.talk.Talk.{Talk}
+
+-- of a dump of mapped files: what was held over its trace was held over these
+module _ (ms : List Mapping) (b : CoreBytes) (crash : Crash) (trace : List ℕ) (program : crash.exe ≡ MappedFiles ms) (core : crash.core ≡ segments b.core) (same : trace ≡ b.trace)
+    (accepted : core_image_fault b.core ≡ None) (said : NotesSay (length b.core) (segments b.core) (Ok crash.note)) where
+  read_parts : ReadsAs false (parts_bytes ms b) crash.note
+  read_parts = record { program_accepted = refl; core_accepted = accepted; noted = said }
+
+  pub held_parts : (io : Streams) (talk : Talk) → IsHeldTrace (crash_trace crash trace b.manner) io talk → IsHeld (parts_bytes ms b) io talk
+  held_parts io talk h = record { note = crash.note; read = read_parts; held = subst (λ (t : CrashTrace). IsHeldTrace t io talk) (parts_trace crash ms b trace program core same) h }
+
+  pub refused_parts : (r : Refusal) → IsRefusedTrace (crash_trace crash trace b.manner) r → IsRefusedCrash (parts_bytes ms b) r
+  refused_parts r h = inr (crash.note, read_parts, subst (λ (t : CrashTrace). IsRefusedTrace t r) (parts_trace crash ms b trace program core same) h)
+
+-- a core file whose notes are refused has no crash
+pub notes_refused : (ms : List Mapping) (b : CoreBytes) (f : CoreFault) → core_image_fault b.core ≡ None → NotesSay (length b.core) (segments b.core) (Err f)
+    → ((said : Result (List ℕ) CoreFault) → NotesSay (length b.core) (segments b.core) said → said ≡ Err f) → HasNoCrash false (parts_bytes ms b) (refusal.Core f)
+notes_refused ms b f accepted says only =
+    let P : Option ElfFault → Type 0 = λ o. MatchOption o (NotesRefuse false b.core (refusal.Core f)) (λ g. refusal.Core f ≡ refusal.CoreImage g) in
+    subst P (sym accepted) (f, says, only, refl)
+
+-- what is refused of a core file
+module _ (m : MappedCrash) (r : Refusal) where
+  abbrev At : Option ElfFault → Type 0
+  At o = MatchOption o
+      ((said : Result (List ℕ) MapFault) × ListSays m.bytes.core said × MatchResult said (λ desc. IsRefusedCrash (mapped_bytes m desc) r) (λ fault. r ≡ refusal.Maps fault))
+      (λ fault. r ≡ refusal.CoreImage fault)
+
+  pub image_refused : (f : ElfFault) → Some f ≡ core_image_fault m.bytes.core → r ≡ refusal.CoreImage f → IsRefusedMapped m r
+  image_refused f e is = subst At e is
+
+  pub list_refused : (f : MapFault) → core_image_fault m.bytes.core ≡ None → ListSays m.bytes.core (Err f) → r ≡ refusal.Maps f → IsRefusedMapped m r
+  list_refused f accepted listed is = subst At (sym accepted) (Err f, listed, is)
+
+  pub files_refused : (desc : List ℕ) → core_image_fault m.bytes.core ≡ None → ListSays m.bytes.core (Ok desc) → IsRefusedCrash (mapped_bytes m desc) r → IsRefusedMapped m r
+  files_refused desc accepted listed h = subst At (sym accepted) (Ok desc, listed, h)
+
+-- of the files that a list names
+module _ (o : Option Files) (ms : List Mapping) (b : CoreBytes) (desc : List ℕ) (accepted : core_image_fault b.core ≡ None) (listed : ListSays b.core (Ok desc)) (program : IfSome o (λ files. ms ≡ mapped_files files desc)) where
+  pub held_listed : (io : Streams) (talk : Talk) → IsHeld (parts_bytes ms b) io talk → IfSome o (λ files. IsHeldMapped (mapped_crash files b) io talk)
+  held_listed io talk h =
+      over_files o (λ files. ms ≡ mapped_files files desc) (λ files. IsHeldMapped (mapped_crash files b) io talk)
+      (λ files same. record {
+        bytes = mapped_bytes (mapped_crash files b) desc;
+        is = record { accepted = accepted; desc = desc; listed = listed; same = refl };
+        held = subst (λ (parts : List Mapping). IsHeld (parts_bytes parts b) io talk) same h;
+      }) program
+
+  pub unheld_listed : (asked : Move ℕ) (r : Refusal) → IsRefusedCrash (parts_bytes ms b) r → IfSome o (λ files. IsUnheld (mapped_crash files b) asked (no_talk.Refused r))
+  unheld_listed asked r h =
+      over_files o (λ files. ms ≡ mapped_files files desc) (λ files. IsUnheld (mapped_crash files b) asked (no_talk.Refused r))
+      (λ files same. inl (files_refused (mapped_crash files b) r desc accepted listed (subst (λ (parts : List Mapping). IsRefusedCrash (parts_bytes parts b) r) same h))) program
+
+-- a load that failed
+pub name_unheld : (m : MappedCrash) (asked : Move ℕ) (name : List ℕ) (why : NoTalk) → NameStops m asked name → IsLoadFault name why → IsUnheld m asked why
+name_unheld m asked name (no_talk.Refused r) h e = inr (ap status_of e)
+name_unheld m asked name (no_talk.LoadFault told) h e = subst (NameStops m asked) (sym e) h
+
+-- whatever is said of all files
+pub where_any : (o : Option Files) (P : Files → Type 0) → ((files : Files) → P files) → IfSome o P
+where_any None P h = tt
+where_any (Some files) P h = h files
+
+-- what is said of a call that answered
+pub said_ok : {T E : Type 0} (r : Result T E) (x : T) (P : Type 0) → r ≡ Ok x → OnOk r P → P
+said_ok {T} {E} r x P is h = let Q : Result T E → Type 0 = λ w. OnOk w P in subst Q is h
+
+-- the core file and the trace were loaded
+pub both_loads : (m : Option Meaning) (core : List ℕ) (shelf : Move Shelved) → LoadsBoth m core shelf → shelf.after.loads ≡ core_loads_to file.Trace shelf.before.loads
+both_loads None core shelf h = absurd h
+both_loads (Some (Made seed steps)) core shelf h = absurd h
+both_loads (Some (Maps names from)) core shelf h = h.loads
+both_loads (Some (Open d names from)) core shelf h = absurd h
+
+-- and what the loads of mapped files do to the shelf after them
+module _ {T E : Type 0} (old between new : Shelved) (same : between.files ≡ old.files) (calm : between.faults ≡ old.faults) (stay : new.files ≡ between.files) (later : between.faults ≤ new.faults) (r : Result T E) where
+  told_moves : (o : Option Files) → IfSome o (λ _. new.faults ≤ between.faults + 1) → OnOk r (IfSome o (λ _. new.faults ≡ between.faults)) → MatchOption o ⊥ (λ _. Unit {0}) → ShelfMoves (move old new) r
+  told_moves None once quiet h = absurd h
+  told_moves (Some files) once quiet h = record { files = stay ∙ same; later = omega (arith, later, calm); once = omega (arith, once, calm); calm = on_ok r quiet }
+    where
+      on_ok : (q : Result T E) → OnOk q (new.faults ≡ between.faults) → OnOk q (new.faults ≡ old.faults)
+      on_ok (Ok x) e = e ∙ calm
+      on_ok (Err x) e = tt
+
+  pub mapped_moves : (m : Option Meaning) (core : List ℕ) → LoadsBoth m core (move old between) → IfSome between.files (λ _. new.faults ≤ between.faults + 1) → OnOk r (IfSome between.files (λ _. new.faults ≡ between.faults)) → FaultsEnd m old.files → ShelfMoves (move old new) r
+  mapped_moves None core h once quiet ends = absurd h
+  mapped_moves (Some (Made seed steps)) core h once quiet ends = absurd h
+  mapped_moves (Some (Maps names from)) core h once quiet ends = told_moves between.files once quiet (subst (λ (o : Option Files). MatchOption o ⊥ (λ _. Unit {0})) (sym same) ends)
+  mapped_moves (Some (Open d names from)) core h once quiet ends = absurd h

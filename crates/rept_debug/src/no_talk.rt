@@ -1,0 +1,38 @@
+//! Why no dialog is held.
+
+ghost use Rattle.std.specs.Prelude.{◌≡◌};
+ghost use Rattle.rept_debug.specs.Debugged.{IsLoadFault, status_of_no_talk};
+
+use rept_app::{Refusal, Status};
+use std::alloc::Global;
+
+/// Why no dialog is held.
+#[derive(Drop)]
+pub enum NoTalk {
+    /// a refusal of a session
+    Refused(Refusal),
+    /// the load of the mapped file of this name failed
+    LoadFault(String),
+}
+
+impl NoTalk {
+    /// The status that goes with it.
+    pub fn status(&self) -> Status
+        ensures { result ≡ status_of_no_talk self.now }
+    {
+        match self {
+            NoTalk::Refused(refusal) => refusal.status(),
+            NoTalk::LoadFault(_) => Status::LoadFault,
+        }
+    }
+}
+
+/// That the load of a name failed. Where there is no memory to keep the name, that is told.
+pub fn load_fault(alloc: Global, name: &str) -> NoTalk
+    ensures { IsLoadFault name.now result }
+{
+    match String::from_str(alloc, name) {
+        Ok(name) => NoTalk::LoadFault(name),
+        Err(_) => NoTalk::Refused(Refusal::OutOfMemory),
+    }
+}
