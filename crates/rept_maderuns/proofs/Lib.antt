@@ -1,0 +1,12 @@
+pub mod Turning
+pub mod Pieces
+pub mod Threads
+pub mod Ordering
+pub mod Linking
+pub mod Sending
+pub mod Filed
+pub mod Carrying
+pub mod Gathering
+pub mod Refusing
+pub mod Saving
+pub mod Telling

@@ -1,0 +1,5 @@
+pub mod Words
+pub mod Files
+pub mod Harts
+pub mod Made
+pub mod Told

@@ -1,0 +1,49 @@
+//! The words of the code.
+
+ghost use Rattle.std.specs.Prelude.{◌≡◌, ◌<◌, IfOk};
+ghost use Rattle.rept_isa.specs.Words.{IsWord};
+ghost use Rattle.rept_play.specs.Code.{IsCode, instr_in};
+ghost use Rattle.rept_maderuns.specs.Words.{AreCode};
+
+use rept_isa::{Instr, Reg, encode};
+use std::alloc::{AllocError as OutOfMemory, Global};
+
+/// The register x0.
+fn zero() -> Reg
+    ensures { result ≡ 0 }
+{
+    match Reg::new(0) {
+        Some(register) => register,
+        None => unreachable!(),
+    }
+}
+
+/// The word of a thread's slot: that of its instruction, and in the last one that of the jump back.
+fn word_in(code: &[Instr], thread: u32, slot: u32) -> u32
+    requires code { IsCode code.now }
+    requires thread { thread < 4 }
+    requires slot { slot < 16 }
+    ensures { IsWord result (instr_in code.now thread slot) }
+{
+    if slot == 15 {
+        let back = Instr::Jal {
+            rd: zero(),
+            imm: -60,
+        };
+        return encode(&back);
+    }
+    let instr = code[(15 * thread + slot) as usize];
+    encode(&instr)
+}
+
+/// The words of all four threads, 16 each.
+pub fn words_of(alloc: Global, code: &[Instr]) -> Result<Vec<u32>, OutOfMemory>
+    requires { IsCode code.now }
+    ensures { IfOk result (λ words. AreCode code.now words.items) }
+{
+    let mut words = Vec::new(alloc);
+    for i in 0..64 {
+        words.push(word_in(code, i / 16, i % 16))?;
+    }
+    Ok(words)
+}

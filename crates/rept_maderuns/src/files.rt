@@ -1,0 +1,138 @@
+//! The executable and the core file.
+
+ghost use Rattle.std.specs.Prelude.{◌≡◌, ◌+◌, ◌++◌, ◌<◌, ◌≤◌, ℕ, length, slice_index, suc, if◌then◌else◌, OnOk, IfOk};
+ghost use Rattle.rept_turns.specs.Turns.{rows_in};
+ghost use Rattle.rept_play.specs.Shares.{sees};
+ghost use Rattle.rept_make.specs.Files.{bytes_of_words};
+ghost use Rattle.rept_maderuns.specs.Files.{executable, saved_of, status_note, core_file, pc_in};
+
+use rept_play::rows_in;
+use rept_turns::Turn;
+use rept_word::{OutOfMemory, Text};
+use std::alloc::Global;
+
+/// The header of the executable, and its only program header.
+const EXE_HEADER: [u8; 84] = [
+    0x7f, 0x45, 0x4c, 0x46, 1, 1, 1, 0, 0, 0, 0, 0, 0, 0, 0, 0, 2, 0, 0xf3, 0, 1, 0, 0, 0, 0, 0, 1,
+    0, 0x34, 0, 0, 0, 0, 0, 0, 0, 0, 0, 0, 0, 0x34, 0, 0x20, 0, 1, 0, 0, 0, 0, 0, 0, 0, 1, 0, 0, 0,
+    0x54, 0, 0, 0, 0, 0, 1, 0, 0, 0, 1, 0, 0, 1, 0, 0, 0, 1, 0, 0, 7, 0, 0, 0, 4, 0, 0, 0,
+];
+
+/// The header of the core file, and its two program headers.
+const CORE_HEADER: [u8; 116] = [
+    0x7f, 0x45, 0x4c, 0x46, 1, 1, 1, 0, 0, 0, 0, 0, 0, 0, 0, 0, 4, 0, 0xf3, 0, 1, 0, 0, 0, 0, 0, 0,
+    0, 0x34, 0, 0, 0, 0, 0, 0, 0, 0, 0, 0, 0, 0x34, 0, 0x20, 0, 2, 0, 0, 0, 0, 0, 0, 0, 4, 0, 0, 0,
+    0x74, 0, 0, 0, 0, 0, 0, 0, 0, 0, 0, 0, 0x80, 3, 0, 0, 0, 0, 0, 0, 0, 0, 0, 0, 0, 0, 0, 0, 1, 0,
+    0, 0, 0xf4, 3, 0, 0, 0, 0, 2, 0, 0, 0, 0, 0, 0x20, 0, 0, 0, 0x20, 0, 0, 0, 6, 0, 0, 0, 1, 0, 0,
+    0,
+];
+
+/// A register note up to its process.
+const NOTE_START: [u8; 44] = [
+    5, 0, 0, 0, 0xcc, 0, 0, 0, 1, 0, 0, 0, 0x43, 0x4f, 0x52, 0x45, 0, 0, 0, 0, 0, 0, 0, 0, 0, 0, 0,
+    0, 0, 0, 0, 0, 0x0b, 0, 0, 0, 0, 0, 0, 0, 0, 0, 0, 0,
+];
+
+/// A register note from its process on, up to its registers.
+const NOTE_MIDDLE: [u8; 44] = [
+    0, 0, 0, 0, 0, 0, 0, 0, 0, 0, 0, 0, 0, 0, 0, 0, 0, 0, 0, 0, 0, 0, 0, 0, 0, 0, 0, 0, 0, 0, 0, 0,
+    0, 0, 0, 0, 0, 0, 0, 0, 0, 0, 0, 0,
+];
+
+/// Adds words, the least byte of each first.
+fn push_words(text: &mut Text, words: &[u32]) -> Result<(), OutOfMemory>
+    ensures { OnOk result (text.new ≡ text.old ++ bytes_of_words words.now) }
+{
+    for word in words {
+        text.push(&word.to_le_bytes())?;
+    }
+    Ok(())
+}
+
+/// The executable of these words of code.
+pub fn executable(alloc: Global, code: &[u32]) -> Result<Text, OutOfMemory>
+    ensures { IfOk result (λ file. file ≡ executable code.now) }
+{
+    let mut file = Text::new(alloc);
+    file.push(&EXE_HEADER)?;
+    push_words(&mut file, code)?;
+    Ok(file)
+}
+
+/// What a register is to a thread: its own and x17 are those of the machine, others are 0.
+fn share(thread: u32, register: u32, registers: &[u32; 32]) -> u32
+    requires thread { thread < 4 }
+    requires register { register < 32 }
+    ensures { result ≡ (if sees thread register then slice_index registers.now register else 0) }
+{
+    let own = 18 + 3 * thread;
+    if (own <= register && register < own + 3) || register == 17 {
+        registers[register as usize]
+    } else {
+        0
+    }
+}
+
+/// Adds a program counter and a thread's registers x1 to x31.
+fn push_saved(
+    file: &mut Text,
+    thread: u32,
+    pc: u32,
+    registers: &[u32; 32],
+) -> Result<(), OutOfMemory>
+    requires { thread < 4 }
+    ensures { OnOk result (file.new ≡ file.old ++ bytes_of_words (saved_of thread pc registers.now)) }
+{
+    file.push(&pc.to_le_bytes())?;
+    for i in 0..31 {
+        file.push(&share(thread, i + 1, registers).to_le_bytes())?;
+    }
+    Ok(())
+}
+
+/// Where a thread stands after its turns.
+fn pc_in(thread: u32, turns: &[Turn]) -> u32
+    requires thread { thread < 4 }
+    requires few { rows_in thread turns.now ≤ 65536 }
+    ensures { result ≡ pc_in turns.now thread }
+{
+    0x1_0000 + 64 * thread + 4 * (rows_in(thread, turns) % 16)
+}
+
+/// Adds the register note of a thread. Processes are counted from 1.
+fn push_status(
+    file: &mut Text,
+    thread: u32,
+    pc: u32,
+    registers: &[u32; 32],
+) -> Result<(), OutOfMemory>
+    requires { thread < 4 }
+    ensures { OnOk result (file.new ≡ file.old ++ status_note (thread + 1) (saved_of thread pc registers.now)) }
+{
+    file.push(&NOTE_START)?;
+    file.push(&[thread as u8 + 1, 0, 0, 0])?;
+    file.push(&NOTE_MIDDLE)?;
+    push_saved(file, thread, pc, registers)?;
+    file.push(&[0, 0, 0, 0])?;
+    Ok(())
+}
+
+/// The core file of what a play left: the registers of each thread, and the data.
+pub fn core_file(
+    alloc: Global,
+    turns: &[Turn],
+    registers: &[u32; 32],
+    saved_bytes: &[u8],
+) -> Result<Text, OutOfMemory>
+    requires { (t : ℕ) → rows_in t turns.now ≤ 65536 }
+    ensures { IfOk result (λ file. file ≡ core_file turns.now registers.now saved_bytes.now) }
+{
+    let mut file = Text::new(alloc);
+    file.push(&CORE_HEADER)?;
+    push_status(&mut file, 0, pc_in(0, turns), registers)?;
+    push_status(&mut file, 1, pc_in(1, turns), registers)?;
+    push_status(&mut file, 2, pc_in(2, turns), registers)?;
+    push_status(&mut file, 3, pc_in(3, turns), registers)?;
+    file.push(saved_bytes)?;
+    Ok(file)
+}
