@@ -1,5 +1,6 @@
-pub mod Backward
 pub mod Settings
+pub mod Single
 pub mod Tellings
+pub mod Trips
 pub mod Truths
 pub mod Whys

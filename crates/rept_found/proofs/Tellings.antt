@@ -1,134 +1,119 @@
 -- What an analysis answers is what is shown of its report.
-use Rattle.std.proofs.Common.{◌≡◌, ℕ, zero, suc, ◌+◌, ◌<◌, ◌≤◌, Bool, true, false, cond, ap, subst, sym, ◌∙◌, arith, refl, inl, inr}
-use Rattle.std.specs.Prelude.{Option, Some, None, is_some}
-use Rattle.std.proofs.lemmas.Bool.{cases_lt}
+use Rattle.std.proofs.Common.{◌≡◌, ℕ, ◌<◌, ◌≤◌, length, Some, None, inl, inr, sym, ap, ◌∙◌, subst, arith}
+use Rattle.std.proofs.lemmas.Bool.{false≢true, cases_eq, cases_lt}
+use Rattle.rept_steps.specs.Course.{rows_of, IsSound}
+use Rattle.rept_order.specs.Legs.{number_of}
+use Rattle.rept_course.specs.Numbered.{row_on}
+use Rattle.rept_moments.specs.Seen.{seen, moment_in}
+use Rattle.rept_moments.proofs.Apart.{legs_seen}
 use Rattle.rept_reason.specs.Facts.{Knowledge}
 use Rattle.rept_report.specs.declared.counts.Counts.{Counts}
 use Rattle.rept_report.specs.declared.writer.Writer.{Writer}
 use Rattle.rept_report.specs.declared.writer.Writer.TheVariants as writers
 use Rattle.rept_report.specs.Setting.{Setting}
-use Rattle.rept_report.specs.Spots.{spot, passage}
-use Rattle.rept_report.specs.Views.{may_write, is_sure}
-use Rattle.rept_report.specs.Writers.{IsWriter}
+use Rattle.rept_report.specs.Spots.{Spot, spot}
+use Rattle.rept_report.specs.Writers.{IsLastCandidate, HasNoCandidate, IsWriter}
 use Rattle.rept_report.proofs.WriterLaws.{one_writer}
-use Rattle.rept_analysis.specs.Counts.{IsCounted, rows_below}
-use Rattle.rept_analysis.proofs.Counting.{count_full}
-use Rattle.rept_report.specs.OneThread.{Path, along, given_alone}
-use Rattle.rept_report.proofs.Line.{is_line}
-use Rattle.rept_analysis.specs.State.{Path as Read}
-use Rattle.rept_found.proofs.Backward.{NoneMayWrite, none_found, spared_none, spared_too, writer_found}
+use Rattle.rept_report.specs.OneThread.{Path, along}
+use Rattle.rept_analysis.specs.Counts.{IsCounted}
 use Rattle.rept_session.specs.LastWriters.{AreLastWriters, named_row}
+use Rattle.rept_trip.specs.Trip.{Trip, setting_on}
+use Rattle.rept_trip.specs.Last.{writer_found}
+use Rattle.rept_trip.proofs.Last.{found_fits}
+use Rattle.rept_trip.proofs.Pointing.{own_ahead, own_not_ahead, candidate_row, candidate_on, last_back, none_back}
 use Rattle.rept_found.specs.Crash.{Scene}
-use Rattle.rept_found.specs.Telling.{writer_at, last_writer, counts_of, shown_of}
+use Rattle.rept_found.specs.Telling.{counts_of, shown_on}
 
--- the path, as an analysis speaks of it
-abbrev reading : {W : Type 0} → Path W → Read W
-reading P = record { sets = P.sets; moves = P.moves; rules = P.rules; given = given_alone P.given }
+-- the one answer that fits is the one that is found
+module _ {W : Type 0} (t : Trip W) (K : Knowledge) (m a : ℕ) where
+  pub writer_fits : IsWriter (setting_on t) K (spot m a) (writer_found (setting_on t) K (spot m a))
+  writer_fits = found_fits (setting_on t) K (spot m a) (legs_seen t.course)
 
--- the greatest step below a point that may write a byte, where none from it on may
-module _ {W : Type 0} (P : Path W) (K : Knowledge) (p a : ℕ) where
+  pub writer_is : (w : Writer) → IsWriter (setting_on t) K (spot m a) w → w ≡ writer_found (setting_on t) K (spot m a)
+  writer_is w h = one_writer (setting_on t) K m a w (writer_found (setting_on t) K (spot m a)) h writer_fits
+
+some_same : {i j : ℕ} → Some i ≡ Some j → i ≡ j
+some_same e = cc
+
+none_some : {X : Type 0} {j : ℕ} → None ≡ Some j → X
+none_some e = cc
+
+-- a row that is named is the last candidate, and the last candidate is named
+module _ {W : Type 0} (S : Setting W) (K : Knowledge) (x : Spot) where
+  named_last : (w : Writer) (j : ℕ) → IsWriter S K x w → named_row w ≡ Some j → IsLastCandidate S K x j
+  named_last (writers.Writes i) j h e = subst (λ (k : ℕ). IsLastCandidate S K x k) (some_same e) h.0
+  named_last (writers.MayWrite i) j h e = subst (λ (k : ℕ). IsLastCandidate S K x k) (some_same e) h.0
+  named_last writers.Several j h e = none_some e
+  named_last writers.None j h e = none_some e
+
+  one_last : (i j : ℕ) → IsLastCandidate S K x i → IsLastCandidate S K x j → i ≡ j
+  one_last i j h k =
+      elim (cases_eq i j) [
+        | inl same ↦ same
+        | inr other ↦ absurd (false≢true (sym (k.after i h.candidate other).1 ∙ (h.after j k.candidate (λ e. other (sym e))).0))
+      ]
+
+  last_named : (w : Writer) (j : ℕ) → IsWriter S K x w → IsLastCandidate S K x j → named_row w ≡ Some j
+  last_named (writers.Writes i) j h last = ap (λ (k : ℕ). Some k) (one_last i j h.0 last)
+  last_named (writers.MayWrite i) j h last = ap (λ (k : ℕ). Some k) (one_last i j h.0 last)
+  last_named writers.Several j h last = absurd (h.0 j last)
+  last_named writers.None j h last = absurd (h.rows j last.candidate)
+
+-- what is told of last writers at the points of one thread
+module _ {W : Type 0} (t : Trip W) (sound : IsSound t.course) (K : Knowledge) (thread address : ℕ) where
   abbrev S : Setting W
-  S = along P
+  S = setting_on t
 
-  by_test : (j : ℕ) → j < p → NoneMayWrite S K (passage a (j + 1) p) → (NoneMayWrite S K (passage a j p) → IsWriter S K (spot p a) (last_writer S K j a)) → (b : Bool) → may_write S K j a ≡ b → IsWriter S K (spot p a) (cond b (writer_at S K j) (last_writer S K j a))
-  by_test j h later earlier true e = writer_found (reading P) (is_line P.given) K p a j h later e (is_sure S K j) refl
-  by_test j h later earlier false e = earlier (spared_too (reading P) (is_line P.given) K p a j later e)
+  abbrev at : ℕ → ℕ
+  at p = moment_in (seen t.course) (number_of t.course thread p)
 
-  below : (j : ℕ) → j ≤ p → NoneMayWrite S K (passage a j p) → IsWriter S K (spot p a) (last_writer S K j a)
-  below zero h none = none_found (reading P) (is_line P.given) K p a none
-  below (suc j) h none =
-      let one_more : suc j ≡ j + 1 = omega arith in
-      by_test j (omega (arith, h)) (subst (λ n. NoneMayWrite S K (passage a n p)) one_more none) (λ earlier. below j (omega (arith, h)) earlier) (may_write S K j a) refl
+  abbrev told : ℕ → Writer
+  told p = writer_found (setting_on t) K (spot (at p) address)
 
-  pub last_writer_is : IsWriter S K (spot p a) (last_writer S K p a)
-  last_writer_is = below p (omega arith) (spared_none (reading P) (is_line P.given) K p a)
+  last_at : (p j : ℕ) → named_row (told p) ≡ Some j → IsLastCandidate S K (spot (at p) address) j
+  last_at p j e = named_last S K (spot (at p) address) (told p) j (writer_fits t K (at p) address) e
 
-  pub writer_is : (w : Writer) → IsWriter S K (spot p a) w → w ≡ last_writer S K p a
-  writer_is w h = one_writer S K p a w (last_writer S K p a) h last_writer_is
+  named_at : (p j : ℕ) → IsLastCandidate S K (spot (at p) address) j → named_row (told p) ≡ Some j
+  named_at p j last = last_named S K (spot (at p) address) (told p) j (writer_fits t K (at p) address) last
 
--- the last writer at each point of the path
-module _ {W : Type 0} (P : Path W) (K : Knowledge) (a : ℕ) where
-  abbrev named : ℕ → Option ℕ
-  named p = named_row (last_writer (along P) K p a)
+  none_at : (p : ℕ) → told p ≡ writers.None → HasNoCandidate S K (spot (at p) address)
+  none_at p e = subst (λ (w : Writer). IsWriter S K (spot (at p) address) w) e (writer_fits t K (at p) address)
 
-  -- after a row it is that row, or what it was before
-  named_next : (q : ℕ) → named (suc q) ≡ cond (may_write (along P) K q a) (Some q) (named q)
-  named_next q = by_tests (may_write (along P) K q a) (is_sure (along P) K q)
-    where
-      by_tests : (may sure : Bool) → named_row (cond may (cond sure (writers.Writes q) (writers.MayWrite q)) (last_writer (along P) K q a)) ≡ cond may (Some q) (named q)
-      by_tests true true = refl
-      by_tests true false = refl
-      by_tests false sure = refl
+  module _ (below : thread < length t.course.threads) where
+    before : (step p : ℕ) → p ≤ length (rows_of t.course thread) → (row_on t.course step).thread ≡ thread → named_row (told p) ≡ Some step → (row_on t.course step).step < p
+    before step p few own e =
+        let last = last_at p step e in
+        elim (cases_lt (row_on t.course step).step p) [
+          | inl less ↦ less
+          | inr late ↦ absurd (false≢true (sym last.candidate.reaches ∙ own_ahead t sound thread below p step few (candidate_row t sound thread below K address p step last.candidate) own late))
+        ]
 
-  same_row : (row q : ℕ) → Some q ≡ Some row → q ≡ row
-  same_row row q e = cc
+    since : (step q p : ℕ) → p ≤ length (rows_of t.course thread) → (row_on t.course step).thread ≡ thread → named_row (told p) ≡ Some step → (row_on t.course step).step < q → q ≤ p → named_row (told q) ≡ Some step
+    since step q p few own e low high =
+        let last = last_at p step e in
+        named_at q step (last_back t sound thread below K address q p step high few last (own_not_ahead t sound thread below q step (omega arith) (candidate_row t sound thread below K address p step last.candidate) own low))
 
-  no_row : {X : Type 0} (row : ℕ) → Some row ≡ None → X
-  no_row row e = cc
+    between : (step o q p : ℕ) → p ≤ length (rows_of t.course thread) → named_row (told o) ≡ Some step → named_row (told p) ≡ Some step → o ≤ q → q ≤ p → named_row (told q) ≡ Some step
+    between step o q p few first then low high =
+        let here = candidate_on t sound thread below K address o q step low (omega arith) (last_at o step first).candidate in
+        named_at q step (last_back t sound thread below K address q p step high few (last_at p step then) here.reaches)
 
-  -- one that is named after a row is that row, or was named before it
-  by_row : {X : Type 0} (row q : ℕ) → named (suc q) ≡ Some row → (q ≡ row → X) → (named q ≡ Some row → X) → X
-  by_row {X} row q e here before = by_test (may_write (along P) K q a) refl
-    where
-      by_test : (may : Bool) → may_write (along P) K q a ≡ may → X
-      by_test true m = here (same_row row q (sym (named_next q ∙ ap (λ b. cond b (Some q) (named q)) m) ∙ e))
-      by_test false m = before (sym (named_next q ∙ ap (λ b. cond b (Some q) (named q)) m) ∙ e)
+    none : (q p : ℕ) → p ≤ length (rows_of t.course thread) → told p ≡ writers.None → q ≤ p → told q ≡ writers.None
+    none q p few e high = sym (writer_is t K (at q) address writers.None (none_back t sound thread below K address q p high few (none_at p e)))
 
-  -- a row that is named is before the point
-  named_before : (row p : ℕ) → named p ≡ Some row → row < p
-  named_before row zero e = no_row row (sym e)
-  named_before row (suc q) e = by_row row q e (λ here. omega (arith, here)) (λ before. let under = named_before row q before in omega (arith, under))
-
-  -- and named at each point since it
-  named_since : (row q p : ℕ) → named p ≡ Some row → row < q → q ≤ p → named q ≡ Some row
-  named_since row q zero e low high = absurd (omega (arith, low, high))
-  named_since row q (suc k) e low high = elim (cases_lt q (suc k)) as (λ _. named q ≡ Some row) [
-    | inl within ↦ by_row row k e (λ here. absurd (omega (arith, here, low, within))) (λ before. named_since row q k before low (omega (arith, within)))
-    | inr last ↦ let same : suc k ≡ q = omega (arith, last, high) in subst (λ n. named n ≡ Some row) same e
-  ]
-
-  -- where none may have written the byte before a point, none may have before an earlier one
-  none_before : (q p : ℕ) → last_writer (along P) K p a ≡ writers.None → q ≤ p → last_writer (along P) K q a ≡ writers.None
-  none_before q zero e high = let same : zero ≡ q = omega (arith, high) in subst (λ n. last_writer (along P) K n a ≡ writers.None) same e
-  none_before q (suc k) e high = elim (cases_lt q (suc k)) as (λ _. last_writer (along P) K q a ≡ writers.None) [
-    | inl within ↦ by_test (λ before. none_before q k before (omega (arith, within))) (may_write (along P) K k a) refl
-    | inr last ↦ let same : suc k ≡ q = omega (arith, last, high) in subst (λ n. last_writer (along P) K n a ≡ writers.None) same e
-  ]
-    where
-      by_test : (last_writer (along P) K k a ≡ writers.None → last_writer (along P) K q a ≡ writers.None) → (may : Bool) → may_write (along P) K k a ≡ may → last_writer (along P) K q a ≡ writers.None
-      by_test earlier true m = no_row k (sym (named_next k ∙ ap (λ b. cond b (Some k) (named k)) m) ∙ ap named_row e)
-      by_test earlier false m = earlier (sym (ap (λ b. cond b (writer_at (along P) K k) (last_writer (along P) K k a)) m) ∙ e)
-
-  -- of the one thread of the path, whose points and moments are one
-  pub last_writers : (scene : Scene) (thread : ℕ) → AreLastWriters (shown_of P K scene) thread a
-  last_writers scene thread = record {
-    before = λ step p h own e. named_before step p (alone p step e);
-    since = λ step q p h own e low high. told q step (named_since step q p (alone p step e) low high);
-    between = λ step o q p h first then low high. told q step (named_since step q p (alone p step then) (let under = named_before step o (alone o step first) in omega (arith, under, low)) high);
-    none = λ q p h e high. back q (none_before q p (here p e) high);
+  pub last_writers : (scene : Scene) → AreLastWriters (shown_on t K scene) thread address
+  last_writers scene = record {
+    before = λ step p here own e. before here.0 step p here.1 own e;
+    since = λ step q p here own e low high. since here.0 step q p here.1 own e low high;
+    between = λ step o q p here first then low high. between here.0 step o q p here.1 first then low high;
+    none = λ q p here e high. none here.0 q p here.1 e high;
   }
-    where
-      alone : (p step : ℕ) → named (0 + p) ≡ Some step → named p ≡ Some step
-      alone p step e = let same : 0 + p ≡ p = omega arith in subst (λ n. named n ≡ Some step) same e
-
-      told : (p step : ℕ) → named p ≡ Some step → named (0 + p) ≡ Some step
-      told p step e = let same : p ≡ 0 + p = omega arith in subst (λ n. named n ≡ Some step) same e
-
-      here : (p : ℕ) → last_writer (along P) K (0 + p) a ≡ writers.None → last_writer (along P) K p a ≡ writers.None
-      here p e = let same : 0 + p ≡ p = omega arith in subst (λ n. last_writer (along P) K n a ≡ writers.None) same e
-
-      back : (p : ℕ) → last_writer (along P) K p a ≡ writers.None → last_writer (along P) K (0 + p) a ≡ writers.None
-      back p e = let same : p ≡ 0 + p = omega arith in subst (λ n. last_writer (along P) K n a ≡ writers.None) same e
-
--- a row leads from each point of a path but the last one
-rows_all : {W : Type 0} (P : Path W) → rows_below (along P).legs (along P).legs.count ≡ (along P).legs.count
-rows_all P = count_full (λ i. is_some ((along P).legs.row i)) (along P).legs.count (λ i below. ap is_some ((is_line P.given).rows i below).1)
 
 -- counts by their equations
 pub counted : {W : Type 0} (P : Path W) (K : Knowledge) (c : Counts) → IsCounted (along P) K c → c ≡ counts_of (along P) K
 counted P K c h =
     let S = along P in
-    ap (λ n. record { steps = n; calls = c.calls; registers = c.registers; exact = c.exact; inexact = c.inexact }) (h.steps ∙ rows_all P)
+    ap (λ n. record { steps = n; calls = c.calls; registers = c.registers; exact = c.exact; inexact = c.inexact }) h.steps
     ∙ ap (λ n. record { steps = (counts_of S K).steps; calls = n; registers = c.registers; exact = c.exact; inexact = c.inexact }) h.calls
     ∙ ap (λ n. record { steps = (counts_of S K).steps; calls = (counts_of S K).calls; registers = n; exact = c.exact; inexact = c.inexact }) h.registers
     ∙ ap (λ n. record { steps = (counts_of S K).steps; calls = (counts_of S K).calls; registers = (counts_of S K).registers; exact = n; inexact = c.inexact }) h.exact

@@ -29,15 +29,17 @@ use Rattle.rept_report.specs.Log.{Entry, logged_of}
 use Rattle.rept_report.proofs.OneThread.{rows_within, are_points, execution_runs, none_later, writes_told}
 use Rattle.rept_report.specs.OneThread.{Path, along}
 use Rattle.rept_found.specs.Crash.{Crash, Means, route, setting, Scene}
-use Rattle.rept_found.specs.Telling.{last_writer, noted, shown_of}
+use Rattle.rept_trip.specs.Alone.{trip_of}
+use Rattle.rept_trip.specs.Last.{writer_found}
+use Rattle.rept_found.specs.Telling.{noted, shown_of}
 use Rattle.rept_found.specs.Truth.{Executes, HasNoExecution, StepWrites, WriterHolds, RangeAlwaysHolds, IsTrueOf, IsTrueReason, IsTrueReport}
-use Rattle.rept_found.proofs.Tellings.{last_writer_is}
+use Rattle.rept_found.proofs.Tellings.{writer_fits}
 
 some_is : {x v : ℕ} → Some x ≡ Some v → x ≡ v
 some_is e = cc
 
 -- x0 holds 0
-register_true : (K : Knowledge) (s : State) (p r v : ℕ) → s.register 0 ≡ 0 → (K p (Register r) ≡ Some v → s.register r ≡ v) → register_known K p r ≡ Some v → s.register r ≡ v
+pub register_true : (K : Knowledge) (s : State) (p r v : ℕ) → s.register 0 ≡ 0 → (K p (Register r) ≡ Some v → s.register r ≡ v) → register_known K p r ≡ Some v → s.register r ≡ v
 register_true K s p r v zero known e =
     elim (cases_eq r 0) [
       | inl z ↦ ap s.register z ∙ zero ∙ some_is (sym (cond-true (eqb r 0) (Some 0) (K p (Register r)) (eq-eqb r 0 z)) ∙ e)
@@ -45,12 +47,12 @@ register_true K s p r v zero known e =
     ]
 
 -- a word lies between the bounds of the values that are left, where it is one of those of the report
-left_true : {W : Type 0} (m : Means W) → AreLawfulSets m.sets → (o : Option W) (v : ℕ) → v < 2 ^ 32 → ((set : W) → o ≡ Some set → m.sets.has set v ≡ true) → ((bounds m.sets o).lo ≤ v) × (v ≤ (bounds m.sets o).hi)
+pub left_true : {W : Type 0} (m : Means W) → AreLawfulSets m.sets → (o : Option W) (v : ℕ) → v < 2 ^ 32 → ((set : W) → o ≡ Some set → m.sets.has set v ≡ true) → ((bounds m.sets o).lo ≤ v) × (v ≤ (bounds m.sets o).hi)
 left_true m laws None v small in_set = words_between v small
 left_true m laws (Some set) v small in_set = bounds_cover m.sets laws (Some set) v (in_set set refl)
 
 -- and has the bits that are noted of them
-noted_true : {W : Type 0} (m : Means W) → AreMoves m.sets m.moves → (o : Option W) (v : ℕ) (n : ℕ × ℕ) → ((set : W) → o ≡ Some set → m.sets.has set v ≡ true) → noted m.moves o ≡ Some n → bit_and v n.0 ≡ n.1
+pub noted_true : {W : Type 0} (m : Means W) → AreMoves m.sets m.moves → (o : Option W) (v : ℕ) (n : ℕ × ℕ) → ((set : W) → o ≡ Some set → m.sets.has set v ≡ true) → noted m.moves o ≡ Some n → bit_and v n.0 ≡ n.1
 noted_true m moves None v n in_set e = absurd (nothing e)
   where
     nothing : {n : ℕ × ℕ} → None ≡ Some n → ⊥
@@ -104,7 +106,7 @@ module _ {W : Type 0} (m : Means W) (sets : AreLawfulSets m.sets) (moves : AreMo
     ranges = λ p r early. left_true m sets (range (way_of Here) K p r) ((run p).register r) ((x.states p early).words r) (λ set is. sound.ranges p r set early is (run_of run) (runs There run x));
     notes = λ p r n early e. noted_true m moves (range (way_of Here) K p r) ((run p).register r) n (λ set is. sound.ranges p r set early is (run_of run) (runs There run x)) e;
     bytes = λ p a v e. sound.facts p (Byte a) v e (run_of run) (runs There run x);
-    writers = λ p a early small. writer_true There run p a (last_writer Here K p a) (sound.writers p a (last_writer Here K p a) early small (last_writer_is There K p a) (run_of run) (runs There run x));
+    writers = λ p a early small. writer_true There run p a (writer_found Here K (spot p a)) (sound.writers p a (writer_found Here K (spot p a)) early small (writer_fits (trip_of There) K p a) (run_of run) (runs There run x));
   }
 
   -- what the laws of reasons say of an order in which the report was learnt

@@ -15,8 +15,12 @@ use Rattle.rept_found.specs.Crash.{Scene}
 use Rattle.rept_found.specs.Telling.{shown_of}
 
 module _ {W : Type 0} (s t : State W) (kept : KeepsAll s t) where
+  same_answers : answers t ≡ answers s
+  same_answers = rw (kept.path, kept.known) refl
+
   pub same_shown : (P Q : Path W) (end later : Scene) → Q ≡ P → later ≡ end → shown_of Q (answers t) later ≡ shown_of P (answers s) end
-  same_shown P Q end later path e = rw (path, kept.path, kept.known, e) refl
+  same_shown P Q end later path e =
+      ap (λ (R : Path W). shown_of R (answers t) later) path ∙ ap (λ (K : Knowledge). shown_of P K later) same_answers ∙ ap (λ (x : Scene). shown_of P (answers s) x) e
 
   pub same_reasons : (fact : Fact) (why : Because) → IsReason (along s.path) s.known.log fact why ↔ IsReason (along t.path) t.known.log fact why
   same_reasons fact why =

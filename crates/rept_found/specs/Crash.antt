@@ -1,5 +1,5 @@
 -- What a crash leaves, and the analysis of a path that ends in it (ELF-32 Object File Format; Linux core notes of RISC-V).
-use Rattle.std.specs.Prelude.{ℕ, ◌+◌, ◌*◌, List, map, ◌==◌, if◌then◌else◌}
+use Rattle.std.specs.Prelude.{ℕ, ◌+◌, ◌*◌, List, [], ◌∷◌, map, ◌==◌, if◌then◌else◌, unwrap_or, slice_get}
 use Rattle.std.specs.List.{range_with_len}
 use Rattle.rept_elf.specs.Header.{word_at}
 use Rattle.rept_elf.specs.Segments.{ElfSegment}
@@ -13,6 +13,9 @@ use Rattle.rept_report.specs.Setting.{Setting}
 use Rattle.rept_span.specs.Moves.{Moves}
 use Rattle.rept_view.specs.Rules.{Rules}
 use Rattle.rept_report.specs.OneThread.{Path, along}
+use Rattle.rept_steps.specs.Course.{Course}
+use Rattle.rept_order.specs.History.{Ending}
+use Rattle.rept_trip.specs.Trip.{Trip}
 
 -- a program and the core file of its crash: its files, the segments of the core file, and the descriptor of the register note
 pub record Crash : Type 0 where
@@ -31,15 +34,23 @@ end_pc note = word_at note 72
 abbrev pub process : List ℕ → ℕ
 process note = word_at note 24
 
--- what a session tells of a crash besides what follows: the address after the last step, the process, and the functions that the
--- program's files name
-pub record Scene : Type 0 where
+-- the address after the last step of a thread, and its process
+pub record Ended : Type 0 where
   pub end_pc : ℕ
   pub process : ℕ
+
+-- what a session tells of a crash besides what follows: how each thread ended, and the functions that the program's files name
+pub record Scene : Type 0 where
+  pub threads : List Ended
   pub program : Program
 
+-- the end of a thread; past the last one there is none
+abbrev pub ended_at : Scene → ℕ → Ended
+ended_at scene t = unwrap_or (slice_get scene.threads t) (record { end_pc = 0; process = 0 })
+
+-- of the one thread of the note
 abbrev pub scene_of : Crash → Scene
-scene_of crash = record { end_pc = end_pc crash.note; process = process crash.note; program = crash.exe }
+scene_of crash = record { threads = record { end_pc = end_pc crash.note; process = process crash.note } ∷ []; program = crash.exe }
 
 -- the last value of a register
 abbrev pub last_value : List ℕ → ℕ → ℕ
@@ -57,6 +68,10 @@ pub record Means (W : Type 0) : Type 0 where
 
 abbrev pub means : {W : Type 0} → Sets W → Moves W → Rules → Means W
 means sets moves rules = record { sets = sets; moves = moves; rules = rules }
+
+-- a run of any number of threads that ended so
+abbrev pub trip_by : {W : Type 0} → Means W → Course → Ending → Trip W
+trip_by m course ending = record { sets = m.sets; moves = m.moves; rules = m.rules; course = course; ending = ending }
 
 -- a path over the program, and the registers and bytes of the core file in which it ends
 abbrev pub route : {W : Type 0} → Means W → Crash → List StepRow → Path W

@@ -1,4 +1,6 @@
 pub mod Crash
+pub mod Histories
+pub mod Single
 pub mod Telling
 pub mod Truth
 pub mod View

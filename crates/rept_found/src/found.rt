@@ -3,6 +3,8 @@
 ghost use Rattle.std.specs.Prelude.{IfOk, IfErr, IsOk};
 ghost use Rattle.rept_report.specs.Closure.{ClosureHas, IsConsistent};
 ghost use Rattle.rept_report.specs.OneThread.{along};
+ghost use Rattle.rept_trip.specs.Alone.{trip_of};
+ghost use Rattle.rept_trip.specs.Executed.{HasNoHistory};
 ghost use Rattle.rept_found.specs.Crash.{means};
 ghost use Rattle.rept_found.specs.Truth.{HasNoExecution};
 ghost use Rattle.rept_found.specs.View.{IsFoundIn, path_in};
@@ -27,24 +29,25 @@ pub struct Found<'a, W: Transfer, R: RowRules> {
 }
 
 impl<'a, W: Transfer, R: RowRules> Model for Found<'a, W, R> {
-    ghost use Rattle.std.specs.Prelude.{◌≡◌, ◌≤◌, length, true};
+    ghost use Rattle.std.specs.Prelude.{◌≡◌, ◌≤◌, [], ◌∷◌, length, true};
     ghost use Rattle.rept_dump.specs.Dump.{exe_of};
     ghost use Rattle.rept_found.specs.View.{View};
 
     ghost Value = { View W R };
 
-    ghost view = { λ f. record { analysis = f.analysis; scene = record { end_pc = f.end_pc; process = f.process; program = exe_of f.dump.now } } };
+    ghost view = { λ f. record { analysis = f.analysis; scene = record { threads = record { end_pc = f.end_pc; process = f.process } ∷ []; program = exe_of f.dump.now } } };
 
     ghost invariant = { λ f. (f.analysis.complete ≡ true) × (length f.analysis.paths.rows.now ≤ 65536) };
 }
 
 /// Learns all that follows, which takes no memory: it is Ok exactly where the closure of the rules has no conflict. A conflict that is told is
-/// one of the closure, and then no execution of the steps ends in the dump.
+/// one of the closure, and then no execution of the steps ends in the dump, and no history of the run of their one thread does.
 pub fn search<'a, W: Transfer, R: RowRules>(
     prepared: Prepared<'a, W, R>,
 ) -> Result<Found<'a, W, R>, ConflictKind>
     ensures found { IfOk result (IsFoundIn (means W.sets W.moves R.rules) (path_in (means W.sets W.moves R.rules) prepared.entry) prepared.entry.scene) }
     ensures conflict { IfErr result (λ kind. ClosureHas (along (path_in (means W.sets W.moves R.rules) prepared.entry)) kind) }
+    ensures no_history { IfErr result (λ _. HasNoHistory (trip_of (path_in (means W.sets W.moves R.rules) prepared.entry))) }
     ensures impossible { IfErr result (λ _. HasNoExecution (path_in (means W.sets W.moves R.rules) prepared.entry)) }
     ensures exact { IsConsistent (along (path_in (means W.sets W.moves R.rules) prepared.entry)) → IsOk result }
 {

@@ -1,10 +1,20 @@
-//! A law of the definitions, for callers whose contracts speak of any path and crash. The call does nothing.
+//! Laws of the definitions, for callers whose contracts speak of any run and crash. The calls do nothing.
 
-ghost use Rattle.std.specs.Prelude.{List};
+ghost use Rattle.std.specs.Prelude.{◌<◌, ℕ, List, length};
 ghost use Rattle.rept_isa.specs.declared.row.StepRow.{StepRow};
+ghost use Rattle.rept_steps.specs.Course.{Course, IsSound};
+ghost use Rattle.rept_order.specs.History.{Ending};
 ghost use Rattle.rept_reason.specs.Facts.{Knowledge};
-ghost use Rattle.rept_report.specs.Closure.{IsReport};
-ghost use Rattle.rept_found.specs.Crash.{Crash, means, route, setting};
+ghost use Rattle.rept_report.specs.declared.conflict.ConflictKind.{ConflictKind};
+ghost use Rattle.rept_report.specs.Closure.{ClosureHas, IsReport};
+ghost use Rattle.rept_report.specs.OneThread.{Path};
+ghost use Rattle.rept_session.specs.LastWriters.{AreLastWriters};
+ghost use Rattle.rept_trip.specs.Trip.{setting_on};
+ghost use Rattle.rept_trip.specs.Executed.{HasNoHistory};
+ghost use Rattle.rept_found.specs.Crash.{Crash, Scene, means, route, setting, trip_by};
+ghost use Rattle.rept_found.specs.Histories.{IsTrueTrip};
+ghost use Rattle.rept_found.specs.Single.{IsOneThread};
+ghost use Rattle.rept_found.specs.Telling.{shown_of, shown_on};
 ghost use Rattle.rept_found.specs.Truth.{IsTrueReport};
 
 use rept_report::{facts_have_reasons, reports_are_sound};
@@ -18,3 +28,19 @@ pub fn reports_are_true<W: Transfer, R: RowRules>()
     reports_are_sound::<W, R>();
     facts_have_reasons::<W, R>();
 }
+
+/// Of a sound run of any number of threads: what a session tells of a report holds in every execution of all threads that ends so, and its reasons rest on the report. Where the closure has a
+/// conflict, there is no such execution. A row that is told as the last writer at a point of a thread came before it, and is told at each point since it came.
+pub fn trips_are_true<W: Transfer, R: RowRules>()
+    ensures report { (C : Course) (D : Ending) (K : Knowledge) → IsSound C → 0 < length C.threads → IsReport (setting_on (trip_by (means W.sets W.moves R.rules) C D)) K → IsTrueTrip (trip_by (means W.sets W.moves R.rules) C D) K }
+    ensures conflict { (C : Course) (D : Ending) (kind : ConflictKind) → IsSound C → 0 < length C.threads → ClosureHas (setting_on (trip_by (means W.sets W.moves R.rules) C D)) kind → HasNoHistory (trip_by (means W.sets W.moves R.rules) C D) }
+    ensures writers { (C : Course) (D : Ending) (K : Knowledge) (scene : Scene) (thread address : ℕ) → IsSound C → AreLastWriters (shown_on (trip_by (means W.sets W.moves R.rules) C D) K scene) thread address }
+{
+    reports_are_sound::<W, R>();
+    facts_have_reasons::<W, R>();
+}
+
+/// What is shown of a path is what its one thread's own words say: its points and moments are one.
+pub fn paths_are_one_thread<W: Transfer>()
+    ensures { (P : Path W) (K : Knowledge) (scene : Scene) → IsOneThread P K (shown_of P K scene) }
+{}

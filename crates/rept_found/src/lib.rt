@@ -1,4 +1,4 @@
-//! What an analysis finds out of a path and the dump in which it ends, for the session that tells it.
+//! What an analysis finds out of a run and the dump in which it ends, for the session that tells it. The program analyses one path; what is shown and what holds is said of any number of threads.
 #![tactic(auto)]
 
 pub mod found;
@@ -7,5 +7,5 @@ pub mod prepared;
 mod telling;
 
 pub use found::{Found, search};
-pub use laws::reports_are_true;
+pub use laws::{paths_are_one_thread, reports_are_true, trips_are_true};
 pub use prepared::{Prepared, prepare};

@@ -29,13 +29,13 @@ pub struct Prepared<'a, W: Transfer, R: RowRules> {
 }
 
 impl<'a, W: Transfer, R: RowRules> Model for Prepared<'a, W, R> {
-    ghost use Rattle.std.specs.Prelude.{◌≤◌, length};
+    ghost use Rattle.std.specs.Prelude.{◌≤◌, [], ◌∷◌, length};
     ghost use Rattle.rept_dump.specs.Dump.{exe_of};
     ghost use Rattle.rept_found.specs.View.{View};
 
     ghost Value = { View W R };
 
-    ghost view = { λ p. record { analysis = p.analysis; scene = record { end_pc = p.end_pc; process = p.process; program = exe_of p.dump.now } } };
+    ghost view = { λ p. record { analysis = p.analysis; scene = record { threads = record { end_pc = p.end_pc; process = p.process } ∷ []; program = exe_of p.dump.now } } };
 
     ghost invariant = { λ p. length p.analysis.paths.rows.now ≤ 65536 };
 }

@@ -1,16 +1,55 @@
 //! What a session asks of an analysis that has ended.
 
+ghost use Rattle.std.specs.Prelude.{◌≡◌, List, length};
+ghost use Rattle.rept_isa.specs.declared.row.StepRow.{StepRow};
+ghost use Rattle.rept_steps.specs.Runs.{course_of, run_of_one};
+ghost use Rattle.rept_places.specs.Places.{point_on, place_on};
+
 use crate::found::Found;
 use rept_elf::Symbol;
 use rept_isa::{Reg, StepRow};
 use rept_partial::{Flat, Range};
 use rept_reason::{Fact, Reason};
-use rept_report::{Counts, Writer, bounds};
+use rept_report::{Counts, Paths, Writer, bounds};
 use rept_session::{Findings, Place, ThreadPlace, ThreadPoint};
 use rept_span::Transfer;
 use rept_view::RowRules;
 use rept_word::OutOfMemory;
 use std::alloc::Global;
+
+/// The thread and the point that a number stands for, of one thread with this last point. A number past it stands for no point; it is told as if one more thread followed.
+fn point_of(last: u32, number: u32) -> ThreadPoint
+    ensures { (rows : List StepRow) → length rows ≡ last → result ≡ point_on (course_of (run_of_one rows 0)) number }
+{
+    if number <= last {
+        ThreadPoint {
+            thread: 0,
+            point: number,
+        }
+    } else {
+        ThreadPoint {
+            thread: 1,
+            point: number - last - 1,
+        }
+    }
+}
+
+/// The thread and the place that a moment's number stands for, of one thread with this last point. A number past it is told as the end.
+fn place_of(last: u32, moment: u32) -> ThreadPlace
+    ensures { (rows : List StepRow) → length rows ≡ last → result ≡ place_on (course_of (run_of_one rows 0)) moment }
+{
+    if moment < last {
+        ThreadPlace {
+            thread: 0,
+            place: Place::Point(moment),
+        }
+    } else {
+        ThreadPlace {
+            thread: 0,
+            place: Place::Point(last),
+        }
+    }
+}
 
 impl<'a, W: Transfer, R: RowRules> Findings for Found<'a, W, R> {
     ghost use Rattle.rept_report.specs.Why.{IsReason};
@@ -47,14 +86,11 @@ impl<'a, W: Transfer, R: RowRules> Findings for Found<'a, W, R> {
 
     fn points(&self) -> u32 {
         self.analysis.account();
-        self.analysis.paths().rows().len() as u32 + 1
+        self.analysis.paths().last_point() + 1
     }
 
     fn point(&self, number: u32) -> ThreadPoint {
-        ThreadPoint {
-            thread: 0,
-            point: number,
-        }
+        point_of(self.analysis.paths().last_point(), number)
     }
 
     fn moment(&self, point: u32) -> u32 {
@@ -62,10 +98,7 @@ impl<'a, W: Transfer, R: RowRules> Findings for Found<'a, W, R> {
     }
 
     fn place(&self, moment: u32) -> ThreadPlace {
-        ThreadPlace {
-            thread: 0,
-            place: Place::Point(moment),
-        }
+        place_of(self.analysis.paths().last_point(), moment)
     }
 
     fn reg(&self, point: u32, register: Reg) -> Option<u32> {

@@ -1,0 +1,92 @@
+-- What is told of a report of any number of threads holds in every execution of them.
+use Rattle.std.proofs.Common.{◌≡◌, ℕ, ◌<◌, ◌≤◌, Bool, List, All, length, refl, sym, ap, subst, ◌∙◌, arith}
+use mathlib.Core.Path.{fun_ext}
+use Rattle.std.proofs.lemmas.List.Elements.{All-weaker}
+use Rattle.rept_partial.specs.Sets.{AreLawful as AreLawfulSets}
+use Rattle.rept_steps.specs.Course.{Course, IsSound}
+use Rattle.rept_order.specs.History.{History, Ending}
+use Rattle.rept_order.specs.Legs.{registers_on}
+use Rattle.rept_order.specs.Moments.{Moment}
+use Rattle.rept_order.specs.Points.{memory_at}
+use Rattle.rept_order.specs.Writers as order
+use Rattle.rept_places.specs.Places.{last_on, place_on}
+use Rattle.rept_reason.specs.declared.fact.Fact.{Fact}
+use Rattle.rept_reason.specs.declared.fact.Cell.{Cell}
+use Rattle.rept_reason.specs.declared.fact.Cell.TheVariants.{Register, Byte}
+use Rattle.rept_reason.specs.Facts.{Knowledge}
+use Rattle.rept_span.specs.Moves.{AreMoves}
+use Rattle.rept_span.specs.Ranges.{range}
+use Rattle.rept_moments.proofs.Apart.{legs_seen, moments_seen}
+use Rattle.rept_report.specs.Setting.{Setting, Uses, way_of}
+use Rattle.rept_report.specs.Spots.{spot}
+use Rattle.rept_report.specs.Runs.{Runs}
+use Rattle.rept_report.specs.Soundness.{IsSound as IsSoundReport, HasNoExecution as HasNoRun}
+use Rattle.rept_report.specs.Why.{Because, IsReason, IsGiven, RangeAlwaysHolds as RangeHoldsInRuns}
+use Rattle.rept_report.specs.Implied.{HasEnded, known_at_end}
+use Rattle.rept_report.specs.Log.{Entry, logged_of}
+use Rattle.rept_report.specs.OneThread.{Path, along}
+use Rattle.rept_trip.specs.Trip.{Trip, setting_on}
+use Rattle.rept_trip.specs.Alone.{trip_of}
+use Rattle.rept_trip.specs.Executed.{IsHistoryOf, HasNoHistory, moment_named, run_on, writer_on}
+use Rattle.rept_trip.specs.Last.{writer_found}
+use Rattle.rept_trip.proofs.Acting.{writer_so}
+use Rattle.rept_trip.proofs.Naming.{place_named}
+use Rattle.rept_trip.proofs.Paths.{is_sound}
+use Rattle.rept_trip.proofs.Seeing.{history_runs}
+use Rattle.rept_found.specs.Crash.{Means, Scene, trip_by}
+use Rattle.rept_found.specs.Telling.{shown_on}
+use Rattle.rept_found.specs.Histories.{IsTrueIn, RangeHoldsInAll, IsTrueBecause, IsTrueTrip}
+use Rattle.rept_found.proofs.Tellings.{writer_fits}
+use Rattle.rept_found.proofs.Truths.{register_true, left_true, noted_true}
+
+-- the laws of the setting of a trip
+pub uses_trip : {W : Type 0} (m : Means W) (C : Course) (D : Ending) → IsSound C → Uses (setting_on (trip_by m C D)) m.sets m.moves m.rules
+uses_trip m C D sound = record { its_sets = refl; its_moves = refl; its_rules = refl; its_legs = legs_seen C; its_moments = moments_seen C sound }
+
+-- where there is no run, there is no execution
+pub no_history : {W : Type 0} (t : Trip W) → IsSound t.course → 0 < length t.course.threads → HasNoRun (setting_on t) → HasNoHistory t
+no_history t sound some none h x = none (run_on t.course h) (history_runs t h sound some x)
+
+pub no_history_alone : {W : Type 0} (P : Path W) → HasNoRun (along P) → HasNoHistory (trip_of P)
+no_history_alone P none = no_history (trip_of P) (is_sound P.given.rows) (omega arith) none
+
+module _ {W : Type 0} (m : Means W) (sets : AreLawfulSets m.sets) (moves : AreMoves m.sets m.moves) (C : Course) (D : Ending) (K : Knowledge) (sound : IsSound C) (some : 0 < length C.threads) where
+  abbrev There : Trip W
+  There = trip_by m C D
+
+  abbrev Here : Setting W
+  Here = setting_on (trip_by m C D)
+
+  runs : (h : History) → IsHistoryOf There h → Runs Here (run_on C h)
+  runs h x = history_runs There h sound some x
+
+  answers_true : IsSoundReport Here K → (scene : Scene) (h : History) → IsHistoryOf There h → IsTrueIn There (shown_on There K scene) h
+  answers_true report scene h x = record {
+    registers = λ p r v early e. register_true K (record { register = registers_on C h p; memory = λ a. 0 }) p r v ((runs h x).zero p (omega arith)) (λ known. report.facts p (Register r) v known (run_on C h) (runs h x)) e;
+    ranges = λ p r early. left_true m sets (range (way_of Here) K p r) (registers_on C h p r) ((runs h x).words p r (omega arith)) (λ set is. report.ranges p r set (omega arith) is (run_on C h) (runs h x));
+    notes = λ p r n early e. noted_true m moves (range (way_of Here) K p r) (registers_on C h p r) n (λ set is. report.ranges p r set (omega arith) is (run_on C h) (runs h x)) e;
+    bytes = λ k a v early e. ap (λ (y : Moment). memory_at C h y a) (place_named C sound k (omega arith)) ∙ report.facts k (Byte a) v e (run_on C h) (runs h x);
+    writers = λ k a early small. writer_so_named k a (omega arith) (writer_so There h sound x k a (omega arith) K (writer_found Here K (spot k a)) (writer_fits There K k a) (report.writers k a (writer_found Here K (spot k a)) (omega arith) small (writer_fits There K k a) (run_on C h) (runs h x)));
+  }
+    where
+      writer_so_named : (k a : ℕ) → k ≤ Here.moments.end → order.WriterHolds C D h (record { moment = last_on C k; address = a }) (writer_on C (writer_found Here K (spot k a))) → order.WriterHolds C D h (record { moment = moment_named C (place_on C k); address = a }) (writer_on C (writer_found Here K (spot k a)))
+      writer_so_named k a few holds = subst (λ (y : Moment). order.WriterHolds C D h (record { moment = y; address = a }) (writer_on C (writer_found Here K (spot k a)))) (sym (place_named C sound k few)) holds
+
+  -- what the laws of reasons say of an order in which the report was learnt
+  because_true : (es : List Entry) (tracked : ℕ → Bool) (why : Because) → ((p : ℕ) (c : Cell) → known_at_end Here es tracked p c ≡ K p c) → All (IsGiven (known_at_end Here es tracked)) why.premises → All (RangeHoldsInRuns Here) why.ranges → IsTrueBecause There K why
+  because_true es tracked why same premises ranges =
+      let whole : known_at_end Here es tracked ≡ K = fun_ext (λ p. fun_ext (λ c. same p c)) in
+      record {
+        premises = subst (λ (L : Knowledge). All (IsGiven L) why.premises) whole premises;
+        ranges = All-weaker (RangeHoldsInRuns Here) (RangeHoldsInAll There) (λ x holds h e. holds (run_on C h) (runs h e)) why.ranges ranges;
+      }
+
+  pub trip_true : IsSoundReport Here K
+      → ((es : List Entry) (tracked : ℕ → Bool) (f : Fact) (why : Because) → HasEnded Here es tracked → IsReason Here (logged_of es) f why → All (IsGiven (known_at_end Here es tracked)) why.premises)
+      → ((es : List Entry) (tracked : ℕ → Bool) (f : Fact) (why : Because) → HasEnded Here es tracked → IsReason Here (logged_of es) f why → All (RangeHoldsInRuns Here) why.ranges) → IsTrueTrip There K
+  trip_true report premises ranges = record {
+    answers = answers_true report;
+    reasons = λ log f why l is.
+        let here : IsReason Here (logged_of l.entries) f why = subst (λ (fs : List Fact). IsReason Here fs f why) (sym l.logged) is in
+        because_true l.entries l.tracked why l.knows (premises l.entries l.tracked f why l.ended here) (ranges l.entries l.tracked f why l.ended here);
+  }

@@ -1,0 +1,21 @@
+use Rattle.rept_trip.specs.Trip.{setting_on}
+use Rattle.rept_found.specs.Crash.{means, trip_by}
+use Rattle.rept_found.proofs.Tellings.{last_writers}
+use Rattle.rept_found.proofs.Trips.{no_history, trip_true, uses_trip}
+use Rattle.rept_found.proofs.laws.trips_are_true.Goals as goal
+
+pub returns-clause-report : goal.returns-clause-report
+returns-clause-report g c = λ C D K sound some report.
+    let m = means g.W.Partial.sets g.W.Transfer.moves g.R.RowRules.rules in
+    let S = setting_on (trip_by m C D) in
+    trip_true m g.met.W.Partial.lawful g.met.W.Transfer.covers C D K sound some (c.reports_are_sound.ensures.report S K (uses_trip m C D sound) report)
+    (λ es tracked f why ended is. c.facts_have_reasons.ensures.premises S es tracked f why (uses_trip m C D sound) ended is)
+    (λ es tracked f why ended is. c.facts_have_reasons.ensures.ranges S es tracked f why (uses_trip m C D sound) ended is)
+
+pub returns-clause-conflict : goal.returns-clause-conflict
+returns-clause-conflict g c = λ C D kind sound some has.
+    let m = means g.W.Partial.sets g.W.Transfer.moves g.R.RowRules.rules in
+    no_history (trip_by m C D) sound some (c.reports_are_sound.ensures.conflict (setting_on (trip_by m C D)) kind (uses_trip m C D sound) has)
+
+pub returns-clause-writers : goal.returns-clause-writers
+returns-clause-writers g c = λ C D K scene thread address sound. last_writers (trip_by (means g.W.Partial.sets g.W.Transfer.moves g.R.RowRules.rules) C D) sound K thread address scene

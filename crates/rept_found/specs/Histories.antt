@@ -1,0 +1,51 @@
+-- What is told of a report of any number of threads holds in every execution of them that ends in the dump. This project's own.
+use Rattle.std.specs.Prelude.{◌≡◌, ℕ, ◌<◌, ◌≤◌, ◌^◌, All, List, Some, bit_and}
+use Rattle.rept_order.specs.History.{History}
+use Rattle.rept_order.specs.Points.{registers_at, memory_at}
+use Rattle.rept_order.specs.Writers.{Spot, WriterHolds}
+use Rattle.rept_reason.specs.declared.fact.Fact.{Fact}
+use Rattle.rept_reason.specs.declared.reason.Looked.{Looked}
+use Rattle.rept_reason.specs.Facts.{Knowledge}
+use Rattle.rept_report.specs.Why.{Because, IsReason, IsGiven}
+use Rattle.rept_analysis.specs.Logged.{IsLogOf}
+use Rattle.rept_session.specs.Shown.{Shown}
+use Rattle.rept_places.specs.Places.{point_on}
+use Rattle.rept_session.specs.declared.place.ThreadPoint.{ThreadPoint}
+use Rattle.rept_trip.specs.Trip.{Trip, setting_on}
+use Rattle.rept_trip.specs.Executed.{IsHistoryOf, moment_named, writer_on}
+use Rattle.rept_found.specs.Crash.{Scene}
+use Rattle.rept_found.specs.Telling.{shown_on}
+
+-- what an execution has in a register at a named point, and in memory at the moment that has a number
+abbrev pub value_at : {W : Type 0} → Trip W → History → ThreadPoint → ℕ → ℕ
+value_at t h c r = registers_at t.course h c.thread c.point r
+
+abbrev pub byte_in : {W : Type 0} → Trip W → Shown → History → ℕ → ℕ → ℕ
+byte_in t s h m a = memory_at t.course h (moment_named t.course (s.place m)) a
+
+-- the byte at an address, at the moment that has a number
+abbrev pub spot_in : {W : Type 0} → Trip W → Shown → ℕ → ℕ → Spot
+spot_in t s m a = record { moment = moment_named t.course (s.place m); address = a }
+
+-- Of one execution of all threads: each value of a register and each byte that is told is the one that it has at the point or moment by whose name it is told, each register
+-- lies between the bounds that are told and has the bits that are noted, and what is told of the row that last wrote a byte is so.
+pub record IsTrueIn {W : Type 0} (t : Trip W) (s : Shown) (h : History) : Type 0 where
+  pub registers : (p r v : ℕ) → p < s.points → s.register p r ≡ Some v → value_at t h (s.point p) r ≡ v
+  pub ranges : (p r : ℕ) → p < s.points → ((s.range p r).lo ≤ value_at t h (s.point p) r) × (value_at t h (s.point p) r ≤ (s.range p r).hi)
+  pub notes : (p r : ℕ) (n : ℕ × ℕ) → p < s.points → s.note p r ≡ Some n → bit_and (value_at t h (s.point p) r) n.0 ≡ n.1
+  pub bytes : (m a v : ℕ) → m < s.moments → s.byte m a ≡ Some v → byte_in t s h m a ≡ v
+  pub writers : (m a : ℕ) → m < s.moments → a < 2 ^ 32 → WriterHolds t.course t.ending h (spot_in t s m a) (writer_on t.course (s.writer m a))
+
+-- the register's value lies in the range in every execution
+abbrev pub RangeHoldsInAll : {W : Type 0} → Trip W → Looked → Type 0
+RangeHoldsInAll t x = (h : History) → IsHistoryOf t h → (x.range.lo ≤ value_at t h (point_on t.course x.point) x.reg) × (value_at t h (point_on t.course x.point) x.reg ≤ x.range.hi)
+
+-- Of a reason: the facts that it rests on are of the report, and the ranges that it lists hold in every execution.
+pub record IsTrueBecause {W : Type 0} (t : Trip W) (K : Knowledge) (why : Because) : Type 0 where
+  pub premises : All (IsGiven K) why.premises
+  pub ranges : All (RangeHoldsInAll t) why.ranges
+
+-- all that a session tells of a report of a trip, whatever the order in which it was learnt
+pub record IsTrueTrip {W : Type 0} (t : Trip W) (K : Knowledge) : Type 0 where
+  pub answers : (scene : Scene) (h : History) → IsHistoryOf t h → IsTrueIn t (shown_on t K scene) h
+  pub reasons : (log : List Fact) (fact : Fact) (why : Because) → IsLogOf (setting_on t) K log → IsReason (setting_on t) log fact why → IsTrueBecause t K why
