@@ -4,6 +4,8 @@
 #[cfg(test)]
 mod harts;
 #[cfg(test)]
+mod plays;
+#[cfg(test)]
 mod tests;
 #[cfg(test)]
 mod writing;
