@@ -20,15 +20,12 @@ use Rattle.rept_report.proofs.Standing.{front_quiet}
 use Rattle.rept_report.proofs.Explained.{known_by, drawn_by, carried_by}
 use Rattle.rept_report.proofs.Implied.{known_stands}
 use Rattle.rept_isa.specs.declared.row.StepRow.{StepRow}
-use Rattle.rept_dump.specs.Memory.{byte_at}
-use Rattle.rept_dump.specs.Program.{contents}
 use Rattle.rept_partial.specs.Sets.{Sets}
 use Rattle.rept_span.specs.Moves.{Moves}
 use Rattle.rept_view.specs.Rules.{Rules}
 use Rattle.rept_versions.specs.Facts.{Store}
-use Rattle.rept_report.specs.Timeline.{Timeline}
 use Rattle.rept_log.specs.Fronts.{FrontView, Stored, IsFront, basis_of, front_of, stands}
-use Rattle.rept_analysis.specs.State.{State, Whole, setting_of, state_of, with_draws, along}
+use Rattle.rept_analysis.specs.State.{State, Whole, Reader, setting_of, state_of, with_draws, along}
 use Rattle.rept_analysis.specs.Drawing.{IsRowDrawn, IsSettled}
 use Rattle.rept_analysis.specs.Kept.{is_among, answers, IsFinished, IsKept}
 use Rattle.rept_analysis.specs.Reasoned.{front_below, AreSetsOf, IsNotLast}
@@ -203,20 +200,12 @@ pub some_after : {A : Type 0} (P Q : A → Type 0) (found : Option A) → ((x : 
 some_after P Q None f h = tt
 some_after P Q (Some x) f h = f x h
 
--- a prefix by what tells the last values is that of what is given
-pub front_same : {P L B W R : Type 0} (timeline : P → Timeline) (values : L → ℕ → List ℕ) (sets : Sets W) (moves : Moves W) (rules : Rules) (a : Whole P B W R) (t : ℕ) (last : L) (b : Stored P L) → b ≡ record { paths = a.paths; last = last; exe = a.exe; core = a.core; facts = oldest t a.known.log } → values last ≡ (λ p. a.last) → front_of sets moves rules (basis_of timeline values b) ≡ front_below timeline sets moves rules a t
-front_same {P} {L} timeline values sets moves rules a t last b is same =
-    ap (λ (x : Stored P L). front_of sets moves rules (basis_of timeline values x)) is
-    ∙ ap (λ (x : ℕ → List ℕ). record {
-      sets = sets;
-      moves = moves;
-      rules = rules;
-      given = record { legs = (timeline a.paths).legs; moments = (timeline a.paths).moments; last = x; dump = byte_at (contents a.exe) a.core; image_end = (contents a.exe).end };
-      facts = oldest t a.known.log;
-    }) same
+-- a prefix of what an analysis holds is that of what is given
+pub front_same : {P L B W R : Type 0} (read : Reader P L) (sets : Sets W) (moves : Moves W) (rules : Rules) (a : Whole P L B W R) (t : ℕ) (b : Stored P L) → b ≡ record { paths = a.paths; last = a.last; exe = a.exe; core = a.core; facts = oldest t a.known.log } → front_of sets moves rules (basis_of read.timeline read.last b) ≡ front_below read sets moves rules a t
+front_same {P} {L} read sets moves rules a t b is = ap (λ (x : Stored P L). front_of sets moves rules (basis_of read.timeline read.last x)) is
 
-pub front_by : {P L B W R : Type 0} (timeline : P → Timeline) (values : L → ℕ → List ℕ) (sets : Sets W) (moves : Moves W) (rules : Rules) (store : B → Store) (a : Whole P B W R) (t : ℕ) (last : L) (spans : View W) → values last ≡ (λ p. a.last) → HasLaws (setting_of timeline sets moves rules a) → IsKept (state_of timeline sets moves rules store a) → IsFinished (state_of timeline sets moves rules store a) → AreSetsOf (setting_of timeline sets moves rules a) (oldest t a.known.log) spans → IsFront (front_of sets moves rules (basis_of timeline values (record { paths = a.paths; last = last; exe = a.exe; core = a.core; facts = oldest t a.known.log }))) a.known.last spans
-front_by {W = W} timeline values sets moves rules store a t last spans same laws kept finished its = subst (λ (f : FrontView W). IsFront f a.known.last spans) (sym (front_same timeline values sets moves rules a t last _ refl same)) (front_is (state_of timeline sets moves rules store a) laws kept finished t spans its)
+pub front_by : {P L B W R : Type 0} (read : Reader P L) (sets : Sets W) (moves : Moves W) (rules : Rules) (store : B → Store) (a : Whole P L B W R) (t : ℕ) (spans : View W) → HasLaws (setting_of read sets moves rules a) → IsKept (state_of read sets moves rules store a) → IsFinished (state_of read sets moves rules store a) → AreSetsOf (setting_of read sets moves rules a) (oldest t a.known.log) spans → IsFront (front_of sets moves rules (basis_of read.timeline read.last (record { paths = a.paths; last = a.last; exe = a.exe; core = a.core; facts = oldest t a.known.log }))) a.known.last spans
+front_by read sets moves rules store a t spans laws kept finished its = front_is (state_of read sets moves rules store a) laws kept finished t spans its
 
 -- an analysis stays what it is, however often rules were drawn
 module _ {W : Type 0} (s : State W) (kept : IsKept s) (n : ℕ) where

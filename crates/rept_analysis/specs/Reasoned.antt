@@ -10,15 +10,15 @@ use Rattle.rept_span.specs.Moves.{Moves}
 use Rattle.rept_view.specs.Rules.{Rules}
 use Rattle.rept_report.specs.Timeline.{Timeline}
 use Rattle.rept_log.specs.Fronts.{FrontView}
-use Rattle.rept_analysis.specs.State.{Whole, State, given_of}
+use Rattle.rept_analysis.specs.State.{Whole, State, Reader, given_of}
 
 -- the facts at places below t, of what is given
-abbrev pub front_below : {P B W R : Type 0} → (P → Timeline) → Sets W → Moves W → Rules → Whole P B W R → ℕ → FrontView W
-front_below timeline sets moves rules a t = record {
+abbrev pub front_below : {P L B W R : Type 0} → Reader P L → Sets W → Moves W → Rules → Whole P L B W R → ℕ → FrontView W
+front_below read sets moves rules a t = record {
   sets = sets;
   moves = moves;
   rules = rules;
-  given = given_of timeline a;
+  given = given_of read a;
   facts = oldest t a.known.log;
 }
 

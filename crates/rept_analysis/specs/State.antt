@@ -2,8 +2,6 @@
 use Rattle.std.specs.Prelude.{◌≡◌, ◌+◌, ℕ, Bool, true, List, length, Option}
 use Rattle.rept_isa.specs.declared.row.StepRow.{StepRow}
 use Rattle.rept_elf.specs.Segments.{ElfSegment}
-use Rattle.rept_dump.specs.declared.status.Status.{Status}
-use Rattle.rept_dump.specs.Status.{IsStatus}
 use Rattle.rept_dump.specs.Memory.{byte_at}
 use Rattle.rept_dump.specs.Program.{Program, contents}
 use Rattle.rept_partial.specs.Sets.{Sets}
@@ -22,12 +20,12 @@ use Rattle.rept_writing.specs.declared.list.Writing.{Writing}
 use Rattle.rept_analysis.specs.declared.pass.Pass.{Pass}
 use Rattle.rept_analysis.specs.Work.{Work}
 
--- The rows and moments, and the last register values of one thread; the files of the program, and the segments of the core file; the facts that were learnt; the
+-- The rows and moments, and the last register values of each thread; the files of the program, and the segments of the core file; the facts that were learnt; the
 -- sets of values that were filled last, and of how many facts in the log; the rules; how many facts in the log, from the oldest on,
 -- are answered; whether all is learnt, and the conflict that was answered; and its work.
-pub record Whole (P B W R : Type 0) : Type 0 where
+pub record Whole (P L B W R : Type 0) : Type 0 where
   pub paths : P
-  pub last : List ℕ
+  pub last : L
   pub exe : Program
   pub core : List ElfSegment
   pub known : Held B
@@ -68,30 +66,38 @@ pub record State (W : Type 0) : Type 0 where
   pub conflict : Option ConflictKind
   pub work : Work
 
+-- how rows and moments are read, and the values of registers x0 to x31 at the last point of each thread
+pub record Reader (P L : Type 0) : Type 0 where
+  pub timeline : P → Timeline
+  pub last : L → ℕ → List ℕ
+
+abbrev pub reader : {P L : Type 0} → (P → Timeline) → (L → ℕ → List ℕ) → Reader P L
+reader timeline last = record { timeline = timeline; last = last }
+
 -- what is given: the rows and moments, the last values of registers and the dump
-abbrev pub given_of : {P B W R : Type 0} → (P → Timeline) → Whole P B W R → Given
-given_of timeline a = record {
-  legs = (timeline a.paths).legs;
-  moments = (timeline a.paths).moments;
-  last = λ p. a.last;
+abbrev pub given_of : {P L B W R : Type 0} → Reader P L → Whole P L B W R → Given
+given_of read a = record {
+  legs = (read.timeline a.paths).legs;
+  moments = (read.timeline a.paths).moments;
+  last = read.last a.last;
   dump = byte_at (contents a.exe) a.core;
   image_end = (contents a.exe).end;
 }
 
-abbrev pub path_of : {P B W R : Type 0} → (P → Timeline) → Sets W → Moves W → Rules → Whole P B W R → Path W
-path_of timeline sets moves rules a = record {
+abbrev pub path_of : {P L B W R : Type 0} → Reader P L → Sets W → Moves W → Rules → Whole P L B W R → Path W
+path_of read sets moves rules a = record {
   sets = sets;
   moves = moves;
   rules = rules;
-  given = given_of timeline a;
+  given = given_of read a;
 }
 
-abbrev pub setting_of : {P B W R : Type 0} → (P → Timeline) → Sets W → Moves W → Rules → Whole P B W R → Setting W
-setting_of timeline sets moves rules a = along (path_of timeline sets moves rules a)
+abbrev pub setting_of : {P L B W R : Type 0} → Reader P L → Sets W → Moves W → Rules → Whole P L B W R → Setting W
+setting_of read sets moves rules a = along (path_of read sets moves rules a)
 
-abbrev pub state_of : {P B W R : Type 0} → (P → Timeline) → Sets W → Moves W → Rules → (B → Store) → Whole P B W R → State W
-state_of timeline sets moves rules store a = record {
-  path = path_of timeline sets moves rules a;
+abbrev pub state_of : {P L B W R : Type 0} → Reader P L → Sets W → Moves W → Rules → (B → Store) → Whole P L B W R → State W
+state_of read sets moves rules store a = record {
+  path = path_of read sets moves rules a;
   known = known_of store a.known;
   spans = a.spans;
   filled = a.filled;
@@ -133,7 +139,3 @@ IsRoomy s = (s.work.joins ≡ true) × IsLined (timeline_of s)
 -- all that is known
 abbrev pub all_known : {W : Type 0} → State W → Knowledge
 all_known s = knows s.known
-
--- these are the values of x0 to x31 in the note of registers
-abbrev pub HasRegisters : List ℕ → List ℕ → Type 0
-HasRegisters note last = (s : Status) × IsStatus note s × (last ≡ s.regs)

@@ -2,14 +2,14 @@
 
 ghost use Rattle.std.specs.Prelude.{◌≡◌, ◌+◌, ◌*◌, ◌<◌, ◌≤◌, ℕ, length, true, false, IsOk, IfOk, IfSome, IsSome, OnOk, Some, None, Ok, Err, slice_get};
 ghost use Rattle.rept_isa.specs.declared.row.StepRow.{StepRow};
-ghost use Rattle.rept_dump.specs.Dump.{exe_of, core_of, registers_of};
+ghost use Rattle.rept_dump.specs.Dump.{exe_of, core_of};
 ghost use Rattle.rept_reason.specs.declared.fact.Cell.TheVariants.{Register};
 ghost use Rattle.rept_reason.specs.Facts.{told, flat, register_known};
 ghost use Rattle.rept_span.specs.Filled.{entry_at};
 ghost use Rattle.rept_dump.specs.Memory.{byte_at};
 ghost use Rattle.rept_dump.specs.Program.{contents};
 ghost use Rattle.rept_report.specs.declared.conflict.ConflictKind.{ConflictKind};
-ghost use Rattle.rept_analysis.specs.State.{HasRegisters, IsLined, given_of, path_of, setting_of, state_of};
+ghost use Rattle.rept_analysis.specs.State.{IsLined, given_of, path_of, setting_of, state_of, reader};
 ghost use Rattle.rept_report.specs.Views.{moment_of};
 ghost use Rattle.rept_report.specs.Why.{fact_of};
 ghost use Rattle.rept_analysis.specs.Kept.{IsKept, register_answer, answers};
@@ -39,7 +39,7 @@ use crate::pass::Passes;
 use crate::stop::Stop;
 use rept_dump::Dump;
 use rept_isa::{Reg, StepRow};
-use rept_log::FactLog;
+use rept_log::{FactLog, LastValues};
 use rept_partial::Flat;
 use rept_report::{ConflictKind, Paths};
 use rept_span::{Spans, Transfer};
@@ -51,10 +51,17 @@ use std::marker::Model;
 
 /// What follows from a path and the dump in which it ends.
 #[derive(Drop)]
-pub struct Analysis<'a, P: Paths + Drop, B: ByteFacts, W: Transfer, R: RowRules> {
+pub struct Analysis<
+    'a,
+    P: Paths + Drop,
+    L: LastValues + Drop,
+    B: ByteFacts,
+    W: Transfer,
+    R: RowRules,
+> {
     alloc: Global,
     paths: P,
-    last: Vec<u32>,
+    last: L,
     dump: Dump<'a>,
     known: FactLog<B>,
     spans: Spans<W>,
@@ -72,18 +79,18 @@ pub struct Analysis<'a, P: Paths + Drop, B: ByteFacts, W: Transfer, R: RowRules>
     fresh: Fresh,
 }
 
-impl<'a, P: Paths + Drop, B: ByteFacts, W: Transfer, R: RowRules> Model
-    for Analysis<'a, P, B, W, R> {
+impl<'a, P: Paths + Drop, L: LastValues + Drop, B: ByteFacts, W: Transfer, R: RowRules> Model
+    for Analysis<'a, P, L, B, W, R> {
     ghost use Rattle.rept_dump.specs.Dump.{exe_of, core_of};
-    ghost use Rattle.rept_analysis.specs.State.{Whole, state_of};
+    ghost use Rattle.rept_analysis.specs.State.{Whole, state_of, reader};
     ghost use Rattle.rept_analysis.specs.Kept.{IsKept};
     ghost use Rattle.rept_analysis.specs.Work.{work_of};
 
-    ghost Value = { Whole P B W R };
+    ghost Value = { Whole P L B W R };
 
-    ghost view = { λ a. record { paths = a.paths; last = a.last.items; exe = exe_of a.dump; core = core_of a.dump; known = a.known; spans = a.spans; filled = a.filled; rules = a.rules; shown = a.shown; complete = a.complete; conflict = a.conflict; work = work_of B.JOINS (R.draws a.rules) a.writing a.drawn } };
+    ghost view = { λ a. record { paths = a.paths; last = a.last; exe = exe_of a.dump; core = core_of a.dump; known = a.known; spans = a.spans; filled = a.filled; rules = a.rules; shown = a.shown; complete = a.complete; conflict = a.conflict; work = work_of B.JOINS (R.draws a.rules) a.writing a.drawn } };
 
-    ghost invariant = { λ a. IsKept (state_of P.timeline W.sets W.moves R.rules B.store (record { paths = a.paths; last = a.last.items; exe = exe_of a.dump; core = core_of a.dump; known = a.known; spans = a.spans; filled = a.filled; rules = a.rules; shown = a.shown; complete = a.complete; conflict = a.conflict; work = work_of B.JOINS (R.draws a.rules) a.writing a.drawn })) };
+    ghost invariant = { λ a. IsKept (state_of (reader P.timeline L.values) W.sets W.moves R.rules B.store (record { paths = a.paths; last = a.last; exe = exe_of a.dump; core = core_of a.dump; known = a.known; spans = a.spans; filled = a.filled; rules = a.rules; shown = a.shown; complete = a.complete; conflict = a.conflict; work = work_of B.JOINS (R.draws a.rules) a.writing a.drawn })) };
 }
 
 /// The register of a number below 32.
@@ -118,18 +125,26 @@ fn access_bytes<P: Paths, R: RowRules>(paths: &P) -> u32
     sum
 }
 
-impl<'a, P: Paths + Drop, B: ByteFacts, W: Transfer, R: RowRules> Analysis<'a, P, B, W, R> {
-    /// An analysis of these rows, at most 65,536, which end in these register values and this dump. Nothing is known yet.
-    fn over(
+impl<'a, P: Paths + Drop, L: LastValues + Drop, B: ByteFacts, W: Transfer, R: RowRules> Analysis<
+    'a,
+    P,
+    L,
+    B,
+    W,
+    R,
+> {
+    /// An analysis of these rows and moments, of at most 65,536 points, whose threads end in these register values, and all of them in this dump, by
+    /// these rules. Nothing is known yet. `OutOfMemory` says that its room can't be had.
+    pub fn prepare(
         alloc: Global,
         paths: P,
-        last: Vec<u32>,
+        last: L,
         dump: &'a Dump<'a>,
         rules: R,
-    ) -> Result<Analysis<'a, P, B, W, R>, OutOfMemory>
+    ) -> Result<Analysis<'a, P, L, B, W, R>, OutOfMemory>
         requires few { (P.timeline paths).legs.count ≤ 65536 }
-        requires registers { length last.items ≡ 32 }
-        ensures path { IfOk result (λ a. (a.paths ≡ paths) × (a.last ≡ last.items)) }
+        requires registers { (p : ℕ) → length (L.values last p) ≡ 32 }
+        ensures path { IfOk result (λ a. (a.paths ≡ paths) × (a.last ≡ last)) }
         ensures memory { IfOk result (λ a. (a.exe ≡ exe_of dump.now) × (a.core ≡ core_of dump.now)) }
     {
         let bytes = access_bytes::<P, R>(&paths);
@@ -199,11 +214,9 @@ impl<'a, P: Paths + Drop, B: ByteFacts, W: Transfer, R: RowRules> Analysis<'a, P
 
     /// The value of a register at the last point of a thread.
     fn last_value(&self, point: u32, r: Reg) -> u32
-        ensures { slice_get ((given_of P.timeline self.now).last point) r ≡ Some result }
+        ensures { slice_get ((given_of (reader P.timeline L.values) self.now).last point) r ≡ Some result }
     {
-        let _point = point;
-        let _paths = &self.paths;
-        self.last[r.number() as usize]
+        self.last.value(point, r)
     }
 
     /// How many facts there are in the log.
@@ -232,7 +245,7 @@ impl<'a, P: Paths + Drop, B: ByteFacts, W: Transfer, R: RowRules> Analysis<'a, P
 
     /// What always holds.
     fn held(&self)
-        ensures { IsKept (state_of P.timeline W.sets W.moves R.rules B.store self.now) }
+        ensures { IsKept (state_of (reader P.timeline L.values) W.sets W.moves R.rules B.store self.now) }
     {
         let _paths = &self.paths;
     }
@@ -285,34 +298,34 @@ impl<'a, P: Paths + Drop, B: ByteFacts, W: Transfer, R: RowRules> Analysis<'a, P
     /// closure has no conflict.
     /// What was known is known still, and what was answered of registers is answered still.
     pub fn refine(&mut self) -> Result<(), Stop>
-        ensures path { (path_of P.timeline W.sets W.moves R.rules self.new) ≡ (path_of P.timeline W.sets W.moves R.rules self.old) }
-        ensures kept { KeepsAnswers (state_of P.timeline W.sets W.moves R.rules B.store self.old) (state_of P.timeline W.sets W.moves R.rules B.store self.new) }
-        ensures more { KeepsKnown (state_of P.timeline W.sets W.moves R.rules B.store self.old) (state_of P.timeline W.sets W.moves R.rules B.store self.new) }
-        ensures report { OnOk result (IsReport (setting_of P.timeline W.sets W.moves R.rules self.new) (answers (state_of P.timeline W.sets W.moves R.rules B.store self.new))) }
+        ensures path { (path_of (reader P.timeline L.values) W.sets W.moves R.rules self.new) ≡ (path_of (reader P.timeline L.values) W.sets W.moves R.rules self.old) }
+        ensures kept { KeepsAnswers (state_of (reader P.timeline L.values) W.sets W.moves R.rules B.store self.old) (state_of (reader P.timeline L.values) W.sets W.moves R.rules B.store self.new) }
+        ensures more { KeepsKnown (state_of (reader P.timeline L.values) W.sets W.moves R.rules B.store self.old) (state_of (reader P.timeline L.values) W.sets W.moves R.rules B.store self.new) }
+        ensures report { OnOk result (IsReport (setting_of (reader P.timeline L.values) W.sets W.moves R.rules self.new) (answers (state_of (reader P.timeline L.values) W.sets W.moves R.rules B.store self.new))) }
         ensures complete { OnOk result (self.new.complete ≡ true) }
-        ensures consistent { OnOk result (IsConsistent (setting_of P.timeline W.sets W.moves R.rules self.old)) }
-        ensures conflict { (kind : ConflictKind) → result ≡ Err (Stop.Conflict kind) → ClosureHas (setting_of P.timeline W.sets W.moves R.rules self.old) kind }
+        ensures consistent { OnOk result (IsConsistent (setting_of (reader P.timeline L.values) W.sets W.moves R.rules self.old)) }
+        ensures conflict { (kind : ConflictKind) → result ≡ Err (Stop.Conflict kind) → ClosureHas (setting_of (reader P.timeline L.values) W.sets W.moves R.rules self.old) kind }
         ensures recorded { (kind : ConflictKind) → result ≡ Err (Stop.Conflict kind) → self.new.conflict ≡ Some kind }
 
         // How far it is answered after a stop: all facts of the log where memory ran out, and those that show the conflict.
         ensures whole { result ≡ Err Stop.OutOfMemory → self.new.shown ≡ length self.new.known.log }
-        ensures shown { self.old.conflict ≡ None → (kind : ConflictKind) → result ≡ Err (Stop.Conflict kind) → ShowsTo (state_of P.timeline W.sets W.moves R.rules B.store self.new) self.new.shown kind }
+        ensures shown { self.old.conflict ≡ None → (kind : ConflictKind) → result ≡ Err (Stop.Conflict kind) → ShowsTo (state_of (reader P.timeline L.values) W.sets W.moves R.rules B.store self.new) self.new.shown kind }
 
         // Where the store joins bytes and the moments are one line, no memory is taken: it is Ok exactly where the closure has no conflict.
         ensures joins { B.JOINS ≡ true → IsLined (P.timeline self.old.paths) → result ≡ Err Stop.OutOfMemory → ⊥ }
-        ensures exact { B.JOINS ≡ true → IsLined (P.timeline self.old.paths) → IsConsistent (setting_of P.timeline W.sets W.moves R.rules self.old) → IsOk result }
-        ensures refused { B.JOINS ≡ true → IsLined (P.timeline self.old.paths) → (kind : ConflictKind) → ClosureHas (setting_of P.timeline W.sets W.moves R.rules self.old) kind → (named : ConflictKind) × (result ≡ Err (Stop.Conflict named)) }
+        ensures exact { B.JOINS ≡ true → IsLined (P.timeline self.old.paths) → IsConsistent (setting_of (reader P.timeline L.values) W.sets W.moves R.rules self.old) → IsOk result }
+        ensures refused { B.JOINS ≡ true → IsLined (P.timeline self.old.paths) → (kind : ConflictKind) → ClosureHas (setting_of (reader P.timeline L.values) W.sets W.moves R.rules self.old) kind → (named : ConflictKind) × (result ≡ Err (Stop.Conflict named)) }
 
         // Over all executions of the path that end in the dump.
-        ensures sound { OnOk result (IsSound (setting_of P.timeline W.sets W.moves R.rules self.new) (answers (state_of P.timeline W.sets W.moves R.rules B.store self.new))) }
-        ensures impossible { (kind : ConflictKind) → result ≡ Err (Stop.Conflict kind) → HasNoExecution (setting_of P.timeline W.sets W.moves R.rules self.old) }
+        ensures sound { OnOk result (IsSound (setting_of (reader P.timeline L.values) W.sets W.moves R.rules self.new) (answers (state_of (reader P.timeline L.values) W.sets W.moves R.rules B.store self.new))) }
+        ensures impossible { (kind : ConflictKind) → result ≡ Err (Stop.Conflict kind) → HasNoExecution (setting_of (reader P.timeline L.values) W.sets W.moves R.rules self.old) }
 
         // It draws the rules of each row at most 12 times: once at first, and once for each of the row's cells that becomes known.
         ensures draws { R.draws self.new.rules ≤ R.draws self.old.rules + 12 * (P.timeline self.old.paths).legs.count }
 
         // A second call answers as the first did.
-        ensures again { (kind : ConflictKind) → self.old.conflict ≡ Some kind → (result ≡ Err (Stop.Conflict kind)) × ((state_of P.timeline W.sets W.moves R.rules B.store self.new) ≡ (state_of P.timeline W.sets W.moves R.rules B.store self.old)) }
-        ensures settled { self.old.complete ≡ true → self.old.conflict ≡ None → IsOk result × ((state_of P.timeline W.sets W.moves R.rules B.store self.new) ≡ (state_of P.timeline W.sets W.moves R.rules B.store self.old)) }
+        ensures again { (kind : ConflictKind) → self.old.conflict ≡ Some kind → (result ≡ Err (Stop.Conflict kind)) × ((state_of (reader P.timeline L.values) W.sets W.moves R.rules B.store self.new) ≡ (state_of (reader P.timeline L.values) W.sets W.moves R.rules B.store self.old)) }
+        ensures settled { self.old.complete ≡ true → self.old.conflict ≡ None → IsOk result × ((state_of (reader P.timeline L.values) W.sets W.moves R.rules B.store self.new) ≡ (state_of (reader P.timeline L.values) W.sets W.moves R.rules B.store self.old)) }
     {
         self.counted();
         let outcome = self.outcome();
@@ -324,9 +337,9 @@ impl<'a, P: Paths + Drop, B: ByteFacts, W: Transfer, R: RowRules> Analysis<'a, P
     /// answered a stop; after it answered Ok, `Unknown` comes exactly where the closure has no value.
     pub fn reg(&self, point: u32, r: Reg) -> Flat
         requires point { point ≤ (P.timeline self.now.paths).legs.count }
-        ensures value { result ≡ flat (register_answer (state_of P.timeline W.sets W.moves R.rules B.store self.now) point r) }
-        ensures derived { (v : ℕ) → result ≡ Flat.Known v → 0 < r → InClosure (setting_of P.timeline W.sets W.moves R.rules self.now) (fact_of point (Register r) v) }
-        ensures sound { (v : ℕ) → result ≡ Flat.Known v → AlwaysHolds (setting_of P.timeline W.sets W.moves R.rules self.now) point (Register r) v }
+        ensures value { result ≡ flat (register_answer (state_of (reader P.timeline L.values) W.sets W.moves R.rules B.store self.now) point r) }
+        ensures derived { (v : ℕ) → result ≡ Flat.Known v → 0 < r → InClosure (setting_of (reader P.timeline L.values) W.sets W.moves R.rules self.now) (fact_of point (Register r) v) }
+        ensures sound { (v : ℕ) → result ≡ Flat.Known v → AlwaysHolds (setting_of (reader P.timeline L.values) W.sets W.moves R.rules self.now) point (Register r) v }
     {
         self.held();
         self.shown_below(point, r)
@@ -334,7 +347,7 @@ impl<'a, P: Paths + Drop, B: ByteFacts, W: Transfer, R: RowRules> Analysis<'a, P
 
     fn shown_below(&self, point: u32, r: Reg) -> Flat
         requires point { point ≤ (P.timeline self.now.paths).legs.count }
-        ensures { result ≡ flat (register_answer (state_of P.timeline W.sets W.moves R.rules B.store self.now) point r) }
+        ensures { result ≡ flat (register_answer (state_of (reader P.timeline L.values) W.sets W.moves R.rules B.store self.now) point r) }
     {
         let _paths = &self.paths;
         self.known.known_below(self.shown, point, r)
@@ -353,23 +366,5 @@ impl<'a, P: Paths + Drop, B: ByteFacts, W: Transfer, R: RowRules> Analysis<'a, P
         ensures { result.now ≡ self.now.paths }
     {
         &self.paths
-    }
-
-    /// An analysis of these rows and moments, of at most 65,536 points, which end in this dump, by these rules. The registers of the dump are those at
-    /// each last point. Nothing is known yet. `OutOfMemory` says that its room can't be had.
-    pub fn prepare(
-        alloc: Global,
-        paths: P,
-        dump: &'a Dump<'a>,
-        rules: R,
-    ) -> Result<Analysis<'a, P, B, W, R>, OutOfMemory>
-        requires few { (P.timeline paths).legs.count ≤ 65536 }
-        ensures path { IfOk result (λ a. a.paths ≡ paths) }
-        ensures last { IfOk result (λ a. HasRegisters (registers_of dump.now) a.last) }
-        ensures memory { IfOk result (λ a. (a.exe ≡ exe_of dump.now) × (a.core ≡ core_of dump.now)) }
-    {
-        let status = dump.status();
-        let last = Vec::from_slice(alloc, &status.regs)?;
-        Analysis::over(alloc, paths, last, dump, rules)
     }
 }

@@ -10,8 +10,10 @@ mod pass;
 mod piece;
 mod sought;
 pub mod stop;
+pub mod thread_end;
 mod trail;
 mod turns;
 
 pub use analysis::Analysis;
 pub use stop::Stop;
+pub use thread_end::ThreadEnd;

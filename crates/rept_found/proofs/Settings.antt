@@ -13,14 +13,15 @@ use Rattle.rept_report.specs.Closure.{ClosureHas, IsReport}
 use Rattle.rept_report.specs.declared.conflict.ConflictKind.{ConflictKind}
 use Rattle.rept_report.specs.Given.{Given}
 use Rattle.rept_report.specs.OneThread.{Alone, Path, given_alone, along}
-use Rattle.rept_analysis.specs.State.{Path as Read, Whole, HasRegisters, path_of}
+use Rattle.rept_analysis.specs.State.{Path as Read, Whole, path_of}
+use Rattle.rept_analysis.specs.declared.thread_end.ThreadEnd.{ThreadEnd}
 use Rattle.rept_analysis.specs.Kept.{answers}
 use Rattle.rept_analysis.specs.Logged.{IsLogOf}
 use Rattle.rept_analysis.specs.declared.stop.Stop.{Stop}
 use Rattle.rept_analysis.specs.declared.stop.Stop.TheVariants.{Conflict, OutOfMemory}
 use Rattle.rept_found.specs.Crash.{Crash, Means, Scene, last_value, last_values, route}
 use Rattle.rept_line.specs.declared.line.OnePath.{OnePath}
-use Rattle.rept_found.specs.View.{View, time_of, alone_of, IsFoundIn, IsPreparedFor, state_in, path_in}
+use Rattle.rept_found.specs.View.{View, ends_at, alone_of, IsFoundIn, IsPreparedFor, state_in, path_in}
 
 -- the registers of a status are the last values
 pub last_are : (note : List ℕ) (status : Status) → IsStatus note status → length status.regs ≡ 32 → status.regs ≡ last_values note
@@ -37,14 +38,14 @@ abbrev made : {W : Type 0} → Means W → List StepRow → List ℕ → Program
 made m rows last exe core = record { sets = m.sets; moves = m.moves; rules = m.rules; given = record { rows = rows; last = last; dump = byte_at (contents exe) core; image_end = (contents exe).end } }
 
 -- the path that an analysis is of
-abbrev pub on_path : {B W R : Type 0} → Means W → Whole OnePath B W R → Path W
+abbrev pub on_path : {B W R : Type 0} → Means W → Whole OnePath ThreadEnd B W R → Path W
 on_path m a = record { sets = m.sets; moves = m.moves; rules = m.rules; given = alone_of a }
 
 -- an analysis of these steps, registers and segments
-pub route_is : {B W R : Type 0} (m : Means W) (a : Whole OnePath B W R) (crash : Crash) (rows : List StepRow) → a.paths.rows.now ≡ rows → HasRegisters crash.note a.last → length a.last ≡ 32 → (a.exe ≡ crash.exe) × (a.core ≡ crash.core) → on_path m a ≡ route m crash rows
-route_is m a crash rows r (s, is, same) long (e, k) =
-    let last : a.last ≡ last_values crash.note = same ∙ last_are crash.note s is (ap length (sym same) ∙ long) in
-    ap (λ (x : List StepRow). made m x a.last a.exe a.core) r ∙ ap (λ (x : List ℕ). made m rows x a.exe a.core) last ∙ ap (λ (x : Program). made m rows (last_values crash.note) x a.core) e ∙ ap (λ (x : List ElfSegment). made m rows (last_values crash.note) crash.exe x) k
+pub route_is : {B W R : Type 0} (m : Means W) (a : Whole OnePath ThreadEnd B W R) (crash : Crash) (rows : List StepRow) → a.paths.rows.now ≡ rows → (status : Status) → IsStatus crash.note status → a.last.values ≡ status.regs → length a.last.values ≡ 32 → (a.exe ≡ crash.exe) × (a.core ≡ crash.core) → on_path m a ≡ route m crash rows
+route_is m a crash rows r s is same long (e, k) =
+    let last : a.last.values ≡ last_values crash.note = same ∙ last_are crash.note s is (ap length (sym same) ∙ long) in
+    ap (λ (x : List StepRow). made m x a.last.values a.exe a.core) r ∙ ap (λ (x : List ℕ). made m rows x a.exe a.core) last ∙ ap (λ (x : Program). made m rows (last_values crash.note) x a.core) e ∙ ap (λ (x : List ElfSegment). made m rows (last_values crash.note) crash.exe x) k
 
 -- two lists of rows from which the same rows lead are one
 same_rows : (xs ys : List StepRow) → length xs ≡ length ys → ((i : ℕ) → slice_get xs i ≡ slice_get ys i) → xs ≡ ys
@@ -66,7 +67,7 @@ same_alone g h e =
     ∙ ap (λ (x : Given). record { rows = h.rows; last = h.last; dump = x.dump; image_end = x.image_end }) e
 
 -- so an analysis that reads the same is of the same path
-pub path_back : {B W R : Type 0} (m : Means W) (a b : Whole OnePath B W R) → path_of time_of m.sets m.moves m.rules a ≡ path_of time_of m.sets m.moves m.rules b → on_path m a ≡ on_path m b
+pub path_back : {B W R : Type 0} (m : Means W) (a b : Whole OnePath ThreadEnd B W R) → path_of ends_at m.sets m.moves m.rules a ≡ path_of ends_at m.sets m.moves m.rules b → on_path m a ≡ on_path m b
 path_back m a b e = ap (λ (g : Alone). record { sets = m.sets; moves = m.moves; rules = m.rules; given = g }) (same_alone (alone_of a) (alone_of b) (ap (λ (x : Read _). x.given) e))
 
 -- what it has, said of that setting

@@ -7,27 +7,32 @@ use Rattle.rept_dump.specs.Program.{contents}
 use Rattle.rept_line.specs.declared.line.OnePath.{OnePath}
 use Rattle.rept_report.specs.OneThread.{Alone, Path, along}
 use Rattle.rept_report.specs.Timeline.{Timeline, time_alone}
-use Rattle.rept_analysis.specs.State.{State, Whole, state_of}
+use Rattle.rept_analysis.specs.State.{State, Whole, Reader, reader, state_of}
+use Rattle.rept_analysis.specs.declared.thread_end.ThreadEnd.{ThreadEnd}
 use Rattle.rept_analysis.specs.Kept.{answers}
 use Rattle.rept_analysis.specs.Logged.{IsLogOf}
 use Rattle.rept_found.specs.Crash.{Means, Scene}
 
 -- the analysis, and what is told of the crash besides
 pub record View (W R : Type 0) : Type 0 where
-  pub analysis : Whole OnePath Parts W R
+  pub analysis : Whole OnePath ThreadEnd Parts W R
   pub scene : Scene
 
 -- the rows and moments of one path
 abbrev pub time_of : OnePath → Timeline
 time_of paths = time_alone paths.rows.now
 
+-- and the last register values of its thread
+abbrev pub ends_at : Reader OnePath ThreadEnd
+ends_at = reader time_of (λ end point. end.values)
+
 -- the thread
-abbrev pub alone_of : {B W R : Type 0} → Whole OnePath B W R → Alone
-alone_of a = record { rows = a.paths.rows.now; last = a.last; dump = byte_at (contents a.exe) a.core; image_end = (contents a.exe).end }
+abbrev pub alone_of : {B W R : Type 0} → Whole OnePath ThreadEnd B W R → Alone
+alone_of a = record { rows = a.paths.rows.now; last = a.last.values; dump = byte_at (contents a.exe) a.core; image_end = (contents a.exe).end }
 
 -- the analysis, as definitions speak of it
 abbrev pub state_in : {W R : Type 0} → Means W → View W R → State W
-state_in m v = state_of time_of m.sets m.moves m.rules store v.analysis
+state_in m v = state_of ends_at m.sets m.moves m.rules store v.analysis
 
 -- the path that it is of
 abbrev pub path_in : {W R : Type 0} → Means W → View W R → Path W

@@ -10,7 +10,7 @@ ghost use Rattle.rept_found.specs.Truth.{HasNoExecution};
 ghost use Rattle.rept_found.specs.View.{IsFoundIn, path_in};
 
 use crate::prepared::Prepared;
-use rept_analysis::{Analysis, Stop};
+use rept_analysis::{Analysis, Stop, ThreadEnd};
 use rept_dump::Dump;
 use rept_line::OnePath;
 use rept_report::ConflictKind;
@@ -22,7 +22,7 @@ use std::marker::Model;
 /// What an analysis found out: the report of a path and the dump in which it ends, by one kind of sets of values and of rules.
 #[derive(Drop)]
 pub struct Found<'a, W: Transfer, R: RowRules> {
-    pub(crate) analysis: Analysis<'a, OnePath<'a>, SpanFacts, W, R>,
+    pub(crate) analysis: Analysis<'a, OnePath<'a>, ThreadEnd, SpanFacts, W, R>,
     pub(crate) end_pc: u32,
     pub(crate) process: u32,
     pub(crate) dump: &'a Dump<'a>,

@@ -8,7 +8,7 @@ ghost use Rattle.rept_steps.specs.Linked.{EndBefore};
 ghost use Rattle.rept_found.specs.Crash.{crash_of, scene_of, means, route};
 ghost use Rattle.rept_found.specs.View.{IsPreparedFor};
 
-use rept_analysis::Analysis;
+use rept_analysis::{Analysis, ThreadEnd};
 use rept_dump::Dump;
 use rept_line::OnePath;
 use rept_span::Transfer;
@@ -22,7 +22,7 @@ use std::marker::Model;
 /// A path and the dump in which it ends, with all memory that learning what follows needs. Nothing is learnt yet.
 #[derive(Drop)]
 pub struct Prepared<'a, W: Transfer, R: RowRules> {
-    pub(crate) analysis: Analysis<'a, OnePath<'a>, SpanFacts, W, R>,
+    pub(crate) analysis: Analysis<'a, OnePath<'a>, ThreadEnd, SpanFacts, W, R>,
     pub(crate) end_pc: u32,
     pub(crate) process: u32,
     pub(crate) dump: &'a Dump<'a>,
@@ -54,7 +54,10 @@ pub fn prepare<'a, W: Transfer, R: RowRules>(
 {
     let status = dump.status();
     let paths = OnePath::new(steps.rows());
-    let analysis = Analysis::<OnePath<'a>, SpanFacts, W, R>::prepare(alloc, paths, dump, rules)?;
+    let last = ThreadEnd::new(status.regs);
+    let analysis = Analysis::<OnePath<'a>, ThreadEnd, SpanFacts, W, R>::prepare(
+        alloc, paths, last, dump, rules,
+    )?;
     analysis.account();
     Ok(Prepared {
         analysis,

@@ -10,7 +10,7 @@ mod refusing;
 
 use refusing::{Refusing, finish};
 use rept_amo::Atomic;
-use rept_analysis::Analysis;
+use rept_analysis::{Analysis, ThreadEnd};
 use rept_dump::Dump;
 use rept_elf::{Image, Want};
 use rept_isa::{Instr, Reg, StepRow, decode};
@@ -140,7 +140,7 @@ fn core(alloc: Global, pc: u32, given: &[(u8, u32)]) -> Result<Vec<u8>, AllocErr
 
 fn check_registers<B: ByteFacts>(
     rt: &impl Abort,
-    analysis: &Analysis<OnePath<'_>, B, Range, Atomic>,
+    analysis: &Analysis<OnePath<'_>, ThreadEnd, B, Range, Atomic>,
     run: &Run,
 ) {
     let count = analysis.paths().last_point() as usize;
@@ -163,7 +163,7 @@ fn check_registers<B: ByteFacts>(
 
 fn check_bytes<B: ByteFacts>(
     rt: &impl Abort,
-    analysis: &Analysis<OnePath<'_>, B, Range, Atomic>,
+    analysis: &Analysis<OnePath<'_>, ThreadEnd, B, Range, Atomic>,
     run: &Run,
 ) {
     let count = analysis.paths().last_point() as usize;
@@ -215,9 +215,10 @@ fn check_dump<B: ByteFacts>(
     dump: &Dump<'_>,
     run: &Run,
 ) -> Result<u32, Fail> {
-    let mut analysis: Analysis<OnePath<'_>, B, Range, Atomic> = Analysis::prepare(
+    let mut analysis: Analysis<OnePath<'_>, ThreadEnd, B, Range, Atomic> = Analysis::prepare(
         alloc,
         OnePath::new(steps.rows()),
+        ThreadEnd::new(dump.status().regs),
         dump,
         Atomic::new(),
     )?;

@@ -2,24 +2,32 @@
 
 ghost use Rattle.std.specs.Prelude.{◌≡◌, ◌≤◌, ℕ, length, true};
 ghost use Rattle.rept_reason.specs.Facts.{register_known};
-ghost use Rattle.rept_analysis.specs.State.{setting_of, state_of};
+ghost use Rattle.rept_analysis.specs.State.{setting_of, state_of, reader};
 ghost use Rattle.rept_analysis.specs.Kept.{answers, register_answer};
 ghost use Rattle.rept_analysis.specs.Logged.{IsLogOf};
 
 use super::Analysis;
+use rept_log::LastValues;
 use rept_report::Paths;
 use rept_span::Transfer;
 use rept_versions::ByteFacts;
 use rept_view::RowRules;
 
-impl<'a, P: Paths + Drop, B: ByteFacts, W: Transfer, R: RowRules> Analysis<'a, P, B, W, R> {
+impl<'a, P: Paths + Drop, L: LastValues + Drop, B: ByteFacts, W: Transfer, R: RowRules> Analysis<
+    'a,
+    P,
+    L,
+    B,
+    W,
+    R,
+> {
     /// For callers whose contracts speak of the report: what `reg` answers of registers is what the report has, once all is learnt,
     /// and the facts were learnt one by one. The call does nothing.
     pub fn account(&self)
         ensures few { (P.timeline self.now.paths).legs.count ≤ 65536 }
-        ensures last { length self.now.last ≡ 32 }
-        ensures registers { self.now.complete ≡ true → (p r : ℕ) → register_answer (state_of P.timeline W.sets W.moves R.rules B.store self.now) p r ≡ register_known (answers (state_of P.timeline W.sets W.moves R.rules B.store self.now)) p r }
-        ensures log { self.now.complete ≡ true → IsLogOf (setting_of P.timeline W.sets W.moves R.rules self.now) (answers (state_of P.timeline W.sets W.moves R.rules B.store self.now)) self.now.known.log }
+        ensures last { (p : ℕ) → length (L.values self.now.last p) ≡ 32 }
+        ensures registers { self.now.complete ≡ true → (p r : ℕ) → register_answer (state_of (reader P.timeline L.values) W.sets W.moves R.rules B.store self.now) p r ≡ register_known (answers (state_of (reader P.timeline L.values) W.sets W.moves R.rules B.store self.now)) p r }
+        ensures log { self.now.complete ≡ true → IsLogOf (setting_of (reader P.timeline L.values) W.sets W.moves R.rules self.now) (answers (state_of (reader P.timeline L.values) W.sets W.moves R.rules B.store self.now)) self.now.known.log }
     {
         let _ended = self.ended();
     }

@@ -16,7 +16,7 @@ ghost use Rattle.rept_report.specs.Spots.{spot};
 ghost use Rattle.rept_report.specs.Timeline.{IsLeastFrom, IsOpen};
 ghost use Rattle.rept_report.specs.Writers.{is_certain, IsWriter};
 ghost use Rattle.rept_report.specs.Log.{oldest};
-ghost use Rattle.rept_analysis.specs.State.{setting_of, state_of};
+ghost use Rattle.rept_analysis.specs.State.{setting_of, state_of, reader};
 ghost use Rattle.rept_report.specs.Why.{fact_of};
 ghost use Rattle.rept_analysis.specs.Drawing.{IsFitted};
 ghost use Rattle.rept_analysis.specs.Kept.{IsKept, answers};
@@ -27,16 +27,24 @@ use super::Analysis;
 use crate::moment::Moment;
 use crate::sought::Sought;
 use rept_isa::Reg;
+use rept_log::LastValues;
 use rept_report::{Paths, Writer};
 use rept_span::Transfer;
 use rept_versions::ByteFacts;
 use rept_view::RowRules;
 
-impl<'a, P: Paths + Drop, B: ByteFacts, W: Transfer, R: RowRules> Analysis<'a, P, B, W, R> {
+impl<'a, P: Paths + Drop, L: LastValues + Drop, B: ByteFacts, W: Transfer, R: RowRules> Analysis<
+    'a,
+    P,
+    L,
+    B,
+    W,
+    R,
+> {
     /// Whether all is learnt.
     pub(super) fn ended(&self) -> bool
         ensures value { result ≡ self.now.complete }
-        ensures kept { IsKept (state_of P.timeline W.sets W.moves R.rules B.store self.now) }
+        ensures kept { IsKept (state_of (reader P.timeline L.values) W.sets W.moves R.rules B.store self.now) }
     {
         self.complete
     }
@@ -55,8 +63,8 @@ impl<'a, P: Paths + Drop, B: ByteFacts, W: Transfer, R: RowRules> Analysis<'a, P
     /// Whether row i, if there is one, may write a byte, by the facts of which the sets are.
     pub(super) fn may_write(&self, i: u32, a: u32) -> bool
         requires inside { i < (P.timeline self.now.paths).legs.count }
-        requires fitted { IsFitted (state_of P.timeline W.sets W.moves R.rules B.store self.now) }
-        ensures { result ≡ may_write (setting_of P.timeline W.sets W.moves R.rules self.now) (told (oldest self.now.filled self.now.known.log)) i a }
+        requires fitted { IsFitted (state_of (reader P.timeline L.values) W.sets W.moves R.rules B.store self.now) }
+        ensures { result ≡ may_write (setting_of (reader P.timeline L.values) W.sets W.moves R.rules self.now) (told (oldest self.now.filled self.now.known.log)) i a }
     {
         match self.row(i) {
             None => false,
@@ -70,8 +78,8 @@ impl<'a, P: Paths + Drop, B: ByteFacts, W: Transfer, R: RowRules> Analysis<'a, P
     /// Whether row i writes each byte that it may write, by these facts.
     fn is_sure(&self, i: u32) -> bool
         requires inside { i < (P.timeline self.now.paths).legs.count }
-        requires fitted { IsFitted (state_of P.timeline W.sets W.moves R.rules B.store self.now) }
-        ensures { result ≡ is_sure (setting_of P.timeline W.sets W.moves R.rules self.now) (told (oldest self.now.filled self.now.known.log)) i }
+        requires fitted { IsFitted (state_of (reader P.timeline L.values) W.sets W.moves R.rules B.store self.now) }
+        ensures { result ≡ is_sure (setting_of (reader P.timeline L.values) W.sets W.moves R.rules self.now) (told (oldest self.now.filled self.now.known.log)) i }
     {
         match self.row(i) {
             None => false,
@@ -110,8 +118,8 @@ impl<'a, P: Paths + Drop, B: ByteFacts, W: Transfer, R: RowRules> Analysis<'a, P
     /// Whether all that may write a byte lies wholly before a moment, by these facts.
     fn is_untouched(&self, moment: u32, a: u32) -> bool
         requires moment { moment ≤ (P.timeline self.now.paths).moments.end }
-        requires fitted { IsFitted (state_of P.timeline W.sets W.moves R.rules B.store self.now) }
-        ensures { result ≡ is_settled (setting_of P.timeline W.sets W.moves R.rules self.now) (told (oldest self.now.filled self.now.known.log)) (spot moment a) }
+        requires fitted { IsFitted (state_of (reader P.timeline L.values) W.sets W.moves R.rules B.store self.now) }
+        ensures { result ≡ is_settled (setting_of (reader P.timeline L.values) W.sets W.moves R.rules self.now) (told (oldest self.now.filled self.now.known.log)) (spot moment a) }
     {
         let mut least = 0;
         loop {
@@ -128,8 +136,8 @@ impl<'a, P: Paths + Drop, B: ByteFacts, W: Transfer, R: RowRules> Analysis<'a, P
     /// The byte of the dump, where it is carried back to a moment, by these facts.
     fn implied(&self, moment: u32, a: u32) -> Option<u8>
         requires moment { moment ≤ (P.timeline self.now.paths).moments.end }
-        requires fitted { IsFitted (state_of P.timeline W.sets W.moves R.rules B.store self.now) }
-        ensures { result ≡ implied (setting_of P.timeline W.sets W.moves R.rules self.now) (told (oldest self.now.filled self.now.known.log)) moment a }
+        requires fitted { IsFitted (state_of (reader P.timeline L.values) W.sets W.moves R.rules B.store self.now) }
+        ensures { result ≡ implied (setting_of (reader P.timeline L.values) W.sets W.moves R.rules self.now) (told (oldest self.now.filled self.now.known.log)) moment a }
     {
         let byte = self.dump_byte(a)?;
         if self.is_untouched(moment, a) {
@@ -151,16 +159,16 @@ impl<'a, P: Paths + Drop, B: ByteFacts, W: Transfer, R: RowRules> Analysis<'a, P
     fn is_certain(&self, row: u32, moment: u32) -> bool
         requires row { IsSome ((P.timeline self.now.paths).legs.row row) }
         requires inside { row < (P.timeline self.now.paths).legs.count }
-        requires fitted { IsFitted (state_of P.timeline W.sets W.moves R.rules B.store self.now) }
-        ensures { (a : ℕ) → result ≡ is_certain (setting_of P.timeline W.sets W.moves R.rules self.now) (told (oldest self.now.filled self.now.known.log)) (spot moment a) row }
+        requires fitted { IsFitted (state_of (reader P.timeline L.values) W.sets W.moves R.rules B.store self.now) }
+        ensures { (a : ℕ) → result ≡ is_certain (setting_of (reader P.timeline L.values) W.sets W.moves R.rules self.now) (told (oldest self.now.filled self.now.known.log)) (spot moment a) row }
     {
         self.is_sure(row) && self.is_past(row, moment)
     }
 
     /// What is said of the row that last wrote a byte before a moment, by these facts.
     fn last_writer(&self, moment: u32, a: u32) -> Writer
-        requires fitted { IsFitted (state_of P.timeline W.sets W.moves R.rules B.store self.now) }
-        ensures { IsWriter (setting_of P.timeline W.sets W.moves R.rules self.now) (told (oldest self.now.filled self.now.known.log)) (spot moment a) result }
+        requires fitted { IsFitted (state_of (reader P.timeline L.values) W.sets W.moves R.rules B.store self.now) }
+        ensures { IsWriter (setting_of (reader P.timeline L.values) W.sets W.moves R.rules self.now) (told (oldest self.now.filled self.now.known.log)) (spot moment a) result }
     {
         let address = Some(a);
         match self.possible_writer(Sought { moment, address }) {
@@ -178,7 +186,7 @@ impl<'a, P: Paths + Drop, B: ByteFacts, W: Transfer, R: RowRules> Analysis<'a, P
     /// The set of values of a register at a point: all words, unless all is learnt.
     pub fn range(&self, point: u32, r: Reg) -> W
         requires { point ≤ (P.timeline self.now.paths).legs.count }
-        ensures ended { self.now.complete ≡ true → range (way_of (setting_of P.timeline W.sets W.moves R.rules self.now)) (answers (state_of P.timeline W.sets W.moves R.rules B.store self.now)) point r ≡ Some result }
+        ensures ended { self.now.complete ≡ true → range (way_of (setting_of (reader P.timeline L.values) W.sets W.moves R.rules self.now)) (answers (state_of (reader P.timeline L.values) W.sets W.moves R.rules B.store self.now)) point r ≡ Some result }
         ensures open { self.now.complete ≡ false → result ≡ W.sets.unknown }
     {
         if self.ended() {
@@ -222,7 +230,7 @@ impl<'a, P: Paths + Drop, B: ByteFacts, W: Transfer, R: RowRules> Analysis<'a, P
 
     /// The byte that is answered while not all is learnt.
     fn shown_byte(&self, point: u32, a: u32) -> Option<u8>
-        ensures { result ≡ byte_answer (state_of P.timeline W.sets W.moves R.rules B.store self.now) point a }
+        ensures { result ≡ byte_answer (state_of (reader P.timeline L.values) W.sets W.moves R.rules B.store self.now) point a }
     {
         if self.shown() == 0 {
             return None;
@@ -237,10 +245,10 @@ impl<'a, P: Paths + Drop, B: ByteFacts, W: Transfer, R: RowRules> Analysis<'a, P
     /// that are answered, and at the last point the dump's too.
     pub fn byte(&self, point: u32, a: u32) -> Option<u8>
         requires { point ≤ (P.timeline self.now.paths).moments.end }
-        ensures ended { self.now.complete ≡ true → result ≡ answers (state_of P.timeline W.sets W.moves R.rules B.store self.now) point (Byte a) }
-        ensures open { self.now.complete ≡ false → result ≡ byte_answer (state_of P.timeline W.sets W.moves R.rules B.store self.now) point a }
-        ensures derived { (v : ℕ) → result ≡ Some v → InClosure (setting_of P.timeline W.sets W.moves R.rules self.now) (fact_of point (Byte a) v) }
-        ensures sound { (v : ℕ) → result ≡ Some v → AlwaysHolds (setting_of P.timeline W.sets W.moves R.rules self.now) point (Byte a) v }
+        ensures ended { self.now.complete ≡ true → result ≡ answers (state_of (reader P.timeline L.values) W.sets W.moves R.rules B.store self.now) point (Byte a) }
+        ensures open { self.now.complete ≡ false → result ≡ byte_answer (state_of (reader P.timeline L.values) W.sets W.moves R.rules B.store self.now) point a }
+        ensures derived { (v : ℕ) → result ≡ Some v → InClosure (setting_of (reader P.timeline L.values) W.sets W.moves R.rules self.now) (fact_of point (Byte a) v) }
+        ensures sound { (v : ℕ) → result ≡ Some v → AlwaysHolds (setting_of (reader P.timeline L.values) W.sets W.moves R.rules self.now) point (Byte a) v }
     {
         if !self.ended() {
             return self.shown_byte(point, a);
@@ -254,8 +262,8 @@ impl<'a, P: Paths + Drop, B: ByteFacts, W: Transfer, R: RowRules> Analysis<'a, P
     /// What is said of the row that last wrote a byte before a moment. Unless all is learnt, each row may have written it.
     pub fn writer(&self, moment: u32, a: u32) -> Writer
         requires { moment ≤ (P.timeline self.now.paths).moments.end }
-        ensures ended { self.now.complete ≡ true → IsWriter (setting_of P.timeline W.sets W.moves R.rules self.now) (answers (state_of P.timeline W.sets W.moves R.rules B.store self.now)) (spot moment a) result }
-        ensures open { self.now.complete ≡ false → IsPossibleWriter (P.timeline self.now.paths).moments (IsBegun (setting_of P.timeline W.sets W.moves R.rules self.now) moment) result }
+        ensures ended { self.now.complete ≡ true → IsWriter (setting_of (reader P.timeline L.values) W.sets W.moves R.rules self.now) (answers (state_of (reader P.timeline L.values) W.sets W.moves R.rules B.store self.now)) (spot moment a) result }
+        ensures open { self.now.complete ≡ false → IsPossibleWriter (P.timeline self.now.paths).moments (IsBegun (setting_of (reader P.timeline L.values) W.sets W.moves R.rules self.now) moment) result }
     {
         if self.ended() {
             return self.last_writer(moment, a);

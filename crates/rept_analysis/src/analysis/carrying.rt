@@ -4,7 +4,7 @@ ghost use Rattle.std.specs.Prelude.{◌≡◌, ◌↔◌, ◌∷◌, ◌++◌, [
 ghost use Rattle.rept_alias.specs.Accesses.{call_hits};
 ghost use Rattle.rept_reason.specs.declared.fact.Cell.TheVariants.{Byte};
 ghost use Rattle.rept_versions.specs.Facts.{Nexts};
-ghost use Rattle.rept_analysis.specs.State.{IsLined, setting_of, state_of, with_writing};
+ghost use Rattle.rept_analysis.specs.State.{IsLined, setting_of, state_of, with_writing, reader};
 ghost use Rattle.rept_analysis.specs.Drawing.{Knows, IsTracked, past, Grows, Drew, IsHalt, IsFitted, IsAccess, AreWritings, AreWritingsBefore, AreExact, IsUncut, IsBridged, IsBlocked, IsSparedBetween, IsSpreadTo, IsCarriedFrom, IsCalm, IsLooseEnd, IsLooseBefore, IsPiece, IsCarriedIf, IsCarriedBeside, IsCarriedIn, AreLinks, IsBrought, IsCarriedAlong, AllCarried};
 ghost use Rattle.rept_analysis.specs.Told.{Sends};
 ghost use Rattle.rept_isa.specs.declared.row.StepRow.{StepRow};
@@ -18,6 +18,7 @@ use crate::halt::Halt;
 use crate::piece::Piece;
 use rept_alias::CallAccess;
 use rept_isa::{Instr, StepRow};
+use rept_log::LastValues;
 use rept_reason::Cell;
 use rept_report::Paths;
 use rept_report::paths::Strip;
@@ -76,15 +77,22 @@ fn has_all(stretch: &Stretch, from: u32, to: u32) -> bool
     stretch.first <= from && to <= stretch.last
 }
 
-impl<'a, P: Paths + Drop, B: ByteFacts, W: Transfer, R: RowRules> Analysis<'a, P, B, W, R> {
+impl<'a, P: Paths + Drop, L: LastValues + Drop, B: ByteFacts, W: Transfer, R: RowRules> Analysis<
+    'a,
+    P,
+    L,
+    B,
+    W,
+    R,
+> {
     /// Carries a byte's value from a point to another one, over rows that may not write it.
     fn send(&mut self, a: u32, from: u32, to: u32, value: u8) -> Result<Carried, OutOfMemory>
         requires open { self.old.complete ≡ false }
         requires from { from ≤ (P.timeline self.old.paths).moments.end }
         requires to { to ≤ (P.timeline self.old.paths).moments.end }
-        requires known { Knows from (Byte a) value (state_of P.timeline W.sets W.moves R.rules B.store self.old) }
-        requires spared { IsSparedBetween from to a (state_of P.timeline W.sets W.moves R.rules B.store self.old) }
-        ensures { Sends (state_of P.timeline W.sets W.moves R.rules B.store self.old) (state_of P.timeline W.sets W.moves R.rules B.store self.new) (record { address = a; from = from; to = to; value = value }) result }
+        requires known { Knows from (Byte a) value (state_of (reader P.timeline L.values) W.sets W.moves R.rules B.store self.old) }
+        requires spared { IsSparedBetween from to a (state_of (reader P.timeline L.values) W.sets W.moves R.rules B.store self.old) }
+        ensures { Sends (state_of (reader P.timeline L.values) W.sets W.moves R.rules B.store self.old) (state_of (reader P.timeline L.values) W.sets W.moves R.rules B.store self.new) (record { address = a; from = from; to = to; value = value }) result }
     {
         let _value = value;
         let _paths = &self.paths;
@@ -94,12 +102,12 @@ impl<'a, P: Paths + Drop, B: ByteFacts, W: Transfer, R: RowRules> Analysis<'a, P
     fn spread(&mut self, a: u32, from: u32, to: u32, value: u8) -> Result<bool, Halt>
         requires from { from ≤ (P.timeline self.old.paths).moments.end }
         requires to { to ≤ (P.timeline self.old.paths).moments.end }
-        requires known { Knows from (Byte a) value (state_of P.timeline W.sets W.moves R.rules B.store self.old) }
-        requires spared { IsSparedBetween from to a (state_of P.timeline W.sets W.moves R.rules B.store self.old) }
+        requires known { Knows from (Byte a) value (state_of (reader P.timeline L.values) W.sets W.moves R.rules B.store self.old) }
+        requires spared { IsSparedBetween from to a (state_of (reader P.timeline L.values) W.sets W.moves R.rules B.store self.old) }
         requires open { self.old.complete ≡ false }
-        ensures grows { Grows (state_of P.timeline W.sets W.moves R.rules B.store self.old) (state_of P.timeline W.sets W.moves R.rules B.store self.new) }
-        ensures drew { IfOk result (λ learnt. Drew (state_of P.timeline W.sets W.moves R.rules B.store self.old) (state_of P.timeline W.sets W.moves R.rules B.store self.new) learnt (IsSpreadTo (record { address = a; from = from; to = to; value = value }))) }
-        ensures halt { IfErr result (λ h. IsHalt (state_of P.timeline W.sets W.moves R.rules B.store self.new) h) }
+        ensures grows { Grows (state_of (reader P.timeline L.values) W.sets W.moves R.rules B.store self.old) (state_of (reader P.timeline L.values) W.sets W.moves R.rules B.store self.new) }
+        ensures drew { IfOk result (λ learnt. Drew (state_of (reader P.timeline L.values) W.sets W.moves R.rules B.store self.old) (state_of (reader P.timeline L.values) W.sets W.moves R.rules B.store self.new) learnt (IsSpreadTo (record { address = a; from = from; to = to; value = value }))) }
+        ensures halt { IfErr result (λ h. IsHalt (state_of (reader P.timeline L.values) W.sets W.moves R.rules B.store self.new) h) }
     {
         match self.send(a, from, to, value) {
             Ok(Carried::Same) => Ok(false),
@@ -128,11 +136,11 @@ impl<'a, P: Paths + Drop, B: ByteFacts, W: Transfer, R: RowRules> Analysis<'a, P
     fn carry_segment(&mut self, a: u32, from: u32, to: u32) -> Result<bool, Halt>
         requires order { from ≤ to }
         requires to { to ≤ (P.timeline self.old.paths).moments.end }
-        requires spared { IsSparedBetween from to a (state_of P.timeline W.sets W.moves R.rules B.store self.old) }
+        requires spared { IsSparedBetween from to a (state_of (reader P.timeline L.values) W.sets W.moves R.rules B.store self.old) }
         requires open { self.old.complete ≡ false }
-        ensures grows { Grows (state_of P.timeline W.sets W.moves R.rules B.store self.old) (state_of P.timeline W.sets W.moves R.rules B.store self.new) }
-        ensures drew { IfOk result (λ learnt. Drew (state_of P.timeline W.sets W.moves R.rules B.store self.old) (state_of P.timeline W.sets W.moves R.rules B.store self.new) learnt (IsCarriedFrom a from to)) }
-        ensures halt { IfErr result (λ h. IsHalt (state_of P.timeline W.sets W.moves R.rules B.store self.new) h) }
+        ensures grows { Grows (state_of (reader P.timeline L.values) W.sets W.moves R.rules B.store self.old) (state_of (reader P.timeline L.values) W.sets W.moves R.rules B.store self.new) }
+        ensures drew { IfOk result (λ learnt. Drew (state_of (reader P.timeline L.values) W.sets W.moves R.rules B.store self.old) (state_of (reader P.timeline L.values) W.sets W.moves R.rules B.store self.new) learnt (IsCarriedFrom a from to)) }
+        ensures halt { IfErr result (λ h. IsHalt (state_of (reader P.timeline L.values) W.sets W.moves R.rules B.store self.new) h) }
     {
         match self.stretch(a, from) {
             None => Ok(false),
@@ -195,8 +203,8 @@ impl<'a, P: Paths + Drop, B: ByteFacts, W: Transfer, R: RowRules> Analysis<'a, P
     fn put_writing(&mut self, k: usize, writing: Writing) -> bool
         requires open { self.old.complete ≡ false }
         requires within { k < length self.old.work.writing }
-        ensures put { result ≡ true → (state_of P.timeline W.sets W.moves R.rules B.store self.new) ≡ with_writing (state_of P.timeline W.sets W.moves R.rules B.store self.old) (set self.old.work.writing k writing) }
-        ensures same { result ≡ false → (state_of P.timeline W.sets W.moves R.rules B.store self.new) ≡ (state_of P.timeline W.sets W.moves R.rules B.store self.old) }
+        ensures put { result ≡ true → (state_of (reader P.timeline L.values) W.sets W.moves R.rules B.store self.new) ≡ with_writing (state_of (reader P.timeline L.values) W.sets W.moves R.rules B.store self.old) (set self.old.work.writing k writing) }
+        ensures same { result ≡ false → (state_of (reader P.timeline L.values) W.sets W.moves R.rules B.store self.new) ≡ (state_of (reader P.timeline L.values) W.sets W.moves R.rules B.store self.old) }
     {
         self.writing.replace(k, writing)
     }
@@ -237,7 +245,7 @@ impl<'a, P: Paths + Drop, B: ByteFacts, W: Transfer, R: RowRules> Analysis<'a, P
     /// Makes the rows of the list found by the byte again, where many were put in it anew.
     fn renew_index(&mut self)
         requires open { self.old.complete ≡ false }
-        ensures { (state_of P.timeline W.sets W.moves R.rules B.store self.new) ≡ (state_of P.timeline W.sets W.moves R.rules B.store self.old) }
+        ensures { (state_of (reader P.timeline L.values) W.sets W.moves R.rules B.store self.new) ≡ (state_of (reader P.timeline L.values) W.sets W.moves R.rules B.store self.old) }
     {
         if self.writing.is_worn() {
             self.index_writing();
@@ -250,10 +258,10 @@ impl<'a, P: Paths + Drop, B: ByteFacts, W: Transfer, R: RowRules> Analysis<'a, P
         requires row { (P.timeline self.old.paths).legs.row i ≡ Some row.now }
         requires listed { (w : Writing) → slice_get self.old.work.writing k ≡ Some w → w.row ≡ i }
         requires within { k < length self.old.work.writing }
-        requires writings { AreWritings (state_of P.timeline W.sets W.moves R.rules B.store self.old) }
+        requires writings { AreWritings (state_of (reader P.timeline L.values) W.sets W.moves R.rules B.store self.old) }
         requires open { self.old.complete ≡ false }
-        ensures grows { Grows (state_of P.timeline W.sets W.moves R.rules B.store self.old) (state_of P.timeline W.sets W.moves R.rules B.store self.new) }
-        ensures uncut { IsUncut (state_of P.timeline W.sets W.moves R.rules B.store self.old) → IsUncut (state_of P.timeline W.sets W.moves R.rules B.store self.new) }
+        ensures grows { Grows (state_of (reader P.timeline L.values) W.sets W.moves R.rules B.store self.old) (state_of (reader P.timeline L.values) W.sets W.moves R.rules B.store self.new) }
+        ensures uncut { IsUncut (state_of (reader P.timeline L.values) W.sets W.moves R.rules B.store self.old) → IsUncut (state_of (reader P.timeline L.values) W.sets W.moves R.rules B.store self.new) }
     {
         let access = self.access_now(i, row);
         let at = self.moment_at(i, When::Before);
@@ -268,10 +276,10 @@ impl<'a, P: Paths + Drop, B: ByteFacts, W: Transfer, R: RowRules> Analysis<'a, P
     pub(super) fn free(&mut self, i: u32, row: &StepRow)
         requires inside { i < (P.timeline self.old.paths).legs.count }
         requires row { (P.timeline self.old.paths).legs.row i ≡ Some row.now }
-        requires writings { AreWritings (state_of P.timeline W.sets W.moves R.rules B.store self.old) }
+        requires writings { AreWritings (state_of (reader P.timeline L.values) W.sets W.moves R.rules B.store self.old) }
         requires open { self.old.complete ≡ false }
-        ensures grows { Grows (state_of P.timeline W.sets W.moves R.rules B.store self.old) (state_of P.timeline W.sets W.moves R.rules B.store self.new) }
-        ensures uncut { IsUncut (state_of P.timeline W.sets W.moves R.rules B.store self.old) → IsUncut (state_of P.timeline W.sets W.moves R.rules B.store self.new) }
+        ensures grows { Grows (state_of (reader P.timeline L.values) W.sets W.moves R.rules B.store self.old) (state_of (reader P.timeline L.values) W.sets W.moves R.rules B.store self.new) }
+        ensures uncut { IsUncut (state_of (reader P.timeline L.values) W.sets W.moves R.rules B.store self.old) → IsUncut (state_of (reader P.timeline L.values) W.sets W.moves R.rules B.store self.new) }
     {
         let before = self.moment_at(i, When::Before);
         let k = self.listed_before(before);
@@ -286,7 +294,7 @@ impl<'a, P: Paths + Drop, B: ByteFacts, W: Transfer, R: RowRules> Analysis<'a, P
 
     /// The row that may write, at an index, which stands at a moment.
     fn entry(&self, k: usize) -> Writing
-        requires writings { AreWritings (state_of P.timeline W.sets W.moves R.rules B.store self.now) }
+        requires writings { AreWritings (state_of (reader P.timeline L.values) W.sets W.moves R.rules B.store self.now) }
         requires within { k < length self.now.work.writing }
         ensures found { slice_get self.now.work.writing k ≡ Some result }
         ensures there { IsSome ((P.timeline self.now.paths).legs.row result.row) }
@@ -298,7 +306,7 @@ impl<'a, P: Paths + Drop, B: ByteFacts, W: Transfer, R: RowRules> Analysis<'a, P
 
     /// The number after that of the entry before an index in that list, or the first one.
     fn number_past(&self, k: usize) -> u32
-        requires writings { AreWritings (state_of P.timeline W.sets W.moves R.rules B.store self.now) }
+        requires writings { AreWritings (state_of (reader P.timeline L.values) W.sets W.moves R.rules B.store self.now) }
         requires within { k ≤ length self.now.work.writing }
         ensures value { result ≡ past self.now.work.writing k }
     {
@@ -356,10 +364,10 @@ impl<'a, P: Paths + Drop, B: ByteFacts, W: Transfer, R: RowRules> Analysis<'a, P
 
     /// Whether a byte is carried from a number to one that is next to it: whether nothing that isn't told falls between, and no row of the list that may write it.
     fn is_carried(&self, a: u32, m: u32, w: u32) -> bool
-        requires writings { AreWritings (state_of P.timeline W.sets W.moves R.rules B.store self.now) }
+        requires writings { AreWritings (state_of (reader P.timeline L.values) W.sets W.moves R.rules B.store self.now) }
         requires next { (P.timeline self.now.paths).moments.next m w ≡ true }
-        ensures yes { result ≡ true → IsBridged (record { address = a; from = m; to = w }) (state_of P.timeline W.sets W.moves R.rules B.store self.now) }
-        ensures no { result ≡ false → IsBlocked (record { address = a; from = m; to = w }) (state_of P.timeline W.sets W.moves R.rules B.store self.now) }
+        ensures yes { result ≡ true → IsBridged (record { address = a; from = m; to = w }) (state_of (reader P.timeline L.values) W.sets W.moves R.rules B.store self.now) }
+        ensures no { result ≡ false → IsBlocked (record { address = a; from = m; to = w }) (state_of (reader P.timeline L.values) W.sets W.moves R.rules B.store self.now) }
     {
         if self.is_dark_between(m, w) {
             return false;
@@ -380,9 +388,9 @@ impl<'a, P: Paths + Drop, B: ByteFacts, W: Transfer, R: RowRules> Analysis<'a, P
 
     /// Whether nothing that may write the byte falls at the pause of a strip, if it has one.
     fn is_calm(&self, a: u32, strip: Strip) -> bool
-        requires writings { AreWritings (state_of P.timeline W.sets W.moves R.rules B.store self.now) }
+        requires writings { AreWritings (state_of (reader P.timeline L.values) W.sets W.moves R.rules B.store self.now) }
         requires strip { (number : ℕ) × IsStrip (P.timeline self.now.paths) number strip }
-        ensures { result ≡ true → IsCalm a strip (state_of P.timeline W.sets W.moves R.rules B.store self.now) }
+        ensures { result ≡ true → IsCalm a strip (state_of (reader P.timeline L.values) W.sets W.moves R.rules B.store self.now) }
     {
         match strip.pause {
             None => true,
@@ -395,10 +403,10 @@ impl<'a, P: Paths + Drop, B: ByteFacts, W: Transfer, R: RowRules> Analysis<'a, P
 
     /// The number of an entry of the list from which it isn't known whether the byte is carried on in a strip: none, where the row of the entry falls there.
     fn loose_end(&self, strip: Strip, k: usize) -> Option<u32>
-        requires writings { AreWritings (state_of P.timeline W.sets W.moves R.rules B.store self.now) }
+        requires writings { AreWritings (state_of (reader P.timeline L.values) W.sets W.moves R.rules B.store self.now) }
         requires strip { (number : ℕ) × IsStrip (P.timeline self.now.paths) number strip }
         requires within { k < length self.now.work.writing }
-        ensures { IsLooseEnd strip k result (state_of P.timeline W.sets W.moves R.rules B.store self.now) }
+        ensures { IsLooseEnd strip k result (state_of (reader P.timeline L.values) W.sets W.moves R.rules B.store self.now) }
     {
         let _end = self.end();
         let entry = self.entry(k);
@@ -417,10 +425,10 @@ impl<'a, P: Paths + Drop, B: ByteFacts, W: Transfer, R: RowRules> Analysis<'a, P
 
     /// That of the entry before an index, if there is one.
     fn loose_before(&self, strip: Strip, k: usize) -> Option<u32>
-        requires writings { AreWritings (state_of P.timeline W.sets W.moves R.rules B.store self.now) }
+        requires writings { AreWritings (state_of (reader P.timeline L.values) W.sets W.moves R.rules B.store self.now) }
         requires strip { (number : ℕ) × IsStrip (P.timeline self.now.paths) number strip }
         requires within { k ≤ length self.now.work.writing }
-        ensures { IsLooseBefore strip k result (state_of P.timeline W.sets W.moves R.rules B.store self.now) }
+        ensures { IsLooseBefore strip k result (state_of (reader P.timeline L.values) W.sets W.moves R.rules B.store self.now) }
     {
         if k == 0 {
             None
@@ -431,10 +439,10 @@ impl<'a, P: Paths + Drop, B: ByteFacts, W: Transfer, R: RowRules> Analysis<'a, P
 
     /// The numbers of a strip around one, from one row that may write the byte to the next one.
     fn piece(&self, a: u32, point: u32, strip: Strip) -> Piece
-        requires writings { AreWritings (state_of P.timeline W.sets W.moves R.rules B.store self.now) }
+        requires writings { AreWritings (state_of (reader P.timeline L.values) W.sets W.moves R.rules B.store self.now) }
         requires strip { IsStrip (P.timeline self.now.paths) point strip }
-        requires calm { IsCalm a strip (state_of P.timeline W.sets W.moves R.rules B.store self.now) }
-        ensures { IsPiece a strip point result (state_of P.timeline W.sets W.moves R.rules B.store self.now) }
+        requires calm { IsCalm a strip (state_of (reader P.timeline L.values) W.sets W.moves R.rules B.store self.now) }
+        ensures { IsPiece a strip point result (state_of (reader P.timeline L.values) W.sets W.moves R.rules B.store self.now) }
     {
         let k = self.past_hit(point, a);
         let from = self.number_past(k).max(strip.first);
@@ -465,11 +473,11 @@ impl<'a, P: Paths + Drop, B: ByteFacts, W: Transfer, R: RowRules> Analysis<'a, P
 
     /// The value of a byte over the numbers around one, as far as it is carried in their strip.
     fn carry_around(&mut self, a: u32, point: u32) -> Result<bool, Halt>
-        requires writings { AreWritings (state_of P.timeline W.sets W.moves R.rules B.store self.old) }
+        requires writings { AreWritings (state_of (reader P.timeline L.values) W.sets W.moves R.rules B.store self.old) }
         requires open { self.old.complete ≡ false }
-        ensures grows { Grows (state_of P.timeline W.sets W.moves R.rules B.store self.old) (state_of P.timeline W.sets W.moves R.rules B.store self.new) }
-        ensures drew { IfOk result (λ learnt. Drew (state_of P.timeline W.sets W.moves R.rules B.store self.old) (state_of P.timeline W.sets W.moves R.rules B.store self.new) learnt (λ _. ⊤)) }
-        ensures halt { IfErr result (λ h. IsHalt (state_of P.timeline W.sets W.moves R.rules B.store self.new) h) }
+        ensures grows { Grows (state_of (reader P.timeline L.values) W.sets W.moves R.rules B.store self.old) (state_of (reader P.timeline L.values) W.sets W.moves R.rules B.store self.new) }
+        ensures drew { IfOk result (λ learnt. Drew (state_of (reader P.timeline L.values) W.sets W.moves R.rules B.store self.old) (state_of (reader P.timeline L.values) W.sets W.moves R.rules B.store self.new) learnt (λ _. ⊤)) }
+        ensures halt { IfErr result (λ h. IsHalt (state_of (reader P.timeline L.values) W.sets W.moves R.rules B.store self.new) h) }
     {
         let number = point.min(self.end());
         let strip = self.strip(number);
@@ -483,11 +491,11 @@ impl<'a, P: Paths + Drop, B: ByteFacts, W: Transfer, R: RowRules> Analysis<'a, P
 
     /// So for so many bytes from an address on; nothing in the first round.
     pub(super) fn carry_bytes(&mut self, point: u32, start: u32, count: u32) -> Result<bool, Halt>
-        requires writings { AreWritings (state_of P.timeline W.sets W.moves R.rules B.store self.old) }
+        requires writings { AreWritings (state_of (reader P.timeline L.values) W.sets W.moves R.rules B.store self.old) }
         requires open { self.old.complete ≡ false }
-        ensures grows { Grows (state_of P.timeline W.sets W.moves R.rules B.store self.old) (state_of P.timeline W.sets W.moves R.rules B.store self.new) }
-        ensures drew { IfOk result (λ learnt. Drew (state_of P.timeline W.sets W.moves R.rules B.store self.old) (state_of P.timeline W.sets W.moves R.rules B.store self.new) learnt (λ _. ⊤)) }
-        ensures halt { IfErr result (λ h. IsHalt (state_of P.timeline W.sets W.moves R.rules B.store self.new) h) }
+        ensures grows { Grows (state_of (reader P.timeline L.values) W.sets W.moves R.rules B.store self.old) (state_of (reader P.timeline L.values) W.sets W.moves R.rules B.store self.new) }
+        ensures drew { IfOk result (λ learnt. Drew (state_of (reader P.timeline L.values) W.sets W.moves R.rules B.store self.old) (state_of (reader P.timeline L.values) W.sets W.moves R.rules B.store self.new) learnt (λ _. ⊤)) }
+        ensures halt { IfErr result (λ h. IsHalt (state_of (reader P.timeline L.values) W.sets W.moves R.rules B.store self.new) h) }
     {
         if self.is_first_round() {
             return Ok(false);
@@ -503,12 +511,12 @@ impl<'a, P: Paths + Drop, B: ByteFacts, W: Transfer, R: RowRules> Analysis<'a, P
 
     /// The byte of the dump at a tracked address, over the last rows that may not write it; nothing in the first round.
     pub(super) fn draw_dump(&mut self, a: u32) -> Result<bool, Halt>
-        requires tracked { IsTracked a (state_of P.timeline W.sets W.moves R.rules B.store self.old) }
-        requires writings { AreWritings (state_of P.timeline W.sets W.moves R.rules B.store self.old) }
+        requires tracked { IsTracked a (state_of (reader P.timeline L.values) W.sets W.moves R.rules B.store self.old) }
+        requires writings { AreWritings (state_of (reader P.timeline L.values) W.sets W.moves R.rules B.store self.old) }
         requires open { self.old.complete ≡ false }
-        ensures grows { Grows (state_of P.timeline W.sets W.moves R.rules B.store self.old) (state_of P.timeline W.sets W.moves R.rules B.store self.new) }
-        ensures drew { IfOk result (λ learnt. Drew (state_of P.timeline W.sets W.moves R.rules B.store self.old) (state_of P.timeline W.sets W.moves R.rules B.store self.new) learnt (λ _. ⊤)) }
-        ensures halt { IfErr result (λ h. IsHalt (state_of P.timeline W.sets W.moves R.rules B.store self.new) h) }
+        ensures grows { Grows (state_of (reader P.timeline L.values) W.sets W.moves R.rules B.store self.old) (state_of (reader P.timeline L.values) W.sets W.moves R.rules B.store self.new) }
+        ensures drew { IfOk result (λ learnt. Drew (state_of (reader P.timeline L.values) W.sets W.moves R.rules B.store self.old) (state_of (reader P.timeline L.values) W.sets W.moves R.rules B.store self.new) learnt (λ _. ⊤)) }
+        ensures halt { IfErr result (λ h. IsHalt (state_of (reader P.timeline L.values) W.sets W.moves R.rules B.store self.new) h) }
     {
         if self.is_first_round() {
             return Ok(false);
@@ -521,12 +529,12 @@ impl<'a, P: Paths + Drop, B: ByteFacts, W: Transfer, R: RowRules> Analysis<'a, P
 
     /// The value of a byte from a number to the one after it, and back, if it is carried.
     fn carry_step(&mut self, a: u32, m: u32) -> Result<bool, Halt>
-        requires writings { AreWritings (state_of P.timeline W.sets W.moves R.rules B.store self.old) }
+        requires writings { AreWritings (state_of (reader P.timeline L.values) W.sets W.moves R.rules B.store self.old) }
         requires next { (P.timeline self.old.paths).moments.next m (m + 1) ≡ true }
         requires open { self.old.complete ≡ false }
-        ensures grows { Grows (state_of P.timeline W.sets W.moves R.rules B.store self.old) (state_of P.timeline W.sets W.moves R.rules B.store self.new) }
-        ensures drew { IfOk result (λ learnt. Drew (state_of P.timeline W.sets W.moves R.rules B.store self.old) (state_of P.timeline W.sets W.moves R.rules B.store self.new) learnt (IsCarriedIf (record { address = a; from = m; to = m + 1 }))) }
-        ensures halt { IfErr result (λ h. IsHalt (state_of P.timeline W.sets W.moves R.rules B.store self.new) h) }
+        ensures grows { Grows (state_of (reader P.timeline L.values) W.sets W.moves R.rules B.store self.old) (state_of (reader P.timeline L.values) W.sets W.moves R.rules B.store self.new) }
+        ensures drew { IfOk result (λ learnt. Drew (state_of (reader P.timeline L.values) W.sets W.moves R.rules B.store self.old) (state_of (reader P.timeline L.values) W.sets W.moves R.rules B.store self.new) learnt (IsCarriedIf (record { address = a; from = m; to = m + 1 }))) }
+        ensures halt { IfErr result (λ h. IsHalt (state_of (reader P.timeline L.values) W.sets W.moves R.rules B.store self.new) h) }
     {
         let end = self.end();
         self.held();
@@ -542,12 +550,12 @@ impl<'a, P: Paths + Drop, B: ByteFacts, W: Transfer, R: RowRules> Analysis<'a, P
 
     /// So from a number, if there is one.
     fn carry_end(&mut self, a: u32, m: Option<u32>) -> Result<bool, Halt>
-        requires writings { AreWritings (state_of P.timeline W.sets W.moves R.rules B.store self.old) }
+        requires writings { AreWritings (state_of (reader P.timeline L.values) W.sets W.moves R.rules B.store self.old) }
         requires next { (i : ℕ) → m ≡ Some i → (P.timeline self.old.paths).moments.next i (i + 1) ≡ true }
         requires open { self.old.complete ≡ false }
-        ensures grows { Grows (state_of P.timeline W.sets W.moves R.rules B.store self.old) (state_of P.timeline W.sets W.moves R.rules B.store self.new) }
-        ensures drew { IfOk result (λ learnt. Drew (state_of P.timeline W.sets W.moves R.rules B.store self.old) (state_of P.timeline W.sets W.moves R.rules B.store self.new) learnt (λ s. (i : ℕ) → m ≡ Some i → IsCarriedIf (record { address = a; from = i; to = i + 1 }) s)) }
-        ensures halt { IfErr result (λ h. IsHalt (state_of P.timeline W.sets W.moves R.rules B.store self.new) h) }
+        ensures grows { Grows (state_of (reader P.timeline L.values) W.sets W.moves R.rules B.store self.old) (state_of (reader P.timeline L.values) W.sets W.moves R.rules B.store self.new) }
+        ensures drew { IfOk result (λ learnt. Drew (state_of (reader P.timeline L.values) W.sets W.moves R.rules B.store self.old) (state_of (reader P.timeline L.values) W.sets W.moves R.rules B.store self.new) learnt (λ s. (i : ℕ) → m ≡ Some i → IsCarriedIf (record { address = a; from = i; to = i + 1 }) s)) }
+        ensures halt { IfErr result (λ h. IsHalt (state_of (reader P.timeline L.values) W.sets W.moves R.rules B.store self.new) h) }
     {
         let Some(m) = m else {
             return Ok(false);
@@ -560,12 +568,12 @@ impl<'a, P: Paths + Drop, B: ByteFacts, W: Transfer, R: RowRules> Analysis<'a, P
     /// carried.
     fn carry_beside(&mut self, a: u32, point: u32, strip: Strip) -> Result<(bool, u32), Halt>
         requires strip { IsStrip (P.timeline self.old.paths) point strip }
-        requires calm { IsCalm a strip (state_of P.timeline W.sets W.moves R.rules B.store self.old) }
-        requires writings { AreWritings (state_of P.timeline W.sets W.moves R.rules B.store self.old) }
+        requires calm { IsCalm a strip (state_of (reader P.timeline L.values) W.sets W.moves R.rules B.store self.old) }
+        requires writings { AreWritings (state_of (reader P.timeline L.values) W.sets W.moves R.rules B.store self.old) }
         requires open { self.old.complete ≡ false }
-        ensures grows { Grows (state_of P.timeline W.sets W.moves R.rules B.store self.old) (state_of P.timeline W.sets W.moves R.rules B.store self.new) }
-        ensures drew { IfOk result (λ ended. Drew (state_of P.timeline W.sets W.moves R.rules B.store self.old) (state_of P.timeline W.sets W.moves R.rules B.store self.new) ended.0 (IsCarriedBeside a strip point ended.1)) }
-        ensures halt { IfErr result (λ h. IsHalt (state_of P.timeline W.sets W.moves R.rules B.store self.new) h) }
+        ensures grows { Grows (state_of (reader P.timeline L.values) W.sets W.moves R.rules B.store self.old) (state_of (reader P.timeline L.values) W.sets W.moves R.rules B.store self.new) }
+        ensures drew { IfOk result (λ ended. Drew (state_of (reader P.timeline L.values) W.sets W.moves R.rules B.store self.old) (state_of (reader P.timeline L.values) W.sets W.moves R.rules B.store self.new) ended.0 (IsCarriedBeside a strip point ended.1)) }
+        ensures halt { IfErr result (λ h. IsHalt (state_of (reader P.timeline L.values) W.sets W.moves R.rules B.store self.new) h) }
         ensures onward { IfOk result (λ ended. (point ≤ ended.1) × (ended.1 ≤ strip.last)) }
     {
         let piece = self.piece(a, point, strip);
@@ -579,12 +587,12 @@ impl<'a, P: Paths + Drop, B: ByteFacts, W: Transfer, R: RowRules> Analysis<'a, P
     /// a path on which many rows may write something takes no longer.
     fn carry_calm(&mut self, a: u32, strip: Strip) -> Result<bool, Halt>
         requires strip { IsStrip (P.timeline self.old.paths) strip.first strip }
-        requires calm { IsCalm a strip (state_of P.timeline W.sets W.moves R.rules B.store self.old) }
-        requires writings { AreWritings (state_of P.timeline W.sets W.moves R.rules B.store self.old) }
+        requires calm { IsCalm a strip (state_of (reader P.timeline L.values) W.sets W.moves R.rules B.store self.old) }
+        requires writings { AreWritings (state_of (reader P.timeline L.values) W.sets W.moves R.rules B.store self.old) }
         requires open { self.old.complete ≡ false }
-        ensures grows { Grows (state_of P.timeline W.sets W.moves R.rules B.store self.old) (state_of P.timeline W.sets W.moves R.rules B.store self.new) }
-        ensures drew { IfOk result (λ learnt. Drew (state_of P.timeline W.sets W.moves R.rules B.store self.old) (state_of P.timeline W.sets W.moves R.rules B.store self.new) learnt (IsCarriedIn a strip)) }
-        ensures halt { IfErr result (λ h. IsHalt (state_of P.timeline W.sets W.moves R.rules B.store self.new) h) }
+        ensures grows { Grows (state_of (reader P.timeline L.values) W.sets W.moves R.rules B.store self.old) (state_of (reader P.timeline L.values) W.sets W.moves R.rules B.store self.new) }
+        ensures drew { IfOk result (λ learnt. Drew (state_of (reader P.timeline L.values) W.sets W.moves R.rules B.store self.old) (state_of (reader P.timeline L.values) W.sets W.moves R.rules B.store self.new) learnt (IsCarriedIn a strip)) }
+        ensures halt { IfErr result (λ h. IsHalt (state_of (reader P.timeline L.values) W.sets W.moves R.rules B.store self.new) h) }
     {
         let _end = self.end();
         let mut learnt = false;
@@ -608,11 +616,11 @@ impl<'a, P: Paths + Drop, B: ByteFacts, W: Transfer, R: RowRules> Analysis<'a, P
     /// So in any strip, number by number, from each at which its value ends or before which it begins.
     fn carry_singly(&mut self, a: u32, strip: Strip) -> Result<bool, Halt>
         requires strip { IsStrip (P.timeline self.old.paths) strip.first strip }
-        requires writings { AreWritings (state_of P.timeline W.sets W.moves R.rules B.store self.old) }
+        requires writings { AreWritings (state_of (reader P.timeline L.values) W.sets W.moves R.rules B.store self.old) }
         requires open { self.old.complete ≡ false }
-        ensures grows { Grows (state_of P.timeline W.sets W.moves R.rules B.store self.old) (state_of P.timeline W.sets W.moves R.rules B.store self.new) }
-        ensures drew { IfOk result (λ learnt. Drew (state_of P.timeline W.sets W.moves R.rules B.store self.old) (state_of P.timeline W.sets W.moves R.rules B.store self.new) learnt (IsCarriedIn a strip)) }
-        ensures halt { IfErr result (λ h. IsHalt (state_of P.timeline W.sets W.moves R.rules B.store self.new) h) }
+        ensures grows { Grows (state_of (reader P.timeline L.values) W.sets W.moves R.rules B.store self.old) (state_of (reader P.timeline L.values) W.sets W.moves R.rules B.store self.new) }
+        ensures drew { IfOk result (λ learnt. Drew (state_of (reader P.timeline L.values) W.sets W.moves R.rules B.store self.old) (state_of (reader P.timeline L.values) W.sets W.moves R.rules B.store self.new) learnt (IsCarriedIn a strip)) }
+        ensures halt { IfErr result (λ h. IsHalt (state_of (reader P.timeline L.values) W.sets W.moves R.rules B.store self.new) h) }
     {
         let _end = self.end();
         let mut learnt = false;
@@ -635,11 +643,11 @@ impl<'a, P: Paths + Drop, B: ByteFacts, W: Transfer, R: RowRules> Analysis<'a, P
     /// The value of a byte in a strip.
     fn carry_strip(&mut self, a: u32, strip: Strip) -> Result<bool, Halt>
         requires strip { IsStrip (P.timeline self.old.paths) strip.first strip }
-        requires writings { AreWritings (state_of P.timeline W.sets W.moves R.rules B.store self.old) }
+        requires writings { AreWritings (state_of (reader P.timeline L.values) W.sets W.moves R.rules B.store self.old) }
         requires open { self.old.complete ≡ false }
-        ensures grows { Grows (state_of P.timeline W.sets W.moves R.rules B.store self.old) (state_of P.timeline W.sets W.moves R.rules B.store self.new) }
-        ensures drew { IfOk result (λ learnt. Drew (state_of P.timeline W.sets W.moves R.rules B.store self.old) (state_of P.timeline W.sets W.moves R.rules B.store self.new) learnt (IsCarriedIn a strip)) }
-        ensures halt { IfErr result (λ h. IsHalt (state_of P.timeline W.sets W.moves R.rules B.store self.new) h) }
+        ensures grows { Grows (state_of (reader P.timeline L.values) W.sets W.moves R.rules B.store self.old) (state_of (reader P.timeline L.values) W.sets W.moves R.rules B.store self.new) }
+        ensures drew { IfOk result (λ learnt. Drew (state_of (reader P.timeline L.values) W.sets W.moves R.rules B.store self.old) (state_of (reader P.timeline L.values) W.sets W.moves R.rules B.store self.new) learnt (IsCarriedIn a strip)) }
+        ensures halt { IfErr result (λ h. IsHalt (state_of (reader P.timeline L.values) W.sets W.moves R.rules B.store self.new) h) }
     {
         if self.is_calm(a, strip) {
             let learnt = self.carry_calm(a, strip)?;
@@ -653,13 +661,13 @@ impl<'a, P: Paths + Drop, B: ByteFacts, W: Transfer, R: RowRules> Analysis<'a, P
     /// Tells the value of a byte at a number to which it is carried from one that isn't before or after it by one.
     fn tell_across(&mut self, a: u32, to: u32, value: u8) -> Result<bool, Halt>
         requires to { to ≤ (P.timeline self.old.paths).moments.end }
-        requires tracked { IsTracked a (state_of P.timeline W.sets W.moves R.rules B.store self.old) }
-        requires brought { IsBrought (state_of P.timeline W.sets W.moves R.rules B.store self.old) (fact_of to (Byte a) value) }
+        requires tracked { IsTracked a (state_of (reader P.timeline L.values) W.sets W.moves R.rules B.store self.old) }
+        requires brought { IsBrought (state_of (reader P.timeline L.values) W.sets W.moves R.rules B.store self.old) (fact_of to (Byte a) value) }
         requires room { IsLined (P.timeline self.old.paths) → ⊥ }
         requires open { self.old.complete ≡ false }
-        ensures grows { Grows (state_of P.timeline W.sets W.moves R.rules B.store self.old) (state_of P.timeline W.sets W.moves R.rules B.store self.new) }
-        ensures drew { IfOk result (λ learnt. Drew (state_of P.timeline W.sets W.moves R.rules B.store self.old) (state_of P.timeline W.sets W.moves R.rules B.store self.new) learnt (Knows to (Byte a) value)) }
-        ensures halt { IfErr result (λ h. IsHalt (state_of P.timeline W.sets W.moves R.rules B.store self.new) h) }
+        ensures grows { Grows (state_of (reader P.timeline L.values) W.sets W.moves R.rules B.store self.old) (state_of (reader P.timeline L.values) W.sets W.moves R.rules B.store self.new) }
+        ensures drew { IfOk result (λ learnt. Drew (state_of (reader P.timeline L.values) W.sets W.moves R.rules B.store self.old) (state_of (reader P.timeline L.values) W.sets W.moves R.rules B.store self.new) learnt (Knows to (Byte a) value)) }
+        ensures halt { IfErr result (λ h. IsHalt (state_of (reader P.timeline L.values) W.sets W.moves R.rules B.store self.new) h) }
     {
         let learnt = self.learn_byte(to, a, value, false)?;
         Ok(learnt)
@@ -667,14 +675,14 @@ impl<'a, P: Paths + Drop, B: ByteFacts, W: Transfer, R: RowRules> Analysis<'a, P
 
     /// Tells the value of a byte at a number that is known at one that is next to it, over which it is carried, if it is known there.
     fn tell_back(&mut self, a: u32, m: u32, w: u32) -> Result<bool, Halt>
-        requires tracked { IsTracked a (state_of P.timeline W.sets W.moves R.rules B.store self.old) }
-        requires bridged { IsBridged (record { address = a; from = m; to = w }) (state_of P.timeline W.sets W.moves R.rules B.store self.old) }
+        requires tracked { IsTracked a (state_of (reader P.timeline L.values) W.sets W.moves R.rules B.store self.old) }
+        requires bridged { IsBridged (record { address = a; from = m; to = w }) (state_of (reader P.timeline L.values) W.sets W.moves R.rules B.store self.old) }
         requires unknown { (B.store self.old.known.bytes).fact m a ≡ None }
         requires room { IsLined (P.timeline self.old.paths) → ⊥ }
         requires open { self.old.complete ≡ false }
-        ensures grows { Grows (state_of P.timeline W.sets W.moves R.rules B.store self.old) (state_of P.timeline W.sets W.moves R.rules B.store self.new) }
-        ensures drew { IfOk result (λ learnt. Drew (state_of P.timeline W.sets W.moves R.rules B.store self.old) (state_of P.timeline W.sets W.moves R.rules B.store self.new) learnt (IsCarriedIf (record { address = a; from = m; to = w }))) }
-        ensures halt { IfErr result (λ h. IsHalt (state_of P.timeline W.sets W.moves R.rules B.store self.new) h) }
+        ensures grows { Grows (state_of (reader P.timeline L.values) W.sets W.moves R.rules B.store self.old) (state_of (reader P.timeline L.values) W.sets W.moves R.rules B.store self.new) }
+        ensures drew { IfOk result (λ learnt. Drew (state_of (reader P.timeline L.values) W.sets W.moves R.rules B.store self.old) (state_of (reader P.timeline L.values) W.sets W.moves R.rules B.store self.new) learnt (IsCarriedIf (record { address = a; from = m; to = w }))) }
+        ensures halt { IfErr result (λ h. IsHalt (state_of (reader P.timeline L.values) W.sets W.moves R.rules B.store self.new) h) }
     {
         self.held();
         let Some(value) = self.known_byte(w, a) else {
@@ -686,13 +694,13 @@ impl<'a, P: Paths + Drop, B: ByteFacts, W: Transfer, R: RowRules> Analysis<'a, P
 
     /// So at either of them.
     fn tell_either(&mut self, a: u32, m: u32, w: u32) -> Result<bool, Halt>
-        requires tracked { IsTracked a (state_of P.timeline W.sets W.moves R.rules B.store self.old) }
-        requires bridged { IsBridged (record { address = a; from = m; to = w }) (state_of P.timeline W.sets W.moves R.rules B.store self.old) }
+        requires tracked { IsTracked a (state_of (reader P.timeline L.values) W.sets W.moves R.rules B.store self.old) }
+        requires bridged { IsBridged (record { address = a; from = m; to = w }) (state_of (reader P.timeline L.values) W.sets W.moves R.rules B.store self.old) }
         requires room { IsLined (P.timeline self.old.paths) → ⊥ }
         requires open { self.old.complete ≡ false }
-        ensures grows { Grows (state_of P.timeline W.sets W.moves R.rules B.store self.old) (state_of P.timeline W.sets W.moves R.rules B.store self.new) }
-        ensures drew { IfOk result (λ learnt. Drew (state_of P.timeline W.sets W.moves R.rules B.store self.old) (state_of P.timeline W.sets W.moves R.rules B.store self.new) learnt (IsCarriedIf (record { address = a; from = m; to = w }))) }
-        ensures halt { IfErr result (λ h. IsHalt (state_of P.timeline W.sets W.moves R.rules B.store self.new) h) }
+        ensures grows { Grows (state_of (reader P.timeline L.values) W.sets W.moves R.rules B.store self.old) (state_of (reader P.timeline L.values) W.sets W.moves R.rules B.store self.new) }
+        ensures drew { IfOk result (λ learnt. Drew (state_of (reader P.timeline L.values) W.sets W.moves R.rules B.store self.old) (state_of (reader P.timeline L.values) W.sets W.moves R.rules B.store self.new) learnt (IsCarriedIf (record { address = a; from = m; to = w }))) }
+        ensures halt { IfErr result (λ h. IsHalt (state_of (reader P.timeline L.values) W.sets W.moves R.rules B.store self.new) h) }
     {
         self.held();
         match self.known_byte(m, a) {
@@ -709,13 +717,13 @@ impl<'a, P: Paths + Drop, B: ByteFacts, W: Transfer, R: RowRules> Analysis<'a, P
 
     /// The value of a byte from a number to one that is next to it, and back, if it is carried.
     fn carry_link(&mut self, a: u32, m: u32, w: u32) -> Result<bool, Halt>
-        requires tracked { IsTracked a (state_of P.timeline W.sets W.moves R.rules B.store self.old) }
+        requires tracked { IsTracked a (state_of (reader P.timeline L.values) W.sets W.moves R.rules B.store self.old) }
         requires next { (P.timeline self.old.paths).moments.next m w ≡ true }
-        requires writings { AreWritings (state_of P.timeline W.sets W.moves R.rules B.store self.old) }
+        requires writings { AreWritings (state_of (reader P.timeline L.values) W.sets W.moves R.rules B.store self.old) }
         requires open { self.old.complete ≡ false }
-        ensures grows { Grows (state_of P.timeline W.sets W.moves R.rules B.store self.old) (state_of P.timeline W.sets W.moves R.rules B.store self.new) }
-        ensures drew { IfOk result (λ learnt. Drew (state_of P.timeline W.sets W.moves R.rules B.store self.old) (state_of P.timeline W.sets W.moves R.rules B.store self.new) learnt (IsCarriedIf (record { address = a; from = m; to = w }))) }
-        ensures halt { IfErr result (λ h. IsHalt (state_of P.timeline W.sets W.moves R.rules B.store self.new) h) }
+        ensures grows { Grows (state_of (reader P.timeline L.values) W.sets W.moves R.rules B.store self.old) (state_of (reader P.timeline L.values) W.sets W.moves R.rules B.store self.new) }
+        ensures drew { IfOk result (λ learnt. Drew (state_of (reader P.timeline L.values) W.sets W.moves R.rules B.store self.old) (state_of (reader P.timeline L.values) W.sets W.moves R.rules B.store self.new) learnt (IsCarriedIf (record { address = a; from = m; to = w }))) }
+        ensures halt { IfErr result (λ h. IsHalt (state_of (reader P.timeline L.values) W.sets W.moves R.rules B.store self.new) h) }
     {
         if is_after(m, w) {
             let learnt = self.carry_step(a, m)?;
@@ -731,12 +739,12 @@ impl<'a, P: Paths + Drop, B: ByteFacts, W: Transfer, R: RowRules> Analysis<'a, P
     /// The value of a byte from a number to all that are next to it, and back.
     fn carry_links(&mut self, a: u32, m: u32) -> Result<bool, Halt>
         requires inside { m ≤ (P.timeline self.old.paths).moments.end }
-        requires tracked { IsTracked a (state_of P.timeline W.sets W.moves R.rules B.store self.old) }
-        requires writings { AreWritings (state_of P.timeline W.sets W.moves R.rules B.store self.old) }
+        requires tracked { IsTracked a (state_of (reader P.timeline L.values) W.sets W.moves R.rules B.store self.old) }
+        requires writings { AreWritings (state_of (reader P.timeline L.values) W.sets W.moves R.rules B.store self.old) }
         requires open { self.old.complete ≡ false }
-        ensures grows { Grows (state_of P.timeline W.sets W.moves R.rules B.store self.old) (state_of P.timeline W.sets W.moves R.rules B.store self.new) }
-        ensures drew { IfOk result (λ learnt. Drew (state_of P.timeline W.sets W.moves R.rules B.store self.old) (state_of P.timeline W.sets W.moves R.rules B.store self.new) learnt (AreLinks a m)) }
-        ensures halt { IfErr result (λ h. IsHalt (state_of P.timeline W.sets W.moves R.rules B.store self.new) h) }
+        ensures grows { Grows (state_of (reader P.timeline L.values) W.sets W.moves R.rules B.store self.old) (state_of (reader P.timeline L.values) W.sets W.moves R.rules B.store self.new) }
+        ensures drew { IfOk result (λ learnt. Drew (state_of (reader P.timeline L.values) W.sets W.moves R.rules B.store self.old) (state_of (reader P.timeline L.values) W.sets W.moves R.rules B.store self.new) learnt (AreLinks a m)) }
+        ensures halt { IfErr result (λ h. IsHalt (state_of (reader P.timeline L.values) W.sets W.moves R.rules B.store self.new) h) }
     {
         let end = self.end();
         let mut learnt = false;
@@ -754,12 +762,12 @@ impl<'a, P: Paths + Drop, B: ByteFacts, W: Transfer, R: RowRules> Analysis<'a, P
 
     /// The value of a byte over all that may not write it: strip by strip, and from the last number of each to those next to it.
     fn carry_address(&mut self, a: u32) -> Result<bool, Halt>
-        requires tracked { IsTracked a (state_of P.timeline W.sets W.moves R.rules B.store self.old) }
-        requires writings { AreWritings (state_of P.timeline W.sets W.moves R.rules B.store self.old) }
+        requires tracked { IsTracked a (state_of (reader P.timeline L.values) W.sets W.moves R.rules B.store self.old) }
+        requires writings { AreWritings (state_of (reader P.timeline L.values) W.sets W.moves R.rules B.store self.old) }
         requires open { self.old.complete ≡ false }
-        ensures grows { Grows (state_of P.timeline W.sets W.moves R.rules B.store self.old) (state_of P.timeline W.sets W.moves R.rules B.store self.new) }
-        ensures drew { IfOk result (λ learnt. Drew (state_of P.timeline W.sets W.moves R.rules B.store self.old) (state_of P.timeline W.sets W.moves R.rules B.store self.new) learnt (IsCarriedAlong a)) }
-        ensures halt { IfErr result (λ h. IsHalt (state_of P.timeline W.sets W.moves R.rules B.store self.new) h) }
+        ensures grows { Grows (state_of (reader P.timeline L.values) W.sets W.moves R.rules B.store self.old) (state_of (reader P.timeline L.values) W.sets W.moves R.rules B.store self.new) }
+        ensures drew { IfOk result (λ learnt. Drew (state_of (reader P.timeline L.values) W.sets W.moves R.rules B.store self.old) (state_of (reader P.timeline L.values) W.sets W.moves R.rules B.store self.new) learnt (IsCarriedAlong a)) }
+        ensures halt { IfErr result (λ h. IsHalt (state_of (reader P.timeline L.values) W.sets W.moves R.rules B.store self.new) h) }
     {
         let end = self.end();
         let mut learnt = false;
@@ -777,11 +785,11 @@ impl<'a, P: Paths + Drop, B: ByteFacts, W: Transfer, R: RowRules> Analysis<'a, P
 
     /// The values of all tracked bytes.
     pub(super) fn carry_tracked(&mut self) -> Result<bool, Halt>
-        requires writings { AreWritings (state_of P.timeline W.sets W.moves R.rules B.store self.old) }
+        requires writings { AreWritings (state_of (reader P.timeline L.values) W.sets W.moves R.rules B.store self.old) }
         requires open { self.old.complete ≡ false }
-        ensures grows { Grows (state_of P.timeline W.sets W.moves R.rules B.store self.old) (state_of P.timeline W.sets W.moves R.rules B.store self.new) }
-        ensures drew { IfOk result (λ learnt. Drew (state_of P.timeline W.sets W.moves R.rules B.store self.old) (state_of P.timeline W.sets W.moves R.rules B.store self.new) learnt (AllCarried)) }
-        ensures halt { IfErr result (λ h. IsHalt (state_of P.timeline W.sets W.moves R.rules B.store self.new) h) }
+        ensures grows { Grows (state_of (reader P.timeline L.values) W.sets W.moves R.rules B.store self.old) (state_of (reader P.timeline L.values) W.sets W.moves R.rules B.store self.new) }
+        ensures drew { IfOk result (λ learnt. Drew (state_of (reader P.timeline L.values) W.sets W.moves R.rules B.store self.old) (state_of (reader P.timeline L.values) W.sets W.moves R.rules B.store self.new) learnt (AllCarried)) }
+        ensures halt { IfErr result (λ h. IsHalt (state_of (reader P.timeline L.values) W.sets W.moves R.rules B.store self.new) h) }
     {
         let count = self.tracked_count();
         let mut learnt = false;
@@ -796,7 +804,7 @@ impl<'a, P: Paths + Drop, B: ByteFacts, W: Transfer, R: RowRules> Analysis<'a, P
     /// Takes all rows out of the list of those that may write.
     fn clear_writing(&mut self)
         requires open { self.old.complete ≡ false }
-        ensures { (state_of P.timeline W.sets W.moves R.rules B.store self.new) ≡ with_writing (state_of P.timeline W.sets W.moves R.rules B.store self.old) [] }
+        ensures { (state_of (reader P.timeline L.values) W.sets W.moves R.rules B.store self.new) ≡ with_writing (state_of (reader P.timeline L.values) W.sets W.moves R.rules B.store self.old) [] }
     {
         self.writing.clear();
     }
@@ -805,7 +813,7 @@ impl<'a, P: Paths + Drop, B: ByteFacts, W: Transfer, R: RowRules> Analysis<'a, P
     fn add_writing(&mut self, writing: Writing)
         requires open { self.old.complete ≡ false }
         requires room { length self.old.work.writing ≤ (P.timeline self.old.paths).moments.end }
-        ensures { (state_of P.timeline W.sets W.moves R.rules B.store self.new) ≡ with_writing (state_of P.timeline W.sets W.moves R.rules B.store self.old) (self.old.work.writing ++ writing ∷ []) }
+        ensures { (state_of (reader P.timeline L.values) W.sets W.moves R.rules B.store self.new) ≡ with_writing (state_of (reader P.timeline L.values) W.sets W.moves R.rules B.store self.old) (self.old.work.writing ++ writing ∷ []) }
     {
         self.writing.add(writing);
     }
@@ -813,7 +821,7 @@ impl<'a, P: Paths + Drop, B: ByteFacts, W: Transfer, R: RowRules> Analysis<'a, P
     /// Makes the rows of the list found by the byte that they may write.
     fn index_writing(&mut self)
         requires open { self.old.complete ≡ false }
-        ensures { (state_of P.timeline W.sets W.moves R.rules B.store self.new) ≡ (state_of P.timeline W.sets W.moves R.rules B.store self.old) }
+        ensures { (state_of (reader P.timeline L.values) W.sets W.moves R.rules B.store self.new) ≡ (state_of (reader P.timeline L.values) W.sets W.moves R.rules B.store self.old) }
     {
         self.writing.index();
     }
@@ -830,11 +838,11 @@ impl<'a, P: Paths + Drop, B: ByteFacts, W: Transfer, R: RowRules> Analysis<'a, P
         requires open { self.old.complete ≡ false }
         requires inside { number ≤ (P.timeline self.old.paths).moments.end }
         requires room { length self.old.work.writing ≤ number }
-        requires fitted { IsFitted (state_of P.timeline W.sets W.moves R.rules B.store self.old) }
-        requires before { AreWritingsBefore number self.old.work.writing (state_of P.timeline W.sets W.moves R.rules B.store self.old) }
-        ensures same { (state_of P.timeline W.sets W.moves R.rules B.store self.new) ≡ with_writing (state_of P.timeline W.sets W.moves R.rules B.store self.old) self.new.work.writing }
+        requires fitted { IsFitted (state_of (reader P.timeline L.values) W.sets W.moves R.rules B.store self.old) }
+        requires before { AreWritingsBefore number self.old.work.writing (state_of (reader P.timeline L.values) W.sets W.moves R.rules B.store self.old) }
+        ensures same { (state_of (reader P.timeline L.values) W.sets W.moves R.rules B.store self.new) ≡ with_writing (state_of (reader P.timeline L.values) W.sets W.moves R.rules B.store self.old) self.new.work.writing }
         ensures room { length self.new.work.writing ≤ number + 1 }
-        ensures listed { AreWritingsBefore (number + 1) self.new.work.writing (state_of P.timeline W.sets W.moves R.rules B.store self.old) }
+        ensures listed { AreWritingsBefore (number + 1) self.new.work.writing (state_of (reader P.timeline L.values) W.sets W.moves R.rules B.store self.old) }
     {
         match self.row_at(number) {
             None => {}
@@ -848,11 +856,11 @@ impl<'a, P: Paths + Drop, B: ByteFacts, W: Transfer, R: RowRules> Analysis<'a, P
         requires inside { number ≤ (P.timeline self.old.paths).moments.end }
         requires row { IsRowAt (P.timeline self.old.paths) number (Some i) }
         requires room { length self.old.work.writing ≤ number }
-        requires fitted { IsFitted (state_of P.timeline W.sets W.moves R.rules B.store self.old) }
-        requires before { AreWritingsBefore number self.old.work.writing (state_of P.timeline W.sets W.moves R.rules B.store self.old) }
-        ensures same { (state_of P.timeline W.sets W.moves R.rules B.store self.new) ≡ with_writing (state_of P.timeline W.sets W.moves R.rules B.store self.old) self.new.work.writing }
+        requires fitted { IsFitted (state_of (reader P.timeline L.values) W.sets W.moves R.rules B.store self.old) }
+        requires before { AreWritingsBefore number self.old.work.writing (state_of (reader P.timeline L.values) W.sets W.moves R.rules B.store self.old) }
+        ensures same { (state_of (reader P.timeline L.values) W.sets W.moves R.rules B.store self.new) ≡ with_writing (state_of (reader P.timeline L.values) W.sets W.moves R.rules B.store self.old) self.new.work.writing }
         ensures room { length self.new.work.writing ≤ number + 1 }
-        ensures listed { AreWritingsBefore (number + 1) self.new.work.writing (state_of P.timeline W.sets W.moves R.rules B.store self.old) }
+        ensures listed { AreWritingsBefore (number + 1) self.new.work.writing (state_of (reader P.timeline L.values) W.sets W.moves R.rules B.store self.old) }
     {
         match self.row(i) {
             None => {}
@@ -868,11 +876,11 @@ impl<'a, P: Paths + Drop, B: ByteFacts, W: Transfer, R: RowRules> Analysis<'a, P
         requires at { IsRowAt (P.timeline self.old.paths) number (Some i) }
         requires row { (P.timeline self.old.paths).legs.row i ≡ Some row.now }
         requires room { length self.old.work.writing ≤ number }
-        requires fitted { IsFitted (state_of P.timeline W.sets W.moves R.rules B.store self.old) }
-        requires before { AreWritingsBefore number self.old.work.writing (state_of P.timeline W.sets W.moves R.rules B.store self.old) }
-        ensures same { (state_of P.timeline W.sets W.moves R.rules B.store self.new) ≡ with_writing (state_of P.timeline W.sets W.moves R.rules B.store self.old) self.new.work.writing }
+        requires fitted { IsFitted (state_of (reader P.timeline L.values) W.sets W.moves R.rules B.store self.old) }
+        requires before { AreWritingsBefore number self.old.work.writing (state_of (reader P.timeline L.values) W.sets W.moves R.rules B.store self.old) }
+        ensures same { (state_of (reader P.timeline L.values) W.sets W.moves R.rules B.store self.new) ≡ with_writing (state_of (reader P.timeline L.values) W.sets W.moves R.rules B.store self.old) self.new.work.writing }
         ensures room { length self.new.work.writing ≤ number + 1 }
-        ensures listed { AreWritingsBefore (number + 1) self.new.work.writing (state_of P.timeline W.sets W.moves R.rules B.store self.old) }
+        ensures listed { AreWritingsBefore (number + 1) self.new.work.writing (state_of (reader P.timeline L.values) W.sets W.moves R.rules B.store self.old) }
     {
         let access = self.access(i, row);
         if !is_none(&access) {
@@ -887,10 +895,10 @@ impl<'a, P: Paths + Drop, B: ByteFacts, W: Transfer, R: RowRules> Analysis<'a, P
     /// Lists the rows that may write, by the facts of which the sets are.
     pub(super) fn list_writing(&mut self)
         requires open { self.old.complete ≡ false }
-        requires fitted { IsFitted (state_of P.timeline W.sets W.moves R.rules B.store self.old) }
-        ensures same { (state_of P.timeline W.sets W.moves R.rules B.store self.new) ≡ with_writing (state_of P.timeline W.sets W.moves R.rules B.store self.old) self.new.work.writing }
-        ensures listed { AreWritings (state_of P.timeline W.sets W.moves R.rules B.store self.new) }
-        ensures exact { AreExact (state_of P.timeline W.sets W.moves R.rules B.store self.new) }
+        requires fitted { IsFitted (state_of (reader P.timeline L.values) W.sets W.moves R.rules B.store self.old) }
+        ensures same { (state_of (reader P.timeline L.values) W.sets W.moves R.rules B.store self.new) ≡ with_writing (state_of (reader P.timeline L.values) W.sets W.moves R.rules B.store self.old) self.new.work.writing }
+        ensures listed { AreWritings (state_of (reader P.timeline L.values) W.sets W.moves R.rules B.store self.new) }
+        ensures exact { AreExact (state_of (reader P.timeline L.values) W.sets W.moves R.rules B.store self.new) }
     {
         self.held();
         let count = self.end() + 1;

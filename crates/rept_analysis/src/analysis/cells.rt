@@ -10,6 +10,7 @@ ghost use Rattle.rept_isa.specs.Operands.{first_read};
 use super::Analysis;
 use crate::offset::address;
 use rept_isa::{Reg, StepRow, reads, writes};
+use rept_log::LastValues;
 use rept_log::views::point_at;
 use rept_partial::Flat;
 use rept_report::Paths;
@@ -17,7 +18,14 @@ use rept_span::Transfer;
 use rept_versions::ByteFacts;
 use rept_view::{RowRules, When};
 
-impl<'a, P: Paths + Drop, B: ByteFacts, W: Transfer, R: RowRules> Analysis<'a, P, B, W, R> {
+impl<'a, P: Paths + Drop, L: LastValues + Drop, B: ByteFacts, W: Transfer, R: RowRules> Analysis<
+    'a,
+    P,
+    L,
+    B,
+    W,
+    R,
+> {
     /// 1 where there is a register and it is known before row i or after it.
     fn operand_cell(&self, i: u32, when: When, r: Option<Reg>) -> u32
         requires { i < (P.timeline self.now.paths).legs.count }

@@ -3,12 +3,13 @@
 ghost use Rattle.std.specs.Prelude.{◌≡◌, ◌+◌, ◌*◌, ◌<◌, ◌≤◌, ℕ, length, true, is_some, slice_get};
 ghost use Rattle.rept_reason.specs.Facts.{told, register_known, register_fact};
 ghost use Rattle.rept_report.specs.Log.{oldest};
-ghost use Rattle.rept_analysis.specs.State.{setting_of, state_of};
+ghost use Rattle.rept_analysis.specs.State.{setting_of, state_of, reader};
 ghost use Rattle.rept_analysis.specs.Kept.{answers};
 ghost use Rattle.rept_analysis.specs.Counts.{is_call, base_of, is_store, row_is, rows_below, calls_below, stores_below, known_at, known_below, IsCounted};
 
 use super::{Analysis, register};
 use rept_isa::{Instr, Reg, reads};
+use rept_log::LastValues;
 use rept_partial::Flat;
 use rept_report::{Counts, Paths};
 use rept_span::Transfer;
@@ -32,7 +33,14 @@ fn base(instr: &Instr) -> Option<Reg>
     }
 }
 
-impl<'a, P: Paths + Drop, B: ByteFacts, W: Transfer, R: RowRules> Analysis<'a, P, B, W, R> {
+impl<'a, P: Paths + Drop, L: LastValues + Drop, B: ByteFacts, W: Transfer, R: RowRules> Analysis<
+    'a,
+    P,
+    L,
+    B,
+    W,
+    R,
+> {
     /// Whether the value of a register other than x0 is answered.
     fn is_told(&self, point: u32, r: Reg) -> bool
         requires { point ≤ (P.timeline self.now.paths).legs.count }
@@ -156,8 +164,8 @@ impl<'a, P: Paths + Drop, B: ByteFacts, W: Transfer, R: RowRules> Analysis<'a, P
 
     /// How many rows there are, of which kind, and how much is answered.
     pub fn counts(&self) -> Counts
-        ensures shown { IsCounted (setting_of P.timeline W.sets W.moves R.rules self.now) (told (oldest self.now.shown self.now.known.log)) result }
-        ensures ended { self.now.complete ≡ true → IsCounted (setting_of P.timeline W.sets W.moves R.rules self.now) (answers (state_of P.timeline W.sets W.moves R.rules B.store self.now)) result }
+        ensures shown { IsCounted (setting_of (reader P.timeline L.values) W.sets W.moves R.rules self.now) (told (oldest self.now.shown self.now.known.log)) result }
+        ensures ended { self.now.complete ≡ true → IsCounted (setting_of (reader P.timeline L.values) W.sets W.moves R.rules self.now) (answers (state_of (reader P.timeline L.values) W.sets W.moves R.rules B.store self.now)) result }
     {
         let _ended = self.ended();
         Counts {

@@ -10,7 +10,7 @@ ghost use Rattle.rept_log.specs.Around.{around};
 ghost use Rattle.rept_analysis.specs.declared.pass.Pass.{Pass};
 ghost use Rattle.rept_analysis.specs.Cells.{cells_known};
 ghost use Rattle.rept_analysis.specs.Kept.{IsPass};
-ghost use Rattle.rept_analysis.specs.State.{state_of, with_draws, with_drawn};
+ghost use Rattle.rept_analysis.specs.State.{state_of, with_draws, with_drawn, reader};
 ghost use Rattle.rept_analysis.specs.Drawing.{IsTracked, Grows, Drew, IsHalt, KeptBelow, IsKeptAt, AreTrackedFrom, IsConclusion, AreConclusions, DrawnBelow, IsRowClosed, IsRowDrawn, KnowsDrawn, DrawnKnown, IsRowTracked, IsUncut, AreWritings, IsRowAddress, AreRowAddresses};
 ghost use Rattle.rept_log.specs.Known.{known_of};
 ghost use Rattle.rept_analysis.specs.Told.{Tracks};
@@ -21,8 +21,8 @@ use crate::halt::Halt;
 use crate::offset::address;
 use crate::pass::Pass;
 use rept_isa::{Instr, Reg, StepRow, reads, writes};
-use rept_log::Around;
 use rept_log::views::point_at;
+use rept_log::{Around, LastValues};
 use rept_partial::Flat;
 use rept_reason::Cell;
 use rept_report::Paths;
@@ -74,15 +74,22 @@ fn side(instr: &Instr) -> When {
     }
 }
 
-impl<'a, P: Paths + Drop, B: ByteFacts, W: Transfer, R: RowRules> Analysis<'a, P, B, W, R> {
+impl<'a, P: Paths + Drop, L: LastValues + Drop, B: ByteFacts, W: Transfer, R: RowRules> Analysis<
+    'a,
+    P,
+    L,
+    B,
+    W,
+    R,
+> {
     /// The value of a register that row i keeps, onward and back.
     fn carry(&mut self, i: u32, row: &StepRow, r: Reg) -> Result<bool, Halt>
         requires inside { i < (P.timeline self.old.paths).legs.count }
         requires row { (P.timeline self.old.paths).legs.row i ≡ Some row.now }
         requires open { self.old.complete ≡ false }
-        ensures grows { Grows (state_of P.timeline W.sets W.moves R.rules B.store self.old) (state_of P.timeline W.sets W.moves R.rules B.store self.new) }
-        ensures drew { IfOk result (λ learnt. Drew (state_of P.timeline W.sets W.moves R.rules B.store self.old) (state_of P.timeline W.sets W.moves R.rules B.store self.new) learnt (λ s. 0 < r → written_by row.now.instr ≢ Some r → IsKeptAt i r s)) }
-        ensures halt { IfErr result (λ h. IsHalt (state_of P.timeline W.sets W.moves R.rules B.store self.new) h) }
+        ensures grows { Grows (state_of (reader P.timeline L.values) W.sets W.moves R.rules B.store self.old) (state_of (reader P.timeline L.values) W.sets W.moves R.rules B.store self.new) }
+        ensures drew { IfOk result (λ learnt. Drew (state_of (reader P.timeline L.values) W.sets W.moves R.rules B.store self.old) (state_of (reader P.timeline L.values) W.sets W.moves R.rules B.store self.new) learnt (λ s. 0 < r → written_by row.now.instr ≢ Some r → IsKeptAt i r s)) }
+        ensures halt { IfErr result (λ h. IsHalt (state_of (reader P.timeline L.values) W.sets W.moves R.rules B.store self.new) h) }
     {
         if !keeps(&row.instr, r) {
             return Ok(false);
@@ -104,9 +111,9 @@ impl<'a, P: Paths + Drop, B: ByteFacts, W: Transfer, R: RowRules> Analysis<'a, P
         requires inside { i < (P.timeline self.old.paths).legs.count }
         requires row { (P.timeline self.old.paths).legs.row i ≡ Some row.now }
         requires open { self.old.complete ≡ false }
-        ensures grows { Grows (state_of P.timeline W.sets W.moves R.rules B.store self.old) (state_of P.timeline W.sets W.moves R.rules B.store self.new) }
-        ensures drew { IfOk result (λ learnt. Drew (state_of P.timeline W.sets W.moves R.rules B.store self.old) (state_of P.timeline W.sets W.moves R.rules B.store self.new) learnt (KeptBelow 32 row.now i)) }
-        ensures halt { IfErr result (λ h. IsHalt (state_of P.timeline W.sets W.moves R.rules B.store self.new) h) }
+        ensures grows { Grows (state_of (reader P.timeline L.values) W.sets W.moves R.rules B.store self.old) (state_of (reader P.timeline L.values) W.sets W.moves R.rules B.store self.new) }
+        ensures drew { IfOk result (λ learnt. Drew (state_of (reader P.timeline L.values) W.sets W.moves R.rules B.store self.old) (state_of (reader P.timeline L.values) W.sets W.moves R.rules B.store self.new) learnt (KeptBelow 32 row.now i)) }
+        ensures halt { IfErr result (λ h. IsHalt (state_of (reader P.timeline L.values) W.sets W.moves R.rules B.store self.new) h) }
     {
         let mut learnt = false;
         for r in 1..32u8 {
@@ -118,13 +125,13 @@ impl<'a, P: Paths + Drop, B: ByteFacts, W: Transfer, R: RowRules> Analysis<'a, P
 
     /// Tracks an address. Where it wasn't tracked, its byte of the dump is learnt and carried at once.
     fn track_one(&mut self, a: u32) -> Result<bool, Halt>
-        requires row { IsRowAddress a (state_of P.timeline W.sets W.moves R.rules B.store self.old) }
-        requires writings { AreWritings (state_of P.timeline W.sets W.moves R.rules B.store self.old) }
+        requires row { IsRowAddress a (state_of (reader P.timeline L.values) W.sets W.moves R.rules B.store self.old) }
+        requires writings { AreWritings (state_of (reader P.timeline L.values) W.sets W.moves R.rules B.store self.old) }
         requires open { self.old.complete ≡ false }
-        ensures grows { Grows (state_of P.timeline W.sets W.moves R.rules B.store self.old) (state_of P.timeline W.sets W.moves R.rules B.store self.new) }
-        ensures drew { IfOk result (λ learnt. Drew (state_of P.timeline W.sets W.moves R.rules B.store self.old) (state_of P.timeline W.sets W.moves R.rules B.store self.new) learnt (IsTracked a)) }
-        ensures halt { IfErr result (λ h. IsHalt (state_of P.timeline W.sets W.moves R.rules B.store self.new) h) }
-        ensures tracked { IfOk result (λ _. IsTracked a (state_of P.timeline W.sets W.moves R.rules B.store self.new)) }
+        ensures grows { Grows (state_of (reader P.timeline L.values) W.sets W.moves R.rules B.store self.old) (state_of (reader P.timeline L.values) W.sets W.moves R.rules B.store self.new) }
+        ensures drew { IfOk result (λ learnt. Drew (state_of (reader P.timeline L.values) W.sets W.moves R.rules B.store self.old) (state_of (reader P.timeline L.values) W.sets W.moves R.rules B.store self.new) learnt (IsTracked a)) }
+        ensures halt { IfErr result (λ h. IsHalt (state_of (reader P.timeline L.values) W.sets W.moves R.rules B.store self.new) h) }
+        ensures tracked { IfOk result (λ _. IsTracked a (state_of (reader P.timeline L.values) W.sets W.moves R.rules B.store self.new)) }
     {
         match self.track(a) {
             Ok(true) => {
@@ -138,13 +145,13 @@ impl<'a, P: Paths + Drop, B: ByteFacts, W: Transfer, R: RowRules> Analysis<'a, P
 
     /// Tracks so many addresses from one on.
     fn track_from(&mut self, start: u32, count: u32) -> Result<bool, Halt>
-        requires row { AreRowAddresses start count (state_of P.timeline W.sets W.moves R.rules B.store self.old) }
-        requires writings { AreWritings (state_of P.timeline W.sets W.moves R.rules B.store self.old) }
+        requires row { AreRowAddresses start count (state_of (reader P.timeline L.values) W.sets W.moves R.rules B.store self.old) }
+        requires writings { AreWritings (state_of (reader P.timeline L.values) W.sets W.moves R.rules B.store self.old) }
         requires open { self.old.complete ≡ false }
-        ensures grows { Grows (state_of P.timeline W.sets W.moves R.rules B.store self.old) (state_of P.timeline W.sets W.moves R.rules B.store self.new) }
-        ensures drew { IfOk result (λ learnt. Drew (state_of P.timeline W.sets W.moves R.rules B.store self.old) (state_of P.timeline W.sets W.moves R.rules B.store self.new) learnt (AreTrackedFrom start count)) }
-        ensures halt { IfErr result (λ h. IsHalt (state_of P.timeline W.sets W.moves R.rules B.store self.new) h) }
-        ensures tracked { IfOk result (λ _. AreTrackedFrom start count (state_of P.timeline W.sets W.moves R.rules B.store self.new)) }
+        ensures grows { Grows (state_of (reader P.timeline L.values) W.sets W.moves R.rules B.store self.old) (state_of (reader P.timeline L.values) W.sets W.moves R.rules B.store self.new) }
+        ensures drew { IfOk result (λ learnt. Drew (state_of (reader P.timeline L.values) W.sets W.moves R.rules B.store self.old) (state_of (reader P.timeline L.values) W.sets W.moves R.rules B.store self.new) learnt (AreTrackedFrom start count)) }
+        ensures halt { IfErr result (λ h. IsHalt (state_of (reader P.timeline L.values) W.sets W.moves R.rules B.store self.new) h) }
+        ensures tracked { IfOk result (λ _. AreTrackedFrom start count (state_of (reader P.timeline L.values) W.sets W.moves R.rules B.store self.new)) }
     {
         let mut learnt = false;
         for k in 0..count {
@@ -159,12 +166,12 @@ impl<'a, P: Paths + Drop, B: ByteFacts, W: Transfer, R: RowRules> Analysis<'a, P
     fn track_row(&mut self, i: u32, row: &StepRow) -> Result<bool, Halt>
         requires inside { i < (P.timeline self.old.paths).legs.count }
         requires row { (P.timeline self.old.paths).legs.row i ≡ Some row.now }
-        requires writings { AreWritings (state_of P.timeline W.sets W.moves R.rules B.store self.old) }
+        requires writings { AreWritings (state_of (reader P.timeline L.values) W.sets W.moves R.rules B.store self.old) }
         requires open { self.old.complete ≡ false }
-        ensures grows { Grows (state_of P.timeline W.sets W.moves R.rules B.store self.old) (state_of P.timeline W.sets W.moves R.rules B.store self.new) }
-        ensures drew { IfOk result (λ learnt. Drew (state_of P.timeline W.sets W.moves R.rules B.store self.old) (state_of P.timeline W.sets W.moves R.rules B.store self.new) learnt (IsRowTracked row.now i)) }
-        ensures halt { IfErr result (λ h. IsHalt (state_of P.timeline W.sets W.moves R.rules B.store self.new) h) }
-        ensures tracked { IfOk result (λ _. IsRowTracked row.now i (state_of P.timeline W.sets W.moves R.rules B.store self.new)) }
+        ensures grows { Grows (state_of (reader P.timeline L.values) W.sets W.moves R.rules B.store self.old) (state_of (reader P.timeline L.values) W.sets W.moves R.rules B.store self.new) }
+        ensures drew { IfOk result (λ learnt. Drew (state_of (reader P.timeline L.values) W.sets W.moves R.rules B.store self.old) (state_of (reader P.timeline L.values) W.sets W.moves R.rules B.store self.new) learnt (IsRowTracked row.now i)) }
+        ensures halt { IfErr result (λ h. IsHalt (state_of (reader P.timeline L.values) W.sets W.moves R.rules B.store self.new) h) }
+        ensures tracked { IfOk result (λ _. IsRowTracked row.now i (state_of (reader P.timeline L.values) W.sets W.moves R.rules B.store self.new)) }
     {
         let (first, _) = reads(&row.instr);
         match first {
@@ -187,7 +194,7 @@ impl<'a, P: Paths + Drop, B: ByteFacts, W: Transfer, R: RowRules> Analysis<'a, P
         requires row { (P.timeline self.old.paths).legs.row i ≡ Some row.now }
         requires open { self.old.complete ≡ false }
         ensures list { result.items ≡ R.rules.draw row.now (around (P.timeline self.old.paths).moments (known_of B.store self.old.known) i) }
-        ensures same { (state_of P.timeline W.sets W.moves R.rules B.store self.new) ≡ with_draws (state_of P.timeline W.sets W.moves R.rules B.store self.old) self.new.work.draws }
+        ensures same { (state_of (reader P.timeline L.values) W.sets W.moves R.rules B.store self.new) ≡ with_draws (state_of (reader P.timeline L.values) W.sets W.moves R.rules B.store self.old) self.new.work.draws }
         ensures once { self.new.work.draws ≤ self.old.work.draws + 1 }
     {
         let _len = self.known.len();
@@ -203,13 +210,13 @@ impl<'a, P: Paths + Drop, B: ByteFacts, W: Transfer, R: RowRules> Analysis<'a, P
     /// Adds a conclusion of row i.
     fn conclude(&mut self, i: u32, drawn: &Drawn) -> Result<bool, Halt>
         requires inside { i < (P.timeline self.old.paths).legs.count }
-        requires conclusion { IsConclusion i drawn.now (state_of P.timeline W.sets W.moves R.rules B.store self.old) }
+        requires conclusion { IsConclusion i drawn.now (state_of (reader P.timeline L.values) W.sets W.moves R.rules B.store self.old) }
         requires open { self.old.complete ≡ false }
-        ensures grows { Grows (state_of P.timeline W.sets W.moves R.rules B.store self.old) (state_of P.timeline W.sets W.moves R.rules B.store self.new) }
-        ensures drew { IfOk result (λ learnt. Drew (state_of P.timeline W.sets W.moves R.rules B.store self.old) (state_of P.timeline W.sets W.moves R.rules B.store self.new) learnt (KnowsDrawn i drawn.now)) }
-        ensures known { IfOk result (λ _. KnowsDrawn i drawn.now (state_of P.timeline W.sets W.moves R.rules B.store self.new)) }
+        ensures grows { Grows (state_of (reader P.timeline L.values) W.sets W.moves R.rules B.store self.old) (state_of (reader P.timeline L.values) W.sets W.moves R.rules B.store self.new) }
+        ensures drew { IfOk result (λ learnt. Drew (state_of (reader P.timeline L.values) W.sets W.moves R.rules B.store self.old) (state_of (reader P.timeline L.values) W.sets W.moves R.rules B.store self.new) learnt (KnowsDrawn i drawn.now)) }
+        ensures known { IfOk result (λ _. KnowsDrawn i drawn.now (state_of (reader P.timeline L.values) W.sets W.moves R.rules B.store self.new)) }
         ensures still { self.new.work ≡ self.old.work }
-        ensures halt { IfErr result (λ h. IsHalt (state_of P.timeline W.sets W.moves R.rules B.store self.new) h) }
+        ensures halt { IfErr result (λ h. IsHalt (state_of (reader P.timeline L.values) W.sets W.moves R.rules B.store self.new) h) }
     {
         let _count = self.count();
         match &drawn.cell {
@@ -229,13 +236,13 @@ impl<'a, P: Paths + Drop, B: ByteFacts, W: Transfer, R: RowRules> Analysis<'a, P
     /// Adds conclusions of row i.
     fn conclude_all(&mut self, i: u32, list: &[Drawn]) -> Result<bool, Halt>
         requires inside { i < (P.timeline self.old.paths).legs.count }
-        requires conclusions { AreConclusions i list.now (state_of P.timeline W.sets W.moves R.rules B.store self.old) }
+        requires conclusions { AreConclusions i list.now (state_of (reader P.timeline L.values) W.sets W.moves R.rules B.store self.old) }
         requires open { self.old.complete ≡ false }
-        ensures grows { Grows (state_of P.timeline W.sets W.moves R.rules B.store self.old) (state_of P.timeline W.sets W.moves R.rules B.store self.new) }
-        ensures drew { IfOk result (λ learnt. Drew (state_of P.timeline W.sets W.moves R.rules B.store self.old) (state_of P.timeline W.sets W.moves R.rules B.store self.new) learnt (DrawnBelow (length list.now) list.now i)) }
-        ensures known { IfOk result (λ _. DrawnBelow (length list.now) list.now i (state_of P.timeline W.sets W.moves R.rules B.store self.new)) }
+        ensures grows { Grows (state_of (reader P.timeline L.values) W.sets W.moves R.rules B.store self.old) (state_of (reader P.timeline L.values) W.sets W.moves R.rules B.store self.new) }
+        ensures drew { IfOk result (λ learnt. Drew (state_of (reader P.timeline L.values) W.sets W.moves R.rules B.store self.old) (state_of (reader P.timeline L.values) W.sets W.moves R.rules B.store self.new) learnt (DrawnBelow (length list.now) list.now i)) }
+        ensures known { IfOk result (λ _. DrawnBelow (length list.now) list.now i (state_of (reader P.timeline L.values) W.sets W.moves R.rules B.store self.new)) }
         ensures still { self.new.work ≡ self.old.work }
-        ensures halt { IfErr result (λ h. IsHalt (state_of P.timeline W.sets W.moves R.rules B.store self.new) h) }
+        ensures halt { IfErr result (λ h. IsHalt (state_of (reader P.timeline L.values) W.sets W.moves R.rules B.store self.new) h) }
     {
         self.held();
         let mut learnt = false;
@@ -258,9 +265,9 @@ impl<'a, P: Paths + Drop, B: ByteFacts, W: Transfer, R: RowRules> Analysis<'a, P
     /// Keeps how far they were.
     fn keep_pass(&mut self, i: u32, pass: Pass)
         requires inside { i < (P.timeline self.old.paths).legs.count }
-        requires pass { (row : StepRow) → (P.timeline self.old.paths).legs.row i ≡ Some row → IsPass row i pass (state_of P.timeline W.sets W.moves R.rules B.store self.old) }
+        requires pass { (row : StepRow) → (P.timeline self.old.paths).legs.row i ≡ Some row → IsPass row i pass (state_of (reader P.timeline L.values) W.sets W.moves R.rules B.store self.old) }
         requires open { self.old.complete ≡ false }
-        ensures { (state_of P.timeline W.sets W.moves R.rules B.store self.new) ≡ with_drawn (state_of P.timeline W.sets W.moves R.rules B.store self.old) (set self.old.work.drawn i pass) }
+        ensures { (state_of (reader P.timeline L.values) W.sets W.moves R.rules B.store self.new) ≡ with_drawn (state_of (reader P.timeline L.values) W.sets W.moves R.rules B.store self.old) (set self.old.work.drawn i pass) }
     {
         let _paths = &self.paths;
         self.drawn.put(i, pass);
@@ -270,12 +277,12 @@ impl<'a, P: Paths + Drop, B: ByteFacts, W: Transfer, R: RowRules> Analysis<'a, P
     fn draw_drawn(&mut self, i: u32, row: &StepRow) -> Result<bool, Halt>
         requires inside { i < (P.timeline self.old.paths).legs.count }
         requires row { (P.timeline self.old.paths).legs.row i ≡ Some row.now }
-        requires tracked { IsRowTracked row.now i (state_of P.timeline W.sets W.moves R.rules B.store self.old) }
+        requires tracked { IsRowTracked row.now i (state_of (reader P.timeline L.values) W.sets W.moves R.rules B.store self.old) }
         requires open { self.old.complete ≡ false }
-        requires uncut { IsUncut (state_of P.timeline W.sets W.moves R.rules B.store self.old) }
-        ensures grows { Grows (state_of P.timeline W.sets W.moves R.rules B.store self.old) (state_of P.timeline W.sets W.moves R.rules B.store self.new) }
-        ensures drew { IfOk result (λ learnt. Drew (state_of P.timeline W.sets W.moves R.rules B.store self.old) (state_of P.timeline W.sets W.moves R.rules B.store self.new) learnt (DrawnKnown row.now i)) }
-        ensures halt { IfErr result (λ h. IsHalt (state_of P.timeline W.sets W.moves R.rules B.store self.new) h) }
+        requires uncut { IsUncut (state_of (reader P.timeline L.values) W.sets W.moves R.rules B.store self.old) }
+        ensures grows { Grows (state_of (reader P.timeline L.values) W.sets W.moves R.rules B.store self.old) (state_of (reader P.timeline L.values) W.sets W.moves R.rules B.store self.new) }
+        ensures drew { IfOk result (λ learnt. Drew (state_of (reader P.timeline L.values) W.sets W.moves R.rules B.store self.old) (state_of (reader P.timeline L.values) W.sets W.moves R.rules B.store self.new) learnt (DrawnKnown row.now i)) }
+        ensures halt { IfErr result (λ h. IsHalt (state_of (reader P.timeline L.values) W.sets W.moves R.rules B.store self.new) h) }
     {
         let cells = self.cells(i, row);
         let pass = self.pass(i);
@@ -290,15 +297,15 @@ impl<'a, P: Paths + Drop, B: ByteFacts, W: Transfer, R: RowRules> Analysis<'a, P
     fn draw_anew(&mut self, i: u32, row: &StepRow, cells: u32) -> Result<bool, Halt>
         requires inside { i < (P.timeline self.old.paths).legs.count }
         requires row { (P.timeline self.old.paths).legs.row i ≡ Some row.now }
-        requires tracked { IsRowTracked row.now i (state_of P.timeline W.sets W.moves R.rules B.store self.old) }
+        requires tracked { IsRowTracked row.now i (state_of (reader P.timeline L.values) W.sets W.moves R.rules B.store self.old) }
         requires open { self.old.complete ≡ false }
-        requires uncut { IsUncut (state_of P.timeline W.sets W.moves R.rules B.store self.old) }
+        requires uncut { IsUncut (state_of (reader P.timeline L.values) W.sets W.moves R.rules B.store self.old) }
         requires cells { cells ≡ cells_known R.rules row.now (around (P.timeline self.old.paths).moments (known_of B.store self.old.known) i) }
         requires few { cells ≤ 11 }
         requires more { slice_get self.old.work.drawn i ≡ Some (Pass.With cells) → ⊥ }
-        ensures grows { Grows (state_of P.timeline W.sets W.moves R.rules B.store self.old) (state_of P.timeline W.sets W.moves R.rules B.store self.new) }
-        ensures drew { IfOk result (λ learnt. Drew (state_of P.timeline W.sets W.moves R.rules B.store self.old) (state_of P.timeline W.sets W.moves R.rules B.store self.new) learnt (DrawnKnown row.now i)) }
-        ensures halt { IfErr result (λ h. IsHalt (state_of P.timeline W.sets W.moves R.rules B.store self.new) h) }
+        ensures grows { Grows (state_of (reader P.timeline L.values) W.sets W.moves R.rules B.store self.old) (state_of (reader P.timeline L.values) W.sets W.moves R.rules B.store self.new) }
+        ensures drew { IfOk result (λ learnt. Drew (state_of (reader P.timeline L.values) W.sets W.moves R.rules B.store self.old) (state_of (reader P.timeline L.values) W.sets W.moves R.rules B.store self.new) learnt (DrawnKnown row.now i)) }
+        ensures halt { IfErr result (λ h. IsHalt (state_of (reader P.timeline L.values) W.sets W.moves R.rules B.store self.new) h) }
     {
         self.held();
         let list = self.list_drawn(i, row);
@@ -319,11 +326,11 @@ impl<'a, P: Paths + Drop, B: ByteFacts, W: Transfer, R: RowRules> Analysis<'a, P
     fn carry_row(&mut self, i: u32, row: &StepRow) -> Result<bool, Halt>
         requires inside { i < (P.timeline self.old.paths).legs.count }
         requires row { (P.timeline self.old.paths).legs.row i ≡ Some row.now }
-        requires writings { AreWritings (state_of P.timeline W.sets W.moves R.rules B.store self.old) }
+        requires writings { AreWritings (state_of (reader P.timeline L.values) W.sets W.moves R.rules B.store self.old) }
         requires open { self.old.complete ≡ false }
-        ensures grows { Grows (state_of P.timeline W.sets W.moves R.rules B.store self.old) (state_of P.timeline W.sets W.moves R.rules B.store self.new) }
-        ensures drew { IfOk result (λ learnt. Drew (state_of P.timeline W.sets W.moves R.rules B.store self.old) (state_of P.timeline W.sets W.moves R.rules B.store self.new) learnt (λ _. ⊤)) }
-        ensures halt { IfErr result (λ h. IsHalt (state_of P.timeline W.sets W.moves R.rules B.store self.new) h) }
+        ensures grows { Grows (state_of (reader P.timeline L.values) W.sets W.moves R.rules B.store self.old) (state_of (reader P.timeline L.values) W.sets W.moves R.rules B.store self.new) }
+        ensures drew { IfOk result (λ learnt. Drew (state_of (reader P.timeline L.values) W.sets W.moves R.rules B.store self.old) (state_of (reader P.timeline L.values) W.sets W.moves R.rules B.store self.new) learnt (λ _. ⊤)) }
+        ensures halt { IfErr result (λ h. IsHalt (state_of (reader P.timeline L.values) W.sets W.moves R.rules B.store self.new) h) }
     {
         let (first, _) = reads(&row.instr);
         let _count = self.count();
@@ -375,11 +382,11 @@ impl<'a, P: Paths + Drop, B: ByteFacts, W: Transfer, R: RowRules> Analysis<'a, P
     fn fetch(&mut self, i: u32, row: &StepRow) -> Result<bool, Halt>
         requires inside { i < (P.timeline self.old.paths).legs.count }
         requires row { (P.timeline self.old.paths).legs.row i ≡ Some row.now }
-        requires writings { AreWritings (state_of P.timeline W.sets W.moves R.rules B.store self.old) }
+        requires writings { AreWritings (state_of (reader P.timeline L.values) W.sets W.moves R.rules B.store self.old) }
         requires open { self.old.complete ≡ false }
-        ensures grows { Grows (state_of P.timeline W.sets W.moves R.rules B.store self.old) (state_of P.timeline W.sets W.moves R.rules B.store self.new) }
-        ensures drew { IfOk result (λ learnt. Drew (state_of P.timeline W.sets W.moves R.rules B.store self.old) (state_of P.timeline W.sets W.moves R.rules B.store self.new) learnt (λ _. ⊤)) }
-        ensures halt { IfErr result (λ h. IsHalt (state_of P.timeline W.sets W.moves R.rules B.store self.new) h) }
+        ensures grows { Grows (state_of (reader P.timeline L.values) W.sets W.moves R.rules B.store self.old) (state_of (reader P.timeline L.values) W.sets W.moves R.rules B.store self.new) }
+        ensures drew { IfOk result (λ learnt. Drew (state_of (reader P.timeline L.values) W.sets W.moves R.rules B.store self.old) (state_of (reader P.timeline L.values) W.sets W.moves R.rules B.store self.new) learnt (λ _. ⊤)) }
+        ensures halt { IfErr result (λ h. IsHalt (state_of (reader P.timeline L.values) W.sets W.moves R.rules B.store self.new) h) }
     {
         if !self.lacks_byte(i, row) {
             return Ok(false);
@@ -394,13 +401,13 @@ impl<'a, P: Paths + Drop, B: ByteFacts, W: Transfer, R: RowRules> Analysis<'a, P
     fn draw_around(&mut self, i: u32, row: &StepRow) -> Result<bool, Halt>
         requires inside { i < (P.timeline self.old.paths).legs.count }
         requires row { (P.timeline self.old.paths).legs.row i ≡ Some row.now }
-        requires tracked { IsRowTracked row.now i (state_of P.timeline W.sets W.moves R.rules B.store self.old) }
-        requires writings { AreWritings (state_of P.timeline W.sets W.moves R.rules B.store self.old) }
+        requires tracked { IsRowTracked row.now i (state_of (reader P.timeline L.values) W.sets W.moves R.rules B.store self.old) }
+        requires writings { AreWritings (state_of (reader P.timeline L.values) W.sets W.moves R.rules B.store self.old) }
         requires open { self.old.complete ≡ false }
-        requires uncut { IsUncut (state_of P.timeline W.sets W.moves R.rules B.store self.old) }
-        ensures grows { Grows (state_of P.timeline W.sets W.moves R.rules B.store self.old) (state_of P.timeline W.sets W.moves R.rules B.store self.new) }
-        ensures drew { IfOk result (λ learnt. Drew (state_of P.timeline W.sets W.moves R.rules B.store self.old) (state_of P.timeline W.sets W.moves R.rules B.store self.new) learnt (DrawnKnown row.now i)) }
-        ensures halt { IfErr result (λ h. IsHalt (state_of P.timeline W.sets W.moves R.rules B.store self.new) h) }
+        requires uncut { IsUncut (state_of (reader P.timeline L.values) W.sets W.moves R.rules B.store self.old) }
+        ensures grows { Grows (state_of (reader P.timeline L.values) W.sets W.moves R.rules B.store self.old) (state_of (reader P.timeline L.values) W.sets W.moves R.rules B.store self.new) }
+        ensures drew { IfOk result (λ learnt. Drew (state_of (reader P.timeline L.values) W.sets W.moves R.rules B.store self.old) (state_of (reader P.timeline L.values) W.sets W.moves R.rules B.store self.new) learnt (DrawnKnown row.now i)) }
+        ensures halt { IfErr result (λ h. IsHalt (state_of (reader P.timeline L.values) W.sets W.moves R.rules B.store self.new) h) }
     {
         let drawn = self.draw_drawn(i, row)?;
         if !drawn {
@@ -414,12 +421,12 @@ impl<'a, P: Paths + Drop, B: ByteFacts, W: Transfer, R: RowRules> Analysis<'a, P
     /// All that row i lets one conclude, if there is one.
     fn draw_row(&mut self, i: u32) -> Result<bool, Halt>
         requires inside { i < (P.timeline self.old.paths).legs.count }
-        requires writings { AreWritings (state_of P.timeline W.sets W.moves R.rules B.store self.old) }
+        requires writings { AreWritings (state_of (reader P.timeline L.values) W.sets W.moves R.rules B.store self.old) }
         requires open { self.old.complete ≡ false }
-        requires uncut { IsUncut (state_of P.timeline W.sets W.moves R.rules B.store self.old) }
-        ensures grows { Grows (state_of P.timeline W.sets W.moves R.rules B.store self.old) (state_of P.timeline W.sets W.moves R.rules B.store self.new) }
-        ensures drew { IfOk result (λ learnt. Drew (state_of P.timeline W.sets W.moves R.rules B.store self.old) (state_of P.timeline W.sets W.moves R.rules B.store self.new) learnt (IsRowClosed i)) }
-        ensures halt { IfErr result (λ h. IsHalt (state_of P.timeline W.sets W.moves R.rules B.store self.new) h) }
+        requires uncut { IsUncut (state_of (reader P.timeline L.values) W.sets W.moves R.rules B.store self.old) }
+        ensures grows { Grows (state_of (reader P.timeline L.values) W.sets W.moves R.rules B.store self.old) (state_of (reader P.timeline L.values) W.sets W.moves R.rules B.store self.new) }
+        ensures drew { IfOk result (λ learnt. Drew (state_of (reader P.timeline L.values) W.sets W.moves R.rules B.store self.old) (state_of (reader P.timeline L.values) W.sets W.moves R.rules B.store self.new) learnt (IsRowClosed i)) }
+        ensures halt { IfErr result (λ h. IsHalt (state_of (reader P.timeline L.values) W.sets W.moves R.rules B.store self.new) h) }
     {
         match self.row(i) {
             None => Ok(false),
@@ -434,12 +441,12 @@ impl<'a, P: Paths + Drop, B: ByteFacts, W: Transfer, R: RowRules> Analysis<'a, P
     fn draw_all(&mut self, i: u32, row: &StepRow) -> Result<bool, Halt>
         requires inside { i < (P.timeline self.old.paths).legs.count }
         requires row { (P.timeline self.old.paths).legs.row i ≡ Some row.now }
-        requires writings { AreWritings (state_of P.timeline W.sets W.moves R.rules B.store self.old) }
+        requires writings { AreWritings (state_of (reader P.timeline L.values) W.sets W.moves R.rules B.store self.old) }
         requires open { self.old.complete ≡ false }
-        requires uncut { IsUncut (state_of P.timeline W.sets W.moves R.rules B.store self.old) }
-        ensures grows { Grows (state_of P.timeline W.sets W.moves R.rules B.store self.old) (state_of P.timeline W.sets W.moves R.rules B.store self.new) }
-        ensures drew { IfOk result (λ learnt. Drew (state_of P.timeline W.sets W.moves R.rules B.store self.old) (state_of P.timeline W.sets W.moves R.rules B.store self.new) learnt (IsRowDrawn row.now i)) }
-        ensures halt { IfErr result (λ h. IsHalt (state_of P.timeline W.sets W.moves R.rules B.store self.new) h) }
+        requires uncut { IsUncut (state_of (reader P.timeline L.values) W.sets W.moves R.rules B.store self.old) }
+        ensures grows { Grows (state_of (reader P.timeline L.values) W.sets W.moves R.rules B.store self.old) (state_of (reader P.timeline L.values) W.sets W.moves R.rules B.store self.new) }
+        ensures drew { IfOk result (λ learnt. Drew (state_of (reader P.timeline L.values) W.sets W.moves R.rules B.store self.old) (state_of (reader P.timeline L.values) W.sets W.moves R.rules B.store self.new) learnt (IsRowDrawn row.now i)) }
+        ensures halt { IfErr result (λ h. IsHalt (state_of (reader P.timeline L.values) W.sets W.moves R.rules B.store self.new) h) }
     {
         let registers = self.carry_all(i, row)?;
         let fetched = self.fetch(i, row)?;
@@ -459,12 +466,12 @@ impl<'a, P: Paths + Drop, B: ByteFacts, W: Transfer, R: RowRules> Analysis<'a, P
     /// All that row i lets one conclude, and that it was looked at.
     pub(super) fn draw_noted(&mut self, i: u32) -> Result<bool, Halt>
         requires inside { i < (P.timeline self.old.paths).legs.count }
-        requires writings { AreWritings (state_of P.timeline W.sets W.moves R.rules B.store self.old) }
+        requires writings { AreWritings (state_of (reader P.timeline L.values) W.sets W.moves R.rules B.store self.old) }
         requires open { self.old.complete ≡ false }
-        requires uncut { IsUncut (state_of P.timeline W.sets W.moves R.rules B.store self.old) }
-        ensures grows { Grows (state_of P.timeline W.sets W.moves R.rules B.store self.old) (state_of P.timeline W.sets W.moves R.rules B.store self.new) }
-        ensures drew { IfOk result (λ learnt. Drew (state_of P.timeline W.sets W.moves R.rules B.store self.old) (state_of P.timeline W.sets W.moves R.rules B.store self.new) learnt (IsRowClosed i)) }
-        ensures halt { IfErr result (λ h. IsHalt (state_of P.timeline W.sets W.moves R.rules B.store self.new) h) }
+        requires uncut { IsUncut (state_of (reader P.timeline L.values) W.sets W.moves R.rules B.store self.old) }
+        ensures grows { Grows (state_of (reader P.timeline L.values) W.sets W.moves R.rules B.store self.old) (state_of (reader P.timeline L.values) W.sets W.moves R.rules B.store self.new) }
+        ensures drew { IfOk result (λ learnt. Drew (state_of (reader P.timeline L.values) W.sets W.moves R.rules B.store self.old) (state_of (reader P.timeline L.values) W.sets W.moves R.rules B.store self.new) learnt (IsRowClosed i)) }
+        ensures halt { IfErr result (λ h. IsHalt (state_of (reader P.timeline L.values) W.sets W.moves R.rules B.store self.new) h) }
     {
         let len = self.len();
         let learnt = self.draw_row(i)?;
@@ -493,12 +500,12 @@ impl<'a, P: Paths + Drop, B: ByteFacts, W: Transfer, R: RowRules> Analysis<'a, P
     /// All that row i lets one conclude, where it may tell something new.
     pub(super) fn draw_fresh(&mut self, i: u32) -> Result<bool, Halt>
         requires inside { i < (P.timeline self.old.paths).legs.count }
-        requires writings { AreWritings (state_of P.timeline W.sets W.moves R.rules B.store self.old) }
+        requires writings { AreWritings (state_of (reader P.timeline L.values) W.sets W.moves R.rules B.store self.old) }
         requires open { self.old.complete ≡ false }
-        requires uncut { IsUncut (state_of P.timeline W.sets W.moves R.rules B.store self.old) }
-        ensures grows { Grows (state_of P.timeline W.sets W.moves R.rules B.store self.old) (state_of P.timeline W.sets W.moves R.rules B.store self.new) }
-        ensures drew { IfOk result (λ learnt. Drew (state_of P.timeline W.sets W.moves R.rules B.store self.old) (state_of P.timeline W.sets W.moves R.rules B.store self.new) learnt (λ _. ⊤)) }
-        ensures halt { IfErr result (λ h. IsHalt (state_of P.timeline W.sets W.moves R.rules B.store self.new) h) }
+        requires uncut { IsUncut (state_of (reader P.timeline L.values) W.sets W.moves R.rules B.store self.old) }
+        ensures grows { Grows (state_of (reader P.timeline L.values) W.sets W.moves R.rules B.store self.old) (state_of (reader P.timeline L.values) W.sets W.moves R.rules B.store self.new) }
+        ensures drew { IfOk result (λ learnt. Drew (state_of (reader P.timeline L.values) W.sets W.moves R.rules B.store self.old) (state_of (reader P.timeline L.values) W.sets W.moves R.rules B.store self.new) learnt (λ _. ⊤)) }
+        ensures halt { IfErr result (λ h. IsHalt (state_of (reader P.timeline L.values) W.sets W.moves R.rules B.store self.new) h) }
     {
         if !self.may_tell(i) {
             return Ok(false);

@@ -5,13 +5,13 @@ ghost use Rattle.rept_reason.specs.declared.fact.Cell.TheVariants.{Register, Byt
 ghost use Rattle.rept_report.specs.Log.{oldest};
 ghost use Rattle.rept_report.specs.Why.{Because, IsDrawnBecause, IsKnownBecause, IsCarriedBecause};
 ghost use Rattle.rept_log.specs.Fronts.{IsInPlace, stands, told_by, setting_in};
-ghost use Rattle.rept_analysis.specs.State.{setting_of, state_of};
+ghost use Rattle.rept_analysis.specs.State.{setting_of, state_of, reader};
 ghost use Rattle.rept_analysis.specs.Reasoned.{front_below, AreSetsOf, KeepsAll};
 
 use super::Analysis;
 use crate::trail::PathTrail;
 use rept_isa::Reg;
-use rept_log::{Below, Front, OneEnd};
+use rept_log::{Below, Front, LastValues};
 use rept_reason::{Fact, Reason};
 use rept_report::Paths;
 use rept_span::{Spans, Transfer};
@@ -19,12 +19,19 @@ use rept_versions::ByteFacts;
 use rept_view::RowRules;
 use std::alloc::{AllocError as OutOfMemory, Global};
 
-impl<'a, P: Paths + Drop, B: ByteFacts, W: Transfer, R: RowRules> Analysis<'a, P, B, W, R> {
+impl<'a, P: Paths + Drop, L: LastValues + Drop, B: ByteFacts, W: Transfer, R: RowRules> Analysis<
+    'a,
+    P,
+    L,
+    B,
+    W,
+    R,
+> {
     /// Fills sets from the facts at places below a limit.
     pub(super) fn fill_sets(&self, spans: &mut Spans<W>, limit: u32)
         requires sized { spans.old.points ≡ (P.timeline self.now.paths).legs.count + 1 }
         requires complete { self.now.complete ≡ true }
-        ensures sets { AreSetsOf (setting_of P.timeline W.sets W.moves R.rules self.now) (oldest limit self.now.known.log) spans.new }
+        ensures sets { AreSetsOf (setting_of (reader P.timeline L.values) W.sets W.moves R.rules self.now) (oldest limit self.now.known.log) spans.new }
         ensures sized { spans.new.points ≡ (P.timeline self.now.paths).legs.count + 1 }
     {
         self.held();
@@ -39,7 +46,7 @@ impl<'a, P: Paths + Drop, B: ByteFacts, W: Transfer, R: RowRules> Analysis<'a, P
     /// Sets that are filled from the facts at places below a limit.
     pub(super) fn sets_below(&self, limit: u32) -> Result<Spans<W>, OutOfMemory>
         requires complete { self.now.complete ≡ true }
-        ensures sets { IfOk result (λ spans. AreSetsOf (setting_of P.timeline W.sets W.moves R.rules self.now) (oldest limit self.now.known.log) spans) }
+        ensures sets { IfOk result (λ spans. AreSetsOf (setting_of (reader P.timeline L.values) W.sets W.moves R.rules self.now) (oldest limit self.now.known.log) spans) }
         ensures sized { IfOk result (λ spans. spans.points ≡ (P.timeline self.now.paths).legs.count + 1) }
     {
         let mut spans = Spans::new(self.alloc, self.count() + 1)?;
@@ -56,18 +63,17 @@ impl<'a, P: Paths + Drop, B: ByteFacts, W: Transfer, R: RowRules> Analysis<'a, P
         a: u32,
     ) -> Result<Option<u8>, OutOfMemory>
         requires within { limit ≤ length self.now.known.log }
-        requires sets { AreSetsOf (setting_of P.timeline W.sets W.moves R.rules self.now) (oldest limit self.now.known.log) spans.now }
+        requires sets { AreSetsOf (setting_of (reader P.timeline L.values) W.sets W.moves R.rules self.now) (oldest limit self.now.known.log) spans.now }
         requires moment { moment ≤ (P.timeline self.now.paths).moments.end }
         requires complete { self.now.complete ≡ true }
-        ensures { IfOk result (λ byte. byte ≡ stands (front_below P.timeline W.sets W.moves R.rules self.now limit) moment (Byte a)) }
+        ensures { IfOk result (λ byte. byte ≡ stands (front_below (reader P.timeline L.values) W.sets W.moves R.rules self.now limit) moment (Byte a)) }
     {
         let _len = self.known.len();
-        let last = OneEnd::new(self.last.as_slice());
-        let front: Front<'_, '_, P, OneEnd<'_>, B, W, R> = Front::new(
+        let front: Front<'_, '_, P, L, B, W, R> = Front::new(
             &self.known,
             limit,
             &self.paths,
-            &last,
+            &self.last,
             &self.dump,
             spans,
         );
@@ -84,19 +90,25 @@ impl<'a, P: Paths + Drop, B: ByteFacts, W: Transfer, R: RowRules> Analysis<'a, P
         r: Reg,
     ) -> Result<Option<Reason>, OutOfMemory>
         requires within { limit ≤ length self.old.known.log }
-        requires sets { AreSetsOf (setting_of P.timeline W.sets W.moves R.rules self.old) (oldest limit self.old.known.log) spans.now }
+        requires sets { AreSetsOf (setting_of (reader P.timeline L.values) W.sets W.moves R.rules self.old) (oldest limit self.old.known.log) spans.now }
         requires point { fact.now.point ≤ (P.timeline self.old.paths).legs.count }
         requires cell { fact.now.cell ≡ Register r }
         requires named { 0 < r }
         requires complete { self.old.complete ≡ true }
-        ensures found { IfOk result (λ found. IfSome found (λ reason. IsKnownBecause (setting_in (front_below P.timeline W.sets W.moves R.rules self.old limit)) (stands (front_below P.timeline W.sets W.moves R.rules self.old limit)) fact.now (told_by reason))) }
-        ensures none { IfOk result (λ found. IfNone found ((why : Because) → IsKnownBecause (setting_in (front_below P.timeline W.sets W.moves R.rules self.old limit)) (stands (front_below P.timeline W.sets W.moves R.rules self.old limit)) fact.now why → ⊥)) }
+        ensures found { IfOk result (λ found. IfSome found (λ reason. IsKnownBecause (setting_in (front_below (reader P.timeline L.values) W.sets W.moves R.rules self.old limit)) (stands (front_below (reader P.timeline L.values) W.sets W.moves R.rules self.old limit)) fact.now (told_by reason))) }
+        ensures none { IfOk result (λ found. IfNone found ((why : Because) → IsKnownBecause (setting_in (front_below (reader P.timeline L.values) W.sets W.moves R.rules self.old limit)) (stands (front_below (reader P.timeline L.values) W.sets W.moves R.rules self.old limit)) fact.now why → ⊥)) }
         ensures room { IfOk result (λ found. IfSome found IsInPlace) }
-        ensures same { KeepsAll (state_of P.timeline W.sets W.moves R.rules B.store self.old) (state_of P.timeline W.sets W.moves R.rules B.store self.new) }
+        ensures same { KeepsAll (state_of (reader P.timeline L.values) W.sets W.moves R.rules B.store self.old) (state_of (reader P.timeline L.values) W.sets W.moves R.rules B.store self.new) }
     {
         let _len = self.known.len();
-        let last = OneEnd::new(self.last.as_slice());
-        let front = Front::new(&self.known, limit, &self.paths, &last, &self.dump, spans);
+        let front = Front::new(
+            &self.known,
+            limit,
+            &self.paths,
+            &self.last,
+            &self.dump,
+            spans,
+        );
         front.of_register(&mut self.rules, alloc, fact, r)
     }
 
@@ -110,17 +122,23 @@ impl<'a, P: Paths + Drop, B: ByteFacts, W: Transfer, R: RowRules> Analysis<'a, P
         a: u32,
     ) -> Result<Option<Reason>, OutOfMemory>
         requires within { limit ≤ length self.old.known.log }
-        requires sets { AreSetsOf (setting_of P.timeline W.sets W.moves R.rules self.old) (oldest limit self.old.known.log) spans.now }
+        requires sets { AreSetsOf (setting_of (reader P.timeline L.values) W.sets W.moves R.rules self.old) (oldest limit self.old.known.log) spans.now }
         requires cell { fact.now.cell ≡ Byte a }
         requires complete { self.old.complete ≡ true }
-        ensures found { IfOk result (λ found. IfSome found (λ reason. IsDrawnBecause (setting_in (front_below P.timeline W.sets W.moves R.rules self.old limit)) (stands (front_below P.timeline W.sets W.moves R.rules self.old limit)) fact.now (told_by reason))) }
-        ensures none { IfOk result (λ found. IfNone found ((why : Because) → IsDrawnBecause (setting_in (front_below P.timeline W.sets W.moves R.rules self.old limit)) (stands (front_below P.timeline W.sets W.moves R.rules self.old limit)) fact.now why → ⊥)) }
+        ensures found { IfOk result (λ found. IfSome found (λ reason. IsDrawnBecause (setting_in (front_below (reader P.timeline L.values) W.sets W.moves R.rules self.old limit)) (stands (front_below (reader P.timeline L.values) W.sets W.moves R.rules self.old limit)) fact.now (told_by reason))) }
+        ensures none { IfOk result (λ found. IfNone found ((why : Because) → IsDrawnBecause (setting_in (front_below (reader P.timeline L.values) W.sets W.moves R.rules self.old limit)) (stands (front_below (reader P.timeline L.values) W.sets W.moves R.rules self.old limit)) fact.now why → ⊥)) }
         ensures room { IfOk result (λ found. IfSome found IsInPlace) }
-        ensures same { KeepsAll (state_of P.timeline W.sets W.moves R.rules B.store self.old) (state_of P.timeline W.sets W.moves R.rules B.store self.new) }
+        ensures same { KeepsAll (state_of (reader P.timeline L.values) W.sets W.moves R.rules B.store self.old) (state_of (reader P.timeline L.values) W.sets W.moves R.rules B.store self.new) }
     {
         let _len = self.known.len();
-        let last = OneEnd::new(self.last.as_slice());
-        let front = Front::new(&self.known, limit, &self.paths, &last, &self.dump, spans);
+        let front = Front::new(
+            &self.known,
+            limit,
+            &self.paths,
+            &self.last,
+            &self.dump,
+            spans,
+        );
         front.of_drawn_byte(&mut self.rules, alloc, fact, a)
     }
 
@@ -134,21 +152,20 @@ impl<'a, P: Paths + Drop, B: ByteFacts, W: Transfer, R: RowRules> Analysis<'a, P
         a: u32,
     ) -> Result<Option<Reason>, OutOfMemory>
         requires within { limit ≤ length self.now.known.log }
-        requires sets { AreSetsOf (setting_of P.timeline W.sets W.moves R.rules self.now) (oldest limit self.now.known.log) spans.now }
+        requires sets { AreSetsOf (setting_of (reader P.timeline L.values) W.sets W.moves R.rules self.now) (oldest limit self.now.known.log) spans.now }
         requires moment { fact.now.point ≤ (P.timeline self.now.paths).moments.end }
         requires cell { fact.now.cell ≡ Byte a }
         requires complete { self.now.complete ≡ true }
-        ensures found { IfOk result (λ found. IfSome found (λ reason. IsCarriedBecause (setting_in (front_below P.timeline W.sets W.moves R.rules self.now limit)) (front_below P.timeline W.sets W.moves R.rules self.now limit).facts fact.now (told_by reason))) }
-        ensures none { IfOk result (λ found. IfNone found ((why : Because) → IsCarriedBecause (setting_in (front_below P.timeline W.sets W.moves R.rules self.now limit)) (front_below P.timeline W.sets W.moves R.rules self.now limit).facts fact.now why → ⊥)) }
+        ensures found { IfOk result (λ found. IfSome found (λ reason. IsCarriedBecause (setting_in (front_below (reader P.timeline L.values) W.sets W.moves R.rules self.now limit)) (front_below (reader P.timeline L.values) W.sets W.moves R.rules self.now limit).facts fact.now (told_by reason))) }
+        ensures none { IfOk result (λ found. IfNone found ((why : Because) → IsCarriedBecause (setting_in (front_below (reader P.timeline L.values) W.sets W.moves R.rules self.now limit)) (front_below (reader P.timeline L.values) W.sets W.moves R.rules self.now limit).facts fact.now why → ⊥)) }
         ensures room { IfOk result (λ found. IfSome found IsInPlace) }
     {
         let _len = self.known.len();
-        let last = OneEnd::new(self.last.as_slice());
-        let front: Front<'_, '_, P, OneEnd<'_>, B, W, R> = Front::new(
+        let front: Front<'_, '_, P, L, B, W, R> = Front::new(
             &self.known,
             limit,
             &self.paths,
-            &last,
+            &self.last,
             &self.dump,
             spans,
         );

@@ -3,18 +3,26 @@
 ghost use Rattle.std.specs.Prelude.{◌≡◌, ◌≢◌, ◌<◌, ◌≤◌, ◌↔◌, if◌then◌else◌, ℕ, true, false, Some, IfSome, IsSome};
 ghost use Rattle.rept_reason.specs.Facts.{told};
 ghost use Rattle.rept_report.specs.Log.{oldest};
-ghost use Rattle.rept_analysis.specs.State.{setting_of, state_of};
+ghost use Rattle.rept_analysis.specs.State.{setting_of, state_of, reader};
 ghost use Rattle.rept_analysis.specs.Drawing.{IsFitted};
 ghost use Rattle.rept_analysis.specs.Latest.{IsBegun, IsBefore, IsSought, IsLatest, IsGreatest, IsPossibleWriter};
 
 use super::Analysis;
 use crate::sought::Sought;
+use rept_log::LastValues;
 use rept_report::{Paths, Writer};
 use rept_span::Transfer;
 use rept_versions::ByteFacts;
 use rept_view::RowRules;
 
-impl<'a, P: Paths + Drop, B: ByteFacts, W: Transfer, R: RowRules> Analysis<'a, P, B, W, R> {
+impl<'a, P: Paths + Drop, L: LastValues + Drop, B: ByteFacts, W: Transfer, R: RowRules> Analysis<
+    'a,
+    P,
+    L,
+    B,
+    W,
+    R,
+> {
     /// Whether there are writers that aren't told.
     fn is_dark(&self) -> bool
         ensures { result ≡ (P.timeline self.now.paths).moments.is_dark }
@@ -58,7 +66,7 @@ impl<'a, P: Paths + Drop, B: ByteFacts, W: Transfer, R: RowRules> Analysis<'a, P
 
     /// Whether a row that is there doesn't lie wholly after a moment.
     fn is_begun(&self, i: u32, moment: u32) -> bool
-        ensures { (result ≡ true) ↔ IsBegun (setting_of P.timeline W.sets W.moves R.rules self.now) moment i }
+        ensures { (result ≡ true) ↔ IsBegun (setting_of (reader P.timeline L.values) W.sets W.moves R.rules self.now) moment i }
     {
         match self.row(i) {
             None => false,
@@ -69,8 +77,8 @@ impl<'a, P: Paths + Drop, B: ByteFacts, W: Transfer, R: RowRules> Analysis<'a, P
     /// Whether a row is one of those that are sought, by the facts of which the sets are.
     fn is_sought(&self, i: u32, sought: Sought) -> bool
         requires inside { i < (P.timeline self.now.paths).legs.count }
-        requires fitted { (a : ℕ) → sought.address ≡ Some a → IsFitted (state_of P.timeline W.sets W.moves R.rules B.store self.now) }
-        ensures { (result ≡ true) ↔ IsSought (setting_of P.timeline W.sets W.moves R.rules self.now) (told (oldest self.now.filled self.now.known.log)) sought i }
+        requires fitted { (a : ℕ) → sought.address ≡ Some a → IsFitted (state_of (reader P.timeline L.values) W.sets W.moves R.rules B.store self.now) }
+        ensures { (result ≡ true) ↔ IsSought (setting_of (reader P.timeline L.values) W.sets W.moves R.rules self.now) (told (oldest self.now.filled self.now.known.log)) sought i }
     {
         if !self.is_begun(i, sought.moment) {
             return false;
@@ -83,8 +91,8 @@ impl<'a, P: Paths + Drop, B: ByteFacts, W: Transfer, R: RowRules> Analysis<'a, P
 
     /// The last of these rows by number.
     fn greatest(&self, sought: Sought) -> Option<u32>
-        requires fitted { (a : ℕ) → sought.address ≡ Some a → IsFitted (state_of P.timeline W.sets W.moves R.rules B.store self.now) }
-        ensures row { IsGreatest (IsSought (setting_of P.timeline W.sets W.moves R.rules self.now) (told (oldest self.now.filled self.now.known.log)) sought) result }
+        requires fitted { (a : ℕ) → sought.address ≡ Some a → IsFitted (state_of (reader P.timeline L.values) W.sets W.moves R.rules B.store self.now) }
+        ensures row { IsGreatest (IsSought (setting_of (reader P.timeline L.values) W.sets W.moves R.rules self.now) (told (oldest self.now.filled self.now.known.log)) sought) result }
         ensures inside { IfSome result (λ i. i < (P.timeline self.now.paths).legs.count) }
     {
         let count = self.count();
@@ -100,9 +108,9 @@ impl<'a, P: Paths + Drop, B: ByteFacts, W: Transfer, R: RowRules> Analysis<'a, P
     fn is_newer(&self, i: u32, best: u32, sought: Sought) -> bool
         requires inside { i < (P.timeline self.now.paths).legs.count }
         requires best { IsSome ((P.timeline self.now.paths).legs.row best) }
-        requires fitted { (a : ℕ) → sought.address ≡ Some a → IsFitted (state_of P.timeline W.sets W.moves R.rules B.store self.now) }
-        ensures newer { result ≡ true → IsSought (setting_of P.timeline W.sets W.moves R.rules self.now) (told (oldest self.now.filled self.now.known.log)) sought i × ((P.timeline self.now.paths).moments.later i best ≡ true) }
-        ensures other { result ≡ false → IsSought (setting_of P.timeline W.sets W.moves R.rules self.now) (told (oldest self.now.filled self.now.known.log)) sought i → (P.timeline self.now.paths).moments.later i best ≡ true → ⊥ }
+        requires fitted { (a : ℕ) → sought.address ≡ Some a → IsFitted (state_of (reader P.timeline L.values) W.sets W.moves R.rules B.store self.now) }
+        ensures newer { result ≡ true → IsSought (setting_of (reader P.timeline L.values) W.sets W.moves R.rules self.now) (told (oldest self.now.filled self.now.known.log)) sought i × ((P.timeline self.now.paths).moments.later i best ≡ true) }
+        ensures other { result ≡ false → IsSought (setting_of (reader P.timeline L.values) W.sets W.moves R.rules self.now) (told (oldest self.now.filled self.now.known.log)) sought i → (P.timeline self.now.paths).moments.later i best ≡ true → ⊥ }
     {
         match self.row(i) {
             None => false,
@@ -114,10 +122,10 @@ impl<'a, P: Paths + Drop, B: ByteFacts, W: Transfer, R: RowRules> Analysis<'a, P
     /// and none takes its place.
     fn newest(&self, top: u32, sought: Sought) -> u32
         requires inside { top < (P.timeline self.now.paths).legs.count }
-        requires fitted { (a : ℕ) → sought.address ≡ Some a → IsFitted (state_of P.timeline W.sets W.moves R.rules B.store self.now) }
-        requires top { IsSought (setting_of P.timeline W.sets W.moves R.rules self.now) (told (oldest self.now.filled self.now.known.log)) sought top }
-        ensures one { IsSought (setting_of P.timeline W.sets W.moves R.rules self.now) (told (oldest self.now.filled self.now.known.log)) sought result }
-        ensures only { (j : ℕ) → IsLatest (P.timeline self.now.paths).moments (IsSought (setting_of P.timeline W.sets W.moves R.rules self.now) (told (oldest self.now.filled self.now.known.log)) sought) j → j ≤ top → result ≡ j }
+        requires fitted { (a : ℕ) → sought.address ≡ Some a → IsFitted (state_of (reader P.timeline L.values) W.sets W.moves R.rules B.store self.now) }
+        requires top { IsSought (setting_of (reader P.timeline L.values) W.sets W.moves R.rules self.now) (told (oldest self.now.filled self.now.known.log)) sought top }
+        ensures one { IsSought (setting_of (reader P.timeline L.values) W.sets W.moves R.rules self.now) (told (oldest self.now.filled self.now.known.log)) sought result }
+        ensures only { (j : ℕ) → IsLatest (P.timeline self.now.paths).moments (IsSought (setting_of (reader P.timeline L.values) W.sets W.moves R.rules self.now) (told (oldest self.now.filled self.now.known.log)) sought) j → j ≤ top → result ≡ j }
     {
         let mut best = top;
         for i in (0..top).rev() {
@@ -132,9 +140,9 @@ impl<'a, P: Paths + Drop, B: ByteFacts, W: Transfer, R: RowRules> Analysis<'a, P
     fn is_rival(&self, i: u32, best: u32, sought: Sought) -> bool
         requires inside { i < (P.timeline self.now.paths).legs.count }
         requires best { IsSome ((P.timeline self.now.paths).legs.row best) }
-        requires fitted { (a : ℕ) → sought.address ≡ Some a → IsFitted (state_of P.timeline W.sets W.moves R.rules B.store self.now) }
-        ensures rival { result ≡ true → IsSought (setting_of P.timeline W.sets W.moves R.rules self.now) (told (oldest self.now.filled self.now.known.log)) sought i × (i ≢ best) × (IsBefore (P.timeline self.now.paths).moments i best → ⊥) }
-        ensures other { result ≡ false → IsSought (setting_of P.timeline W.sets W.moves R.rules self.now) (told (oldest self.now.filled self.now.known.log)) sought i → i ≢ best → IsBefore (P.timeline self.now.paths).moments i best }
+        requires fitted { (a : ℕ) → sought.address ≡ Some a → IsFitted (state_of (reader P.timeline L.values) W.sets W.moves R.rules B.store self.now) }
+        ensures rival { result ≡ true → IsSought (setting_of (reader P.timeline L.values) W.sets W.moves R.rules self.now) (told (oldest self.now.filled self.now.known.log)) sought i × (i ≢ best) × (IsBefore (P.timeline self.now.paths).moments i best → ⊥) }
+        ensures other { result ≡ false → IsSought (setting_of (reader P.timeline L.values) W.sets W.moves R.rules self.now) (told (oldest self.now.filled self.now.known.log)) sought i → i ≢ best → IsBefore (P.timeline self.now.paths).moments i best }
     {
         match self.row(i) {
             None => false,
@@ -145,10 +153,10 @@ impl<'a, P: Paths + Drop, B: ByteFacts, W: Transfer, R: RowRules> Analysis<'a, P
     /// Whether this one lies wholly after all others up to a number, and after writers that aren't told.
     fn is_latest(&self, best: u32, top: u32, sought: Sought) -> bool
         requires inside { top < (P.timeline self.now.paths).legs.count }
-        requires fitted { (a : ℕ) → sought.address ≡ Some a → IsFitted (state_of P.timeline W.sets W.moves R.rules B.store self.now) }
-        requires best { IsSought (setting_of P.timeline W.sets W.moves R.rules self.now) (told (oldest self.now.filled self.now.known.log)) sought best }
-        requires top { (k : ℕ) → top < k → IsSought (setting_of P.timeline W.sets W.moves R.rules self.now) (told (oldest self.now.filled self.now.known.log)) sought k → ⊥ }
-        ensures { (result ≡ true) ↔ IsLatest (P.timeline self.now.paths).moments (IsSought (setting_of P.timeline W.sets W.moves R.rules self.now) (told (oldest self.now.filled self.now.known.log)) sought) best }
+        requires fitted { (a : ℕ) → sought.address ≡ Some a → IsFitted (state_of (reader P.timeline L.values) W.sets W.moves R.rules B.store self.now) }
+        requires best { IsSought (setting_of (reader P.timeline L.values) W.sets W.moves R.rules self.now) (told (oldest self.now.filled self.now.known.log)) sought best }
+        requires top { (k : ℕ) → top < k → IsSought (setting_of (reader P.timeline L.values) W.sets W.moves R.rules self.now) (told (oldest self.now.filled self.now.known.log)) sought k → ⊥ }
+        ensures { (result ≡ true) ↔ IsLatest (P.timeline self.now.paths).moments (IsSought (setting_of (reader P.timeline L.values) W.sets W.moves R.rules self.now) (told (oldest self.now.filled self.now.known.log)) sought) best }
     {
         let _count = self.count();
         for i in 0..top + 1 {
@@ -161,8 +169,8 @@ impl<'a, P: Paths + Drop, B: ByteFacts, W: Transfer, R: RowRules> Analysis<'a, P
 
     /// What is said of the row that last wrote, where each of these rows may have written and no other did.
     pub(super) fn possible_writer(&self, sought: Sought) -> Writer
-        requires fitted { (a : ℕ) → sought.address ≡ Some a → IsFitted (state_of P.timeline W.sets W.moves R.rules B.store self.now) }
-        ensures { IsPossibleWriter (P.timeline self.now.paths).moments (IsSought (setting_of P.timeline W.sets W.moves R.rules self.now) (told (oldest self.now.filled self.now.known.log)) sought) result }
+        requires fitted { (a : ℕ) → sought.address ≡ Some a → IsFitted (state_of (reader P.timeline L.values) W.sets W.moves R.rules B.store self.now) }
+        ensures { IsPossibleWriter (P.timeline self.now.paths).moments (IsSought (setting_of (reader P.timeline L.values) W.sets W.moves R.rules self.now) (told (oldest self.now.filled self.now.known.log)) sought) result }
     {
         let Some(top) = self.greatest(sought) else {
             return if self.is_dark() {

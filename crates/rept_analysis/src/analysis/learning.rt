@@ -3,7 +3,7 @@
 ghost use Rattle.std.specs.Prelude.{◌≡◌, ◌<◌, ◌≤◌, ◌^◌, ℕ, length, true, false, IfOk, IfErr, Ok, Err};
 ghost use Rattle.rept_reason.specs.declared.fact.Cell.{Cell};
 ghost use Rattle.rept_reason.specs.declared.fact.Cell.TheVariants.{Register, Byte};
-ghost use Rattle.rept_analysis.specs.State.{state_of};
+ghost use Rattle.rept_analysis.specs.State.{state_of, reader};
 ghost use Rattle.rept_report.specs.Why.{fact_of};
 ghost use Rattle.rept_analysis.specs.Drawing.{Knows, IsTracked, Grows, Drew, IsFollowing, IsBrought, IsHalt, IsLearntAt, IsRowAddress, HasPlace};
 ghost use Rattle.rept_analysis.specs.Told.{Tells, TellsByte, Tracks};
@@ -11,7 +11,7 @@ ghost use Rattle.rept_analysis.specs.Told.{Tells, TellsByte, Tracks};
 use super::Analysis;
 use crate::halt::Halt;
 use rept_isa::Reg;
-use rept_log::Answer;
+use rept_log::{Answer, LastValues};
 use rept_partial::Flat;
 use rept_reason::Cell;
 use rept_report::Paths;
@@ -20,14 +20,21 @@ use rept_versions::ByteFacts;
 use rept_view::RowRules;
 use std::alloc::AllocError as OutOfMemory;
 
-impl<'a, P: Paths + Drop, B: ByteFacts, W: Transfer, R: RowRules> Analysis<'a, P, B, W, R> {
+impl<'a, P: Paths + Drop, L: LastValues + Drop, B: ByteFacts, W: Transfer, R: RowRules> Analysis<
+    'a,
+    P,
+    L,
+    B,
+    W,
+    R,
+> {
     /// Learns a register's value that follows.
     fn tell(&mut self, point: u32, r: Reg, value: u32) -> Answer
         requires point { point ≤ (P.timeline self.old.paths).legs.count }
         requires named { 0 < r }
-        requires follows { value < 2 ^ 32 → IsFollowing (state_of P.timeline W.sets W.moves R.rules B.store self.old) (fact_of point (Register r) value) }
+        requires follows { value < 2 ^ 32 → IsFollowing (state_of (reader P.timeline L.values) W.sets W.moves R.rules B.store self.old) (fact_of point (Register r) value) }
         requires open { self.old.complete ≡ false }
-        ensures { Tells (state_of P.timeline W.sets W.moves R.rules B.store self.old) (state_of P.timeline W.sets W.moves R.rules B.store self.new) (fact_of point (Register r) value) result }
+        ensures { Tells (state_of (reader P.timeline L.values) W.sets W.moves R.rules B.store self.old) (state_of (reader P.timeline L.values) W.sets W.moves R.rules B.store self.new) (fact_of point (Register r) value) result }
     {
         let _number = r.number();
         let answer = self.known.learn_register(point, r, value);
@@ -44,12 +51,12 @@ impl<'a, P: Paths + Drop, B: ByteFacts, W: Transfer, R: RowRules> Analysis<'a, P
         keep: bool,
     ) -> Result<Answer, OutOfMemory>
         requires point { point ≤ (P.timeline self.old.paths).moments.end }
-        requires tracked { IsTracked a (state_of P.timeline W.sets W.moves R.rules B.store self.old) }
-        requires follows { IsFollowing (state_of P.timeline W.sets W.moves R.rules B.store self.old) (fact_of point (Byte a) value) }
-        requires brought { keep ≡ false → IsBrought (state_of P.timeline W.sets W.moves R.rules B.store self.old) (fact_of point (Byte a) value) }
-        requires place { HasPlace keep point a (state_of P.timeline W.sets W.moves R.rules B.store self.old) }
+        requires tracked { IsTracked a (state_of (reader P.timeline L.values) W.sets W.moves R.rules B.store self.old) }
+        requires follows { IsFollowing (state_of (reader P.timeline L.values) W.sets W.moves R.rules B.store self.old) (fact_of point (Byte a) value) }
+        requires brought { keep ≡ false → IsBrought (state_of (reader P.timeline L.values) W.sets W.moves R.rules B.store self.old) (fact_of point (Byte a) value) }
+        requires place { HasPlace keep point a (state_of (reader P.timeline L.values) W.sets W.moves R.rules B.store self.old) }
         requires open { self.old.complete ≡ false }
-        ensures { TellsByte (state_of P.timeline W.sets W.moves R.rules B.store self.old) (state_of P.timeline W.sets W.moves R.rules B.store self.new) (fact_of point (Byte a) value) result }
+        ensures { TellsByte (state_of (reader P.timeline L.values) W.sets W.moves R.rules B.store self.old) (state_of (reader P.timeline L.values) W.sets W.moves R.rules B.store self.new) (fact_of point (Byte a) value) result }
     {
         let answer = self.known.learn_byte(point, a, value, keep);
         let _len = self.known.len();
@@ -58,9 +65,9 @@ impl<'a, P: Paths + Drop, B: ByteFacts, W: Transfer, R: RowRules> Analysis<'a, P
 
     /// Makes an address one of those that are tracked. Answers whether it wasn't.
     pub(super) fn track(&mut self, a: u32) -> Result<bool, OutOfMemory>
-        requires row { IsRowAddress a (state_of P.timeline W.sets W.moves R.rules B.store self.old) }
+        requires row { IsRowAddress a (state_of (reader P.timeline L.values) W.sets W.moves R.rules B.store self.old) }
         requires open { self.old.complete ≡ false }
-        ensures { Tracks (state_of P.timeline W.sets W.moves R.rules B.store self.old) (state_of P.timeline W.sets W.moves R.rules B.store self.new) a result }
+        ensures { Tracks (state_of (reader P.timeline L.values) W.sets W.moves R.rules B.store self.old) (state_of (reader P.timeline L.values) W.sets W.moves R.rules B.store self.new) a result }
     {
         self.known.track(a)
     }
@@ -69,13 +76,13 @@ impl<'a, P: Paths + Drop, B: ByteFacts, W: Transfer, R: RowRules> Analysis<'a, P
     pub(super) fn learn(&mut self, point: u32, r: Reg, value: u32) -> Result<bool, Halt>
         requires point { point ≤ (P.timeline self.old.paths).legs.count }
         requires named { 0 < r }
-        requires follows { value < 2 ^ 32 → IsFollowing (state_of P.timeline W.sets W.moves R.rules B.store self.old) (fact_of point (Register r) value) }
+        requires follows { value < 2 ^ 32 → IsFollowing (state_of (reader P.timeline L.values) W.sets W.moves R.rules B.store self.old) (fact_of point (Register r) value) }
         requires open { self.old.complete ≡ false }
-        ensures grows { Grows (state_of P.timeline W.sets W.moves R.rules B.store self.old) (state_of P.timeline W.sets W.moves R.rules B.store self.new) }
-        ensures drew { IfOk result (λ learnt. Drew (state_of P.timeline W.sets W.moves R.rules B.store self.old) (state_of P.timeline W.sets W.moves R.rules B.store self.new) learnt (Knows point (Register r) value)) }
-        ensures known { IfOk result (λ _. Knows point (Register r) value (state_of P.timeline W.sets W.moves R.rules B.store self.new)) }
+        ensures grows { Grows (state_of (reader P.timeline L.values) W.sets W.moves R.rules B.store self.old) (state_of (reader P.timeline L.values) W.sets W.moves R.rules B.store self.new) }
+        ensures drew { IfOk result (λ learnt. Drew (state_of (reader P.timeline L.values) W.sets W.moves R.rules B.store self.old) (state_of (reader P.timeline L.values) W.sets W.moves R.rules B.store self.new) learnt (Knows point (Register r) value)) }
+        ensures known { IfOk result (λ _. Knows point (Register r) value (state_of (reader P.timeline L.values) W.sets W.moves R.rules B.store self.new)) }
         ensures still { self.new.work ≡ self.old.work }
-        ensures halt { IfErr result (λ h. IsHalt (state_of P.timeline W.sets W.moves R.rules B.store self.new) h) }
+        ensures halt { IfErr result (λ h. IsHalt (state_of (reader P.timeline L.values) W.sets W.moves R.rules B.store self.new) h) }
     {
         match self.tell(point, r, value) {
             Answer::Old => Ok(false),
@@ -101,16 +108,16 @@ impl<'a, P: Paths + Drop, B: ByteFacts, W: Transfer, R: RowRules> Analysis<'a, P
         keep: bool,
     ) -> Result<bool, Halt>
         requires point { point ≤ (P.timeline self.old.paths).moments.end }
-        requires tracked { IsTracked a (state_of P.timeline W.sets W.moves R.rules B.store self.old) }
-        requires follows { IsFollowing (state_of P.timeline W.sets W.moves R.rules B.store self.old) (fact_of point (Byte a) value) }
-        requires brought { keep ≡ false → IsBrought (state_of P.timeline W.sets W.moves R.rules B.store self.old) (fact_of point (Byte a) value) }
-        requires place { HasPlace keep point a (state_of P.timeline W.sets W.moves R.rules B.store self.old) }
+        requires tracked { IsTracked a (state_of (reader P.timeline L.values) W.sets W.moves R.rules B.store self.old) }
+        requires follows { IsFollowing (state_of (reader P.timeline L.values) W.sets W.moves R.rules B.store self.old) (fact_of point (Byte a) value) }
+        requires brought { keep ≡ false → IsBrought (state_of (reader P.timeline L.values) W.sets W.moves R.rules B.store self.old) (fact_of point (Byte a) value) }
+        requires place { HasPlace keep point a (state_of (reader P.timeline L.values) W.sets W.moves R.rules B.store self.old) }
         requires open { self.old.complete ≡ false }
-        ensures grows { Grows (state_of P.timeline W.sets W.moves R.rules B.store self.old) (state_of P.timeline W.sets W.moves R.rules B.store self.new) }
-        ensures drew { IfOk result (λ learnt. Drew (state_of P.timeline W.sets W.moves R.rules B.store self.old) (state_of P.timeline W.sets W.moves R.rules B.store self.new) learnt (Knows point (Byte a) value)) }
-        ensures known { IfOk result (λ _. Knows point (Byte a) value (state_of P.timeline W.sets W.moves R.rules B.store self.new)) }
+        ensures grows { Grows (state_of (reader P.timeline L.values) W.sets W.moves R.rules B.store self.old) (state_of (reader P.timeline L.values) W.sets W.moves R.rules B.store self.new) }
+        ensures drew { IfOk result (λ learnt. Drew (state_of (reader P.timeline L.values) W.sets W.moves R.rules B.store self.old) (state_of (reader P.timeline L.values) W.sets W.moves R.rules B.store self.new) learnt (Knows point (Byte a) value)) }
+        ensures known { IfOk result (λ _. Knows point (Byte a) value (state_of (reader P.timeline L.values) W.sets W.moves R.rules B.store self.new)) }
         ensures still { self.new.work ≡ self.old.work }
-        ensures halt { IfErr result (λ h. IsHalt (state_of P.timeline W.sets W.moves R.rules B.store self.new) h) }
+        ensures halt { IfErr result (λ h. IsHalt (state_of (reader P.timeline L.values) W.sets W.moves R.rules B.store self.new) h) }
     {
         match self.tell_byte(point, a, value, keep) {
             Err(_) => Err(Halt::OutOfMemory),
@@ -131,11 +138,11 @@ impl<'a, P: Paths + Drop, B: ByteFacts, W: Transfer, R: RowRules> Analysis<'a, P
     /// Adds the value if there is one, and the register is not x0.
     pub(super) fn learn_if(&mut self, point: u32, r: Reg, value: Flat) -> Result<bool, Halt>
         requires point { point ≤ (P.timeline self.old.paths).legs.count }
-        requires follows { (v : ℕ) → value ≡ Flat.Known v → 0 < r → r < 32 → v < 2 ^ 32 → IsFollowing (state_of P.timeline W.sets W.moves R.rules B.store self.old) (fact_of point (Register r) v) }
+        requires follows { (v : ℕ) → value ≡ Flat.Known v → 0 < r → r < 32 → v < 2 ^ 32 → IsFollowing (state_of (reader P.timeline L.values) W.sets W.moves R.rules B.store self.old) (fact_of point (Register r) v) }
         requires open { self.old.complete ≡ false }
-        ensures grows { Grows (state_of P.timeline W.sets W.moves R.rules B.store self.old) (state_of P.timeline W.sets W.moves R.rules B.store self.new) }
-        ensures drew { IfOk result (λ learnt. Drew (state_of P.timeline W.sets W.moves R.rules B.store self.old) (state_of P.timeline W.sets W.moves R.rules B.store self.new) learnt (IsLearntAt point r value)) }
-        ensures halt { IfErr result (λ h. IsHalt (state_of P.timeline W.sets W.moves R.rules B.store self.new) h) }
+        ensures grows { Grows (state_of (reader P.timeline L.values) W.sets W.moves R.rules B.store self.old) (state_of (reader P.timeline L.values) W.sets W.moves R.rules B.store self.new) }
+        ensures drew { IfOk result (λ learnt. Drew (state_of (reader P.timeline L.values) W.sets W.moves R.rules B.store self.old) (state_of (reader P.timeline L.values) W.sets W.moves R.rules B.store self.new) learnt (IsLearntAt point r value)) }
+        ensures halt { IfErr result (λ h. IsHalt (state_of (reader P.timeline L.values) W.sets W.moves R.rules B.store self.new) h) }
     {
         if r.number() == 0 {
             return Ok(false);

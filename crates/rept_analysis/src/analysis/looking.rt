@@ -12,7 +12,7 @@ ghost use Rattle.rept_report.specs.declared.conflict.ConflictKind.{ConflictKind}
 ghost use Rattle.rept_report.specs.Log.{oldest};
 ghost use Rattle.rept_alias.specs.Accesses.{call_hits};
 ghost use Rattle.rept_analysis.specs.Moments.{moment};
-ghost use Rattle.rept_analysis.specs.State.{setting_of, state_of};
+ghost use Rattle.rept_analysis.specs.State.{setting_of, state_of, reader};
 ghost use Rattle.rept_analysis.specs.Drawing.{IsFitted, SameFacts, IsAccess, IsSparedNow};
 
 use super::Analysis;
@@ -21,14 +21,21 @@ use crate::trail::PathTrail;
 use crate::turns::is_wrong_turn;
 use rept_alias::CallAccess;
 use rept_isa::{Reg, StepRow, reads};
-use rept_log::Below;
+use rept_log::{Below, LastValues};
 use rept_partial::Flat;
 use rept_report::{ConflictKind, Paths};
 use rept_span::{EmptyAt, Transfer};
 use rept_versions::ByteFacts;
 use rept_view::RowRules;
 
-impl<'a, P: Paths + Drop, B: ByteFacts, W: Transfer, R: RowRules> Analysis<'a, P, B, W, R> {
+impl<'a, P: Paths + Drop, L: LastValues + Drop, B: ByteFacts, W: Transfer, R: RowRules> Analysis<
+    'a,
+    P,
+    L,
+    B,
+    W,
+    R,
+> {
     /// The bytes that row i may write, by the facts at places below the limit and the sets as they were filled.
     fn access_below(&self, limit: u32, i: u32, row: &StepRow) -> CallAccess
         requires { i < (P.timeline self.now.paths).legs.count }
@@ -49,8 +56,8 @@ impl<'a, P: Paths + Drop, B: ByteFacts, W: Transfer, R: RowRules> Analysis<'a, P
     pub(super) fn access(&self, i: u32, row: &StepRow) -> CallAccess
         requires inside { i < (P.timeline self.now.paths).legs.count }
         requires row { (P.timeline self.now.paths).legs.row i ≡ Some row.now }
-        requires fitted { IsFitted (state_of P.timeline W.sets W.moves R.rules B.store self.now) }
-        ensures { IsAccess i result (state_of P.timeline W.sets W.moves R.rules B.store self.now) }
+        requires fitted { IsFitted (state_of (reader P.timeline L.values) W.sets W.moves R.rules B.store self.now) }
+        ensures { IsAccess i result (state_of (reader P.timeline L.values) W.sets W.moves R.rules B.store self.now) }
     {
         self.access_below(self.filled, i, row)
     }
@@ -59,8 +66,8 @@ impl<'a, P: Paths + Drop, B: ByteFacts, W: Transfer, R: RowRules> Analysis<'a, P
     pub(super) fn access_now(&self, i: u32, row: &StepRow) -> CallAccess
         requires inside { i < (P.timeline self.now.paths).legs.count }
         requires row { (P.timeline self.now.paths).legs.row i ≡ Some row.now }
-        requires fitted { IsFitted (state_of P.timeline W.sets W.moves R.rules B.store self.now) }
-        ensures { (a : ℕ) → a < 2 ^ 32 → call_hits result a ≡ false → IsSparedNow i a (state_of P.timeline W.sets W.moves R.rules B.store self.now) }
+        requires fitted { IsFitted (state_of (reader P.timeline L.values) W.sets W.moves R.rules B.store self.now) }
+        ensures { (a : ℕ) → a < 2 ^ 32 → call_hits result a ≡ false → IsSparedNow i a (state_of (reader P.timeline L.values) W.sets W.moves R.rules B.store self.now) }
     {
         self.held();
         let access = self.access_below(self.len(), i, row);
@@ -82,8 +89,8 @@ impl<'a, P: Paths + Drop, B: ByteFacts, W: Transfer, R: RowRules> Analysis<'a, P
     /// Whether row i, if there is one, went another way than the facts at places below the limit say.
     fn is_wrong(&self, limit: u32, i: u32) -> bool
         requires inside { i < (P.timeline self.now.paths).legs.count }
-        ensures wrong { result ≡ true → IsWrongTurn (setting_of P.timeline W.sets W.moves R.rules self.now) (told (oldest limit self.now.known.log)) i }
-        ensures right { result ≡ false → IsWrongTurn (setting_of P.timeline W.sets W.moves R.rules self.now) (told (oldest limit self.now.known.log)) i → ⊥ }
+        ensures wrong { result ≡ true → IsWrongTurn (setting_of (reader P.timeline L.values) W.sets W.moves R.rules self.now) (told (oldest limit self.now.known.log)) i }
+        ensures right { result ≡ false → IsWrongTurn (setting_of (reader P.timeline L.values) W.sets W.moves R.rules self.now) (told (oldest limit self.now.known.log)) i → ⊥ }
     {
         match self.row(i) {
             None => false,
@@ -98,8 +105,8 @@ impl<'a, P: Paths + Drop, B: ByteFacts, W: Transfer, R: RowRules> Analysis<'a, P
 
     /// The first row that went another way than the facts at places below the limit say.
     fn wrong_turn(&self, limit: u32) -> Option<ConflictKind>
-        ensures none { result ≡ None → (i : ℕ) → IsWrongTurn (setting_of P.timeline W.sets W.moves R.rules self.now) (told (oldest limit self.now.known.log)) i → ⊥ }
-        ensures some { (kind : ConflictKind) → result ≡ Some kind → Shows (setting_of P.timeline W.sets W.moves R.rules self.now) (told (oldest limit self.now.known.log)) kind }
+        ensures none { result ≡ None → (i : ℕ) → IsWrongTurn (setting_of (reader P.timeline L.values) W.sets W.moves R.rules self.now) (told (oldest limit self.now.known.log)) i → ⊥ }
+        ensures some { (kind : ConflictKind) → result ≡ Some kind → Shows (setting_of (reader P.timeline L.values) W.sets W.moves R.rules self.now) (told (oldest limit self.now.known.log)) kind }
     {
         let count = self.count();
         for step in 0..count {
@@ -115,11 +122,11 @@ impl<'a, P: Paths + Drop, B: ByteFacts, W: Transfer, R: RowRules> Analysis<'a, P
     pub(super) fn fill(&mut self, limit: u32) -> Result<(), EmptyAt>
         requires open { self.old.complete ≡ false }
         requires within { limit ≤ length self.old.known.log }
-        ensures same { SameFacts (state_of P.timeline W.sets W.moves R.rules B.store self.old) (state_of P.timeline W.sets W.moves R.rules B.store self.new) }
+        ensures same { SameFacts (state_of (reader P.timeline L.values) W.sets W.moves R.rules B.store self.old) (state_of (reader P.timeline L.values) W.sets W.moves R.rules B.store self.new) }
         ensures limit { self.new.filled ≡ limit }
-        ensures filled { OnOk result (IsFilled (way_of (setting_of P.timeline W.sets W.moves R.rules self.old)) self.new.spans (told (oldest limit self.old.known.log))) }
-        ensures some { OnOk result (NoneIsEmpty (way_of (setting_of P.timeline W.sets W.moves R.rules self.old)) (told (oldest limit self.old.known.log))) }
-        ensures empty { IfErr result (λ e. IsEmptyFirst (way_of (setting_of P.timeline W.sets W.moves R.rules self.old)) (told (oldest limit self.old.known.log)) e.point e.reg) }
+        ensures filled { OnOk result (IsFilled (way_of (setting_of (reader P.timeline L.values) W.sets W.moves R.rules self.old)) self.new.spans (told (oldest limit self.old.known.log))) }
+        ensures some { OnOk result (NoneIsEmpty (way_of (setting_of (reader P.timeline L.values) W.sets W.moves R.rules self.old)) (told (oldest limit self.old.known.log))) }
+        ensures empty { IfErr result (λ e. IsEmptyFirst (way_of (setting_of (reader P.timeline L.values) W.sets W.moves R.rules self.old)) (told (oldest limit self.old.known.log)) e.point e.reg) }
     {
         let trail = PathTrail { paths: &self.paths };
         let view = Below {
@@ -135,11 +142,11 @@ impl<'a, P: Paths + Drop, B: ByteFacts, W: Transfer, R: RowRules> Analysis<'a, P
     pub(super) fn look(&mut self, limit: u32) -> Option<ConflictKind>
         requires open { self.old.complete ≡ false }
         requires within { limit ≤ length self.old.known.log }
-        ensures same { SameFacts (state_of P.timeline W.sets W.moves R.rules B.store self.old) (state_of P.timeline W.sets W.moves R.rules B.store self.new) }
+        ensures same { SameFacts (state_of (reader P.timeline L.values) W.sets W.moves R.rules B.store self.old) (state_of (reader P.timeline L.values) W.sets W.moves R.rules B.store self.new) }
         ensures limit { self.new.filled ≡ limit }
-        ensures fitted { result ≡ None → IsFitted (state_of P.timeline W.sets W.moves R.rules B.store self.new) }
-        ensures quiet { result ≡ None → IsQuiet (setting_of P.timeline W.sets W.moves R.rules self.old) (told (oldest limit self.old.known.log)) }
-        ensures conflict { (kind : ConflictKind) → result ≡ Some kind → Shows (setting_of P.timeline W.sets W.moves R.rules self.old) (told (oldest limit self.old.known.log)) kind }
+        ensures fitted { result ≡ None → IsFitted (state_of (reader P.timeline L.values) W.sets W.moves R.rules B.store self.new) }
+        ensures quiet { result ≡ None → IsQuiet (setting_of (reader P.timeline L.values) W.sets W.moves R.rules self.old) (told (oldest limit self.old.known.log)) }
+        ensures conflict { (kind : ConflictKind) → result ≡ Some kind → Shows (setting_of (reader P.timeline L.values) W.sets W.moves R.rules self.old) (told (oldest limit self.old.known.log)) kind }
     {
         match self.fill(limit) {
             Err(empty) => {
@@ -155,11 +162,11 @@ impl<'a, P: Paths + Drop, B: ByteFacts, W: Transfer, R: RowRules> Analysis<'a, P
     pub(super) fn is_quiet(&mut self, limit: u32) -> bool
         requires open { self.old.complete ≡ false }
         requires within { limit ≤ length self.old.known.log }
-        ensures same { SameFacts (state_of P.timeline W.sets W.moves R.rules B.store self.old) (state_of P.timeline W.sets W.moves R.rules B.store self.new) }
+        ensures same { SameFacts (state_of (reader P.timeline L.values) W.sets W.moves R.rules B.store self.old) (state_of (reader P.timeline L.values) W.sets W.moves R.rules B.store self.new) }
         ensures limit { self.new.filled ≡ limit }
-        ensures fitted { result ≡ true → IsFitted (state_of P.timeline W.sets W.moves R.rules B.store self.new) }
-        ensures quiet { result ≡ true → IsQuiet (setting_of P.timeline W.sets W.moves R.rules self.old) (told (oldest limit self.old.known.log)) }
-        ensures loud { result ≡ false → IsQuiet (setting_of P.timeline W.sets W.moves R.rules self.old) (told (oldest limit self.old.known.log)) → ⊥ }
+        ensures fitted { result ≡ true → IsFitted (state_of (reader P.timeline L.values) W.sets W.moves R.rules B.store self.new) }
+        ensures quiet { result ≡ true → IsQuiet (setting_of (reader P.timeline L.values) W.sets W.moves R.rules self.old) (told (oldest limit self.old.known.log)) }
+        ensures loud { result ≡ false → IsQuiet (setting_of (reader P.timeline L.values) W.sets W.moves R.rules self.old) (told (oldest limit self.old.known.log)) → ⊥ }
     {
         match self.look(limit) {
             None => true,

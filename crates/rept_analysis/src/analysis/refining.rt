@@ -4,7 +4,7 @@ ghost use Rattle.std.specs.Prelude.{◌≡◌, ◌<◌, ◌+◌, ◌*◌, ◌≤
 ghost use Rattle.rept_reason.specs.Facts.{told};
 ghost use Rattle.rept_report.specs.Conflicts.{IsQuiet};
 ghost use Rattle.rept_report.specs.declared.conflict.ConflictKind.{ConflictKind};
-ghost use Rattle.rept_analysis.specs.State.{IsLined, setting_of, state_of};
+ghost use Rattle.rept_analysis.specs.State.{IsLined, setting_of, state_of, reader};
 ghost use Rattle.rept_analysis.specs.Drawing.{IsHalt, IsSettled, IsFitted, SameFacts, Continues, AreWritings, AreExact, IsUncut};
 ghost use Rattle.rept_analysis.specs.Work.{left};
 ghost use Rattle.rept_report.specs.Log.{oldest};
@@ -13,24 +13,32 @@ ghost use Rattle.rept_analysis.specs.Refined.{KeepsKnown, IsEnded, Outcome};
 use super::Analysis;
 use crate::halt::Halt;
 use crate::stop::Stop;
+use rept_log::LastValues;
 use rept_report::{ConflictKind, Paths};
 use rept_span::Transfer;
 use rept_versions::ByteFacts;
 use rept_view::RowRules;
 
-impl<'a, P: Paths + Drop, B: ByteFacts, W: Transfer, R: RowRules> Analysis<'a, P, B, W, R> {
+impl<'a, P: Paths + Drop, L: LastValues + Drop, B: ByteFacts, W: Transfer, R: RowRules> Analysis<
+    'a,
+    P,
+    L,
+    B,
+    W,
+    R,
+> {
     /// Whether the facts at places below the limit leave no set empty and no turn wrong. The sets are then theirs, and the rows that
     /// may write are listed.
     fn ready(&mut self, limit: u32) -> bool
         requires open { self.old.complete ≡ false }
         requires within { limit ≤ length self.old.known.log }
-        ensures same { SameFacts (state_of P.timeline W.sets W.moves R.rules B.store self.old) (state_of P.timeline W.sets W.moves R.rules B.store self.new) }
+        ensures same { SameFacts (state_of (reader P.timeline L.values) W.sets W.moves R.rules B.store self.old) (state_of (reader P.timeline L.values) W.sets W.moves R.rules B.store self.new) }
         ensures limit { self.new.filled ≡ limit }
-        ensures fitted { result ≡ true → IsFitted (state_of P.timeline W.sets W.moves R.rules B.store self.new) }
-        ensures writings { result ≡ true → AreWritings (state_of P.timeline W.sets W.moves R.rules B.store self.new) }
-        ensures exact { result ≡ true → AreExact (state_of P.timeline W.sets W.moves R.rules B.store self.new) }
-        ensures quiet { result ≡ true → IsQuiet (setting_of P.timeline W.sets W.moves R.rules self.old) (told (oldest limit self.old.known.log)) }
-        ensures loud { result ≡ false → IsQuiet (setting_of P.timeline W.sets W.moves R.rules self.old) (told (oldest limit self.old.known.log)) → ⊥ }
+        ensures fitted { result ≡ true → IsFitted (state_of (reader P.timeline L.values) W.sets W.moves R.rules B.store self.new) }
+        ensures writings { result ≡ true → AreWritings (state_of (reader P.timeline L.values) W.sets W.moves R.rules B.store self.new) }
+        ensures exact { result ≡ true → AreExact (state_of (reader P.timeline L.values) W.sets W.moves R.rules B.store self.new) }
+        ensures quiet { result ≡ true → IsQuiet (setting_of (reader P.timeline L.values) W.sets W.moves R.rules self.old) (told (oldest limit self.old.known.log)) }
+        ensures loud { result ≡ false → IsQuiet (setting_of (reader P.timeline L.values) W.sets W.moves R.rules self.old) (told (oldest limit self.old.known.log)) → ⊥ }
     {
         let quiet = self.is_quiet(limit);
         if !quiet {
@@ -43,11 +51,11 @@ impl<'a, P: Paths + Drop, B: ByteFacts, W: Transfer, R: RowRules> Analysis<'a, P
     /// Forgets how far rules were drawn.
     fn restart(&mut self)
         requires open { self.old.complete ≡ false }
-        ensures continues { Continues (state_of P.timeline W.sets W.moves R.rules B.store self.old) (state_of P.timeline W.sets W.moves R.rules B.store self.new) }
+        ensures continues { Continues (state_of (reader P.timeline L.values) W.sets W.moves R.rules B.store self.old) (state_of (reader P.timeline L.values) W.sets W.moves R.rules B.store self.new) }
         ensures facts { self.new.known ≡ self.old.known }
         ensures draws { self.new.work.draws ≡ self.old.work.draws }
         ensures rows { length self.new.work.drawn ≡ (P.timeline self.old.paths).legs.count }
-        ensures uncut { IsUncut (state_of P.timeline W.sets W.moves R.rules B.store self.new) }
+        ensures uncut { IsUncut (state_of (reader P.timeline L.values) W.sets W.moves R.rules B.store self.new) }
     {
         let _paths = &self.paths;
         self.drawn.clear();
@@ -56,13 +64,13 @@ impl<'a, P: Paths + Drop, B: ByteFacts, W: Transfer, R: RowRules> Analysis<'a, P
     /// Rounds until nothing is new, each with the sets of the facts before it. Answers whether these have values.
     fn settle(&mut self) -> Result<bool, Halt>
         requires open { self.old.complete ≡ false }
-        requires uncut { IsUncut (state_of P.timeline W.sets W.moves R.rules B.store self.old) }
+        requires uncut { IsUncut (state_of (reader P.timeline L.values) W.sets W.moves R.rules B.store self.old) }
         ensures spent { self.new.work.draws ≤ self.old.work.draws + left self.old.work.drawn }
-        ensures continues { Continues (state_of P.timeline W.sets W.moves R.rules B.store self.old) (state_of P.timeline W.sets W.moves R.rules B.store self.new) }
-        ensures more { KeepsKnown (state_of P.timeline W.sets W.moves R.rules B.store self.old) (state_of P.timeline W.sets W.moves R.rules B.store self.new) }
-        ensures settled { result ≡ Ok true → IsSettled (state_of P.timeline W.sets W.moves R.rules B.store self.new) }
-        ensures loud { result ≡ Ok false → IsQuiet (setting_of P.timeline W.sets W.moves R.rules self.new) (told self.new.known.log) → ⊥ }
-        ensures halt { IfErr result (λ h. IsHalt (state_of P.timeline W.sets W.moves R.rules B.store self.new) h) }
+        ensures continues { Continues (state_of (reader P.timeline L.values) W.sets W.moves R.rules B.store self.old) (state_of (reader P.timeline L.values) W.sets W.moves R.rules B.store self.new) }
+        ensures more { KeepsKnown (state_of (reader P.timeline L.values) W.sets W.moves R.rules B.store self.old) (state_of (reader P.timeline L.values) W.sets W.moves R.rules B.store self.new) }
+        ensures settled { result ≡ Ok true → IsSettled (state_of (reader P.timeline L.values) W.sets W.moves R.rules B.store self.new) }
+        ensures loud { result ≡ Ok false → IsQuiet (setting_of (reader P.timeline L.values) W.sets W.moves R.rules self.new) (told self.new.known.log) → ⊥ }
+        ensures halt { IfErr result (λ h. IsHalt (state_of (reader P.timeline L.values) W.sets W.moves R.rules B.store self.new) h) }
     {
         loop {
             let len = self.len();
@@ -80,9 +88,9 @@ impl<'a, P: Paths + Drop, B: ByteFacts, W: Transfer, R: RowRules> Analysis<'a, P
 
     /// All facts are answered from now on.
     fn finish(&mut self)
-        requires settled { IsSettled (state_of P.timeline W.sets W.moves R.rules B.store self.old) }
+        requires settled { IsSettled (state_of (reader P.timeline L.values) W.sets W.moves R.rules B.store self.old) }
         requires open { self.old.conflict ≡ None }
-        ensures ended { IsEnded (state_of P.timeline W.sets W.moves R.rules B.store self.old) (state_of P.timeline W.sets W.moves R.rules B.store self.new) }
+        ensures ended { IsEnded (state_of (reader P.timeline L.values) W.sets W.moves R.rules B.store self.old) (state_of (reader P.timeline L.values) W.sets W.moves R.rules B.store self.new) }
         ensures still { self.new.work.draws ≡ self.old.work.draws }
     {
         self.held();
@@ -95,7 +103,7 @@ impl<'a, P: Paths + Drop, B: ByteFacts, W: Transfer, R: RowRules> Analysis<'a, P
     fn run(&mut self) -> Result<(), Stop>
         requires open { self.old.complete ≡ false }
         requires calm { self.old.conflict ≡ None }
-        ensures outcome { Outcome (state_of P.timeline W.sets W.moves R.rules B.store self.old) (state_of P.timeline W.sets W.moves R.rules B.store self.new) result }
+        ensures outcome { Outcome (state_of (reader P.timeline L.values) W.sets W.moves R.rules B.store self.old) (state_of (reader P.timeline L.values) W.sets W.moves R.rules B.store self.new) result }
         ensures plain { result ≡ Err Stop.OutOfMemory → B.JOINS ≡ true → IsLined (P.timeline self.old.paths) → ⊥ }
         ensures draws { self.new.work.draws ≤ self.old.work.draws + 12 * (P.timeline self.old.paths).legs.count }
     {
@@ -112,11 +120,11 @@ impl<'a, P: Paths + Drop, B: ByteFacts, W: Transfer, R: RowRules> Analysis<'a, P
 
     /// Learns all that follows. A second call answers as the first did, but where memory ran out it goes on.
     pub(super) fn outcome(&mut self) -> Result<(), Stop>
-        ensures outcome { Outcome (state_of P.timeline W.sets W.moves R.rules B.store self.old) (state_of P.timeline W.sets W.moves R.rules B.store self.new) result }
+        ensures outcome { Outcome (state_of (reader P.timeline L.values) W.sets W.moves R.rules B.store self.old) (state_of (reader P.timeline L.values) W.sets W.moves R.rules B.store self.new) result }
         ensures plain { result ≡ Err Stop.OutOfMemory → B.JOINS ≡ true → IsLined (P.timeline self.old.paths) → ⊥ }
         ensures draws { self.new.work.draws ≤ self.old.work.draws + 12 * (P.timeline self.old.paths).legs.count }
-        ensures again { (kind : ConflictKind) → self.old.conflict ≡ Some kind → (result ≡ Err (Stop.Conflict kind)) × ((state_of P.timeline W.sets W.moves R.rules B.store self.new) ≡ (state_of P.timeline W.sets W.moves R.rules B.store self.old)) }
-        ensures settled { self.old.complete ≡ true → self.old.conflict ≡ None → IsOk result × ((state_of P.timeline W.sets W.moves R.rules B.store self.new) ≡ (state_of P.timeline W.sets W.moves R.rules B.store self.old)) }
+        ensures again { (kind : ConflictKind) → self.old.conflict ≡ Some kind → (result ≡ Err (Stop.Conflict kind)) × ((state_of (reader P.timeline L.values) W.sets W.moves R.rules B.store self.new) ≡ (state_of (reader P.timeline L.values) W.sets W.moves R.rules B.store self.old)) }
+        ensures settled { self.old.complete ≡ true → self.old.conflict ≡ None → IsOk result × ((state_of (reader P.timeline L.values) W.sets W.moves R.rules B.store self.new) ≡ (state_of (reader P.timeline L.values) W.sets W.moves R.rules B.store self.old)) }
     {
         let _paths = &self.paths;
         if let Some(kind) = self.conflict {

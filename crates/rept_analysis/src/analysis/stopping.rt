@@ -6,7 +6,7 @@ ghost use Rattle.rept_reason.specs.Facts.{told};
 ghost use Rattle.rept_report.specs.Conflicts.{IsQuiet};
 ghost use Rattle.rept_report.specs.declared.conflict.ConflictKind.{ConflictKind};
 ghost use Rattle.rept_report.specs.Log.{oldest};
-ghost use Rattle.rept_analysis.specs.State.{IsLined, setting_of, state_of};
+ghost use Rattle.rept_analysis.specs.State.{IsLined, setting_of, state_of, reader};
 ghost use Rattle.rept_report.specs.Why.{fact_of};
 ghost use Rattle.rept_analysis.specs.Drawing.{IsHalt, SameFacts, IsClash};
 ghost use Rattle.rept_analysis.specs.Refined.{QuietBelow, ShowsTo, IsStopped, IsPaused, IsHalted, clash_kind};
@@ -15,6 +15,7 @@ ghost use Rattle.rept_report.specs.Closure.{ClosureHas};
 use super::Analysis;
 use crate::halt::Halt;
 use crate::stop::Stop;
+use rept_log::LastValues;
 use rept_reason::Cell;
 use rept_report::{ConflictKind, Paths};
 use rept_span::Transfer;
@@ -42,15 +43,22 @@ fn clash_kind(point: u32, cell: Cell, known: u32, value: u32) -> ConflictKind
     }
 }
 
-impl<'a, P: Paths + Drop, B: ByteFacts, W: Transfer, R: RowRules> Analysis<'a, P, B, W, R> {
+impl<'a, P: Paths + Drop, L: LastValues + Drop, B: ByteFacts, W: Transfer, R: RowRules> Analysis<
+    'a,
+    P,
+    L,
+    B,
+    W,
+    R,
+> {
     /// The least place such that the facts at places below it leave a set empty or a turn wrong.
     fn bisect(&mut self) -> u32
         requires open { self.old.complete ≡ false }
-        requires loud { IsQuiet (setting_of P.timeline W.sets W.moves R.rules self.old) (told self.old.known.log) → ⊥ }
-        ensures same { SameFacts (state_of P.timeline W.sets W.moves R.rules B.store self.old) (state_of P.timeline W.sets W.moves R.rules B.store self.new) }
+        requires loud { IsQuiet (setting_of (reader P.timeline L.values) W.sets W.moves R.rules self.old) (told self.old.known.log) → ⊥ }
+        ensures same { SameFacts (state_of (reader P.timeline L.values) W.sets W.moves R.rules B.store self.old) (state_of (reader P.timeline L.values) W.sets W.moves R.rules B.store self.new) }
         ensures within { result ≤ length self.old.known.log }
-        ensures quiet { QuietBelow (state_of P.timeline W.sets W.moves R.rules B.store self.old) result }
-        ensures loud { IsQuiet (setting_of P.timeline W.sets W.moves R.rules self.old) (told (oldest result self.old.known.log)) → ⊥ }
+        ensures quiet { QuietBelow (state_of (reader P.timeline L.values) W.sets W.moves R.rules B.store self.old) result }
+        ensures loud { IsQuiet (setting_of (reader P.timeline L.values) W.sets W.moves R.rules self.old) (told (oldest result self.old.known.log)) → ⊥ }
     {
         self.held();
         let mut low = 0;
@@ -72,9 +80,9 @@ impl<'a, P: Paths + Drop, B: ByteFacts, W: Transfer, R: RowRules> Analysis<'a, P
         requires open { self.old.complete ≡ false }
         requires within { limit ≤ length self.old.known.log }
         requires later { self.old.shown ≤ limit }
-        requires shows { ShowsTo (state_of P.timeline W.sets W.moves R.rules B.store self.old) limit kind }
-        requires kind { ClosureHas (setting_of P.timeline W.sets W.moves R.rules self.old) kind }
-        ensures ended { IsStopped (state_of P.timeline W.sets W.moves R.rules B.store self.old) (state_of P.timeline W.sets W.moves R.rules B.store self.new) kind }
+        requires shows { ShowsTo (state_of (reader P.timeline L.values) W.sets W.moves R.rules B.store self.old) limit kind }
+        requires kind { ClosureHas (setting_of (reader P.timeline L.values) W.sets W.moves R.rules self.old) kind }
+        ensures ended { IsStopped (state_of (reader P.timeline L.values) W.sets W.moves R.rules B.store self.old) (state_of (reader P.timeline L.values) W.sets W.moves R.rules B.store self.new) kind }
         ensures still { self.new.work.draws ≡ self.old.work.draws }
     {
         self.shown = limit;
@@ -84,8 +92,8 @@ impl<'a, P: Paths + Drop, B: ByteFacts, W: Transfer, R: RowRules> Analysis<'a, P
     /// Rolls back to the least place at which the facts show a conflict, and names it.
     pub(super) fn stop_least(&mut self) -> ConflictKind
         requires open { self.old.complete ≡ false }
-        requires loud { IsQuiet (setting_of P.timeline W.sets W.moves R.rules self.old) (told self.old.known.log) → ⊥ }
-        ensures ended { IsStopped (state_of P.timeline W.sets W.moves R.rules B.store self.old) (state_of P.timeline W.sets W.moves R.rules B.store self.new) result }
+        requires loud { IsQuiet (setting_of (reader P.timeline L.values) W.sets W.moves R.rules self.old) (told self.old.known.log) → ⊥ }
+        ensures ended { IsStopped (state_of (reader P.timeline L.values) W.sets W.moves R.rules B.store self.old) (state_of (reader P.timeline L.values) W.sets W.moves R.rules B.store self.new) result }
         ensures still { self.new.work.draws ≡ self.old.work.draws }
     {
         self.held();
@@ -99,8 +107,8 @@ impl<'a, P: Paths + Drop, B: ByteFacts, W: Transfer, R: RowRules> Analysis<'a, P
     /// Names the clash, where the facts show no other conflict, and else their least one.
     fn stop_clash(&mut self, point: u32, cell: Cell, known: u32, value: u32) -> ConflictKind
         requires open { self.old.complete ≡ false }
-        requires clash { IsClash (state_of P.timeline W.sets W.moves R.rules B.store self.old) (fact_of point cell value) known }
-        ensures ended { IsStopped (state_of P.timeline W.sets W.moves R.rules B.store self.old) (state_of P.timeline W.sets W.moves R.rules B.store self.new) result }
+        requires clash { IsClash (state_of (reader P.timeline L.values) W.sets W.moves R.rules B.store self.old) (fact_of point cell value) known }
+        ensures ended { IsStopped (state_of (reader P.timeline L.values) W.sets W.moves R.rules B.store self.old) (state_of (reader P.timeline L.values) W.sets W.moves R.rules B.store self.new) result }
         ensures still { self.new.work.draws ≡ self.old.work.draws }
     {
         self.held();
@@ -120,8 +128,8 @@ impl<'a, P: Paths + Drop, B: ByteFacts, W: Transfer, R: RowRules> Analysis<'a, P
         requires open { self.old.complete ≡ false }
         requires whole { limit ≡ length self.old.known.log }
         requires later { self.old.shown ≤ limit }
-        requires quiet { QuietBelow (state_of P.timeline W.sets W.moves R.rules B.store self.old) limit }
-        ensures ended { IsPaused (state_of P.timeline W.sets W.moves R.rules B.store self.old) (state_of P.timeline W.sets W.moves R.rules B.store self.new) }
+        requires quiet { QuietBelow (state_of (reader P.timeline L.values) W.sets W.moves R.rules B.store self.old) limit }
+        ensures ended { IsPaused (state_of (reader P.timeline L.values) W.sets W.moves R.rules B.store self.old) (state_of (reader P.timeline L.values) W.sets W.moves R.rules B.store self.new) }
         ensures still { self.new.work.draws ≡ self.old.work.draws }
     {
         self.shown = limit;
@@ -130,7 +138,7 @@ impl<'a, P: Paths + Drop, B: ByteFacts, W: Transfer, R: RowRules> Analysis<'a, P
     /// Where memory ran out: answers all facts, where these show no conflict, and else names their least one.
     fn stop_memory(&mut self) -> Stop
         requires open { self.old.complete ≡ false }
-        ensures ended { IsHalted (state_of P.timeline W.sets W.moves R.rules B.store self.old) (state_of P.timeline W.sets W.moves R.rules B.store self.new) result }
+        ensures ended { IsHalted (state_of (reader P.timeline L.values) W.sets W.moves R.rules B.store self.old) (state_of (reader P.timeline L.values) W.sets W.moves R.rules B.store self.new) result }
         ensures still { self.new.work.draws ≡ self.old.work.draws }
     {
         self.held();
@@ -146,8 +154,8 @@ impl<'a, P: Paths + Drop, B: ByteFacts, W: Transfer, R: RowRules> Analysis<'a, P
     /// What a halt comes to.
     pub(super) fn stop(&mut self, halt: &Halt) -> Stop
         requires open { self.old.complete ≡ false }
-        requires halt { IsHalt (state_of P.timeline W.sets W.moves R.rules B.store self.old) halt.now }
-        ensures ended { IsHalted (state_of P.timeline W.sets W.moves R.rules B.store self.old) (state_of P.timeline W.sets W.moves R.rules B.store self.new) result }
+        requires halt { IsHalt (state_of (reader P.timeline L.values) W.sets W.moves R.rules B.store self.old) halt.now }
+        ensures ended { IsHalted (state_of (reader P.timeline L.values) W.sets W.moves R.rules B.store self.old) (state_of (reader P.timeline L.values) W.sets W.moves R.rules B.store self.new) result }
         ensures still { self.new.work.draws ≡ self.old.work.draws }
         ensures plain { result ≡ Stop.OutOfMemory → B.JOINS ≡ true → IsLined (P.timeline self.old.paths) → ⊥ }
     {

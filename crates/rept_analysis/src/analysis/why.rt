@@ -6,12 +6,13 @@ ghost use Rattle.rept_report.specs.Log.{entry, place_of, oldest};
 ghost use Rattle.rept_report.specs.Reasons.{StandsIn};
 ghost use Rattle.rept_report.specs.Why.{because, IsReason, IsLeastFront};
 ghost use Rattle.rept_log.specs.Fronts.{IsInPlace, told_by};
-ghost use Rattle.rept_analysis.specs.State.{setting_of, state_of};
+ghost use Rattle.rept_analysis.specs.State.{setting_of, state_of, reader};
 ghost use Rattle.rept_analysis.specs.Kept.{answers};
 ghost use Rattle.rept_analysis.specs.Reasoned.{AreSetsOf, KeepsAll, IsNotLast};
 
 use super::Analysis;
 use rept_isa::Reg;
+use rept_log::LastValues;
 use rept_reason::{Cell, Fact, Reason};
 use rept_report::Paths;
 use rept_span::{Spans, Transfer};
@@ -19,7 +20,14 @@ use rept_versions::ByteFacts;
 use rept_view::RowRules;
 use std::alloc::{AllocError as OutOfMemory, Global};
 
-impl<'a, P: Paths + Drop, B: ByteFacts, W: Transfer, R: RowRules> Analysis<'a, P, B, W, R> {
+impl<'a, P: Paths + Drop, L: LastValues + Drop, B: ByteFacts, W: Transfer, R: RowRules> Analysis<
+    'a,
+    P,
+    L,
+    B,
+    W,
+    R,
+> {
     /// The place in the log of the fact on a register at a point.
     fn place_at(&self, point: u32, r: Reg) -> Option<u32>
         requires point { point ≤ (P.timeline self.now.paths).legs.count }
@@ -46,7 +54,7 @@ impl<'a, P: Paths + Drop, B: ByteFacts, W: Transfer, R: RowRules> Analysis<'a, P
         requires complete { self.now.complete ≡ true }
         ensures found { IfSome result (λ t. entry self.now.known.log t ≡ Some fact.now) }
         ensures named { IfSome result (λ _. 0 < r) }
-        ensures none { IfNone result (answers (state_of P.timeline W.sets W.moves R.rules B.store self.now) fact.now.point fact.now.cell ≢ Some fact.now.value) }
+        ensures none { IfNone result (answers (state_of (reader P.timeline L.values) W.sets W.moves R.rules B.store self.now) fact.now.point fact.now.cell ≢ Some fact.now.value) }
     {
         self.held();
         if r.number() == 0 {
@@ -70,10 +78,10 @@ impl<'a, P: Paths + Drop, B: ByteFacts, W: Transfer, R: RowRules> Analysis<'a, P
         requires point { fact.now.point ≤ (P.timeline self.old.paths).legs.count }
         requires cell { fact.now.cell ≡ Register r }
         requires complete { self.old.complete ≡ true }
-        ensures none { IfOk result (λ found. IfNone found (answers (state_of P.timeline W.sets W.moves R.rules B.store self.old) fact.now.point fact.now.cell ≢ Some fact.now.value)) }
-        ensures reason { IfOk result (λ found. IfSome found (λ reason. IsReason (setting_of P.timeline W.sets W.moves R.rules self.old) self.old.known.log fact.now (told_by reason))) }
+        ensures none { IfOk result (λ found. IfNone found (answers (state_of (reader P.timeline L.values) W.sets W.moves R.rules B.store self.old) fact.now.point fact.now.cell ≢ Some fact.now.value)) }
+        ensures reason { IfOk result (λ found. IfSome found (λ reason. IsReason (setting_of (reader P.timeline L.values) W.sets W.moves R.rules self.old) self.old.known.log fact.now (told_by reason))) }
         ensures room { IfOk result (λ found. IfSome found IsInPlace) }
-        ensures same { KeepsAll (state_of P.timeline W.sets W.moves R.rules B.store self.old) (state_of P.timeline W.sets W.moves R.rules B.store self.new) }
+        ensures same { KeepsAll (state_of (reader P.timeline L.values) W.sets W.moves R.rules B.store self.old) (state_of (reader P.timeline L.values) W.sets W.moves R.rules B.store self.new) }
     {
         self.held();
         match self.place(fact, r) {
@@ -94,11 +102,11 @@ impl<'a, P: Paths + Drop, B: ByteFacts, W: Transfer, R: RowRules> Analysis<'a, P
         a: u32,
     ) -> Result<bool, OutOfMemory>
         requires within { limit ≤ length self.now.known.log }
-        requires sets { AreSetsOf (setting_of P.timeline W.sets W.moves R.rules self.now) (oldest limit self.now.known.log) spans.now }
+        requires sets { AreSetsOf (setting_of (reader P.timeline L.values) W.sets W.moves R.rules self.now) (oldest limit self.now.known.log) spans.now }
         requires moment { fact.now.point ≤ (P.timeline self.now.paths).moments.end }
         requires cell { fact.now.cell ≡ Byte a }
         requires complete { self.now.complete ≡ true }
-        ensures { IfOk result (λ stands. IsTrue stands ↔ StandsIn (setting_of P.timeline W.sets W.moves R.rules self.now) (oldest limit self.now.known.log) fact.now) }
+        ensures { IfOk result (λ stands. IsTrue stands ↔ StandsIn (setting_of (reader P.timeline L.values) W.sets W.moves R.rules self.now) (oldest limit self.now.known.log) fact.now) }
     {
         self.held();
         let found = self.byte_below(spans, limit, fact.point, a)?;
@@ -115,8 +123,8 @@ impl<'a, P: Paths + Drop, B: ByteFacts, W: Transfer, R: RowRules> Analysis<'a, P
         requires moment { fact.now.point ≤ (P.timeline self.now.paths).moments.end }
         requires cell { fact.now.cell ≡ Byte a }
         requires complete { self.now.complete ≡ true }
-        requires known { answers (state_of P.timeline W.sets W.moves R.rules B.store self.now) fact.now.point fact.now.cell ≡ Some fact.now.value }
-        ensures least { IfOk result (λ t. IsLeastFront (setting_of P.timeline W.sets W.moves R.rules self.now) self.now.known.log fact.now t) }
+        requires known { answers (state_of (reader P.timeline L.values) W.sets W.moves R.rules B.store self.now) fact.now.point fact.now.cell ≡ Some fact.now.value }
+        ensures least { IfOk result (λ t. IsLeastFront (setting_of (reader P.timeline L.values) W.sets W.moves R.rules self.now) self.now.known.log fact.now t) }
         ensures within { IfOk result (λ t. t ≤ length self.now.known.log) }
         ensures sized { spans.new.points ≡ (P.timeline self.now.paths).legs.count + 1 }
     {
@@ -149,12 +157,12 @@ impl<'a, P: Paths + Drop, B: ByteFacts, W: Transfer, R: RowRules> Analysis<'a, P
         requires moment { fact.now.point ≤ (P.timeline self.old.paths).moments.end }
         requires cell { fact.now.cell ≡ Byte a }
         requires complete { self.old.complete ≡ true }
-        requires least { IsLeastFront (setting_of P.timeline W.sets W.moves R.rules self.old) self.old.known.log fact.now (place + 1) }
+        requires least { IsLeastFront (setting_of (reader P.timeline L.values) W.sets W.moves R.rules self.old) self.old.known.log fact.now (place + 1) }
         requires entry { entry self.old.known.log place ≡ Some fact.now }
-        ensures none { IfOk result (λ found. IfNone found (answers (state_of P.timeline W.sets W.moves R.rules B.store self.old) fact.now.point fact.now.cell ≢ Some fact.now.value)) }
-        ensures reason { IfOk result (λ found. IfSome found (λ reason. IsReason (setting_of P.timeline W.sets W.moves R.rules self.old) self.old.known.log fact.now (told_by reason))) }
+        ensures none { IfOk result (λ found. IfNone found (answers (state_of (reader P.timeline L.values) W.sets W.moves R.rules B.store self.old) fact.now.point fact.now.cell ≢ Some fact.now.value)) }
+        ensures reason { IfOk result (λ found. IfSome found (λ reason. IsReason (setting_of (reader P.timeline L.values) W.sets W.moves R.rules self.old) self.old.known.log fact.now (told_by reason))) }
         ensures room { IfOk result (λ found. IfSome found IsInPlace) }
-        ensures same { KeepsAll (state_of P.timeline W.sets W.moves R.rules B.store self.old) (state_of P.timeline W.sets W.moves R.rules B.store self.new) }
+        ensures same { KeepsAll (state_of (reader P.timeline L.values) W.sets W.moves R.rules B.store self.old) (state_of (reader P.timeline L.values) W.sets W.moves R.rules B.store self.new) }
     {
         self.held();
         self.fill_sets(spans, place);
@@ -175,10 +183,10 @@ impl<'a, P: Paths + Drop, B: ByteFacts, W: Transfer, R: RowRules> Analysis<'a, P
         requires moment { fact.now.point ≤ (P.timeline self.now.paths).moments.end }
         requires cell { fact.now.cell ≡ Byte a }
         requires complete { self.now.complete ≡ true }
-        requires least { IsLeastFront (setting_of P.timeline W.sets W.moves R.rules self.now) self.now.known.log fact.now limit }
+        requires least { IsLeastFront (setting_of (reader P.timeline L.values) W.sets W.moves R.rules self.now) self.now.known.log fact.now limit }
         requires other { IsNotLast self.now.known.log fact.now limit }
-        ensures none { IfOk result (λ found. IfNone found (answers (state_of P.timeline W.sets W.moves R.rules B.store self.now) fact.now.point fact.now.cell ≢ Some fact.now.value)) }
-        ensures reason { IfOk result (λ found. IfSome found (λ reason. IsReason (setting_of P.timeline W.sets W.moves R.rules self.now) self.now.known.log fact.now (told_by reason))) }
+        ensures none { IfOk result (λ found. IfNone found (answers (state_of (reader P.timeline L.values) W.sets W.moves R.rules B.store self.now) fact.now.point fact.now.cell ≢ Some fact.now.value)) }
+        ensures reason { IfOk result (λ found. IfSome found (λ reason. IsReason (setting_of (reader P.timeline L.values) W.sets W.moves R.rules self.now) self.now.known.log fact.now (told_by reason))) }
         ensures room { IfOk result (λ found. IfSome found IsInPlace) }
     {
         self.held();
@@ -191,7 +199,7 @@ impl<'a, P: Paths + Drop, B: ByteFacts, W: Transfer, R: RowRules> Analysis<'a, P
         requires moment { fact.now.point ≤ (P.timeline self.now.paths).moments.end }
         requires cell { fact.now.cell ≡ Byte a }
         requires complete { self.now.complete ≡ true }
-        ensures { IsTrue result ↔ (answers (state_of P.timeline W.sets W.moves R.rules B.store self.now) fact.now.point fact.now.cell ≡ Some fact.now.value) }
+        ensures { IsTrue result ↔ (answers (state_of (reader P.timeline L.values) W.sets W.moves R.rules B.store self.now) fact.now.point fact.now.cell ≡ Some fact.now.value) }
     {
         match self.byte(fact.point, a) {
             Some(byte) => u32::from(byte) == fact.value,
@@ -218,10 +226,10 @@ impl<'a, P: Paths + Drop, B: ByteFacts, W: Transfer, R: RowRules> Analysis<'a, P
         requires moment { fact.now.point ≤ (P.timeline self.old.paths).moments.end }
         requires cell { fact.now.cell ≡ Byte a }
         requires complete { self.old.complete ≡ true }
-        ensures none { IfOk result (λ found. IfNone found (answers (state_of P.timeline W.sets W.moves R.rules B.store self.old) fact.now.point fact.now.cell ≢ Some fact.now.value)) }
-        ensures reason { IfOk result (λ found. IfSome found (λ reason. IsReason (setting_of P.timeline W.sets W.moves R.rules self.old) self.old.known.log fact.now (told_by reason))) }
+        ensures none { IfOk result (λ found. IfNone found (answers (state_of (reader P.timeline L.values) W.sets W.moves R.rules B.store self.old) fact.now.point fact.now.cell ≢ Some fact.now.value)) }
+        ensures reason { IfOk result (λ found. IfSome found (λ reason. IsReason (setting_of (reader P.timeline L.values) W.sets W.moves R.rules self.old) self.old.known.log fact.now (told_by reason))) }
         ensures room { IfOk result (λ found. IfSome found IsInPlace) }
-        ensures same { KeepsAll (state_of P.timeline W.sets W.moves R.rules B.store self.old) (state_of P.timeline W.sets W.moves R.rules B.store self.new) }
+        ensures same { KeepsAll (state_of (reader P.timeline L.values) W.sets W.moves R.rules B.store self.old) (state_of (reader P.timeline L.values) W.sets W.moves R.rules B.store self.new) }
     {
         if !self.is_answered(fact, a) {
             return Ok(None);
@@ -241,10 +249,10 @@ impl<'a, P: Paths + Drop, B: ByteFacts, W: Transfer, R: RowRules> Analysis<'a, P
         requires point { (r : ℕ) → fact.cell ≡ Register r → fact.point ≤ (P.timeline self.old.paths).legs.count }
         requires moment { (a : ℕ) → fact.cell ≡ Byte a → fact.point ≤ (P.timeline self.old.paths).moments.end }
         requires complete { self.old.complete ≡ true }
-        ensures none { IfOk result (λ found. IfNone found (answers (state_of P.timeline W.sets W.moves R.rules B.store self.old) fact.point fact.cell ≢ Some fact.value)) }
-        ensures reason { IfOk result (λ found. IfSome found (λ reason. IsReason (setting_of P.timeline W.sets W.moves R.rules self.old) self.old.known.log fact (because reason.rule reason.premises.items reason.ranges.items))) }
+        ensures none { IfOk result (λ found. IfNone found (answers (state_of (reader P.timeline L.values) W.sets W.moves R.rules B.store self.old) fact.point fact.cell ≢ Some fact.value)) }
+        ensures reason { IfOk result (λ found. IfSome found (λ reason. IsReason (setting_of (reader P.timeline L.values) W.sets W.moves R.rules self.old) self.old.known.log fact (because reason.rule reason.premises.items reason.ranges.items))) }
         ensures room { IfOk result (λ found. IfSome found IsInPlace) }
-        ensures same { KeepsAll (state_of P.timeline W.sets W.moves R.rules B.store self.old) (state_of P.timeline W.sets W.moves R.rules B.store self.new) }
+        ensures same { KeepsAll (state_of (reader P.timeline L.values) W.sets W.moves R.rules B.store self.old) (state_of (reader P.timeline L.values) W.sets W.moves R.rules B.store self.new) }
     {
         match &fact.cell {
             Cell::Register(r) => self.why_register(alloc, &fact, *r),

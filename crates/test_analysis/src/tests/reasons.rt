@@ -2,7 +2,7 @@
 
 use super::{BOUNDED, CODE, STORED, core, steps_of};
 use rept_amo::Atomic;
-use rept_analysis::Analysis;
+use rept_analysis::{Analysis, ThreadEnd};
 use rept_dump::Dump;
 use rept_elf::{Image, Want};
 use rept_isa::Reg;
@@ -299,9 +299,10 @@ fn check_dump<B: ByteFacts>(
     dump: &Dump<'_>,
     told: &[Told],
 ) -> Result<(), Fail> {
-    let mut analysis: Analysis<OnePath<'_>, B, Range, Atomic> = Analysis::prepare(
+    let mut analysis: Analysis<OnePath<'_>, ThreadEnd, B, Range, Atomic> = Analysis::prepare(
         alloc,
         OnePath::new(steps.rows()),
+        ThreadEnd::new(dump.status().regs),
         dump,
         Atomic::new(),
     )?;

@@ -2,7 +2,7 @@
 
 use super::Run;
 use rept_amo::Atomic;
-use rept_analysis::{Analysis, Stop};
+use rept_analysis::{Analysis, Stop, ThreadEnd};
 use rept_isa::Reg;
 use rept_line::OnePath;
 use rept_partial::{Flat, Range};
@@ -79,7 +79,7 @@ impl ByteFacts for Refusing {
 /// How many of the registers that are looked at are known. Each has the wanted value then.
 fn known_registers<B: ByteFacts>(
     rt: &impl Abort,
-    analysis: &Analysis<OnePath<'_>, B, Range, Atomic>,
+    analysis: &Analysis<OnePath<'_>, ThreadEnd, B, Range, Atomic>,
     run: &Run,
 ) -> u32 {
     let count = analysis.paths().last_point() as usize;
@@ -99,7 +99,7 @@ fn known_registers<B: ByteFacts>(
 /// How many of the bytes that are looked at are known. Each has the wanted value then.
 fn known_bytes<B: ByteFacts>(
     rt: &impl Abort,
-    analysis: &Analysis<OnePath<'_>, B, Range, Atomic>,
+    analysis: &Analysis<OnePath<'_>, ThreadEnd, B, Range, Atomic>,
     run: &Run,
 ) -> u32 {
     let count = analysis.paths().last_point() as usize;
@@ -119,7 +119,7 @@ fn known_bytes<B: ByteFacts>(
 /// was known is known still.
 pub fn finish<B: ByteFacts>(
     rt: &impl Abort,
-    analysis: &mut Analysis<OnePath<'_>, B, Range, Atomic>,
+    analysis: &mut Analysis<OnePath<'_>, ThreadEnd, B, Range, Atomic>,
     run: &Run,
 ) -> u32 {
     let mut registers = 0;

@@ -1,7 +1,7 @@
 use Rattle.std.proofs.Common.{◌≢◌, ◌<◌, ◌+◌, ℕ, Some, refl}
 use Rattle.rept_isa.specs.Operands.{written_by}
 use Rattle.rept_reason.specs.declared.fact.Cell.TheVariants.{Register}
-use Rattle.rept_analysis.specs.State.{state_of}
+use Rattle.rept_analysis.specs.State.{state_of, reader}
 use Rattle.rept_analysis.specs.Drawing.{Knows, IsLearntAt, IsKeptAt}
 use Rattle.rept_analysis.proofs.Drawn.{Drew_both, Drew_same, Drew_as, Grows_trans, row_after}
 use Rattle.rept_analysis.proofs.Following.{onward_follows, back_follows, kept_at, back_known, kept_equal}
@@ -10,12 +10,12 @@ use Rattle.rept_analysis.proofs.analysis.Analysis.carry.Goals as goal
 pub learn_if-requires-clause-follows : goal.learn_if-requires-clause-follows
 learn_if-requires-clause-follows g c =
     let kept : written_by c.args.row.now.instr ≢ Some c.args.r = c.if-not-keeps.ensures.0 refl in
-    λ v is named in_file small. onward_follows (state_of g.P.Paths.timeline g.W.Partial.sets g.W.Transfer.moves g.R.RowRules.rules g.B.ByteFacts.store c.args.self.now) c.args.i c.args.row.now c.requires.row c.requires.inside c.args.r v named in_file small kept c.known-before.result c.known-before.ensures.value is
+    λ v is named in_file small. onward_follows (state_of (reader g.P.Paths.timeline g.L.LastValues.values) g.W.Partial.sets g.W.Transfer.moves g.R.RowRules.rules g.B.ByteFacts.store c.args.self.now) c.args.i c.args.row.now c.requires.row c.requires.inside c.args.r v named in_file small kept c.known-before.result c.known-before.ensures.value is
 
 pub learn_if-requires-2-clause-follows : goal.learn_if-requires-2-clause-follows
 learn_if-requires-2-clause-follows g c =
     let kept : written_by c.args.row.now.instr ≢ Some c.args.r = c.if-not-keeps.ensures.0 refl in
-    let b = state_of g.P.Paths.timeline g.W.Partial.sets g.W.Transfer.moves g.R.RowRules.rules g.B.ByteFacts.store c.learn_if.new.self in
+    let b = state_of (reader g.P.Paths.timeline g.L.LastValues.values) g.W.Partial.sets g.W.Transfer.moves g.R.RowRules.rules g.B.ByteFacts.store c.learn_if.new.self in
     let grows = c.in_ok-onward.ensures.grows in
     let inside : c.args.i < b.path.given.legs.count = rw grows.count c.requires.inside in
     λ v is named in_file small. back_follows b c.args.i c.args.row.now (row_after _ b c.args.i c.args.row.now grows c.requires.row) inside c.args.r v named in_file small kept c.known-after.result c.known-after.ensures.value is
@@ -25,7 +25,7 @@ returns-in_err-back-clause-grows g c = Grows_trans _ _ _ c.in_ok-onward.ensures.
 
 pub returns-clause-drew : goal.returns-clause-drew
 returns-clause-drew g c =
-    let b = state_of g.P.Paths.timeline g.W.Partial.sets g.W.Transfer.moves g.R.RowRules.rules g.B.ByteFacts.store c.learn_if.new.self in
+    let b = state_of (reader g.P.Paths.timeline g.L.LastValues.values) g.W.Partial.sets g.W.Transfer.moves g.R.RowRules.rules g.B.ByteFacts.store c.learn_if.new.self in
     let i = c.args.i in
     let r = c.args.r in
     let back = Drew_as b _ c.in_ok-back.back (IsLearntAt i r c.known-after.result) (λ s. (v : ℕ) → 0 < r → Knows (i + 1) (Register r) v s → Knows i (Register r) v s) c.in_ok-back.ensures.drew (λ h. back_known b i r c.known-after.result c.known-after.ensures.value h) in
@@ -35,7 +35,7 @@ returns-clause-drew g c =
 
 pub returns-then-is_same-clause-drew : goal.returns-then-is_same-clause-drew
 returns-then-is_same-clause-drew g c =
-    Drew_same (state_of g.P.Paths.timeline g.W.Partial.sets g.W.Transfer.moves g.R.RowRules.rules g.B.ByteFacts.store c.args.self.now) (λ s. 0 < c.args.r → written_by c.args.row.now.instr ≢ Some c.args.r → IsKeptAt c.args.i c.args.r s) (λ named kept. kept_equal (state_of g.P.Paths.timeline g.W.Partial.sets g.W.Transfer.moves g.R.RowRules.rules g.B.ByteFacts.store c.args.self.now) c.args.i c.args.r c.known-before.result c.known-later.result c.known-before.ensures.value c.known-later.ensures.value (c.if-is_same.ensures.0 refl) named)
+    Drew_same (state_of (reader g.P.Paths.timeline g.L.LastValues.values) g.W.Partial.sets g.W.Transfer.moves g.R.RowRules.rules g.B.ByteFacts.store c.args.self.now) (λ s. 0 < c.args.r → written_by c.args.row.now.instr ≢ Some c.args.r → IsKeptAt c.args.i c.args.r s) (λ named kept. kept_equal (state_of (reader g.P.Paths.timeline g.L.LastValues.values) g.W.Partial.sets g.W.Transfer.moves g.R.RowRules.rules g.B.ByteFacts.store c.args.self.now) c.args.i c.args.r c.known-before.result c.known-later.result c.known-before.ensures.value c.known-later.ensures.value (c.if-is_same.ensures.0 refl) named)
 
 pub returns-clause-grows : goal.returns-clause-grows
 returns-clause-grows g c = Grows_trans _ _ _ c.in_ok-onward.ensures.grows c.in_ok-back.ensures.grows

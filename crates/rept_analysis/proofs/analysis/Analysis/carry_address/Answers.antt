@@ -1,5 +1,5 @@
 use Rattle.std.proofs.Common.{◌+◌, ◌||◌, arith}
-use Rattle.rept_analysis.specs.State.{State, timeline_of, state_of}
+use Rattle.rept_analysis.specs.State.{State, timeline_of, state_of, reader}
 use Rattle.rept_report.specs.Timeline.{IsStrip}
 use Rattle.rept_analysis.specs.Drawing.{IsCarriedIn, AreLinks, IsCarriedUpTo, IsCarriedAlong}
 use Rattle.rept_analysis.proofs.Drawn.{Drew_as, Drew_both, Drew_same, Grows_itself, Grows_trans}
@@ -14,13 +14,13 @@ pub carry_strip-requires-clause-strip : goal.carry_strip-requires-clause-strip
 carry_strip-requires-clause-strip g c = let its = c.strip-strip.ensures in strip_at _ c.loop-from.from c.strip-strip.result.first c.strip-strip.result its (omega arith) (let low = its.from in let high = its.to in omega (arith, low, high))
 
 pub carry_strip-requires-clause-writings : goal.carry_strip-requires-clause-writings
-carry_strip-requires-clause-writings g c = writings_after (state_of g.P.Paths.timeline g.W.Partial.sets g.W.Transfer.moves g.R.RowRules.rules g.B.ByteFacts.store c.args.self.now) (state_of g.P.Paths.timeline g.W.Partial.sets g.W.Transfer.moves g.R.RowRules.rules g.B.ByteFacts.store c.loop-from.self) c.loop-from.invariant.grows c.requires.writings
+carry_strip-requires-clause-writings g c = writings_after (state_of (reader g.P.Paths.timeline g.L.LastValues.values) g.W.Partial.sets g.W.Transfer.moves g.R.RowRules.rules g.B.ByteFacts.store c.args.self.now) (state_of (reader g.P.Paths.timeline g.L.LastValues.values) g.W.Partial.sets g.W.Transfer.moves g.R.RowRules.rules g.B.ByteFacts.store c.loop-from.self) c.loop-from.invariant.grows c.requires.writings
 
 pub carry_links-requires-clause-writings : goal.carry_links-requires-clause-writings
 carry_links-requires-clause-writings g c =
-    let s = (state_of g.P.Paths.timeline g.W.Partial.sets g.W.Transfer.moves g.R.RowRules.rules g.B.ByteFacts.store c.args.self.now) in
-    let t = (state_of g.P.Paths.timeline g.W.Partial.sets g.W.Transfer.moves g.R.RowRules.rules g.B.ByteFacts.store c.loop-from.self) in
-    let u = (state_of g.P.Paths.timeline g.W.Partial.sets g.W.Transfer.moves g.R.RowRules.rules g.B.ByteFacts.store c.carry_strip.new.self) in
+    let s = (state_of (reader g.P.Paths.timeline g.L.LastValues.values) g.W.Partial.sets g.W.Transfer.moves g.R.RowRules.rules g.B.ByteFacts.store c.args.self.now) in
+    let t = (state_of (reader g.P.Paths.timeline g.L.LastValues.values) g.W.Partial.sets g.W.Transfer.moves g.R.RowRules.rules g.B.ByteFacts.store c.loop-from.self) in
+    let u = (state_of (reader g.P.Paths.timeline g.L.LastValues.values) g.W.Partial.sets g.W.Transfer.moves g.R.RowRules.rules g.B.ByteFacts.store c.carry_strip.new.self) in
     writings_after s u (Grows_trans s t u c.loop-from.invariant.grows c.in_ok-inside.ensures.grows) c.requires.writings
 
 pub returns-in_err-inside-clause-grows : goal.returns-in_err-inside-clause-grows
@@ -31,10 +31,10 @@ returns-in_err-links-clause-grows g c = Grows_trans _ _ _ (Grows_trans _ _ _ c.l
 
 pub loop-from-preserved : goal.loop-from-preserved
 loop-from-preserved g c =
-    let s = (state_of g.P.Paths.timeline g.W.Partial.sets g.W.Transfer.moves g.R.RowRules.rules g.B.ByteFacts.store c.args.self.now) in
-    let t = (state_of g.P.Paths.timeline g.W.Partial.sets g.W.Transfer.moves g.R.RowRules.rules g.B.ByteFacts.store c.loop-from.self) in
-    let u = (state_of g.P.Paths.timeline g.W.Partial.sets g.W.Transfer.moves g.R.RowRules.rules g.B.ByteFacts.store c.carry_strip.new.self) in
-    let v = (state_of g.P.Paths.timeline g.W.Partial.sets g.W.Transfer.moves g.R.RowRules.rules g.B.ByteFacts.store c.carry_links.new.self) in
+    let s = (state_of (reader g.P.Paths.timeline g.L.LastValues.values) g.W.Partial.sets g.W.Transfer.moves g.R.RowRules.rules g.B.ByteFacts.store c.args.self.now) in
+    let t = (state_of (reader g.P.Paths.timeline g.L.LastValues.values) g.W.Partial.sets g.W.Transfer.moves g.R.RowRules.rules g.B.ByteFacts.store c.loop-from.self) in
+    let u = (state_of (reader g.P.Paths.timeline g.L.LastValues.values) g.W.Partial.sets g.W.Transfer.moves g.R.RowRules.rules g.B.ByteFacts.store c.carry_strip.new.self) in
+    let v = (state_of (reader g.P.Paths.timeline g.L.LastValues.values) g.W.Partial.sets g.W.Transfer.moves g.R.RowRules.rules g.B.ByteFacts.store c.carry_links.new.self) in
     let a = c.args.a in
     let from = c.loop-from.from in
     let strip = c.strip-strip.result in
@@ -52,8 +52,8 @@ loop-from-preserved g c =
 
 pub returns-clause-drew : goal.returns-clause-drew
 returns-clause-drew g c =
-    let s = (state_of g.P.Paths.timeline g.W.Partial.sets g.W.Transfer.moves g.R.RowRules.rules g.B.ByteFacts.store c.args.self.now) in
-    let t = (state_of g.P.Paths.timeline g.W.Partial.sets g.W.Transfer.moves g.R.RowRules.rules g.B.ByteFacts.store c.loop-from.self) in
+    let s = (state_of (reader g.P.Paths.timeline g.L.LastValues.values) g.W.Partial.sets g.W.Transfer.moves g.R.RowRules.rules g.B.ByteFacts.store c.args.self.now) in
+    let t = (state_of (reader g.P.Paths.timeline g.L.LastValues.values) g.W.Partial.sets g.W.Transfer.moves g.R.RowRules.rules g.B.ByteFacts.store c.loop-from.self) in
     let end = c.loop-from.invariant.end_is in
     let ended = c.loop-from-test.false in
     Drew_as s t c.loop-from.learnt (IsCarriedUpTo c.args.a c.loop-from.from) (IsCarriedAlong c.args.a) c.loop-from.invariant.drew (λ p. up_to_all s c.args.a c.loop-from.from (g.met.P.Paths.lawful c.args.self.now.paths).moments.inside (omega (arith, end, ended)) p)

@@ -1,6 +1,6 @@
 use Rattle.std.proofs.Common.{◌≢◌, ℕ, ◌+◌, ◌<◌, ◌≤◌, Some, arith}
 use Rattle.rept_isa.specs.Operands.{written_by}
-use Rattle.rept_analysis.specs.State.{State, state_of}
+use Rattle.rept_analysis.specs.State.{State, state_of, reader}
 use Rattle.rept_analysis.specs.Drawing.{IsKeptAt, KeptBelow}
 use Rattle.rept_analysis.proofs.Drawn.{Drew_both, Drew_as, Grows_trans, one_more}
 use Rattle.rept_analysis.proofs.analysis.Analysis.carry_all.Goals as goal
@@ -17,7 +17,7 @@ loop-r-preserved g c =
       grows = Grows_trans _ _ _ c.loop-r.invariant.grows c.in_ok-new.ensures.grows;
       drew = Drew_both _ _ _ c.loop-r.learnt c.in_ok-new.new (KeptBelow c.loop-r.r row c.args.i) (λ a. C a c.loop-r.r) (KeptBelow (c.loop-r.r + 1) row c.args.i)
           c.loop-r.invariant.grows c.in_ok-new.ensures.grows c.loop-r.invariant.drew here
-          (λ below at_r r named inside kept. one_more (C (state_of g.P.Paths.timeline g.W.Partial.sets g.W.Transfer.moves g.R.RowRules.rules g.B.ByteFacts.store c.args.self.now)) c.loop-r.r (λ s lt n k. below s n lt k) at_r r inside named kept);
+          (λ below at_r r named inside kept. one_more (C (state_of (reader g.P.Paths.timeline g.L.LastValues.values) g.W.Partial.sets g.W.Transfer.moves g.R.RowRules.rules g.B.ByteFacts.store c.args.self.now)) c.loop-r.r (λ s lt n k. below s n lt k) at_r r inside named kept);
     }
 
 pub returns-clause-drew : goal.returns-clause-drew

@@ -1,5 +1,5 @@
 use Rattle.std.proofs.Common.{arith}
-use Rattle.rept_analysis.specs.State.{State, state_of}
+use Rattle.rept_analysis.specs.State.{State, state_of, reader}
 use Rattle.rept_analysis.specs.Drawing.{IsCarriedFrom}
 use Rattle.rept_analysis.proofs.Drawn.{Drew_as}
 use Rattle.rept_analysis.proofs.analysis.Analysis.carry_around.Goals as goal
@@ -14,4 +14,4 @@ pub carry_segment-requires-clause-to : goal.carry_segment-requires-clause-to
 carry_segment-requires-clause-to g c = let within = c.piece-piece.ensures.within in let inside = c.strip-strip.ensures.inside in omega (arith, within, inside)
 
 pub returns-clause-drew : goal.returns-clause-drew
-returns-clause-drew g c = Drew_as (state_of g.P.Paths.timeline g.W.Partial.sets g.W.Transfer.moves g.R.RowRules.rules g.B.ByteFacts.store c.args.self.now) _ c.in_ok-learnt.learnt (IsCarriedFrom c.args.a c.piece-piece.result.from c.piece-piece.result.to) (λ (x : State g.row.W.Denot). Unit {0}) c.in_ok-learnt.ensures.drew (λ h. tt)
+returns-clause-drew g c = Drew_as (state_of (reader g.P.Paths.timeline g.L.LastValues.values) g.W.Partial.sets g.W.Transfer.moves g.R.RowRules.rules g.B.ByteFacts.store c.args.self.now) _ c.in_ok-learnt.learnt (IsCarriedFrom c.args.a c.piece-piece.result.from c.piece-piece.result.to) (λ (x : State g.row.W.Denot). Unit {0}) c.in_ok-learnt.ensures.drew (λ h. tt)

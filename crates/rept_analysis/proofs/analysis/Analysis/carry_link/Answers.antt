@@ -1,6 +1,6 @@
 use Rattle.std.proofs.Common.{◌≡◌, ◌+◌, ℕ, true, sym, subst}
 use Rattle.rept_report.specs.Spots.{passage}
-use Rattle.rept_analysis.specs.State.{state_of}
+use Rattle.rept_analysis.specs.State.{state_of, reader}
 use Rattle.rept_analysis.specs.Drawing.{IsCarriedIf}
 use Rattle.rept_analysis.proofs.Drawn.{Drew_as, Drew_same}
 use Rattle.rept_analysis.proofs.Going.{blocked_if}
@@ -11,12 +11,12 @@ carry_step-requires-clause-next g c = subst (λ (n : ℕ). (g.P.Paths.timeline c
 
 pub returns-then-is_after-clause-drew : goal.returns-then-is_after-clause-drew
 returns-then-is_after-clause-drew g c =
-    let s = (state_of g.P.Paths.timeline g.W.Partial.sets g.W.Transfer.moves g.R.RowRules.rules g.B.ByteFacts.store c.args.self.now) in
+    let s = (state_of (reader g.P.Paths.timeline g.L.LastValues.values) g.W.Partial.sets g.W.Transfer.moves g.R.RowRules.rules g.B.ByteFacts.store c.args.self.now) in
     Drew_as s _ c.in_ok-learnt.learnt (IsCarriedIf (passage c.args.a c.args.m (c.args.m + 1))) (IsCarriedIf (passage c.args.a c.args.m c.args.w)) c.in_ok-learnt.ensures.drew (λ h. subst (λ (n : ℕ). IsCarriedIf (passage c.args.a c.args.m n) s) (sym (c.is_after.ensures.yes c.if-is_after.true)) h)
 
 pub returns-then-not-is_carried-clause-drew : goal.returns-then-not-is_carried-clause-drew
 returns-then-not-is_carried-clause-drew g c =
-    let s = (state_of g.P.Paths.timeline g.W.Partial.sets g.W.Transfer.moves g.R.RowRules.rules g.B.ByteFacts.store c.args.self.now) in
+    let s = (state_of (reader g.P.Paths.timeline g.L.LastValues.values) g.W.Partial.sets g.W.Transfer.moves g.R.RowRules.rules g.B.ByteFacts.store c.args.self.now) in
     Drew_same s (IsCarriedIf (passage c.args.a c.args.m c.args.w)) (blocked_if s (passage c.args.a c.args.m c.args.w) (c.is_carried.ensures.no c.if-not-is_carried.true))
 
 pub tell_either-requires-clause-room : goal.tell_either-requires-clause-room

@@ -1,7 +1,7 @@
 use Rattle.std.proofs.Common.{◌+◌, Some, None, refl, false, arith}
 use Rattle.rept_report.specs.Timeline.{IsNextFrom}
 use Rattle.rept_report.specs.Spots.{passage}
-use Rattle.rept_analysis.specs.State.{State, state_of}
+use Rattle.rept_analysis.specs.State.{State, state_of, reader}
 use Rattle.rept_analysis.specs.Drawing.{IsCarriedIf, AreLinksBelow, AreLinks}
 use Rattle.rept_analysis.proofs.Drawn.{Drew_as, Drew_both, Drew_first, Drew_same, Grows_itself, Grows_trans}
 use Rattle.rept_analysis.proofs.Listing.{writings_after}
@@ -13,8 +13,8 @@ loop-least-init g c = record { grows = Grows_itself _; drew = Drew_same _ _ (lin
 
 pub returns-in_default-clause-drew : goal.returns-in_default-clause-drew
 returns-in_default-clause-drew g c =
-    let s = (state_of g.P.Paths.timeline g.W.Partial.sets g.W.Transfer.moves g.R.RowRules.rules g.B.ByteFacts.store c.args.self.now) in
-    let t = (state_of g.P.Paths.timeline g.W.Partial.sets g.W.Transfer.moves g.R.RowRules.rules g.B.ByteFacts.store c.loop-least.self) in
+    let s = (state_of (reader g.P.Paths.timeline g.L.LastValues.values) g.W.Partial.sets g.W.Transfer.moves g.R.RowRules.rules g.B.ByteFacts.store c.args.self.now) in
+    let t = (state_of (reader g.P.Paths.timeline g.L.LastValues.values) g.W.Partial.sets g.W.Transfer.moves g.R.RowRules.rules g.B.ByteFacts.store c.loop-least.self) in
     let least = c.loop-least.least in
     let Q : State g.row.W.Denot → Type 0 = λ x. IsNextFrom x.path.given.moments c.args.m least None in
     Drew_first s t t c.loop-least.learnt false (AreLinksBelow c.args.a c.args.m least) Q (AreLinks c.args.a c.args.m) (Grows_itself t) refl c.loop-least.invariant.drew (Drew_same t Q (next_none t.path.given.moments c.args.m least c.next_from.result c.in_default.not-Some c.next_from.ensures)) (λ p q. links_none s c.args.a c.args.m least p q)
@@ -23,16 +23,16 @@ pub carry_link-requires-clause-next : goal.carry_link-requires-clause-next
 carry_link-requires-clause-next g c = (rw c.in-Some.is at c.next_from.ensures).0
 
 pub carry_link-requires-clause-writings : goal.carry_link-requires-clause-writings
-carry_link-requires-clause-writings g c = writings_after (state_of g.P.Paths.timeline g.W.Partial.sets g.W.Transfer.moves g.R.RowRules.rules g.B.ByteFacts.store c.args.self.now) (state_of g.P.Paths.timeline g.W.Partial.sets g.W.Transfer.moves g.R.RowRules.rules g.B.ByteFacts.store c.loop-least.self) c.loop-least.invariant.grows c.requires.writings
+carry_link-requires-clause-writings g c = writings_after (state_of (reader g.P.Paths.timeline g.L.LastValues.values) g.W.Partial.sets g.W.Transfer.moves g.R.RowRules.rules g.B.ByteFacts.store c.args.self.now) (state_of (reader g.P.Paths.timeline g.L.LastValues.values) g.W.Partial.sets g.W.Transfer.moves g.R.RowRules.rules g.B.ByteFacts.store c.loop-least.self) c.loop-least.invariant.grows c.requires.writings
 
 pub returns-in_err-new-clause-grows : goal.returns-in_err-new-clause-grows
 returns-in_err-new-clause-grows g c = Grows_trans _ _ _ c.loop-least.invariant.grows c.carry_link.ensures.grows
 
 pub loop-least-preserved : goal.loop-least-preserved
 loop-least-preserved g c =
-    let s = (state_of g.P.Paths.timeline g.W.Partial.sets g.W.Transfer.moves g.R.RowRules.rules g.B.ByteFacts.store c.args.self.now) in
-    let t = (state_of g.P.Paths.timeline g.W.Partial.sets g.W.Transfer.moves g.R.RowRules.rules g.B.ByteFacts.store c.loop-least.self) in
-    let u = (state_of g.P.Paths.timeline g.W.Partial.sets g.W.Transfer.moves g.R.RowRules.rules g.B.ByteFacts.store c.carry_link.new.self) in
+    let s = (state_of (reader g.P.Paths.timeline g.L.LastValues.values) g.W.Partial.sets g.W.Transfer.moves g.R.RowRules.rules g.B.ByteFacts.store c.args.self.now) in
+    let t = (state_of (reader g.P.Paths.timeline g.L.LastValues.values) g.W.Partial.sets g.W.Transfer.moves g.R.RowRules.rules g.B.ByteFacts.store c.loop-least.self) in
+    let u = (state_of (reader g.P.Paths.timeline g.L.LastValues.values) g.W.Partial.sets g.W.Transfer.moves g.R.RowRules.rules g.B.ByteFacts.store c.carry_link.new.self) in
     let a = c.args.a in
     let m = c.args.m in
     let least = c.loop-least.least in
@@ -50,8 +50,8 @@ loop-least-preserved g c =
 
 pub returns-clause-drew : goal.returns-clause-drew
 returns-clause-drew g c =
-    let s = (state_of g.P.Paths.timeline g.W.Partial.sets g.W.Transfer.moves g.R.RowRules.rules g.B.ByteFacts.store c.args.self.now) in
-    let t = (state_of g.P.Paths.timeline g.W.Partial.sets g.W.Transfer.moves g.R.RowRules.rules g.B.ByteFacts.store c.loop-least.self) in
+    let s = (state_of (reader g.P.Paths.timeline g.L.LastValues.values) g.W.Partial.sets g.W.Transfer.moves g.R.RowRules.rules g.B.ByteFacts.store c.args.self.now) in
+    let t = (state_of (reader g.P.Paths.timeline g.L.LastValues.values) g.W.Partial.sets g.W.Transfer.moves g.R.RowRules.rules g.B.ByteFacts.store c.loop-least.self) in
     let end = c.loop-least.invariant.end_is in
     let ended = c.loop-least-test.false in
     Drew_as s t c.loop-least.learnt (AreLinksBelow c.args.a c.args.m c.loop-least.least) (AreLinks c.args.a c.args.m) c.loop-least.invariant.drew (λ p. links_end s c.args.a c.args.m c.loop-least.least p (g.met.P.Paths.lawful c.args.self.now.paths).moments.inside (omega (arith, end, ended)))

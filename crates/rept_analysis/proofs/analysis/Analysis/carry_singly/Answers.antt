@@ -1,7 +1,7 @@
 use Rattle.std.proofs.Common.{◌+◌, Some, None, refl, false, arith}
 use Rattle.rept_versions.specs.Facts.{Nexts}
 use Rattle.rept_report.specs.Spots.{passage}
-use Rattle.rept_analysis.specs.State.{State, state_of}
+use Rattle.rept_analysis.specs.State.{State, state_of, reader}
 use Rattle.rept_analysis.specs.Drawing.{IsCarriedIf, IsCarriedBelow, IsCarriedIn}
 use Rattle.rept_analysis.proofs.Drawn.{Drew_as, Drew_both, Drew_first, Drew_same, Grows_itself, Grows_trans}
 use Rattle.rept_analysis.proofs.Listing.{writings_after}
@@ -13,8 +13,8 @@ loop-from-init g c = record { grows = Grows_itself _; drew = Drew_same _ _ (belo
 
 pub returns-in_default-clause-drew : goal.returns-in_default-clause-drew
 returns-in_default-clause-drew g c =
-    let s = (state_of g.P.Paths.timeline g.W.Partial.sets g.W.Transfer.moves g.R.RowRules.rules g.B.ByteFacts.store c.args.self.now) in
-    let t = (state_of g.P.Paths.timeline g.W.Partial.sets g.W.Transfer.moves g.R.RowRules.rules g.B.ByteFacts.store c.loop-from.self) in
+    let s = (state_of (reader g.P.Paths.timeline g.L.LastValues.values) g.W.Partial.sets g.W.Transfer.moves g.R.RowRules.rules g.B.ByteFacts.store c.args.self.now) in
+    let t = (state_of (reader g.P.Paths.timeline g.L.LastValues.values) g.W.Partial.sets g.W.Transfer.moves g.R.RowRules.rules g.B.ByteFacts.store c.loop-from.self) in
     let a = c.args.a in
     let from = c.loop-from.from in
     let Q : State g.row.W.Denot → Type 0 = λ x. Nexts x.known.store.fact a from None in
@@ -22,8 +22,8 @@ returns-in_default-clause-drew g c =
 
 pub returns-then-m-strip-clause-drew : goal.returns-then-m-strip-clause-drew
 returns-then-m-strip-clause-drew g c =
-    let s = (state_of g.P.Paths.timeline g.W.Partial.sets g.W.Transfer.moves g.R.RowRules.rules g.B.ByteFacts.store c.args.self.now) in
-    let t = (state_of g.P.Paths.timeline g.W.Partial.sets g.W.Transfer.moves g.R.RowRules.rules g.B.ByteFacts.store c.loop-from.self) in
+    let s = (state_of (reader g.P.Paths.timeline g.L.LastValues.values) g.W.Partial.sets g.W.Transfer.moves g.R.RowRules.rules g.B.ByteFacts.store c.args.self.now) in
+    let t = (state_of (reader g.P.Paths.timeline g.L.LastValues.values) g.W.Partial.sets g.W.Transfer.moves g.R.RowRules.rules g.B.ByteFacts.store c.loop-from.self) in
     let a = c.args.a in
     let from = c.loop-from.from in
     let Q : State g.row.W.Denot → Type 0 = λ x. Nexts x.known.store.fact a from (Some c.in-Some.stretch) in
@@ -31,23 +31,23 @@ returns-then-m-strip-clause-drew g c =
 
 pub carry_step-requires-clause-next : goal.carry_step-requires-clause-next
 carry_step-requires-clause-next g c =
-    let t = (state_of g.P.Paths.timeline g.W.Partial.sets g.W.Transfer.moves g.R.RowRules.rules g.B.ByteFacts.store c.loop-from.self) in
+    let t = (state_of (reader g.P.Paths.timeline g.L.LastValues.values) g.W.Partial.sets g.W.Transfer.moves g.R.RowRules.rules g.B.ByteFacts.store c.loop-from.self) in
     let onward = border_onward t c.args.a c.loop-from.from c.in-Some.stretch (rw c.in-Some.is at c.stretch.ensures) c.border-m.result c.border-m.ensures in
     let least = c.loop-from.invariant.least in
     let inside = c.if-m-strip.false in
-    next_after (state_of g.P.Paths.timeline g.W.Partial.sets g.W.Transfer.moves g.R.RowRules.rules g.B.ByteFacts.store c.args.self.now) t c.loop-from.invariant.grows c.border-m.result (c.border-m.result + 1) ((c.requires.strip.joined c.border-m.result (omega (arith, onward, least)) inside).next)
+    next_after (state_of (reader g.P.Paths.timeline g.L.LastValues.values) g.W.Partial.sets g.W.Transfer.moves g.R.RowRules.rules g.B.ByteFacts.store c.args.self.now) t c.loop-from.invariant.grows c.border-m.result (c.border-m.result + 1) ((c.requires.strip.joined c.border-m.result (omega (arith, onward, least)) inside).next)
 
 pub carry_step-requires-clause-writings : goal.carry_step-requires-clause-writings
-carry_step-requires-clause-writings g c = writings_after (state_of g.P.Paths.timeline g.W.Partial.sets g.W.Transfer.moves g.R.RowRules.rules g.B.ByteFacts.store c.args.self.now) (state_of g.P.Paths.timeline g.W.Partial.sets g.W.Transfer.moves g.R.RowRules.rules g.B.ByteFacts.store c.loop-from.self) c.loop-from.invariant.grows c.requires.writings
+carry_step-requires-clause-writings g c = writings_after (state_of (reader g.P.Paths.timeline g.L.LastValues.values) g.W.Partial.sets g.W.Transfer.moves g.R.RowRules.rules g.B.ByteFacts.store c.args.self.now) (state_of (reader g.P.Paths.timeline g.L.LastValues.values) g.W.Partial.sets g.W.Transfer.moves g.R.RowRules.rules g.B.ByteFacts.store c.loop-from.self) c.loop-from.invariant.grows c.requires.writings
 
 pub returns-in_err-new-clause-grows : goal.returns-in_err-new-clause-grows
 returns-in_err-new-clause-grows g c = Grows_trans _ _ _ c.loop-from.invariant.grows c.carry_step.ensures.grows
 
 pub loop-from-preserved : goal.loop-from-preserved
 loop-from-preserved g c =
-    let s = (state_of g.P.Paths.timeline g.W.Partial.sets g.W.Transfer.moves g.R.RowRules.rules g.B.ByteFacts.store c.args.self.now) in
-    let t = (state_of g.P.Paths.timeline g.W.Partial.sets g.W.Transfer.moves g.R.RowRules.rules g.B.ByteFacts.store c.loop-from.self) in
-    let u = (state_of g.P.Paths.timeline g.W.Partial.sets g.W.Transfer.moves g.R.RowRules.rules g.B.ByteFacts.store c.carry_step.new.self) in
+    let s = (state_of (reader g.P.Paths.timeline g.L.LastValues.values) g.W.Partial.sets g.W.Transfer.moves g.R.RowRules.rules g.B.ByteFacts.store c.args.self.now) in
+    let t = (state_of (reader g.P.Paths.timeline g.L.LastValues.values) g.W.Partial.sets g.W.Transfer.moves g.R.RowRules.rules g.B.ByteFacts.store c.loop-from.self) in
+    let u = (state_of (reader g.P.Paths.timeline g.L.LastValues.values) g.W.Partial.sets g.W.Transfer.moves g.R.RowRules.rules g.B.ByteFacts.store c.carry_step.new.self) in
     let a = c.args.a in
     let from = c.loop-from.from in
     let m = c.border-m.result in
@@ -66,7 +66,7 @@ loop-from-preserved g c =
 
 pub returns-clause-drew : goal.returns-clause-drew
 returns-clause-drew g c =
-    let s = (state_of g.P.Paths.timeline g.W.Partial.sets g.W.Transfer.moves g.R.RowRules.rules g.B.ByteFacts.store c.args.self.now) in
-    let t = (state_of g.P.Paths.timeline g.W.Partial.sets g.W.Transfer.moves g.R.RowRules.rules g.B.ByteFacts.store c.loop-from.self) in
+    let s = (state_of (reader g.P.Paths.timeline g.L.LastValues.values) g.W.Partial.sets g.W.Transfer.moves g.R.RowRules.rules g.B.ByteFacts.store c.args.self.now) in
+    let t = (state_of (reader g.P.Paths.timeline g.L.LastValues.values) g.W.Partial.sets g.W.Transfer.moves g.R.RowRules.rules g.B.ByteFacts.store c.loop-from.self) in
     let ended = c.loop-from-test.false in
     Drew_as s t c.loop-from.learnt (IsCarriedBelow c.args.a c.args.strip c.loop-from.from) (IsCarriedIn c.args.a c.args.strip) c.loop-from.invariant.drew (λ p. in_all s c.args.a c.loop-from.from c.args.strip p ended)

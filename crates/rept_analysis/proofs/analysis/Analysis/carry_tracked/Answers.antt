@@ -1,20 +1,20 @@
 use Rattle.std.proofs.Common.{◌≡◌, ◌+◌, ◌≤◌, length, Some, arith, slice_get}
-use Rattle.rept_analysis.specs.State.{state_of}
+use Rattle.rept_analysis.specs.State.{state_of, reader}
 use Rattle.rept_analysis.specs.Drawing.{IsCarriedAlong, CarriedAlongBelow, AllCarried}
 use Rattle.rept_analysis.proofs.Drawn.{Drew_both, Drew_as, Grows_trans, tracked_more, tracked_all, read_tracked}
 use Rattle.rept_analysis.proofs.Listing.{writings_after}
 use Rattle.rept_analysis.proofs.analysis.Analysis.carry_tracked.Goals as goal
 
 pub carry_address-requires-clause-writings : goal.carry_address-requires-clause-writings
-carry_address-requires-clause-writings g c = writings_after (state_of g.P.Paths.timeline g.W.Partial.sets g.W.Transfer.moves g.R.RowRules.rules g.B.ByteFacts.store c.args.self.now) (state_of g.P.Paths.timeline g.W.Partial.sets g.W.Transfer.moves g.R.RowRules.rules g.B.ByteFacts.store c.loop-k.self) c.loop-k.invariant.grows c.requires.writings
+carry_address-requires-clause-writings g c = writings_after (state_of (reader g.P.Paths.timeline g.L.LastValues.values) g.W.Partial.sets g.W.Transfer.moves g.R.RowRules.rules g.B.ByteFacts.store c.args.self.now) (state_of (reader g.P.Paths.timeline g.L.LastValues.values) g.W.Partial.sets g.W.Transfer.moves g.R.RowRules.rules g.B.ByteFacts.store c.loop-k.self) c.loop-k.invariant.grows c.requires.writings
 
 pub returns-in_err-new-clause-grows : goal.returns-in_err-new-clause-grows
 returns-in_err-new-clause-grows g c = Grows_trans _ _ _ c.loop-k.invariant.grows c.carry_address.ensures.grows
 
 pub loop-k-preserved : goal.loop-k-preserved
 loop-k-preserved g c =
-    let s = state_of g.P.Paths.timeline g.W.Partial.sets g.W.Transfer.moves g.R.RowRules.rules g.B.ByteFacts.store c.args.self.now in
-    let t = state_of g.P.Paths.timeline g.W.Partial.sets g.W.Transfer.moves g.R.RowRules.rules g.B.ByteFacts.store c.loop-k.self in
+    let s = state_of (reader g.P.Paths.timeline g.L.LastValues.values) g.W.Partial.sets g.W.Transfer.moves g.R.RowRules.rules g.B.ByteFacts.store c.args.self.now in
+    let t = state_of (reader g.P.Paths.timeline g.L.LastValues.values) g.W.Partial.sets g.W.Transfer.moves g.R.RowRules.rules g.B.ByteFacts.store c.loop-k.self in
     let k = c.loop-k.k in
     let a = c.address-a.result in
     let here = Drew_as t _ c.in_ok-new.new (IsCarriedAlong a) (λ x. (slice_get x.known.store.tracked k ≡ Some a) × IsCarriedAlong a x) c.in_ok-new.ensures.drew (λ h. (c.address-a.ensures, h)) in
@@ -28,10 +28,10 @@ loop-k-preserved g c =
 
 pub returns-clause-drew : goal.returns-clause-drew
 returns-clause-drew g c =
-    let s = state_of g.P.Paths.timeline g.W.Partial.sets g.W.Transfer.moves g.R.RowRules.rules g.B.ByteFacts.store c.args.self.now in
+    let s = state_of (reader g.P.Paths.timeline g.L.LastValues.values) g.W.Partial.sets g.W.Transfer.moves g.R.RowRules.rules g.B.ByteFacts.store c.args.self.now in
     let count = c.tracked_count-count.ensures in
     let passed : length s.known.store.tracked ≤ c.loop-k.k = omega (arith, count) in
     Drew_as s _ c.loop-k.learnt (CarriedAlongBelow c.loop-k.k) AllCarried c.loop-k.invariant.drew (λ h. tracked_all s (λ b x. IsCarriedAlong b x) c.loop-k.k passed h)
 
 pub carry_address-requires-clause-tracked : goal.carry_address-requires-clause-tracked
-carry_address-requires-clause-tracked g c = read_tracked (state_of g.P.Paths.timeline g.W.Partial.sets g.W.Transfer.moves g.R.RowRules.rules g.B.ByteFacts.store c.loop-k.self) c.loop-k.k c.address-a.result c.address-a.ensures
+carry_address-requires-clause-tracked g c = read_tracked (state_of (reader g.P.Paths.timeline g.L.LastValues.values) g.W.Partial.sets g.W.Transfer.moves g.R.RowRules.rules g.B.ByteFacts.store c.loop-k.self) c.loop-k.k c.address-a.result c.address-a.ensures

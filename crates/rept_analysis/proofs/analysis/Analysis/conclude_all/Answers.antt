@@ -1,6 +1,6 @@
 use Rattle.std.proofs.Common.{◌∙◌, ◌+◌, ◌<◌, ◌≤◌, length, sym, subst, arith}
 use Rattle.rept_report.specs.Views.{instant_of}
-use Rattle.rept_analysis.specs.State.{Path, state_of}
+use Rattle.rept_analysis.specs.State.{Path, state_of, reader}
 use Rattle.rept_analysis.specs.Drawing.{Knows, KnowsDrawn, DrawnBelow}
 use Rattle.rept_analysis.proofs.Drawn.{Drew_both, Drew_as, Grows_trans, drawn_more}
 use Rattle.rept_analysis.proofs.Learning.{known_words}
@@ -9,8 +9,8 @@ use Rattle.rept_analysis.proofs.analysis.Analysis.conclude_all.Goals as goal
 
 pub conclude-requires-clause-conclusion : goal.conclude-requires-clause-conclusion
 conclude-requires-clause-conclusion g c =
-    let s = state_of g.P.Paths.timeline g.W.Partial.sets g.W.Transfer.moves g.R.RowRules.rules g.B.ByteFacts.store c.args.self.now in
-    let t = state_of g.P.Paths.timeline g.W.Partial.sets g.W.Transfer.moves g.R.RowRules.rules g.B.ByteFacts.store c.loop-drawn.self in
+    let s = state_of (reader g.P.Paths.timeline g.L.LastValues.values) g.W.Partial.sets g.W.Transfer.moves g.R.RowRules.rules g.B.ByteFacts.store c.args.self.now in
+    let t = state_of (reader g.P.Paths.timeline g.L.LastValues.values) g.W.Partial.sets g.W.Transfer.moves g.R.RowRules.rules g.B.ByteFacts.store c.loop-drawn.self in
     let grows = c.loop-drawn.invariant.grows in
     let words = grows.words (known_words s c.held.ensures) in
     let below : c.loop-drawn.drawn-index < length c.args.list.now = omega arith in
@@ -25,12 +25,12 @@ loop-drawn-preserved g c =
     let list = c.args.list.now in
     let below : k < length list = omega arith in
     let at = slice_read list k c.drawn-item.result below c.drawn-item.is in
-    let u = state_of g.P.Paths.timeline g.W.Partial.sets g.W.Transfer.moves g.R.RowRules.rules g.B.ByteFacts.store c.conclude.new.self in
+    let u = state_of (reader g.P.Paths.timeline g.L.LastValues.values) g.W.Partial.sets g.W.Transfer.moves g.R.RowRules.rules g.B.ByteFacts.store c.conclude.new.self in
     record {
       grows = Grows_trans _ _ _ c.loop-drawn.invariant.grows c.in_ok-new.ensures.grows;
       drew = Drew_both _ _ _ c.loop-drawn.learnt c.in_ok-new.new (DrawnBelow k list c.args.i) (KnowsDrawn c.args.i c.drawn-item.result) (DrawnBelow (k + 1) list c.args.i)
           c.loop-drawn.invariant.grows c.in_ok-new.ensures.grows c.loop-drawn.invariant.drew c.in_ok-new.ensures.drew
-          (λ p q. drawn_more (state_of g.P.Paths.timeline g.W.Partial.sets g.W.Transfer.moves g.R.RowRules.rules g.B.ByteFacts.store c.args.self.now) c.args.i list k c.drawn-item.result at p q);
+          (λ p q. drawn_more (state_of (reader g.P.Paths.timeline g.L.LastValues.values) g.W.Partial.sets g.W.Transfer.moves g.R.RowRules.rules g.B.ByteFacts.store c.args.self.now) c.args.i list k c.drawn-item.result at p q);
       known = drawn_more u c.args.i list k c.drawn-item.result at (λ j d lt is. subst (λ (P : Path g.row.W.Denot). Knows (instant_of P.given.moments c.args.i d.when d.cell) d.cell d.value u) (sym c.in_ok-new.ensures.grows.path) (c.in_ok-new.ensures.grows.more _ _ _ (c.loop-drawn.invariant.known j d lt is))) c.in_ok-new.ensures.known;
       still = c.in_ok-new.ensures.still ∙ c.loop-drawn.invariant.still;
     }

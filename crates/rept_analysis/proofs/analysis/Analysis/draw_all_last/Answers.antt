@@ -1,6 +1,6 @@
 use Rattle.std.proofs.Common.{◌+◌, None, Some, subst, arith}
 use Rattle.rept_report.specs.Timeline.{IsLastFrom}
-use Rattle.rept_analysis.specs.State.{Path, state_of}
+use Rattle.rept_analysis.specs.State.{Path, state_of, reader}
 use Rattle.rept_analysis.specs.Drawing.{LastPointKnown, LastKnownBelow}
 use Rattle.rept_analysis.proofs.Drawn.{Drew_both, Drew_as, Drew_same, Grows_itself, Grows_trans}
 use Rattle.rept_analysis.proofs.Following.{LastsBelow, last_none, lasts_all, lasts_more}
@@ -11,8 +11,8 @@ loop-point-init g c = record { grows = Grows_itself _; drew = Drew_same _ _ (λ 
 
 pub returns-in_default-clause-drew : goal.returns-in_default-clause-drew
 returns-in_default-clause-drew g c =
-    let s = state_of g.P.Paths.timeline g.W.Partial.sets g.W.Transfer.moves g.R.RowRules.rules g.B.ByteFacts.store c.args.self.now in
-    let t = state_of g.P.Paths.timeline g.W.Partial.sets g.W.Transfer.moves g.R.RowRules.rules g.B.ByteFacts.store c.loop-point.self in
+    let s = state_of (reader g.P.Paths.timeline g.L.LastValues.values) g.W.Partial.sets g.W.Transfer.moves g.R.RowRules.rules g.B.ByteFacts.store c.args.self.now in
+    let t = state_of (reader g.P.Paths.timeline g.L.LastValues.values) g.W.Partial.sets g.W.Transfer.moves g.R.RowRules.rules g.B.ByteFacts.store c.loop-point.self in
     let none = last_none t.path.given.legs c.loop-point.least c.next_last.result c.in_default.not-Some c.next_last.ensures.last in
     Drew_as s t c.loop-point.learnt (LastsBelow c.loop-point.least) (LastKnownBelow 32) c.loop-point.invariant.drew (λ h. lasts_all s c.loop-point.least (subst (λ (P : Path g.row.W.Denot). IsLastFrom P.given.legs c.loop-point.least None) c.loop-point.invariant.grows.path none) h)
 
@@ -24,9 +24,9 @@ returns-in_err-new-clause-grows g c = Grows_trans _ _ _ c.loop-point.invariant.g
 
 pub loop-point-preserved : goal.loop-point-preserved
 loop-point-preserved g c =
-    let s = state_of g.P.Paths.timeline g.W.Partial.sets g.W.Transfer.moves g.R.RowRules.rules g.B.ByteFacts.store c.args.self.now in
-    let t = state_of g.P.Paths.timeline g.W.Partial.sets g.W.Transfer.moves g.R.RowRules.rules g.B.ByteFacts.store c.loop-point.self in
-    let u = state_of g.P.Paths.timeline g.W.Partial.sets g.W.Transfer.moves g.R.RowRules.rules g.B.ByteFacts.store c.draw_last_point.new.self in
+    let s = state_of (reader g.P.Paths.timeline g.L.LastValues.values) g.W.Partial.sets g.W.Transfer.moves g.R.RowRules.rules g.B.ByteFacts.store c.args.self.now in
+    let t = state_of (reader g.P.Paths.timeline g.L.LastValues.values) g.W.Partial.sets g.W.Transfer.moves g.R.RowRules.rules g.B.ByteFacts.store c.loop-point.self in
+    let u = state_of (reader g.P.Paths.timeline g.L.LastValues.values) g.W.Partial.sets g.W.Transfer.moves g.R.RowRules.rules g.B.ByteFacts.store c.draw_last_point.new.self in
     let i = c.loop-point.invariant in
     let here = rw c.in-Some.is at c.next_last.ensures.last in
     let next = subst (λ (P : Path g.row.W.Denot). IsLastFrom P.given.legs c.loop-point.least (Some c.in-Some.point)) i.grows.path here in

@@ -1,5 +1,5 @@
 use Rattle.std.proofs.Common.{refl}
-use Rattle.rept_analysis.specs.State.{state_of, with_draws}
+use Rattle.rept_analysis.specs.State.{state_of, with_draws, reader}
 use Rattle.rept_analysis.specs.Drawing.{DrawnKnown}
 use Rattle.rept_analysis.proofs.Drawn.{list_conclusions}
 use Rattle.rept_analysis.proofs.Learning.{known_words}
@@ -9,22 +9,22 @@ use Rattle.rept_analysis.proofs.analysis.Analysis.draw_anew.Goals as goal
 
 pub conclude_all-requires-clause-conclusions : goal.conclude_all-requires-clause-conclusions
 conclude_all-requires-clause-conclusions g c =
-    let s = with_draws (state_of g.P.Paths.timeline g.W.Partial.sets g.W.Transfer.moves g.R.RowRules.rules g.B.ByteFacts.store c.args.self.now) c.list_drawn-list.new.self.work.draws in
+    let s = with_draws (state_of (reader g.P.Paths.timeline g.L.LastValues.values) g.W.Partial.sets g.W.Transfer.moves g.R.RowRules.rules g.B.ByteFacts.store c.args.self.now) c.list_drawn-list.new.self.work.draws in
     let kept = rw c.list_drawn-list.ensures.same at c.held-2.ensures in
     let all = list_conclusions s c.args.i c.list_drawn-list.result.items (λ d h. drawn_conclusion s (record { sets = g.met.W.Partial.lawful; moves = g.met.W.Transfer.covers; rules = g.met.R.RowRules.lawful; legs = (g.met.P.Paths.lawful _).legs; moments = (g.met.P.Paths.lawful _).moments }) (known_words s kept) c.args.i c.args.row.now c.requires.row c.requires.inside c.requires.tracked d (rw c.list_drawn-list.ensures.list at h)) in
     rw (c.as_slice.ensures, c.list_drawn-list.ensures.same) all
 
 pub keep_pass-requires-clause-pass : goal.keep_pass-requires-clause-pass
-keep_pass-requires-clause-pass g c = anew_pass (state_of g.P.Paths.timeline g.W.Partial.sets g.W.Transfer.moves g.R.RowRules.rules g.B.ByteFacts.store c.args.self.now) (state_of g.P.Paths.timeline g.W.Partial.sets g.W.Transfer.moves g.R.RowRules.rules g.B.ByteFacts.store c.list_drawn-list.new.self) (state_of g.P.Paths.timeline g.W.Partial.sets g.W.Transfer.moves g.R.RowRules.rules g.B.ByteFacts.store c.conclude_all.new.self) (record { sets = g.met.W.Partial.lawful; moves = g.met.W.Transfer.covers; rules = g.met.R.RowRules.lawful; legs = (g.met.P.Paths.lawful _).legs; moments = (g.met.P.Paths.lawful _).moments }) c.held.ensures (known_words (state_of g.P.Paths.timeline g.W.Partial.sets g.W.Transfer.moves g.R.RowRules.rules g.B.ByteFacts.store c.args.self.now) c.held.ensures) c.args.i c.args.cells c.args.row.now c.requires.inside c.requires.row c.requires.cells c.requires.few c.requires.more c.requires.uncut c.list_drawn-list.ensures.once c.list_drawn-list.ensures.same c.conclude_all.ensures.grows c.conclude_all.ensures.still c.list_drawn-list.result.items c.list_drawn-list.ensures.list (rw c.as_slice.ensures at c.in-Ok.ensures.known)
+keep_pass-requires-clause-pass g c = anew_pass (state_of (reader g.P.Paths.timeline g.L.LastValues.values) g.W.Partial.sets g.W.Transfer.moves g.R.RowRules.rules g.B.ByteFacts.store c.args.self.now) (state_of (reader g.P.Paths.timeline g.L.LastValues.values) g.W.Partial.sets g.W.Transfer.moves g.R.RowRules.rules g.B.ByteFacts.store c.list_drawn-list.new.self) (state_of (reader g.P.Paths.timeline g.L.LastValues.values) g.W.Partial.sets g.W.Transfer.moves g.R.RowRules.rules g.B.ByteFacts.store c.conclude_all.new.self) (record { sets = g.met.W.Partial.lawful; moves = g.met.W.Transfer.covers; rules = g.met.R.RowRules.lawful; legs = (g.met.P.Paths.lawful _).legs; moments = (g.met.P.Paths.lawful _).moments }) c.held.ensures (known_words (state_of (reader g.P.Paths.timeline g.L.LastValues.values) g.W.Partial.sets g.W.Transfer.moves g.R.RowRules.rules g.B.ByteFacts.store c.args.self.now) c.held.ensures) c.args.i c.args.cells c.args.row.now c.requires.inside c.requires.row c.requires.cells c.requires.few c.requires.more c.requires.uncut c.list_drawn-list.ensures.once c.list_drawn-list.ensures.same c.conclude_all.ensures.grows c.conclude_all.ensures.still c.list_drawn-list.result.items c.list_drawn-list.ensures.list (rw c.as_slice.ensures at c.in-Ok.ensures.known)
 
 pub returns-in-Ok-clause-grows : goal.returns-in-Ok-clause-grows
-returns-in-Ok-clause-grows g c = anew_grows (state_of g.P.Paths.timeline g.W.Partial.sets g.W.Transfer.moves g.R.RowRules.rules g.B.ByteFacts.store c.args.self.now) (state_of g.P.Paths.timeline g.W.Partial.sets g.W.Transfer.moves g.R.RowRules.rules g.B.ByteFacts.store c.list_drawn-list.new.self) (state_of g.P.Paths.timeline g.W.Partial.sets g.W.Transfer.moves g.R.RowRules.rules g.B.ByteFacts.store c.conclude_all.new.self) (record { sets = g.met.W.Partial.lawful; moves = g.met.W.Transfer.covers; rules = g.met.R.RowRules.lawful; legs = (g.met.P.Paths.lawful _).legs; moments = (g.met.P.Paths.lawful _).moments }) c.held.ensures (known_words (state_of g.P.Paths.timeline g.W.Partial.sets g.W.Transfer.moves g.R.RowRules.rules g.B.ByteFacts.store c.args.self.now) c.held.ensures) c.args.i c.args.cells c.args.row.now c.requires.inside c.requires.row c.requires.cells c.requires.few c.requires.more c.requires.uncut c.list_drawn-list.ensures.once c.list_drawn-list.ensures.same c.conclude_all.ensures.grows c.conclude_all.ensures.still (state_of g.P.Paths.timeline g.W.Partial.sets g.W.Transfer.moves g.R.RowRules.rules g.B.ByteFacts.store c.keep_pass.new.self) c.keep_pass.ensures
+returns-in-Ok-clause-grows g c = anew_grows (state_of (reader g.P.Paths.timeline g.L.LastValues.values) g.W.Partial.sets g.W.Transfer.moves g.R.RowRules.rules g.B.ByteFacts.store c.args.self.now) (state_of (reader g.P.Paths.timeline g.L.LastValues.values) g.W.Partial.sets g.W.Transfer.moves g.R.RowRules.rules g.B.ByteFacts.store c.list_drawn-list.new.self) (state_of (reader g.P.Paths.timeline g.L.LastValues.values) g.W.Partial.sets g.W.Transfer.moves g.R.RowRules.rules g.B.ByteFacts.store c.conclude_all.new.self) (record { sets = g.met.W.Partial.lawful; moves = g.met.W.Transfer.covers; rules = g.met.R.RowRules.lawful; legs = (g.met.P.Paths.lawful _).legs; moments = (g.met.P.Paths.lawful _).moments }) c.held.ensures (known_words (state_of (reader g.P.Paths.timeline g.L.LastValues.values) g.W.Partial.sets g.W.Transfer.moves g.R.RowRules.rules g.B.ByteFacts.store c.args.self.now) c.held.ensures) c.args.i c.args.cells c.args.row.now c.requires.inside c.requires.row c.requires.cells c.requires.few c.requires.more c.requires.uncut c.list_drawn-list.ensures.once c.list_drawn-list.ensures.same c.conclude_all.ensures.grows c.conclude_all.ensures.still (state_of (reader g.P.Paths.timeline g.L.LastValues.values) g.W.Partial.sets g.W.Transfer.moves g.R.RowRules.rules g.B.ByteFacts.store c.keep_pass.new.self) c.keep_pass.ensures
 
 pub returns-in-Ok-clause-drew : goal.returns-in-Ok-clause-drew
-returns-in-Ok-clause-drew g c = anew_drew (state_of g.P.Paths.timeline g.W.Partial.sets g.W.Transfer.moves g.R.RowRules.rules g.B.ByteFacts.store c.args.self.now) (state_of g.P.Paths.timeline g.W.Partial.sets g.W.Transfer.moves g.R.RowRules.rules g.B.ByteFacts.store c.list_drawn-list.new.self) (state_of g.P.Paths.timeline g.W.Partial.sets g.W.Transfer.moves g.R.RowRules.rules g.B.ByteFacts.store c.conclude_all.new.self) (record { sets = g.met.W.Partial.lawful; moves = g.met.W.Transfer.covers; rules = g.met.R.RowRules.lawful; legs = (g.met.P.Paths.lawful _).legs; moments = (g.met.P.Paths.lawful _).moments }) c.held.ensures (known_words (state_of g.P.Paths.timeline g.W.Partial.sets g.W.Transfer.moves g.R.RowRules.rules g.B.ByteFacts.store c.args.self.now) c.held.ensures) c.args.i c.args.cells c.args.row.now c.requires.inside c.requires.row c.requires.cells c.requires.few c.requires.more c.requires.uncut c.list_drawn-list.ensures.once c.list_drawn-list.ensures.same c.conclude_all.ensures.grows c.conclude_all.ensures.still (state_of g.P.Paths.timeline g.W.Partial.sets g.W.Transfer.moves g.R.RowRules.rules g.B.ByteFacts.store c.keep_pass.new.self) (DrawnKnown c.args.row.now c.args.i) c.keep_pass.ensures
+returns-in-Ok-clause-drew g c = anew_drew (state_of (reader g.P.Paths.timeline g.L.LastValues.values) g.W.Partial.sets g.W.Transfer.moves g.R.RowRules.rules g.B.ByteFacts.store c.args.self.now) (state_of (reader g.P.Paths.timeline g.L.LastValues.values) g.W.Partial.sets g.W.Transfer.moves g.R.RowRules.rules g.B.ByteFacts.store c.list_drawn-list.new.self) (state_of (reader g.P.Paths.timeline g.L.LastValues.values) g.W.Partial.sets g.W.Transfer.moves g.R.RowRules.rules g.B.ByteFacts.store c.conclude_all.new.self) (record { sets = g.met.W.Partial.lawful; moves = g.met.W.Transfer.covers; rules = g.met.R.RowRules.lawful; legs = (g.met.P.Paths.lawful _).legs; moments = (g.met.P.Paths.lawful _).moments }) c.held.ensures (known_words (state_of (reader g.P.Paths.timeline g.L.LastValues.values) g.W.Partial.sets g.W.Transfer.moves g.R.RowRules.rules g.B.ByteFacts.store c.args.self.now) c.held.ensures) c.args.i c.args.cells c.args.row.now c.requires.inside c.requires.row c.requires.cells c.requires.few c.requires.more c.requires.uncut c.list_drawn-list.ensures.once c.list_drawn-list.ensures.same c.conclude_all.ensures.grows c.conclude_all.ensures.still (state_of (reader g.P.Paths.timeline g.L.LastValues.values) g.W.Partial.sets g.W.Transfer.moves g.R.RowRules.rules g.B.ByteFacts.store c.keep_pass.new.self) (DrawnKnown c.args.row.now c.args.i) c.keep_pass.ensures
 
 pub returns-clause-grows : goal.returns-clause-grows
-returns-clause-grows g c = cut_grows (state_of g.P.Paths.timeline g.W.Partial.sets g.W.Transfer.moves g.R.RowRules.rules g.B.ByteFacts.store c.args.self.now) (state_of g.P.Paths.timeline g.W.Partial.sets g.W.Transfer.moves g.R.RowRules.rules g.B.ByteFacts.store c.list_drawn-list.new.self) (state_of g.P.Paths.timeline g.W.Partial.sets g.W.Transfer.moves g.R.RowRules.rules g.B.ByteFacts.store c.conclude_all.new.self) (record { sets = g.met.W.Partial.lawful; moves = g.met.W.Transfer.covers; rules = g.met.R.RowRules.lawful; legs = (g.met.P.Paths.lawful _).legs; moments = (g.met.P.Paths.lawful _).moments }) c.held.ensures (known_words (state_of g.P.Paths.timeline g.W.Partial.sets g.W.Transfer.moves g.R.RowRules.rules g.B.ByteFacts.store c.args.self.now) c.held.ensures) c.args.i c.args.cells c.args.row.now c.requires.inside c.requires.row c.requires.cells c.requires.few c.requires.more c.requires.uncut c.list_drawn-list.ensures.once c.list_drawn-list.ensures.same c.conclude_all.ensures.grows c.conclude_all.ensures.still (state_of g.P.Paths.timeline g.W.Partial.sets g.W.Transfer.moves g.R.RowRules.rules g.B.ByteFacts.store c.keep_pass-in-Err.new.self) c.keep_pass-in-Err.ensures
+returns-clause-grows g c = cut_grows (state_of (reader g.P.Paths.timeline g.L.LastValues.values) g.W.Partial.sets g.W.Transfer.moves g.R.RowRules.rules g.B.ByteFacts.store c.args.self.now) (state_of (reader g.P.Paths.timeline g.L.LastValues.values) g.W.Partial.sets g.W.Transfer.moves g.R.RowRules.rules g.B.ByteFacts.store c.list_drawn-list.new.self) (state_of (reader g.P.Paths.timeline g.L.LastValues.values) g.W.Partial.sets g.W.Transfer.moves g.R.RowRules.rules g.B.ByteFacts.store c.conclude_all.new.self) (record { sets = g.met.W.Partial.lawful; moves = g.met.W.Transfer.covers; rules = g.met.R.RowRules.lawful; legs = (g.met.P.Paths.lawful _).legs; moments = (g.met.P.Paths.lawful _).moments }) c.held.ensures (known_words (state_of (reader g.P.Paths.timeline g.L.LastValues.values) g.W.Partial.sets g.W.Transfer.moves g.R.RowRules.rules g.B.ByteFacts.store c.args.self.now) c.held.ensures) c.args.i c.args.cells c.args.row.now c.requires.inside c.requires.row c.requires.cells c.requires.few c.requires.more c.requires.uncut c.list_drawn-list.ensures.once c.list_drawn-list.ensures.same c.conclude_all.ensures.grows c.conclude_all.ensures.still (state_of (reader g.P.Paths.timeline g.L.LastValues.values) g.W.Partial.sets g.W.Transfer.moves g.R.RowRules.rules g.B.ByteFacts.store c.keep_pass-in-Err.new.self) c.keep_pass-in-Err.ensures
 
 pub returns-clause-halt : goal.returns-clause-halt
-returns-clause-halt g c = halt_after (state_of g.P.Paths.timeline g.W.Partial.sets g.W.Transfer.moves g.R.RowRules.rules g.B.ByteFacts.store c.conclude_all.new.self) (state_of g.P.Paths.timeline g.W.Partial.sets g.W.Transfer.moves g.R.RowRules.rules g.B.ByteFacts.store c.keep_pass-in-Err.new.self) _ c.in-Err.halt c.keep_pass-in-Err.ensures refl c.in-Err.ensures.halt
+returns-clause-halt g c = halt_after (state_of (reader g.P.Paths.timeline g.L.LastValues.values) g.W.Partial.sets g.W.Transfer.moves g.R.RowRules.rules g.B.ByteFacts.store c.conclude_all.new.self) (state_of (reader g.P.Paths.timeline g.L.LastValues.values) g.W.Partial.sets g.W.Transfer.moves g.R.RowRules.rules g.B.ByteFacts.store c.keep_pass-in-Err.new.self) _ c.in-Err.halt c.keep_pass-in-Err.ensures refl c.in-Err.ensures.halt

@@ -1,5 +1,5 @@
 use Rattle.std.proofs.Common.{◌-◌, arith}
-use Rattle.rept_analysis.specs.State.{state_of}
+use Rattle.rept_analysis.specs.State.{state_of, reader}
 use Rattle.rept_analysis.specs.Drawing.{IsRowClosed, RowsClosed}
 use Rattle.rept_analysis.proofs.Drawn.{Drew_both, Drew_as, Grows_trans, RowsClosedFrom, one_before}
 use Rattle.rept_analysis.proofs.Listing.{writings_after}
@@ -12,14 +12,14 @@ pub draw_noted-requires-clause-uncut : goal.draw_noted-requires-clause-uncut
 draw_noted-requires-clause-uncut g c = c.loop-i.invariant.drew.uncut c.requires.uncut
 
 pub draw_noted-requires-clause-writings : goal.draw_noted-requires-clause-writings
-draw_noted-requires-clause-writings g c = writings_after (state_of g.P.Paths.timeline g.W.Partial.sets g.W.Transfer.moves g.R.RowRules.rules g.B.ByteFacts.store c.args.self.now) (state_of g.P.Paths.timeline g.W.Partial.sets g.W.Transfer.moves g.R.RowRules.rules g.B.ByteFacts.store c.loop-i.self) c.loop-i.invariant.grows c.requires.writings
+draw_noted-requires-clause-writings g c = writings_after (state_of (reader g.P.Paths.timeline g.L.LastValues.values) g.W.Partial.sets g.W.Transfer.moves g.R.RowRules.rules g.B.ByteFacts.store c.args.self.now) (state_of (reader g.P.Paths.timeline g.L.LastValues.values) g.W.Partial.sets g.W.Transfer.moves g.R.RowRules.rules g.B.ByteFacts.store c.loop-i.self) c.loop-i.invariant.grows c.requires.writings
 
 pub loop-i-preserved : goal.loop-i-preserved
 loop-i-preserved g c = record {
   grows = Grows_trans _ _ _ c.loop-i.invariant.grows c.in_ok-new.ensures.grows;
-  drew = Drew_both (state_of g.P.Paths.timeline g.W.Partial.sets g.W.Transfer.moves g.R.RowRules.rules g.B.ByteFacts.store c.args.self.now) (state_of g.P.Paths.timeline g.W.Partial.sets g.W.Transfer.moves g.R.RowRules.rules g.B.ByteFacts.store c.loop-i.self) _ c.loop-i.learnt c.in_ok-new.new (RowsClosedFrom c.loop-i.i) (IsRowClosed (c.loop-i.i - 1)) (RowsClosedFrom (c.loop-i.i - 1))
-      c.loop-i.invariant.grows c.in_ok-new.ensures.grows c.loop-i.invariant.drew c.in_ok-new.ensures.drew (λ above here. one_before (λ j. IsRowClosed j (state_of g.P.Paths.timeline g.W.Partial.sets g.W.Transfer.moves g.R.RowRules.rules g.B.ByteFacts.store c.args.self.now)) c.loop-i.i ((g.P.Paths.timeline c.args.self.now.paths).legs.count) above here);
+  drew = Drew_both (state_of (reader g.P.Paths.timeline g.L.LastValues.values) g.W.Partial.sets g.W.Transfer.moves g.R.RowRules.rules g.B.ByteFacts.store c.args.self.now) (state_of (reader g.P.Paths.timeline g.L.LastValues.values) g.W.Partial.sets g.W.Transfer.moves g.R.RowRules.rules g.B.ByteFacts.store c.loop-i.self) _ c.loop-i.learnt c.in_ok-new.new (RowsClosedFrom c.loop-i.i) (IsRowClosed (c.loop-i.i - 1)) (RowsClosedFrom (c.loop-i.i - 1))
+      c.loop-i.invariant.grows c.in_ok-new.ensures.grows c.loop-i.invariant.drew c.in_ok-new.ensures.drew (λ above here. one_before (λ j. IsRowClosed j (state_of (reader g.P.Paths.timeline g.L.LastValues.values) g.W.Partial.sets g.W.Transfer.moves g.R.RowRules.rules g.B.ByteFacts.store c.args.self.now)) c.loop-i.i ((g.P.Paths.timeline c.args.self.now.paths).legs.count) above here);
 }
 
 pub returns-clause-drew : goal.returns-clause-drew
-returns-clause-drew g c = Drew_as (state_of g.P.Paths.timeline g.W.Partial.sets g.W.Transfer.moves g.R.RowRules.rules g.B.ByteFacts.store c.args.self.now) _ c.loop-i.learnt (RowsClosedFrom c.loop-i.i) RowsClosed c.loop-i.invariant.drew (λ h j inside. h j (omega arith) inside)
+returns-clause-drew g c = Drew_as (state_of (reader g.P.Paths.timeline g.L.LastValues.values) g.W.Partial.sets g.W.Transfer.moves g.R.RowRules.rules g.B.ByteFacts.store c.args.self.now) _ c.loop-i.learnt (RowsClosedFrom c.loop-i.i) RowsClosed c.loop-i.invariant.drew (λ h j inside. h j (omega arith) inside)

@@ -1,7 +1,7 @@
 use Rattle.std.proofs.Common.{sym, ap, subst, ◌∙◌}
 use Rattle.std.specs.Option.{is_some}
 use Rattle.rept_analysis.specs.declared.pass.Pass.{Pass}
-use Rattle.rept_analysis.specs.State.{state_of}
+use Rattle.rept_analysis.specs.State.{state_of, reader}
 use Rattle.rept_analysis.specs.Drawing.{DrawnKnown}
 use Rattle.rept_analysis.specs.Kept.{IsPass}
 use Rattle.rept_analysis.proofs.Drawn.{Drew_same}
@@ -11,7 +11,7 @@ use Rattle.rept_analysis.proofs.analysis.Analysis.draw_drawn.Goals as goal
 
 pub returns-then-is_with-clause-drew : goal.returns-then-is_with-clause-drew
 returns-then-is_with-clause-drew g c =
-    let s = state_of g.P.Paths.timeline g.W.Partial.sets g.W.Transfer.moves g.R.RowRules.rules g.B.ByteFacts.store c.args.self.now in
+    let s = state_of (reader g.P.Paths.timeline g.L.LastValues.values) g.W.Partial.sets g.W.Transfer.moves g.R.RowRules.rules g.B.ByteFacts.store c.args.self.now in
     let pass_is = c.is_with.ensures.yes c.if-is_with.true in
     let drawn = subst (λ (p : Pass). IsPass c.args.row.now c.args.i p s) pass_is (c.held.ensures.drawn c.args.i c.args.row.now c.pass-pass.result c.requires.row c.pass-pass.ensures) in
     Drew_same s (DrawnKnown c.args.row.now c.args.i) (nothing_more s (record { sets = g.met.W.Partial.lawful; moves = g.met.W.Transfer.covers; rules = g.met.R.RowRules.lawful; legs = (g.met.P.Paths.lawful _).legs; moments = (g.met.P.Paths.lawful _).moments }) (known_words s c.held.ensures) c.args.i c.cells-cells.result c.args.row.now drawn c.cells-cells.ensures.value)

@@ -1,19 +1,19 @@
 use Rattle.std.proofs.Common.{◌≡◌, ◌+◌, ◌≤◌, length, Some, arith, slice_get}
-use Rattle.rept_analysis.specs.State.{state_of}
+use Rattle.rept_analysis.specs.State.{state_of, reader}
 use Rattle.rept_analysis.specs.Drawing.{LastByteKnown, LastBytesBelow, LastBytesKnown}
 use Rattle.rept_analysis.proofs.Drawn.{Drew_both, Drew_as, Grows_trans, tracked_more, tracked_all, read_tracked}
 use Rattle.rept_analysis.proofs.analysis.Analysis.draw_last_bytes.Goals as goal
 
 pub draw_last_byte-requires-clause-tracked : goal.draw_last_byte-requires-clause-tracked
-draw_last_byte-requires-clause-tracked g c = read_tracked (state_of g.P.Paths.timeline g.W.Partial.sets g.W.Transfer.moves g.R.RowRules.rules g.B.ByteFacts.store c.loop-k.self) c.loop-k.k c.address-a.result c.address-a.ensures
+draw_last_byte-requires-clause-tracked g c = read_tracked (state_of (reader g.P.Paths.timeline g.L.LastValues.values) g.W.Partial.sets g.W.Transfer.moves g.R.RowRules.rules g.B.ByteFacts.store c.loop-k.self) c.loop-k.k c.address-a.result c.address-a.ensures
 
 pub returns-in_err-new-clause-grows : goal.returns-in_err-new-clause-grows
 returns-in_err-new-clause-grows g c = Grows_trans _ _ _ c.loop-k.invariant.grows c.draw_last_byte.ensures.grows
 
 pub loop-k-preserved : goal.loop-k-preserved
 loop-k-preserved g c =
-    let s = state_of g.P.Paths.timeline g.W.Partial.sets g.W.Transfer.moves g.R.RowRules.rules g.B.ByteFacts.store c.args.self.now in
-    let t = state_of g.P.Paths.timeline g.W.Partial.sets g.W.Transfer.moves g.R.RowRules.rules g.B.ByteFacts.store c.loop-k.self in
+    let s = state_of (reader g.P.Paths.timeline g.L.LastValues.values) g.W.Partial.sets g.W.Transfer.moves g.R.RowRules.rules g.B.ByteFacts.store c.args.self.now in
+    let t = state_of (reader g.P.Paths.timeline g.L.LastValues.values) g.W.Partial.sets g.W.Transfer.moves g.R.RowRules.rules g.B.ByteFacts.store c.loop-k.self in
     let k = c.loop-k.k in
     let a = c.address-a.result in
     let here = Drew_as t _ c.in_ok-new.new (LastByteKnown a) (λ x. (slice_get x.known.store.tracked k ≡ Some a) × LastByteKnown a x) c.in_ok-new.ensures.drew (λ h. (c.address-a.ensures, h)) in
@@ -27,7 +27,7 @@ loop-k-preserved g c =
 
 pub returns-clause-drew : goal.returns-clause-drew
 returns-clause-drew g c =
-    let s = state_of g.P.Paths.timeline g.W.Partial.sets g.W.Transfer.moves g.R.RowRules.rules g.B.ByteFacts.store c.args.self.now in
+    let s = state_of (reader g.P.Paths.timeline g.L.LastValues.values) g.W.Partial.sets g.W.Transfer.moves g.R.RowRules.rules g.B.ByteFacts.store c.args.self.now in
     let count = c.tracked_count-count.ensures in
     let passed : length s.known.store.tracked ≤ c.loop-k.k = omega (arith, count) in
     Drew_as s _ c.loop-k.learnt (LastBytesBelow c.loop-k.k) LastBytesKnown c.loop-k.invariant.drew (λ h. tracked_all s (λ b x. LastByteKnown b x) c.loop-k.k passed h)

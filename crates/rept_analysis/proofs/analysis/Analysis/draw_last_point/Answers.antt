@@ -1,5 +1,5 @@
 use Rattle.std.proofs.Common.{◌+◌, ◌≤◌, arith}
-use Rattle.rept_analysis.specs.State.{state_of}
+use Rattle.rept_analysis.specs.State.{state_of, reader}
 use Rattle.rept_analysis.specs.Drawing.{LastKnownAt, LastPointKnown}
 use Rattle.rept_analysis.proofs.Drawn.{Drew_both, Drew_as, Grows_trans, one_more}
 use Rattle.rept_analysis.proofs.analysis.Analysis.draw_last_point.Goals as goal
@@ -14,7 +14,7 @@ loop-r-preserved g c =
       grows = Grows_trans _ _ _ c.loop-r.invariant.grows c.in_ok-new.ensures.grows;
       drew = Drew_both _ _ _ c.loop-r.learnt c.in_ok-new.new (LastPointKnown c.loop-r.r c.args.point) (LastKnownAt c.args.point c.loop-r.r) (LastPointKnown (c.loop-r.r + 1) c.args.point)
           c.loop-r.invariant.grows c.in_ok-new.ensures.grows c.loop-r.invariant.drew here
-          (λ below at_r r inside. one_more (λ s. LastKnownAt c.args.point s (state_of g.P.Paths.timeline g.W.Partial.sets g.W.Transfer.moves g.R.RowRules.rules g.B.ByteFacts.store c.args.self.now)) c.loop-r.r below at_r r inside);
+          (λ below at_r r inside. one_more (λ s. LastKnownAt c.args.point s (state_of (reader g.P.Paths.timeline g.L.LastValues.values) g.W.Partial.sets g.W.Transfer.moves g.R.RowRules.rules g.B.ByteFacts.store c.args.self.now)) c.loop-r.r below at_r r inside);
     }
 
 pub returns-clause-drew : goal.returns-clause-drew

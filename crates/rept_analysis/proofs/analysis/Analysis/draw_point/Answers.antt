@@ -1,12 +1,12 @@
 use Rattle.std.proofs.Common.{◌+◌, ◌≤◌, arith}
-use Rattle.rept_analysis.specs.State.{state_of}
+use Rattle.rept_analysis.specs.State.{state_of, reader}
 use Rattle.rept_analysis.specs.Drawing.{SingleKnown, PointSingles}
 use Rattle.rept_analysis.proofs.Drawn.{Drew_both, Drew_as, Grows_trans, one_more}
 use Rattle.rept_analysis.proofs.Following.{fitted_after}
 use Rattle.rept_analysis.proofs.analysis.Analysis.draw_point.Goals as goal
 
 pub draw_single-requires-clause-fitted : goal.draw_single-requires-clause-fitted
-draw_single-requires-clause-fitted g c = fitted_after (state_of g.P.Paths.timeline g.W.Partial.sets g.W.Transfer.moves g.R.RowRules.rules g.B.ByteFacts.store c.args.self.now) (state_of g.P.Paths.timeline g.W.Partial.sets g.W.Transfer.moves g.R.RowRules.rules g.B.ByteFacts.store c.loop-r.self) c.loop-r.invariant.grows c.requires.fitted
+draw_single-requires-clause-fitted g c = fitted_after (state_of (reader g.P.Paths.timeline g.L.LastValues.values) g.W.Partial.sets g.W.Transfer.moves g.R.RowRules.rules g.B.ByteFacts.store c.args.self.now) (state_of (reader g.P.Paths.timeline g.L.LastValues.values) g.W.Partial.sets g.W.Transfer.moves g.R.RowRules.rules g.B.ByteFacts.store c.loop-r.self) c.loop-r.invariant.grows c.requires.fitted
 
 pub returns-in_err-new-clause-grows : goal.returns-in_err-new-clause-grows
 returns-in_err-new-clause-grows g c = Grows_trans _ _ _ c.loop-r.invariant.grows c.draw_single.ensures.grows
@@ -16,8 +16,8 @@ loop-r-preserved g c =
     let here = rw c.register.ensures at c.in_ok-new.ensures.drew in
     record {
       grows = Grows_trans _ _ _ c.loop-r.invariant.grows c.in_ok-new.ensures.grows;
-      drew = Drew_both (state_of g.P.Paths.timeline g.W.Partial.sets g.W.Transfer.moves g.R.RowRules.rules g.B.ByteFacts.store c.args.self.now) (state_of g.P.Paths.timeline g.W.Partial.sets g.W.Transfer.moves g.R.RowRules.rules g.B.ByteFacts.store c.loop-r.self) _ c.loop-r.learnt c.in_ok-new.new (PointSingles c.loop-r.r c.args.point) (SingleKnown c.args.point c.loop-r.r) (PointSingles (c.loop-r.r + 1) c.args.point)
-          c.loop-r.invariant.grows c.in_ok-new.ensures.grows c.loop-r.invariant.drew here (λ below at_r. one_more (λ s. SingleKnown c.args.point s (state_of g.P.Paths.timeline g.W.Partial.sets g.W.Transfer.moves g.R.RowRules.rules g.B.ByteFacts.store c.args.self.now)) c.loop-r.r below at_r);
+      drew = Drew_both (state_of (reader g.P.Paths.timeline g.L.LastValues.values) g.W.Partial.sets g.W.Transfer.moves g.R.RowRules.rules g.B.ByteFacts.store c.args.self.now) (state_of (reader g.P.Paths.timeline g.L.LastValues.values) g.W.Partial.sets g.W.Transfer.moves g.R.RowRules.rules g.B.ByteFacts.store c.loop-r.self) _ c.loop-r.learnt c.in_ok-new.new (PointSingles c.loop-r.r c.args.point) (SingleKnown c.args.point c.loop-r.r) (PointSingles (c.loop-r.r + 1) c.args.point)
+          c.loop-r.invariant.grows c.in_ok-new.ensures.grows c.loop-r.invariant.drew here (λ below at_r. one_more (λ s. SingleKnown c.args.point s (state_of (reader g.P.Paths.timeline g.L.LastValues.values) g.W.Partial.sets g.W.Transfer.moves g.R.RowRules.rules g.B.ByteFacts.store c.args.self.now)) c.loop-r.r below at_r);
     }
 
 pub returns-clause-drew : goal.returns-clause-drew

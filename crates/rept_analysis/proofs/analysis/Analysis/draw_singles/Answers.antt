@@ -1,12 +1,12 @@
 use Rattle.std.proofs.Common.{◌+◌, ◌≤◌, arith}
-use Rattle.rept_analysis.specs.State.{state_of}
+use Rattle.rept_analysis.specs.State.{state_of, reader}
 use Rattle.rept_analysis.specs.Drawing.{PointSingles, SinglesBelow, SinglesKnown}
 use Rattle.rept_analysis.proofs.Drawn.{Drew_both, Drew_as, Grows_trans, one_more}
 use Rattle.rept_analysis.proofs.Following.{fitted_after}
 use Rattle.rept_analysis.proofs.analysis.Analysis.draw_singles.Goals as goal
 
 pub draw_point-requires-clause-fitted : goal.draw_point-requires-clause-fitted
-draw_point-requires-clause-fitted g c = fitted_after (state_of g.P.Paths.timeline g.W.Partial.sets g.W.Transfer.moves g.R.RowRules.rules g.B.ByteFacts.store c.args.self.now) (state_of g.P.Paths.timeline g.W.Partial.sets g.W.Transfer.moves g.R.RowRules.rules g.B.ByteFacts.store c.loop-point.self) c.loop-point.invariant.grows c.requires.fitted
+draw_point-requires-clause-fitted g c = fitted_after (state_of (reader g.P.Paths.timeline g.L.LastValues.values) g.W.Partial.sets g.W.Transfer.moves g.R.RowRules.rules g.B.ByteFacts.store c.args.self.now) (state_of (reader g.P.Paths.timeline g.L.LastValues.values) g.W.Partial.sets g.W.Transfer.moves g.R.RowRules.rules g.B.ByteFacts.store c.loop-point.self) c.loop-point.invariant.grows c.requires.fitted
 
 pub returns-in_err-new-clause-grows : goal.returns-in_err-new-clause-grows
 returns-in_err-new-clause-grows g c = Grows_trans _ _ _ c.loop-point.invariant.grows c.draw_point.ensures.grows
@@ -14,8 +14,8 @@ returns-in_err-new-clause-grows g c = Grows_trans _ _ _ c.loop-point.invariant.g
 pub loop-point-preserved : goal.loop-point-preserved
 loop-point-preserved g c = record {
   grows = Grows_trans _ _ _ c.loop-point.invariant.grows c.in_ok-new.ensures.grows;
-  drew = Drew_both (state_of g.P.Paths.timeline g.W.Partial.sets g.W.Transfer.moves g.R.RowRules.rules g.B.ByteFacts.store c.args.self.now) (state_of g.P.Paths.timeline g.W.Partial.sets g.W.Transfer.moves g.R.RowRules.rules g.B.ByteFacts.store c.loop-point.self) _ c.loop-point.learnt c.in_ok-new.new (SinglesBelow c.loop-point.point) (PointSingles 32 c.loop-point.point) (SinglesBelow (c.loop-point.point + 1))
-      c.loop-point.invariant.grows c.in_ok-new.ensures.grows c.loop-point.invariant.drew c.in_ok-new.ensures.drew (λ below at_p. one_more (λ p. PointSingles 32 p (state_of g.P.Paths.timeline g.W.Partial.sets g.W.Transfer.moves g.R.RowRules.rules g.B.ByteFacts.store c.args.self.now)) c.loop-point.point below at_p);
+  drew = Drew_both (state_of (reader g.P.Paths.timeline g.L.LastValues.values) g.W.Partial.sets g.W.Transfer.moves g.R.RowRules.rules g.B.ByteFacts.store c.args.self.now) (state_of (reader g.P.Paths.timeline g.L.LastValues.values) g.W.Partial.sets g.W.Transfer.moves g.R.RowRules.rules g.B.ByteFacts.store c.loop-point.self) _ c.loop-point.learnt c.in_ok-new.new (SinglesBelow c.loop-point.point) (PointSingles 32 c.loop-point.point) (SinglesBelow (c.loop-point.point + 1))
+      c.loop-point.invariant.grows c.in_ok-new.ensures.grows c.loop-point.invariant.drew c.in_ok-new.ensures.drew (λ below at_p. one_more (λ p. PointSingles 32 p (state_of (reader g.P.Paths.timeline g.L.LastValues.values) g.W.Partial.sets g.W.Transfer.moves g.R.RowRules.rules g.B.ByteFacts.store c.args.self.now)) c.loop-point.point below at_p);
   count = c.loop-point.invariant.count;
 }
 

@@ -1,24 +1,24 @@
 use Rattle.std.proofs.Common.{Bool, subst}
 use Rattle.std.proofs.lemmas.Bool.{true≢false}
-use Rattle.rept_analysis.specs.State.{State, state_of}
+use Rattle.rept_analysis.specs.State.{State, state_of, reader}
 use Rattle.rept_analysis.specs.Drawing.{Drew}
 use Rattle.rept_analysis.proofs.Drawn.{Grows_trans, news_then}
 use Rattle.rept_analysis.proofs.Listing.{writings_after}
 use Rattle.rept_analysis.proofs.analysis.Analysis.draw_through.Goals as goal
 
 pub returns-then-not-back-clause-drew : goal.returns-then-not-back-clause-drew
-returns-then-not-back-clause-drew g c = subst (λ (x : Bool). Drew (state_of g.P.Paths.timeline g.W.Partial.sets g.W.Transfer.moves g.R.RowRules.rules g.B.ByteFacts.store c.args.self.now) (state_of g.P.Paths.timeline g.W.Partial.sets g.W.Transfer.moves g.R.RowRules.rules g.B.ByteFacts.store c.draw_fresh_back.new.self) x (λ (y : State g.row.W.Denot). Unit {0})) c.if-not-back.true c.in_ok-back.ensures.drew
+returns-then-not-back-clause-drew g c = subst (λ (x : Bool). Drew (state_of (reader g.P.Paths.timeline g.L.LastValues.values) g.W.Partial.sets g.W.Transfer.moves g.R.RowRules.rules g.B.ByteFacts.store c.args.self.now) (state_of (reader g.P.Paths.timeline g.L.LastValues.values) g.W.Partial.sets g.W.Transfer.moves g.R.RowRules.rules g.B.ByteFacts.store c.draw_fresh_back.new.self) x (λ (y : State g.row.W.Denot). Unit {0})) c.if-not-back.true c.in_ok-back.ensures.drew
 
 pub draw_on-requires-clause-writings : goal.draw_on-requires-clause-writings
-draw_on-requires-clause-writings g c = writings_after (state_of g.P.Paths.timeline g.W.Partial.sets g.W.Transfer.moves g.R.RowRules.rules g.B.ByteFacts.store c.args.self.now) (state_of g.P.Paths.timeline g.W.Partial.sets g.W.Transfer.moves g.R.RowRules.rules g.B.ByteFacts.store c.draw_fresh_back.new.self) c.in_ok-back.ensures.grows c.requires.writings
+draw_on-requires-clause-writings g c = writings_after (state_of (reader g.P.Paths.timeline g.L.LastValues.values) g.W.Partial.sets g.W.Transfer.moves g.R.RowRules.rules g.B.ByteFacts.store c.args.self.now) (state_of (reader g.P.Paths.timeline g.L.LastValues.values) g.W.Partial.sets g.W.Transfer.moves g.R.RowRules.rules g.B.ByteFacts.store c.draw_fresh_back.new.self) c.in_ok-back.ensures.grows c.requires.writings
 
 pub returns-in_err-draw_on-clause-grows : goal.returns-in_err-draw_on-clause-grows
 returns-in_err-draw_on-clause-grows g c = Grows_trans _ _ _ c.in_ok-back.ensures.grows c.draw_on.ensures.grows
 
 pub returns-clause-drew : goal.returns-clause-drew
 returns-clause-drew g c =
-    let a = (state_of g.P.Paths.timeline g.W.Partial.sets g.W.Transfer.moves g.R.RowRules.rules g.B.ByteFacts.store c.args.self.now) in
-    let b = (state_of g.P.Paths.timeline g.W.Partial.sets g.W.Transfer.moves g.R.RowRules.rules g.B.ByteFacts.store c.draw_fresh_back.new.self) in
+    let a = (state_of (reader g.P.Paths.timeline g.L.LastValues.values) g.W.Partial.sets g.W.Transfer.moves g.R.RowRules.rules g.B.ByteFacts.store c.args.self.now) in
+    let b = (state_of (reader g.P.Paths.timeline g.L.LastValues.values) g.W.Partial.sets g.W.Transfer.moves g.R.RowRules.rules g.B.ByteFacts.store c.draw_fresh_back.new.self) in
     record {
       news = λ _. news_then a b _ c.in_ok-draw_on.ensures.grows (c.in_ok-back.ensures.drew.news c.if-not-back.false);
       unchanged = λ e. absurd (true≢false e);

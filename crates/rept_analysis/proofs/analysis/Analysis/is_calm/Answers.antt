@@ -1,13 +1,13 @@
 use Rattle.std.proofs.Common.{arith}
-use Rattle.rept_analysis.specs.State.{state_of}
+use Rattle.rept_analysis.specs.State.{state_of, reader}
 use Rattle.rept_analysis.proofs.Listing.{calm_none, calm_some}
 use Rattle.rept_analysis.proofs.analysis.Analysis.is_calm.Goals as goal
 
 pub returns-in-None : goal.returns-in-None
-returns-in-None g c = λ _. calm_none (state_of g.P.Paths.timeline g.W.Partial.sets g.W.Transfer.moves g.R.RowRules.rules g.B.ByteFacts.store c.args.self.now) c.args.a c.args.strip c.in-None.is
+returns-in-None g c = λ _. calm_none (state_of (reader g.P.Paths.timeline g.L.LastValues.values) g.W.Partial.sets g.W.Transfer.moves g.R.RowRules.rules g.B.ByteFacts.store c.args.self.now) c.args.a c.args.strip c.in-None.is
 
 pub returns-in-Some : goal.returns-in-Some
-returns-in-Some g c = λ yes. calm_some (state_of g.P.Paths.timeline g.W.Partial.sets g.W.Transfer.moves g.R.RowRules.rules g.B.ByteFacts.store c.args.self.now) c.args.a c.in-Some.pause c.args.strip c.in-Some.is (c.is_carried.ensures.yes yes)
+returns-in-Some g c = λ yes. calm_some (state_of (reader g.P.Paths.timeline g.L.LastValues.values) g.W.Partial.sets g.W.Transfer.moves g.R.RowRules.rules g.B.ByteFacts.store c.args.self.now) c.args.a c.in-Some.pause c.args.strip c.in-Some.is (c.is_carried.ensures.yes yes)
 
 pub overflow_add-pause : goal.overflow_add-pause
 overflow_add-pause g c =

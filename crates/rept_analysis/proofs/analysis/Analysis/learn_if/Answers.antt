@@ -1,6 +1,6 @@
 use Rattle.std.proofs.Common.{◌<◌, arith}
 use Rattle.rept_reason.specs.declared.fact.Cell.TheVariants.{Register}
-use Rattle.rept_analysis.specs.State.{state_of}
+use Rattle.rept_analysis.specs.State.{state_of, reader}
 use Rattle.rept_analysis.specs.Drawing.{Knows, IsLearntAt}
 use Rattle.rept_analysis.proofs.Drawn.{Drew_as}
 use Rattle.rept_analysis.proofs.Following.{learnt_at}
@@ -14,4 +14,4 @@ learn-requires-clause-follows g c =
 
 pub returns-in_ok-learnt-in-Known-clause-drew : goal.returns-in_ok-learnt-in-Known-clause-drew
 returns-in_ok-learnt-in-Known-clause-drew g c =
-    Drew_as _ _ c.in_ok-learnt-in-Known.learnt (Knows c.args.point (Register c.args.r) c.in-Known.value) (IsLearntAt c.args.point c.args.r c.args.value) c.in_ok-learnt-in-Known.ensures.drew (λ h. learnt_at (state_of g.P.Paths.timeline g.W.Partial.sets g.W.Transfer.moves g.R.RowRules.rules g.B.ByteFacts.store c.args.self.now) c.args.point c.args.r c.in-Known.value c.args.value c.in-Known.is h)
+    Drew_as _ _ c.in_ok-learnt-in-Known.learnt (Knows c.args.point (Register c.args.r) c.in-Known.value) (IsLearntAt c.args.point c.args.r c.args.value) c.in_ok-learnt-in-Known.ensures.drew (λ h. learnt_at (state_of (reader g.P.Paths.timeline g.L.LastValues.values) g.W.Partial.sets g.W.Transfer.moves g.R.RowRules.rules g.B.ByteFacts.store c.args.self.now) c.args.point c.args.r c.in-Known.value c.args.value c.in-Known.is h)

@@ -1,6 +1,6 @@
 use Rattle.std.proofs.Common.{◌≡◌, ◌∙◌, ap, set}
 use Rattle.rept_writing.specs.declared.list.Writing.{Writing}
-use Rattle.rept_analysis.specs.State.{Whole, state_of, with_writing}
+use Rattle.rept_analysis.specs.State.{Whole, state_of, with_writing, reader}
 use Rattle.rept_analysis.proofs.Barriers.{anew_grows}
 use Rattle.rept_analysis.proofs.Drawn.{Grows_same}
 use Rattle.std.specs.Option.{is_some}
@@ -8,10 +8,10 @@ use Rattle.rept_analysis.proofs.analysis.Analysis.list_anew.Goals as goal
 
 pub returns-then-put-clause-grows : goal.returns-then-put-clause-grows
 returns-then-put-clause-grows g c =
-    let s = state_of g.P.Paths.timeline g.W.Partial.sets g.W.Transfer.moves g.R.RowRules.rules g.B.ByteFacts.store c.args.self.now in
-    let t = state_of g.P.Paths.timeline g.W.Partial.sets g.W.Transfer.moves g.R.RowRules.rules g.B.ByteFacts.store c.renew_index.new.self in
+    let s = state_of (reader g.P.Paths.timeline g.L.LastValues.values) g.W.Partial.sets g.W.Transfer.moves g.R.RowRules.rules g.B.ByteFacts.store c.args.self.now in
+    let t = state_of (reader g.P.Paths.timeline g.L.LastValues.values) g.W.Partial.sets g.W.Transfer.moves g.R.RowRules.rules g.B.ByteFacts.store c.renew_index.new.self in
     let w : Writing = record { row = c.args.i; at = c.moment_at-at.result; access = c.access_now-access.result } in
-    let noted = ap (λ (x : Whole g.row.P.Denot g.row.B.Denot g.row.W.Denot g.row.R.Denot). state_of g.P.Paths.timeline g.W.Partial.sets g.W.Transfer.moves g.R.RowRules.rules g.B.ByteFacts.store x) c.note_put.ensures in
+    let noted = ap (λ (x : Whole g.row.P.Denot g.row.L.Denot g.row.B.Denot g.row.W.Denot g.row.R.Denot). state_of (reader g.P.Paths.timeline g.L.LastValues.values) g.W.Partial.sets g.W.Transfer.moves g.R.RowRules.rules g.B.ByteFacts.store x) c.note_put.ensures in
     let put = c.put_writing-put.ensures.put c.if-put.true in
     let is : t ≡ with_writing s (set s.work.writing c.args.k w) = c.renew_index.ensures ∙ noted ∙ put in
     anew_grows s t c.args.k w c.requires.within c.requires.listed c.access_now-access.ensures c.moment_at-at.ensures.value is

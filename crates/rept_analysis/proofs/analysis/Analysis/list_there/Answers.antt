@@ -1,17 +1,17 @@
 use Rattle.std.proofs.Common.{◌+◌, ap, refl, sym, subst, List}
 use Rattle.rept_writing.specs.declared.list.Writing.{Writing}
-use Rattle.rept_analysis.specs.State.{State, state_of}
+use Rattle.rept_analysis.specs.State.{State, state_of, reader}
 use Rattle.rept_analysis.specs.Drawing.{AreWritingsBefore}
 use Rattle.rept_analysis.proofs.Listing.{listed_less, listed_more, none_spared}
 use Rattle.rept_analysis.proofs.analysis.Analysis.list_there.Goals as goal
 
 pub returns-then-not-is_none-clause-listed : goal.returns-then-not-is_none-clause-listed
 returns-then-not-is_none-clause-listed g c =
-    let s = (state_of g.P.Paths.timeline g.W.Partial.sets g.W.Transfer.moves g.R.RowRules.rules g.B.ByteFacts.store c.args.self.now) in
+    let s = (state_of (reader g.P.Paths.timeline g.L.LastValues.values) g.W.Partial.sets g.W.Transfer.moves g.R.RowRules.rules g.B.ByteFacts.store c.args.self.now) in
     let list = ap (λ (x : State g.row.W.Denot). x.work.writing) c.add_writing.ensures in
     subst (λ (xs : List Writing). AreWritingsBefore (c.args.number + 1) xs s) (sym list) (listed_more s c.args.number c.args.self.now.work.writing c.requires.before c.args.i c.requires.at.2 (record { row = c.args.i; at = c.args.number; access = c.access-access.result }) refl refl c.requires.at.0 c.requires.at.1 c.access-access.ensures)
 
 pub returns-else-not-is_none-clause-listed : goal.returns-else-not-is_none-clause-listed
 returns-else-not-is_none-clause-listed g c =
-    let s = (state_of g.P.Paths.timeline g.W.Partial.sets g.W.Transfer.moves g.R.RowRules.rules g.B.ByteFacts.store c.args.self.now) in
+    let s = (state_of (reader g.P.Paths.timeline g.L.LastValues.values) g.W.Partial.sets g.W.Transfer.moves g.R.RowRules.rules g.B.ByteFacts.store c.args.self.now) in
     listed_less s c.args.number c.args.self.now.work.writing c.requires.before c.args.i c.requires.at.2 (none_spared s c.args.i c.access-access.result c.access-access.ensures (c.is_none.ensures c.if-not-is_none.false))

@@ -1,5 +1,5 @@
 use Rattle.std.proofs.Common.{◌≡◌, ◌+◌, ap, sym, subst, arith}
-use Rattle.rept_analysis.specs.State.{State, state_of, all_known}
+use Rattle.rept_analysis.specs.State.{State, state_of, all_known, reader}
 use Rattle.rept_report.specs.Conclusions.{HasWords}
 use Rattle.rept_analysis.specs.Drawing.{AreWritings, AreExact}
 use Rattle.rept_analysis.proofs.Learning.{known_words}
@@ -7,20 +7,20 @@ use Rattle.rept_analysis.proofs.Listing.{fitted_listed, writings_listed, writing
 use Rattle.rept_analysis.proofs.analysis.Analysis.list_writing.Goals as goal
 
 pub list_at-requires-clause-before : goal.list_at-requires-clause-before
-list_at-requires-clause-before g c = writings_listed (state_of g.P.Paths.timeline g.W.Partial.sets g.W.Transfer.moves g.R.RowRules.rules g.B.ByteFacts.store c.args.self.now) (state_of g.P.Paths.timeline g.W.Partial.sets g.W.Transfer.moves g.R.RowRules.rules g.B.ByteFacts.store c.loop-number.self) _ c.loop-number.invariant.same c.loop-number.number c.loop-number.self.work.writing c.loop-number.invariant.listed
+list_at-requires-clause-before g c = writings_listed (state_of (reader g.P.Paths.timeline g.L.LastValues.values) g.W.Partial.sets g.W.Transfer.moves g.R.RowRules.rules g.B.ByteFacts.store c.args.self.now) (state_of (reader g.P.Paths.timeline g.L.LastValues.values) g.W.Partial.sets g.W.Transfer.moves g.R.RowRules.rules g.B.ByteFacts.store c.loop-number.self) _ c.loop-number.invariant.same c.loop-number.number c.loop-number.self.work.writing c.loop-number.invariant.listed
 
 pub loop-number-preserved : goal.loop-number-preserved
 loop-number-preserved g c = record {
-  same = listed_then (state_of g.P.Paths.timeline g.W.Partial.sets g.W.Transfer.moves g.R.RowRules.rules g.B.ByteFacts.store c.args.self.now) (state_of g.P.Paths.timeline g.W.Partial.sets g.W.Transfer.moves g.R.RowRules.rules g.B.ByteFacts.store c.loop-number.self) (state_of g.P.Paths.timeline g.W.Partial.sets g.W.Transfer.moves g.R.RowRules.rules g.B.ByteFacts.store c.list_at.new.self) _ _ c.loop-number.invariant.same c.list_at.ensures.same;
+  same = listed_then (state_of (reader g.P.Paths.timeline g.L.LastValues.values) g.W.Partial.sets g.W.Transfer.moves g.R.RowRules.rules g.B.ByteFacts.store c.args.self.now) (state_of (reader g.P.Paths.timeline g.L.LastValues.values) g.W.Partial.sets g.W.Transfer.moves g.R.RowRules.rules g.B.ByteFacts.store c.loop-number.self) (state_of (reader g.P.Paths.timeline g.L.LastValues.values) g.W.Partial.sets g.W.Transfer.moves g.R.RowRules.rules g.B.ByteFacts.store c.list_at.new.self) _ _ c.loop-number.invariant.same c.list_at.ensures.same;
   room = c.list_at.ensures.room;
-  listed = writings_back (state_of g.P.Paths.timeline g.W.Partial.sets g.W.Transfer.moves g.R.RowRules.rules g.B.ByteFacts.store c.args.self.now) (state_of g.P.Paths.timeline g.W.Partial.sets g.W.Transfer.moves g.R.RowRules.rules g.B.ByteFacts.store c.loop-number.self) _ c.loop-number.invariant.same (c.loop-number.number + 1) c.list_at.new.self.work.writing c.list_at.ensures.listed;
+  listed = writings_back (state_of (reader g.P.Paths.timeline g.L.LastValues.values) g.W.Partial.sets g.W.Transfer.moves g.R.RowRules.rules g.B.ByteFacts.store c.args.self.now) (state_of (reader g.P.Paths.timeline g.L.LastValues.values) g.W.Partial.sets g.W.Transfer.moves g.R.RowRules.rules g.B.ByteFacts.store c.loop-number.self) _ c.loop-number.invariant.same (c.loop-number.number + 1) c.list_at.new.self.work.writing c.list_at.ensures.listed;
   count = c.loop-number.invariant.count;
 }
 
 pub returns-clause-listed : goal.returns-clause-listed
 returns-clause-listed g c =
-    let s = (state_of g.P.Paths.timeline g.W.Partial.sets g.W.Transfer.moves g.R.RowRules.rules g.B.ByteFacts.store c.args.self.now) in
-    let t = (state_of g.P.Paths.timeline g.W.Partial.sets g.W.Transfer.moves g.R.RowRules.rules g.B.ByteFacts.store c.loop-number.self) in
+    let s = (state_of (reader g.P.Paths.timeline g.L.LastValues.values) g.W.Partial.sets g.W.Transfer.moves g.R.RowRules.rules g.B.ByteFacts.store c.args.self.now) in
+    let t = (state_of (reader g.P.Paths.timeline g.L.LastValues.values) g.W.Partial.sets g.W.Transfer.moves g.R.RowRules.rules g.B.ByteFacts.store c.loop-number.self) in
     let rows = ap (λ (x : State g.row.W.Denot). x.path.given.moments.end) c.loop-number.invariant.same in
     let count = c.loop-number.invariant.count in
     let all : c.loop-number.number ≡ t.path.given.moments.end + 1 = omega (arith, rows, count) in
@@ -33,6 +33,6 @@ returns-clause-listed g c =
 
 pub returns-clause-exact : goal.returns-clause-exact
 returns-clause-exact g c =
-    let s = (state_of g.P.Paths.timeline g.W.Partial.sets g.W.Transfer.moves g.R.RowRules.rules g.B.ByteFacts.store c.args.self.now) in
-    let t = (state_of g.P.Paths.timeline g.W.Partial.sets g.W.Transfer.moves g.R.RowRules.rules g.B.ByteFacts.store c.loop-number.self) in
+    let s = (state_of (reader g.P.Paths.timeline g.L.LastValues.values) g.W.Partial.sets g.W.Transfer.moves g.R.RowRules.rules g.B.ByteFacts.store c.args.self.now) in
+    let t = (state_of (reader g.P.Paths.timeline g.L.LastValues.values) g.W.Partial.sets g.W.Transfer.moves g.R.RowRules.rules g.B.ByteFacts.store c.loop-number.self) in
     subst (λ (x : State g.row.W.Denot). AreExact x) (sym c.index_writing.ensures) (listed_exact t c.loop-number.number (writings_listed s t _ c.loop-number.invariant.same c.loop-number.number c.loop-number.self.work.writing c.loop-number.invariant.listed))

@@ -4,37 +4,37 @@ use Rattle.rept_report.specs.Conflicts.{IsQuiet}
 use Rattle.rept_report.specs.Closure.{ClosureHas}
 use Rattle.rept_report.specs.Why.{fact_of}
 use Rattle.rept_log.specs.Known.{Known}
-use Rattle.rept_analysis.specs.State.{state_of, Path, along}
+use Rattle.rept_analysis.specs.State.{state_of, Path, along, reader}
 use Rattle.rept_analysis.proofs.Ending.{forth, back_to, stopped_from, quiet_whole, quiet_part, shows_like}
 use Rattle.rept_analysis.proofs.Stopping.{quiet_before, clash_conflict}
 use Rattle.rept_analysis.proofs.analysis.Analysis.stop_clash.Goals as goal
 
 pub stop_least-requires-clause-loud : goal.stop_least-requires-clause-loud
 stop_least-requires-clause-loud g c =
-    let a = state_of g.P.Paths.timeline g.W.Partial.sets g.W.Transfer.moves g.R.RowRules.rules g.B.ByteFacts.store c.args.self.now in
-    λ q. c.is_quiet-quiet.ensures.loud c.if-not-quiet.true (quiet_part a c.len-len.result c.len-len.ensures.value (back_to a (state_of g.P.Paths.timeline g.W.Partial.sets g.W.Transfer.moves g.R.RowRules.rules g.B.ByteFacts.store c.is_quiet-quiet.new.self) c.is_quiet-quiet.ensures.same (λ (P : Path g.row.W.Denot) (k : Known). IsQuiet (along P) (told k.log)) q))
+    let a = state_of (reader g.P.Paths.timeline g.L.LastValues.values) g.W.Partial.sets g.W.Transfer.moves g.R.RowRules.rules g.B.ByteFacts.store c.args.self.now in
+    λ q. c.is_quiet-quiet.ensures.loud c.if-not-quiet.true (quiet_part a c.len-len.result c.len-len.ensures.value (back_to a (state_of (reader g.P.Paths.timeline g.L.LastValues.values) g.W.Partial.sets g.W.Transfer.moves g.R.RowRules.rules g.B.ByteFacts.store c.is_quiet-quiet.new.self) c.is_quiet-quiet.ensures.same (λ (P : Path g.row.W.Denot) (k : Known). IsQuiet (along P) (told k.log)) q))
 
 pub returns-then-not-quiet-clause-ended : goal.returns-then-not-quiet-clause-ended
-returns-then-not-quiet-clause-ended g c = stopped_from (state_of g.P.Paths.timeline g.W.Partial.sets g.W.Transfer.moves g.R.RowRules.rules g.B.ByteFacts.store c.args.self.now) (state_of g.P.Paths.timeline g.W.Partial.sets g.W.Transfer.moves g.R.RowRules.rules g.B.ByteFacts.store c.is_quiet-quiet.new.self) c.is_quiet-quiet.ensures.same _ _ c.stop_least.ensures.ended
+returns-then-not-quiet-clause-ended g c = stopped_from (state_of (reader g.P.Paths.timeline g.L.LastValues.values) g.W.Partial.sets g.W.Transfer.moves g.R.RowRules.rules g.B.ByteFacts.store c.args.self.now) (state_of (reader g.P.Paths.timeline g.L.LastValues.values) g.W.Partial.sets g.W.Transfer.moves g.R.RowRules.rules g.B.ByteFacts.store c.is_quiet-quiet.new.self) c.is_quiet-quiet.ensures.same _ _ c.stop_least.ensures.ended
 
 pub stop_at-requires-clause-shows : goal.stop_at-requires-clause-shows
 stop_at-requires-clause-shows g c =
-    let a = (state_of g.P.Paths.timeline g.W.Partial.sets g.W.Transfer.moves g.R.RowRules.rules g.B.ByteFacts.store c.args.self.now) in
+    let a = (state_of (reader g.P.Paths.timeline g.L.LastValues.values) g.W.Partial.sets g.W.Transfer.moves g.R.RowRules.rules g.B.ByteFacts.store c.args.self.now) in
     let same = c.is_quiet-quiet.ensures.same in
-    shows_like a (state_of g.P.Paths.timeline g.W.Partial.sets g.W.Transfer.moves g.R.RowRules.rules g.B.ByteFacts.store c.is_quiet-quiet.new.self) same.path same.known c.len-len.result c.clash_kind-kind.result (record {
+    shows_like a (state_of (reader g.P.Paths.timeline g.L.LastValues.values) g.W.Partial.sets g.W.Transfer.moves g.R.RowRules.rules g.B.ByteFacts.store c.is_quiet-quiet.new.self) same.path same.known c.len-len.result c.clash_kind-kind.result (record {
       quiet = λ u below. quiet_before a (record { sets = g.met.W.Partial.lawful; moves = g.met.W.Transfer.covers; rules = g.met.R.RowRules.lawful; legs = (g.met.P.Paths.lawful _).legs; moments = (g.met.P.Paths.lawful _).moments }) c.held.ensures c.len-len.result u (omega (arith, below)) (c.is_quiet-quiet.ensures.quiet c.if-not-quiet.false);
       shows = inr (c.len-len.ensures.value, record { fact = fact_of c.args.point c.args.cell c.args.value; known = c.args.known; clash = c.requires.clash; named = c.clash_kind-kind.ensures });
     })
 
 pub stop_at-requires-clause-kind : goal.stop_at-requires-clause-kind
 stop_at-requires-clause-kind g c =
-    let a = state_of g.P.Paths.timeline g.W.Partial.sets g.W.Transfer.moves g.R.RowRules.rules g.B.ByteFacts.store c.args.self.now in
+    let a = state_of (reader g.P.Paths.timeline g.L.LastValues.values) g.W.Partial.sets g.W.Transfer.moves g.R.RowRules.rules g.B.ByteFacts.store c.args.self.now in
     let quiet = quiet_whole a c.len-len.result c.len-len.ensures.value (c.is_quiet-quiet.ensures.quiet c.if-not-quiet.false) in
     let found = clash_conflict a (record { sets = g.met.W.Partial.lawful; moves = g.met.W.Transfer.covers; rules = g.met.R.RowRules.lawful; legs = (g.met.P.Paths.lawful _).legs; moments = (g.met.P.Paths.lawful _).moments }) c.held.ensures c.args.point c.args.cell c.args.known c.args.value quiet c.requires.clash in
-    forth a (state_of g.P.Paths.timeline g.W.Partial.sets g.W.Transfer.moves g.R.RowRules.rules g.B.ByteFacts.store c.is_quiet-quiet.new.self) c.is_quiet-quiet.ensures.same (λ (P : Path g.row.W.Denot) (k : Known). ClosureHas (along P) c.clash_kind-kind.result) (rw c.clash_kind-kind.ensures found)
+    forth a (state_of (reader g.P.Paths.timeline g.L.LastValues.values) g.W.Partial.sets g.W.Transfer.moves g.R.RowRules.rules g.B.ByteFacts.store c.is_quiet-quiet.new.self) c.is_quiet-quiet.ensures.same (λ (P : Path g.row.W.Denot) (k : Known). ClosureHas (along P) c.clash_kind-kind.result) (rw c.clash_kind-kind.ensures found)
 
 pub returns-clause-ended : goal.returns-clause-ended
-returns-clause-ended g c = stopped_from (state_of g.P.Paths.timeline g.W.Partial.sets g.W.Transfer.moves g.R.RowRules.rules g.B.ByteFacts.store c.args.self.now) (state_of g.P.Paths.timeline g.W.Partial.sets g.W.Transfer.moves g.R.RowRules.rules g.B.ByteFacts.store c.is_quiet-quiet.new.self) c.is_quiet-quiet.ensures.same (state_of g.P.Paths.timeline g.W.Partial.sets g.W.Transfer.moves g.R.RowRules.rules g.B.ByteFacts.store c.stop_at.new.self) c.clash_kind-kind.result c.stop_at.ensures.ended
+returns-clause-ended g c = stopped_from (state_of (reader g.P.Paths.timeline g.L.LastValues.values) g.W.Partial.sets g.W.Transfer.moves g.R.RowRules.rules g.B.ByteFacts.store c.args.self.now) (state_of (reader g.P.Paths.timeline g.L.LastValues.values) g.W.Partial.sets g.W.Transfer.moves g.R.RowRules.rules g.B.ByteFacts.store c.is_quiet-quiet.new.self) c.is_quiet-quiet.ensures.same (state_of (reader g.P.Paths.timeline g.L.LastValues.values) g.W.Partial.sets g.W.Transfer.moves g.R.RowRules.rules g.B.ByteFacts.store c.stop_at.new.self) c.clash_kind-kind.result c.stop_at.ensures.ended
 
 pub returns-then-not-quiet-clause-still : goal.returns-then-not-quiet-clause-still
 returns-then-not-quiet-clause-still g c = c.stop_least.ensures.still ∙ c.is_quiet-quiet.ensures.same.draws

@@ -1,6 +1,6 @@
 use Rattle.std.proofs.Common.{◌≡◌, ◌||◌, false}
 use Rattle.std.proofs.lemmas.Bool.{or_parts}
-use Rattle.rept_analysis.specs.State.{State, state_of}
+use Rattle.rept_analysis.specs.State.{State, state_of, reader}
 use Rattle.rept_analysis.specs.Drawing.{Drew, LastKnownBelow, LastBytesKnown, AllCarried, SinglesKnown}
 use Rattle.rept_analysis.proofs.Drawn.{Drew_both, Grows_trans}
 use Rattle.rept_analysis.proofs.Following.{fitted_after}
@@ -8,7 +8,7 @@ use Rattle.rept_analysis.proofs.Listing.{writings_after}
 use Rattle.rept_analysis.proofs.analysis.Analysis.sweep_fresh.Goals as goal
 
 pub draw_through-requires-clause-writings : goal.draw_through-requires-clause-writings
-draw_through-requires-clause-writings g c = writings_after (state_of g.P.Paths.timeline g.W.Partial.sets g.W.Transfer.moves g.R.RowRules.rules g.B.ByteFacts.store c.args.self.now) (state_of g.P.Paths.timeline g.W.Partial.sets g.W.Transfer.moves g.R.RowRules.rules g.B.ByteFacts.store c.draw_all_last.new.self) c.in_ok-last.ensures.grows c.requires.writings
+draw_through-requires-clause-writings g c = writings_after (state_of (reader g.P.Paths.timeline g.L.LastValues.values) g.W.Partial.sets g.W.Transfer.moves g.R.RowRules.rules g.B.ByteFacts.store c.args.self.now) (state_of (reader g.P.Paths.timeline g.L.LastValues.values) g.W.Partial.sets g.W.Transfer.moves g.R.RowRules.rules g.B.ByteFacts.store c.draw_all_last.new.self) c.in_ok-last.ensures.grows c.requires.writings
 
 pub draw_through-requires-clause-uncut : goal.draw_through-requires-clause-uncut
 draw_through-requires-clause-uncut g c = c.in_ok-last.ensures.drew.uncut c.requires.uncut
@@ -17,13 +17,13 @@ pub returns-in_err-rows-clause-grows : goal.returns-in_err-rows-clause-grows
 returns-in_err-rows-clause-grows g c = Grows_trans _ _ _ c.in_ok-last.ensures.grows c.draw_through.ensures.grows
 
 pub carry_rest-requires-clause-writings : goal.carry_rest-requires-clause-writings
-carry_rest-requires-clause-writings g c = writings_after (state_of g.P.Paths.timeline g.W.Partial.sets g.W.Transfer.moves g.R.RowRules.rules g.B.ByteFacts.store c.args.self.now) (state_of g.P.Paths.timeline g.W.Partial.sets g.W.Transfer.moves g.R.RowRules.rules g.B.ByteFacts.store c.draw_through.new.self) (Grows_trans _ _ _ c.in_ok-last.ensures.grows c.in_ok-rows.ensures.grows) c.requires.writings
+carry_rest-requires-clause-writings g c = writings_after (state_of (reader g.P.Paths.timeline g.L.LastValues.values) g.W.Partial.sets g.W.Transfer.moves g.R.RowRules.rules g.B.ByteFacts.store c.args.self.now) (state_of (reader g.P.Paths.timeline g.L.LastValues.values) g.W.Partial.sets g.W.Transfer.moves g.R.RowRules.rules g.B.ByteFacts.store c.draw_through.new.self) (Grows_trans _ _ _ c.in_ok-last.ensures.grows c.in_ok-rows.ensures.grows) c.requires.writings
 
 pub returns-in_err-bytes-clause-grows : goal.returns-in_err-bytes-clause-grows
 returns-in_err-bytes-clause-grows g c = Grows_trans _ _ _ c.in_ok-last.ensures.grows (Grows_trans _ _ _ c.in_ok-rows.ensures.grows c.carry_rest.ensures.grows)
 
 pub draw_singles-requires-clause-fitted : goal.draw_singles-requires-clause-fitted
-draw_singles-requires-clause-fitted g c = fitted_after (state_of g.P.Paths.timeline g.W.Partial.sets g.W.Transfer.moves g.R.RowRules.rules g.B.ByteFacts.store c.args.self.now) (state_of g.P.Paths.timeline g.W.Partial.sets g.W.Transfer.moves g.R.RowRules.rules g.B.ByteFacts.store c.carry_rest.new.self) (Grows_trans _ _ _ c.in_ok-last.ensures.grows (Grows_trans _ _ _ c.in_ok-rows.ensures.grows c.in_ok-bytes.ensures.grows)) c.requires.writings.fitted
+draw_singles-requires-clause-fitted g c = fitted_after (state_of (reader g.P.Paths.timeline g.L.LastValues.values) g.W.Partial.sets g.W.Transfer.moves g.R.RowRules.rules g.B.ByteFacts.store c.args.self.now) (state_of (reader g.P.Paths.timeline g.L.LastValues.values) g.W.Partial.sets g.W.Transfer.moves g.R.RowRules.rules g.B.ByteFacts.store c.carry_rest.new.self) (Grows_trans _ _ _ c.in_ok-last.ensures.grows (Grows_trans _ _ _ c.in_ok-rows.ensures.grows c.in_ok-bytes.ensures.grows)) c.requires.writings.fitted
 
 pub returns-in_err-singles-clause-grows : goal.returns-in_err-singles-clause-grows
 returns-in_err-singles-clause-grows g c = Grows_trans _ _ _ c.in_ok-last.ensures.grows (Grows_trans _ _ _ c.in_ok-rows.ensures.grows (Grows_trans _ _ _ c.in_ok-bytes.ensures.grows c.draw_singles.ensures.grows))
@@ -33,11 +33,11 @@ returns-clause-grows g c = Grows_trans _ _ _ c.in_ok-last.ensures.grows (Grows_t
 
 pub returns-clause-drew : goal.returns-clause-drew
 returns-clause-drew g c =
-    let a = (state_of g.P.Paths.timeline g.W.Partial.sets g.W.Transfer.moves g.R.RowRules.rules g.B.ByteFacts.store c.args.self.now) in
-    let b1 = (state_of g.P.Paths.timeline g.W.Partial.sets g.W.Transfer.moves g.R.RowRules.rules g.B.ByteFacts.store c.draw_all_last.new.self) in
-    let b2 = (state_of g.P.Paths.timeline g.W.Partial.sets g.W.Transfer.moves g.R.RowRules.rules g.B.ByteFacts.store c.draw_through.new.self) in
-    let b3 = (state_of g.P.Paths.timeline g.W.Partial.sets g.W.Transfer.moves g.R.RowRules.rules g.B.ByteFacts.store c.carry_rest.new.self) in
-    let b4 = (state_of g.P.Paths.timeline g.W.Partial.sets g.W.Transfer.moves g.R.RowRules.rules g.B.ByteFacts.store c.draw_singles.new.self) in
+    let a = (state_of (reader g.P.Paths.timeline g.L.LastValues.values) g.W.Partial.sets g.W.Transfer.moves g.R.RowRules.rules g.B.ByteFacts.store c.args.self.now) in
+    let b1 = (state_of (reader g.P.Paths.timeline g.L.LastValues.values) g.W.Partial.sets g.W.Transfer.moves g.R.RowRules.rules g.B.ByteFacts.store c.draw_all_last.new.self) in
+    let b2 = (state_of (reader g.P.Paths.timeline g.L.LastValues.values) g.W.Partial.sets g.W.Transfer.moves g.R.RowRules.rules g.B.ByteFacts.store c.draw_through.new.self) in
+    let b3 = (state_of (reader g.P.Paths.timeline g.L.LastValues.values) g.W.Partial.sets g.W.Transfer.moves g.R.RowRules.rules g.B.ByteFacts.store c.carry_rest.new.self) in
+    let b4 = (state_of (reader g.P.Paths.timeline g.L.LastValues.values) g.W.Partial.sets g.W.Transfer.moves g.R.RowRules.rules g.B.ByteFacts.store c.draw_singles.new.self) in
     let news = c.in_ok-last.last || c.in_ok-rows.rows in
     let U : State g.row.W.Denot → Type 0 = λ x. Unit {0} in
     let P : State g.row.W.Denot → Type 0 = LastKnownBelow 32 in

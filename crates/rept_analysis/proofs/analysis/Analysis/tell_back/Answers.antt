@@ -1,7 +1,7 @@
 use Rattle.std.proofs.Common.{◌∙◌, sym, arith}
 use Rattle.rept_reason.specs.declared.fact.Cell.TheVariants.{Byte}
 use Rattle.rept_report.specs.Spots.{passage}
-use Rattle.rept_analysis.specs.State.{state_of}
+use Rattle.rept_analysis.specs.State.{state_of, reader}
 use Rattle.rept_analysis.specs.Drawing.{Knows, IsCarriedIf}
 use Rattle.rept_analysis.proofs.Drawn.{Drew_as, Drew_same}
 use Rattle.rept_analysis.proofs.Spreading.{brought_back}
@@ -10,7 +10,7 @@ use Rattle.rept_analysis.proofs.analysis.Analysis.tell_back.Goals as goal
 
 pub returns-in_default-clause-drew : goal.returns-in_default-clause-drew
 returns-in_default-clause-drew g c =
-    let s = (state_of g.P.Paths.timeline g.W.Partial.sets g.W.Transfer.moves g.R.RowRules.rules g.B.ByteFacts.store c.args.self.now) in
+    let s = (state_of (reader g.P.Paths.timeline g.L.LastValues.values) g.W.Partial.sets g.W.Transfer.moves g.R.RowRules.rules g.B.ByteFacts.store c.args.self.now) in
     let x = passage c.args.a c.args.m c.args.w in
     Drew_same s (IsCarriedIf x) (free_if s x c.requires.unknown (sym c.known_byte.ensures ∙ none_found c.known_byte.result c.in_default.not-Some))
 
@@ -18,10 +18,10 @@ pub tell_across-requires-clause-to : goal.tell_across-requires-clause-to
 tell_across-requires-clause-to g c = ((g.met.P.Paths.lawful c.args.self.now.paths).moments.inside c.args.m c.args.w c.requires.bridged.next).0
 
 pub tell_across-requires-clause-brought : goal.tell_across-requires-clause-brought
-tell_across-requires-clause-brought g c = brought_back (state_of g.P.Paths.timeline g.W.Partial.sets g.W.Transfer.moves g.R.RowRules.rules g.B.ByteFacts.store c.args.self.now) (record { sets = g.met.W.Partial.lawful; moves = g.met.W.Transfer.covers; rules = g.met.R.RowRules.lawful; legs = (g.met.P.Paths.lawful _).legs; moments = (g.met.P.Paths.lawful _).moments }) c.held.ensures (passage c.args.a c.args.m c.args.w) c.in-Some.value (omega arith) c.requires.bridged (sym c.known_byte.ensures ∙ c.in-Some.is)
+tell_across-requires-clause-brought g c = brought_back (state_of (reader g.P.Paths.timeline g.L.LastValues.values) g.W.Partial.sets g.W.Transfer.moves g.R.RowRules.rules g.B.ByteFacts.store c.args.self.now) (record { sets = g.met.W.Partial.lawful; moves = g.met.W.Transfer.covers; rules = g.met.R.RowRules.lawful; legs = (g.met.P.Paths.lawful _).legs; moments = (g.met.P.Paths.lawful _).moments }) c.held.ensures (passage c.args.a c.args.m c.args.w) c.in-Some.value (omega arith) c.requires.bridged (sym c.known_byte.ensures ∙ c.in-Some.is)
 
 pub returns-clause-drew : goal.returns-clause-drew
 returns-clause-drew g c =
-    let s = (state_of g.P.Paths.timeline g.W.Partial.sets g.W.Transfer.moves g.R.RowRules.rules g.B.ByteFacts.store c.args.self.now) in
+    let s = (state_of (reader g.P.Paths.timeline g.L.LastValues.values) g.W.Partial.sets g.W.Transfer.moves g.R.RowRules.rules g.B.ByteFacts.store c.args.self.now) in
     let x = passage c.args.a c.args.m c.args.w in
     Drew_as s _ c.in_ok-learnt.learnt (Knows c.args.m (Byte c.args.a) c.in-Some.value) (IsCarriedIf x) c.in_ok-learnt.ensures.drew (λ h. same_if s x c.in-Some.value h (sym c.known_byte.ensures ∙ c.in-Some.is))

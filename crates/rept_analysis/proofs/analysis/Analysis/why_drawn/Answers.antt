@@ -6,7 +6,7 @@ use Rattle.rept_report.proofs.Reasons.{entry_within}
 use Rattle.rept_log.specs.Fronts.{setting_in, stands}
 use Rattle.rept_log.proofs.Reasoning.{none_after}
 use Rattle.rept_analysis.specs.Reasoned.{front_below}
-use Rattle.rept_analysis.specs.State.{state_of}
+use Rattle.rept_analysis.specs.State.{state_of, reader}
 use Rattle.rept_analysis.proofs.Explaining.{front_finds}
 use Rattle.rept_analysis.proofs.Fronts.{no_drawn, some_after}
 use Rattle.rept_analysis.proofs.analysis.Analysis.why_drawn.Goals as goal
@@ -16,12 +16,12 @@ drawn_below-requires-clause-within g c = let below = entry_within c.args.self.no
 
 pub returns-clause-none : goal.returns-clause-none
 returns-clause-none g c =
-    let s = state_of g.P.Paths.timeline g.W.Partial.sets g.W.Transfer.moves g.R.RowRules.rules g.B.ByteFacts.store c.args.self.now in
-    let front = front_below g.P.Paths.timeline g.W.Partial.sets g.W.Transfer.moves g.R.RowRules.rules c.args.self.now c.args.place in
+    let s = state_of (reader g.P.Paths.timeline g.L.LastValues.values) g.W.Partial.sets g.W.Transfer.moves g.R.RowRules.rules g.B.ByteFacts.store c.args.self.now in
+    let front = front_below (reader g.P.Paths.timeline g.L.LastValues.values) g.W.Partial.sets g.W.Transfer.moves g.R.RowRules.rules c.args.self.now c.args.place in
     let None' : Type 0 = (why : Because) → IsDrawnBecause (setting_in front) (stands front) c.args.fact.now why → ⊥ in
     IfOk-weaker c.drawn_below.result (λ found. IfNone found None') _ (λ found h. none_after None' _ found
     (no_drawn s (record { sets = g.met.W.Partial.lawful; moves = g.met.W.Transfer.covers; rules = g.met.R.RowRules.lawful; legs = (g.met.P.Paths.lawful _).legs; moments = (g.met.P.Paths.lawful _).moments }) c.held.ensures (c.held.ensures.finished c.requires.complete) c.args.fact.now c.args.a c.args.place c.requires.cell c.requires.least c.requires.entry) h)
     c.drawn_below.ensures.none
 
 pub returns-clause-reason : goal.returns-clause-reason
-returns-clause-reason g c = IfOk-weaker c.drawn_below.result _ _ (λ found h. some_after _ _ found (λ reason by. of_drawn_byte c.args.place c.args.a _ (front_finds (state_of g.P.Paths.timeline g.W.Partial.sets g.W.Transfer.moves g.R.RowRules.rules g.B.ByteFacts.store c.args.self.now) (record { sets = g.met.W.Partial.lawful; moves = g.met.W.Transfer.covers; rules = g.met.R.RowRules.lawful; legs = (g.met.P.Paths.lawful _).legs; moments = (g.met.P.Paths.lawful _).moments }) c.held.ensures (c.held.ensures.finished c.requires.complete) c.args.place) c.requires.cell c.requires.least c.requires.entry by) h) c.drawn_below.ensures.found
+returns-clause-reason g c = IfOk-weaker c.drawn_below.result _ _ (λ found h. some_after _ _ found (λ reason by. of_drawn_byte c.args.place c.args.a _ (front_finds (state_of (reader g.P.Paths.timeline g.L.LastValues.values) g.W.Partial.sets g.W.Transfer.moves g.R.RowRules.rules g.B.ByteFacts.store c.args.self.now) (record { sets = g.met.W.Partial.lawful; moves = g.met.W.Transfer.covers; rules = g.met.R.RowRules.lawful; legs = (g.met.P.Paths.lawful _).legs; moments = (g.met.P.Paths.lawful _).moments }) c.held.ensures (c.held.ensures.finished c.requires.complete) c.args.place) c.requires.cell c.requires.least c.requires.entry by) h) c.drawn_below.ensures.found
