@@ -1,4 +1,7 @@
 //! What follows from a path and the dump in which it ends, learnt step by step.
+//!
+//! A line such as `let _paths = &self.paths;` or `let _count = self.count();`, here and in the modules below, changes nothing: what always holds of a field (the
+//! invariant of its type), or what a call ensures, can be cited in a proof only where the code has read it.
 
 ghost use Rattle.std.specs.Prelude.{◌≡◌, ◌+◌, ◌*◌, ◌<◌, ◌≤◌, ℕ, length, true, false, IsOk, IfOk, IfSome, IsSome, OnOk, Some, None, Ok, Err, slice_get};
 ghost use Rattle.rept_isa.specs.declared.row.StepRow.{StepRow};
@@ -59,23 +62,37 @@ pub struct Analysis<
     W: Transfer,
     R: RowRules,
 > {
+    /// where memory is taken
     alloc: Global,
+    /// the rows and moments of the run
     paths: P,
+    /// the register values at the last point of each thread
     last: L,
+    /// the program and the memory at the end
     dump: Dump<'a>,
+    /// the facts that were learnt, in their order
     known: FactLog<B>,
+    /// the sets of the registers at each point, by the first `filled` of these facts
     spans: Spans<W>,
+    /// how many of the facts the sets are of
     filled: u32,
+    /// what rows let one conclude
     rules: R,
+    /// how many of the facts are answered, from the first one on
     shown: u32,
+    /// whether all that follows was learnt
     complete: bool,
+    /// the conflict that was found, if one was
     conflict: Option<ConflictKind>,
+    /// the rows that may write, and what each may
     writing: Writings,
+    /// how far the rules of each row were drawn
     drawn: Passes,
     /// whether a row was put in the list anew since the last store of unknown address that was looked at
     is_freed: bool,
     /// whether one was since the last pass over all rows began
     has_put: bool,
+    /// the rows beside which something was learnt since they were looked at
     fresh: Fresh,
 }
 
