@@ -1,9 +1,9 @@
-use Rattle.std.proofs.Common.{◌∷◌, [], ◌++◌, ◌∙◌, ℕ, List, ap, map, sym, take, get_or, cond}
+use Rattle.std.proofs.Common.{◌∷◌, [], ◌++◌, ◌∙◌, ℕ, List, ap, map, sym, take, cond}
 use Rattle.std.specs.Prelude.{None, Some, Option, ◌==◌}
 use Rattle.std.specs.Option.{option_map}
 use Rattle.std.proofs.lemmas.List.{map_more, map_push}
 use Rattle.rept_elf.specs.Symbols.{FunctionSymbol, symbol_of}
-use Rattle.test_session.proofs.fixed.FixedFindings.symbols.Goals as goal
+use Rattle.tables_of_sessions.proofs.fixed.FixedFindings.symbols.Goals as goal
 
 pub loop-address-preserved : goal.loop-address-preserved
 loop-address-preserved c =

@@ -1,7 +1,7 @@
 use Rattle.std.proofs.Common.{◌≤◌, ◌+◌, ℕ, cond, length}
 use Rattle.std.specs.Prelude.{◌==◌}
-use Rattle.test_session.proofs.ThreadWriters.{few, is_between, moment_of, own_unnamed, some_writer}
-use Rattle.test_session.proofs.threads.TwoThreadsFindings.writer.Goals as goal
+use Rattle.tables_of_sessions.proofs.ThreadWriters.{few, is_between, moment_of, own_unnamed, some_writer}
+use Rattle.tables_of_sessions.proofs.threads.TwoThreadsFindings.writer.Goals as goal
 
 pub returns-clause-last : goal.returns-clause-last
 returns-clause-last c = λ thread.

@@ -3,7 +3,7 @@ use Rattle.std.specs.Prelude.{None, Option}
 use Rattle.std.specs.Option.{option_map}
 use Rattle.std.proofs.lemmas.List.{map_more, map_push}
 use Rattle.rept_elf.specs.Symbols.{FunctionSymbol, symbol_of}
-use Rattle.test_session.proofs.fixed.unnamed.Goals as goal
+use Rattle.tables_of_sessions.proofs.fixed.unnamed.Goals as goal
 
 pub loop-preserved : goal.loop-preserved
 loop-preserved c =

@@ -1,5 +1,5 @@
-use Rattle.test_session.proofs.FixedWriters.{is_before, is_between, is_none, is_since}
-use Rattle.test_session.proofs.fixed.FixedFindings.writer.Goals as goal
+use Rattle.tables_of_sessions.proofs.FixedWriters.{is_before, is_between, is_none, is_since}
+use Rattle.tables_of_sessions.proofs.fixed.FixedFindings.writer.Goals as goal
 
 pub returns-clause-last : goal.returns-clause-last
 returns-clause-last c = λ thread. record {

@@ -1,4 +1,4 @@
-//! A session over two threads that both write one byte.
+//! Findings of two threads that both write one byte.
 
 ghost use Rattle.std.specs.Prelude.{◌≡◌, ◌<◌, ◌==◌, length, if◌then◌else◌};
 ghost use Rattle.rept_report.specs.declared.writer.Writer.TheVariants as writers;
@@ -7,14 +7,11 @@ use crate::fixed::{unnamed, x};
 use rept_elf::Symbol;
 use rept_isa::{ImmOp, Instr, Reg, StepRow, StoreOp};
 use rept_partial::Range;
-use rept_ports::{MemSink, MemSource};
 use rept_reason::{Cell, Fact, Looked, Reason};
 use rept_report::{Counts, Writer};
-use rept_serve::{Served, serve};
 use rept_session::{Findings, Place, ThreadPlace, ThreadPoint};
 use rept_word::OutOfMemory;
 use std::alloc::{AllocError, Global};
-use std::test::Fail;
 
 /// What is known of two threads, by hand. The processes 1 and 2 run the same four steps, of which the second writes x6 to 0x20000; the trace
 /// of process 2 ends after it. Thread 0 has the slices 1 to 3 (a step), 3 to 9 (two steps) and from 9 on (a step), thread 1 the slices 1 to 4 and 4 to 8
@@ -280,30 +277,4 @@ pub fn two_threads() -> TwoThreads {
             inexact: 0,
         },
     }
-}
-
-const LINES: &[u8] =
-    b"goto 3\nmem 0x20000 1\ngoto 2\nmem 0x20000 1\nwriter 0x20000\nthread 1\nmem 0x20000 1\nback 1\nmem 0x20000 1\nwriter 0x20000\n\
-why 0x20000\nwhy x6\nreg x6\nfwd 9\nlist 0 2\nthread 0\nreg x6\nthread 2\nthread x\nsummary\n";
-
-const TEXT: &str =
-    "point 3 of 4 pc 0x0001000c\n0x00020000: 09\npoint 2 of 4 pc 0x00010008\n0x00020000: ??\nseveral\n\
-thread 1 pid 2\npoint 2 of 2 pc 0x00010008\n0x00020000: 09\npoint 1 of 2 pc 0x00010004\n0x00020000: ??\nmay write 1 of 0\n\
-unknown\n\
-rule 16\n  point 1 x5 0x00020000 of 1\n  point after-1 0x00020000 08 of 1\n  point end 0x00020000 09 of 0\n  range 1 x5 0x00020000..0x00020000 of 0\n\
-x6 0x00000008\npoint 2 of 2 pc 0x00010008\n0 0x00010000 addi x0,x0,0\n1 0x00010004 sb x6,0(x5)\n\
-thread 0 pid 1\npoint 4 of 4 pc 0x00010010\nx6 0x00000009\n? 5\n? 2\n\
-steps 6 calls 0 skipped 3\nregisters 248 of 248\nstores 2 exact 0 inexact\n";
-
-// The first ten lines and their answers are the example of several threads in docs/FORMATS.md.
-#[test]
-fn two_threads_are_told(rt: HostRuntime) -> Result<(), Fail> {
-    let alloc = rt.alloc();
-    let mut findings = two_threads();
-    let mut source = MemSource::new(alloc, LINES, &[])?;
-    let mut sink = MemSink::new(alloc, 1000, &[])?;
-    let served = serve(alloc, &mut findings, 3, &mut source, &mut sink);
-    assert_eq!(rt; sink.bytes(), TEXT.as_bytes());
-    assert_eq!(rt; served, Served::Ended);
-    Ok(())
 }
