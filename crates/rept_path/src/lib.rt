@@ -13,5 +13,5 @@ pub mod walk;
 pub mod window;
 
 pub use fault::PathFault;
-pub use look::instruction_at;
+pub use look::{by_half, by_word, instruction_at};
 pub use rebuilding::{Path, rebuild};

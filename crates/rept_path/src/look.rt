@@ -27,7 +27,7 @@ fn expansion(half: u16) -> Option<Instr>
 }
 
 /// The instruction of a word of code at an address, or why none can have run there.
-fn by_word(address: u32, word: Option<u32>) -> Result<Instr, PathFault>
+pub fn by_word(address: u32, word: Option<u32>) -> Result<Instr, PathFault>
     ensures { result ≡ by_word address word }
 {
     let Some(spelled) = word else {
@@ -40,7 +40,7 @@ fn by_word(address: u32, word: Option<u32>) -> Result<Instr, PathFault>
 }
 
 /// The instruction that the half of a compressed one at an address stands for, or that it stands for none.
-fn by_half(address: u32, half: u16) -> Result<Instr, PathFault>
+pub fn by_half(address: u32, half: u16) -> Result<Instr, PathFault>
     ensures { result ≡ by_instruction address half (expansion half) }
 {
     let Some(instr) = expansion(half) else {

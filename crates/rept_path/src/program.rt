@@ -15,7 +15,7 @@ pub struct Program<'a> {
 }
 
 /// The half, where it is one of a compressed instruction.
-fn short_by(half: Option<u16>) -> Option<u16>
+pub fn short_by(half: Option<u16>) -> Option<u16>
     ensures { result ≡ short_by half }
 {
     match half {

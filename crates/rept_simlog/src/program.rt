@@ -1,15 +1,14 @@
 //! The code that was executed.
 
 ghost use Rattle.std.specs.Prelude.{◌≡◌};
-ghost use Rattle.rept_path.specs.Code.{instruction, expansion, by_instruction, by_word, short_by};
 ghost use Rattle.rept_simlog.specs.Program.{is_compressed};
 
 use rept_dump::Code;
 use rept_elf::Image;
 use rept_encode::Site;
-use rept_isa::{Instr, decode};
-use rept_path::PathFault;
-use rept_rvc::expand;
+use rept_isa::Instr;
+use rept_path::program::short_by;
+use rept_path::{PathFault, by_half, by_word};
 
 /// The code of an executable, and whether it may be compressed.
 #[derive(Clone, Copy)]
@@ -26,53 +25,6 @@ fn is_compressed(file: &[u8]) -> bool
         Some(flags) => flags % 2 == 1,
         None => false,
     }
-}
-
-/// The half, where it is one of a compressed instruction.
-fn short_by(half: Option<u16>) -> Option<u16>
-    ensures { result ≡ short_by half }
-{
-    match half {
-        Some(half) if half % 4 != 3 => Some(half),
-        _ => None,
-    }
-}
-
-/// The instruction that the word spells.
-fn instruction(spelled: u32) -> Option<Instr>
-    ensures { result ≡ instruction spelled }
-{
-    decode(spelled)
-}
-
-/// The instruction that the half stands for.
-fn expansion(half: u16) -> Option<Instr>
-    ensures { result ≡ expansion half }
-{
-    expand(half)
-}
-
-/// The instruction of a word of code at an address, or why none can have run there.
-fn by_word(address: u32, word: Option<u32>) -> Result<Instr, PathFault>
-    ensures { result ≡ by_word address word }
-{
-    let Some(spelled) = word else {
-        return Err(PathFault::NotCode(address));
-    };
-    let Some(instr) = instruction(spelled) else {
-        return Err(PathFault::NotRv32im(address, spelled));
-    };
-    Ok(instr)
-}
-
-/// The instruction that the half of a compressed one at an address stands for, or that it stands for none.
-fn by_half(address: u32, half: u16) -> Result<Instr, PathFault>
-    ensures { result ≡ by_instruction address half (expansion half) }
-{
-    let Some(instr) = expansion(half) else {
-        return Err(PathFault::NotRv32im(address, u32::from(half)));
-    };
-    Ok(instr)
 }
 
 impl<'a> Program<'a> {
