@@ -4,8 +4,7 @@ use Rattle.std.specs.Prelude.{MatchBool}
 use Rattle.rept_elf.specs.Image.{file_of}
 use Rattle.rept_elf.specs.Segments.{ElfSegment}
 use Rattle.rept_dump.specs.declared.dump.Dump.{Dump}
-use Rattle.rept_dump.specs.Notes.{Note, HaveNotes}
-use Rattle.rept_dump.specs.Registers.{note_segments}
+use Rattle.rept_notes.specs.Notes.{Note, HaveNotes, note_segments}
 use Rattle.rept_dump.proofs.NoteLemmas.{same_threads}
 use Rattle.rept_isa.specs.declared.row.StepRow.{StepRow}
 use Rattle.rept_steps.specs.declared.run.Run.{Run}

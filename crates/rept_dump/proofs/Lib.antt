@@ -1,4 +1,3 @@
-pub mod Leaping
 pub mod NoteLemmas
 pub mod SearchLemmas
 pub mod Stretches

@@ -1,10 +1,7 @@
-pub mod Ahead
 pub mod Code
 pub mod Dump
 pub mod Files
-pub mod Found
 pub mod Memory
-pub mod Notes
 pub mod Program
 pub mod Registers
 pub mod Status

@@ -1,19 +1,7 @@
--- Looking for the register note of one of several threads. This project's own.
-use Rattle.std.specs.Prelude.{◌≡◌, ℕ, ◌+◌, ◌≤◌, List, [], length, slice_get, Some, MatchBool}
-use Rattle.rept_elf.specs.Segments.{ElfSegment, is_note}
-use Rattle.rept_dump.specs.Notes.{Note, AreNotes}
-use Rattle.rept_dump.specs.Registers.{descs_of, status_size, HaveThreads}
-use Rattle.rept_dump.specs.declared.threads.Search.{Search}
-use Rattle.rept_dump.specs.declared.threads.Search.TheVariants.{Found, Past}
-
--- the note after so many of these register notes, or how many more would have to be passed over
-abbrev pub Searches : List Note → ℕ → Search → Type 0
-Searches statuses skip (Found desc) = slice_get (descs_of statuses) skip ≡ Some desc.now
-Searches statuses skip (Past left) = length statuses + left ≡ skip
-
--- the notes of a segment; one that isn't of notes has none
-abbrev pub AreNotesOf : ElfSegment → List Note → Type 0
-AreNotesOf s notes = MatchBool (is_note s) (AreNotes s.body notes) (notes ≡ [])
+-- The threads of a core file as their register notes say. This project's own.
+use Rattle.std.specs.Prelude.{◌≡◌, ℕ, ◌≤◌, List, length, slice_get, Some}
+use Rattle.rept_elf.specs.Segments.{ElfSegment}
+use Rattle.rept_dump.specs.Registers.{status_size, HaveThreads}
 
 -- each of the descriptors has all registers
 abbrev pub AllLong : List (List ℕ) → Type 0

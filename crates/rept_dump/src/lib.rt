@@ -2,13 +2,11 @@
 //! of code. Nothing is copied.
 #![tactic(auto)]
 
-mod ahead;
 mod code;
 mod dump;
 mod executable;
 mod fault;
 mod files;
-mod note;
 mod notes;
 mod search;
 mod status;

@@ -1,83 +1,27 @@
 //! The register notes of several threads, found one by one. None of it is kept: a note is looked for among all notes each time.
 
-ghost use Rattle.std.specs.Prelude.{◌≡◌, ◌==◌, ◌<◌, ◌≤◌, ◌+◌, ℕ, List, length, map, slice_get, true, IfOk, IfErr, MatchOption, Some, Ok, Err, if◌then◌else◌};
-ghost use Rattle.std.specs.List.{filter, list_any};
-ghost use Rattle.rept_elf.specs.Image.{file_of, segments_of, segment_of};
-ghost use Rattle.rept_dump.specs.Notes.{Note as NoteOf, AreNotes};
-ghost use Rattle.rept_dump.specs.Registers.{is_status, pid_of, first_twin, HaveThreads, SaysOfAll};
-ghost use Rattle.rept_dump.specs.Threads.{Searches, AreNotesOf, AllLong, AreThreads};
+ghost use Rattle.std.specs.Prelude.{◌≡◌, ◌==◌, ◌<◌, ◌≤◌, ℕ, List, length, map, slice_get, IfOk, IfErr, MatchOption, Some, Ok, Err};
+ghost use Rattle.std.specs.List.{list_any};
+ghost use Rattle.rept_elf.specs.Image.{file_of, segments_of};
+ghost use Rattle.rept_dump.specs.Registers.{pid_of, first_twin, HaveThreads, SaysOfAll};
+ghost use Rattle.rept_dump.specs.Threads.{AllLong, AreThreads};
 
 use crate::fault::CoreFault;
-use crate::note::{NOTE_HEADER, STATUS_SIZE, first_note, is_register_note};
-use crate::notes::read_core;
-use rept_elf::{Image, PT_NOTE, Segment, word};
+use crate::notes::{NT_PRSTATUS, STATUS_SIZE, first_short, read_core};
+use rept_elf::{Image, word};
+use rept_notes::find_nth;
 
 /// The most threads.
 const MOST_THREADS: usize = 1024;
-
-/// What a search for a register note came to.
-#[derive(Clone, Copy)]
-pub enum Search<'a> {
-    /// Its descriptor.
-    Found(&'a [u8]),
-    /// There are too few: so many are left to pass over.
-    Past(u32),
-}
-
-/// How many register notes are left to pass over after a note.
-fn pass(left: u32, registers: bool) -> u32
-    requires { registers ≡ true → 0 < left }
-    ensures { (if registers then 1 else 0) + result ≡ left }
-{
-    if registers { left - 1 } else { left }
-}
-
-/// The register note after so many of these notes.
-fn search_notes(bytes: &[u8], skip: u32) -> Search<'_>
-    requires { length bytes.now < 4294967296 }
-    ensures { (notes : List NoteOf) → AreNotes bytes.now notes → Searches (filter is_status notes) skip result }
-{
-    let mut rest = bytes;
-    let mut left = skip;
-    while rest.len() >= NOTE_HEADER {
-        let Some(note) = first_note(rest) else {
-            return Search::Past(left);
-        };
-        let registers = is_register_note(&note);
-        if registers && left == 0 {
-            return Search::Found(note.desc);
-        }
-        left = pass(left, registers);
-        rest = note.after;
-    }
-    Search::Past(left)
-}
-
-/// The register note after so many of the notes of a segment, if it is one of notes.
-fn search_segment<'a>(segment: &Segment<'a>, skip: u32) -> Search<'a>
-    requires { length segment.now.body.now < 4294967296 }
-    ensures { (notes : List NoteOf) → AreNotesOf (segment_of segment.now) notes → Searches (filter is_status notes) skip result }
-{
-    if segment.kind == PT_NOTE {
-        search_notes(segment.body, skip)
-    } else {
-        Search::Past(skip)
-    }
-}
 
 /// The descriptor of the register note after so many of a core file whose notes are whole.
 pub fn search_core<'a>(core: &Image<'a>, skip: u32) -> Option<&'a [u8]>
     ensures { (descs : List (List ℕ)) → HaveThreads (length (file_of core.now)) (segments_of core.now) descs → MatchOption result (length descs ≤ skip) (λ desc. slice_get descs skip ≡ Some desc.now) }
 {
-    let mut left = skip;
-    for i in 0..core.count() {
-        let segment = core.segment(i);
-        match search_segment(&segment, left) {
-            Search::Found(desc) => return Some(desc),
-            Search::Past(more) => left = more,
-        }
+    match find_nth(core, NT_PRSTATUS, skip) {
+        Some(note) => Some(note.desc),
+        None => None,
     }
-    None
 }
 
 /// The process of a thread, 0 where there is no such thread.
@@ -134,7 +78,8 @@ pub fn find_threads<'a>(core: &Image<'a>) -> Result<(&'a [u8], u32), CoreFault>
     if found.count == 0 {
         return Err(CoreFault::NoStatus);
     }
-    if let Some(size) = found.short {
+    let short = first_short(core)?;
+    if let Some(size) = short {
         return Err(CoreFault::ShortStatus(size));
     }
     if found.count > MOST_THREADS as u64 {

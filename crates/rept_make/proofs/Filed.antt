@@ -9,7 +9,7 @@ use Rattle.rept_elf.specs.Segments.{ElfSegment, segments}
 use Rattle.rept_elf.specs.Symbols.{FunctionSymbol}
 use Rattle.rept_elf.specs.Checks.{checks, first_failure}
 use Rattle.rept_elf.specs.declared.fault.Want.TheVariants.{Exec, Core}
-use Rattle.rept_dump.specs.Notes.{Note, AreNotes, HaveNotes, first_note}
+use Rattle.rept_notes.specs.Notes.{Note, AreNotes, HaveNotes, first_note}
 use Rattle.rept_dump.specs.Registers.{Says, only_registers}
 use Rattle.std.specs.Option.{option_map, option_or}
 use Rattle.rept_isa.specs.declared.instr.Instr.{Instr}
@@ -111,7 +111,7 @@ module _ (registers bytes : List ℕ) (count : length registers ≡ 32) (size : 
   note_end = let n = words_size in drop_front (bytes_of_words registers) zeros 132 4 (omega arith)
 
   abbrev note : Note
-  note = first_note (note_of registers).body
+  note = first_note 116 (note_of registers).body
 
   desc_is : note.desc ≡ status_of registers
   desc_is = ap (λ (xs : List ℕ). status_start ++ xs) note_rest
@@ -132,7 +132,7 @@ module _ (registers bytes : List ℕ) (count : length registers ≡ 32) (size : 
   core_says =
       let n = core_size in
       let b = body_size in
-      let whole : AreNotes (note_of registers).body (note ∷ []) = ([], ((record { header = rw b (omega arith); fits = rw b (omega arith) }), refl, sym note_end), omega arith) in
+      let whole : AreNotes 116 (note_of registers).body (note ∷ []) = ([], ((record { header = rw b (omega arith); fits = rw b (omega arith) }), refl, sym note_end), omega arith) in
       let have : HaveNotes (length (core_file registers bytes)) (note_of registers ∷ []) (note ∷ []) = (note ∷ [], [], refl, rw n (omega arith), whole, refl) in
       let long : nat_lt (length note.desc) 204 ≡ false = ap (λ (k : ℕ). nat_lt k 204) (ap (length {A = ℕ}) desc_is ∙ status_size) in
       let only : only_registers (note ∷ []) ≡ Ok (status_of registers) = rw long (ap (λ (d : List ℕ). Ok d) desc_is) in

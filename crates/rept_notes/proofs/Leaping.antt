@@ -1,5 +1,5 @@
 -- Notes of bytes as notes of a front of these bytes, one list of notes after another, and what a table keeps.
-use Rattle.std.proofs.Common.{◌≡◌, ℕ, zero, suc, ◌+◌, ◌-◌, ◌<◌, ◌≤◌, min, inl, inr, List, [], ◌∷◌, ◌++◌, length, drop, take, set, arith, refl, sym, ◌∙◌, ap, subst, length-drop, get_or, replicate}
+use Rattle.std.proofs.Common.{◌≡◌, ℕ, zero, suc, ◌+◌, ◌-◌, ◌<◌, ◌≤◌, min, inl, inr, List, [], ◌∷◌, ◌++◌, length, drop, take, set, arith, refl, sym, ◌∙◌, ap, subst, length-drop, get_or, replicate, Bool}
 use Rattle.std.proofs.lemmas.List.{length-take, drop-drop, drop-take, drop_all, take-take, take_min, get_or-drop, get_or-take}
 use Rattle.std.proofs.lemmas.Option.{slice_get-get_or}
 use Rattle.std.proofs.lemmas.Bool.{cases_lt}
@@ -9,27 +9,26 @@ use Rattle.rept_elf.specs.Header.{word_at}
 use Rattle.rept_elf.specs.Segments.{ElfSegment, part_of}
 use Rattle.rept_notes.specs.Notes.{Note, HoldsNote, AreNotesThen, first_note, after_note, note_size, desc_offset, desc_size, padded}
 use Rattle.rept_notes.specs.Found.{AreFound, Adds}
-use Rattle.rept_notes.specs.Sought.{is_sought}
 use Rattle.rept_notes.specs.Ahead.{IsAhead, AreLeaps, AreAhead}
 use Rattle.rept_notes.specs.declared.ahead.Ahead.{Ahead}
 use Rattle.rept_notes.specs.declared.note.Found.{Found}
 use Rattle.rept_notes.proofs.NoteLemmas.{SoFar, one_more, at_most_one, shrinks, place_after, AreFound-then}
 
-pub one_more_ahead : (kind offset : ℕ) (bytes : List ℕ) (ahead ahead' : Ahead) (note : Note)
-    → IsAhead kind offset bytes ahead → HoldsNote ahead.rest.now → first_note (offset + (length bytes - length ahead.rest.now)) ahead.rest.now ≡ note → ahead'.rest.now ≡ after_note ahead.rest.now
-    → Adds ahead.found ahead'.found (filter (is_sought kind) (note ∷ [])) → IsAhead kind offset bytes ahead'
-one_more_ahead kind offset bytes ahead ahead' note a h n e more = record {
+pub one_more_ahead : (sought : Note → Bool) (offset : ℕ) (bytes : List ℕ) (ahead ahead' : Ahead) (note : Note)
+    → IsAhead sought offset bytes ahead → HoldsNote ahead.rest.now → first_note (offset + (length bytes - length ahead.rest.now)) ahead.rest.now ≡ note → ahead'.rest.now ≡ after_note ahead.rest.now
+    → Adds ahead.found ahead'.found (filter sought (note ∷ [])) → IsAhead sought offset bytes ahead'
+one_more_ahead sought offset bytes ahead ahead' note a h n e more = record {
   notes = a.notes ++ note ∷ [];
   before = subst (λ r. AreNotesThen offset bytes (a.notes ++ note ∷ []) r) (sym e) (one_more offset bytes a.notes ahead.rest.now note a.before h n);
-  found = AreFound-then kind ahead.found ahead'.found a.notes (note ∷ []) a.found more;
-  fewer = omega (arith, a.fewer, shrinks ahead.rest.now ahead'.rest.now h e, more.counted, at_most_one kind note);
+  found = AreFound-then sought ahead.found ahead'.found a.notes (note ∷ []) a.found more;
+  fewer = omega (arith, a.fewer, shrinks ahead.rest.now ahead'.rest.now h e, more.counted, at_most_one sought note);
 }
 
 -- what was read ahead of a segment, after what was found before
-pub so_far_joined : (kind offset : ℕ) (bytes : List ℕ) (ahead : Ahead) (found found' : Found) → IsAhead kind offset bytes ahead → ((notes : List Note) → AreFound ahead.found notes → Adds found found' notes)
-    → SoFar kind offset bytes ahead.rest.now found found'
-so_far_joined kind offset bytes ahead found found' a join =
-    let more = join (filter (is_sought kind) a.notes) a.found in
+pub so_far_joined : (sought : Note → Bool) (offset : ℕ) (bytes : List ℕ) (ahead : Ahead) (found found' : Found) → IsAhead sought offset bytes ahead → ((notes : List Note) → AreFound ahead.found notes → Adds found found' notes)
+    → SoFar sought offset bytes ahead.rest.now found found'
+so_far_joined sought offset bytes ahead found found' a join =
+    let more = join (filter sought a.notes) a.found in
     record { notes = a.notes; before = a.before; adds = more; fewer = omega (arith, a.fewer, a.found.counted, more.counted); shorter = omega (arith, a.fewer) }
 
 then_more : (offset : ℕ) (bytes : List ℕ) (front after : List Note) (rest rest' : List ℕ) → 12 ≤ length rest → AreNotesThen offset bytes front rest → AreNotesThen (offset + (length bytes - length rest)) rest after rest'
@@ -68,9 +67,9 @@ part_front : (xs : List ℕ) (m o l : ℕ) → o + l ≤ m → part_of (take m x
 part_front xs m o l h = ap (take l) (drop_front xs m o (omega arith)) ∙ take-take l (m - o) (drop o xs) (omega arith)
 
 -- what is left of a part of a file is a front of what the file has from there on
-pub front_of_file : (kind : ℕ) (file : List ℕ) (offset size : ℕ) (body : List ℕ) (ahead : Ahead) → body ≡ part_of file offset size → IsAhead kind offset body ahead
+pub front_of_file : (sought : Note → Bool) (file : List ℕ) (offset size : ℕ) (body : List ℕ) (ahead : Ahead) → body ≡ part_of file offset size → IsAhead sought offset body ahead
     → ahead.rest.now ≡ take (length ahead.rest.now) (drop (offset + (length body - length ahead.rest.now)) file)
-front_of_file kind file offset size body ahead is a =
+front_of_file sought file offset size body ahead is a =
     let rest = ahead.rest.now in
     let j = length body - length rest in
     let all : body ≡ take (length body) (drop offset file) =
@@ -122,12 +121,12 @@ front_notes (note ∷ notes) offset bytes k m h lt le =
     front_notes notes (offset + note_size bytes) (drop (note_size bytes) bytes) (k - note_size bytes) (m - note_size bytes) (subst (λ r. AreNotesThen (offset + note_size bytes) (after_note bytes) notes r) (sym from) h.2) (omega (arith, within, lt)) (rw (length-drop (note_size bytes) bytes) (omega (arith, le))) in
     (f.holds, f.same offset ∙ h.1, subst (λ r. AreNotesThen (offset + note_size (take m bytes)) (after_note (take m bytes)) notes r) to (subst (λ bs. AreNotesThen (offset + note_size (take m bytes)) bs notes (drop (k - note_size bytes) bs)) (sym f.after) (subst (λ n. AreNotesThen (offset + n) (take (m - note_size bytes) (drop (note_size bytes) bytes)) notes (drop (k - note_size bytes) (take (m - note_size bytes) (drop (note_size bytes) bytes)))) (sym f.size) later)))
 
-pub passed : (kind offset : ℕ) (segment bytes : List ℕ) (ahead leap ahead' : Ahead) → IsAhead kind offset segment ahead → IsAhead kind (offset + (length segment - length ahead.rest.now)) bytes leap
+pub passed : (sought : Note → Bool) (offset : ℕ) (segment bytes : List ℕ) (ahead leap ahead' : Ahead) → IsAhead sought offset segment ahead → IsAhead sought (offset + (length segment - length ahead.rest.now)) bytes leap
     → ahead.rest.now ≡ take (length ahead.rest.now) bytes
     → (length bytes - length leap.rest.now) + 12 ≤ length ahead.rest.now → ahead'.rest.now ≡ drop (length bytes - length leap.rest.now) ahead.rest.now
     → ((notes : List Note) → AreFound leap.found notes → Adds ahead.found ahead'.found notes)
-    → IsAhead kind offset segment ahead'
-passed kind offset segment bytes ahead leap ahead' a b front fits rest join =
+    → IsAhead sought offset segment ahead'
+passed sought offset segment bytes ahead leap ahead' a b front fits rest join =
     let m = length ahead.rest.now in
     let p = length bytes - length leap.rest.now in
     let place = offset + (length segment - length ahead.rest.now) in
@@ -135,12 +134,12 @@ passed kind offset segment bytes ahead leap ahead' a b front fits rest join =
     let then_rest : AreNotesThen place bytes b.notes (drop p bytes) = subst (λ r. AreNotesThen place bytes b.notes r) (rest_of place bytes b.notes leap.rest.now b.before) b.before in
     let in_front : AreNotesThen place (take m bytes) b.notes (drop p (take m bytes)) = front_notes b.notes place bytes p m then_rest fits le in
     let in_rest : AreNotesThen place ahead.rest.now b.notes ahead'.rest.now = subst (λ r. AreNotesThen place ahead.rest.now b.notes r) (sym rest) (subst (λ bs. AreNotesThen place bs b.notes (drop p bs)) (sym front) in_front) in
-    let more = join (filter (is_sought kind) b.notes) b.found in
+    let more = join (filter sought b.notes) b.found in
     let long : 12 ≤ length ahead.rest.now = omega (arith, fits) in
     record {
       notes = a.notes ++ b.notes;
       before = then_more offset segment a.notes b.notes ahead.rest.now ahead'.rest.now long a.before in_rest;
-      found = AreFound-then kind ahead.found ahead'.found a.notes b.notes a.found more;
+      found = AreFound-then sought ahead.found ahead'.found a.notes b.notes a.found more;
       fewer = (let l = ap length rest ∙ length-drop p ahead.rest.now in omega (arith, l, fits, a.fewer, b.fewer, b.found.counted, more.counted));
     }
 
@@ -161,22 +160,22 @@ none_kept zero i x e = cc
 none_kept (suc n) zero x e = cc
 none_kept (suc n) (suc i) x e = none_kept n i x e
 
-pub no_leaps : (kind : ℕ) (file : List ℕ) (n : ℕ) → AreLeaps kind file (replicate n None)
-no_leaps kind file n i leap at = absurd (none_kept n i leap at)
+pub no_leaps : (sought : Note → Bool) (file : List ℕ) (n : ℕ) → AreLeaps sought file (replicate n None)
+no_leaps sought file n i leap at = absurd (none_kept n i leap at)
 
-pub none_ahead : (kind : ℕ) (segments : List ElfSegment) (n : ℕ) → AreAhead kind segments (replicate n None)
-none_ahead kind segments n i s ahead is at = absurd (none_kept n i ahead at)
+pub none_ahead : (sought : Note → Bool) (segments : List ElfSegment) (n : ℕ) → AreAhead sought segments (replicate n None)
+none_ahead sought segments n i s ahead is at = absurd (none_kept n i ahead at)
 
 -- a segment that was gone through further
-pub ahead_put : (kind : ℕ) (segments : List ElfSegment) (aheads : List (Option Ahead)) (i : ℕ) (s : ElfSegment) (ahead : Ahead)
-    → AreAhead kind segments aheads → slice_get segments i ≡ Some s → IsAhead kind s.offset s.body ahead → AreAhead kind segments (set aheads i (Some ahead))
-ahead_put kind segments aheads i s ahead all is new j other more there at =
-    kept_at (λ k x. (t : ElfSegment) (a : Ahead) → slice_get segments k ≡ Some t → x ≡ Some a → IsAhead kind t.offset t.body a) aheads i (Some ahead)
+pub ahead_put : (sought : Note → Bool) (segments : List ElfSegment) (aheads : List (Option Ahead)) (i : ℕ) (s : ElfSegment) (ahead : Ahead)
+    → AreAhead sought segments aheads → slice_get segments i ≡ Some s → IsAhead sought s.offset s.body ahead → AreAhead sought segments (set aheads i (Some ahead))
+ahead_put sought segments aheads i s ahead all is new j other more there at =
+    kept_at (λ k x. (t : ElfSegment) (a : Ahead) → slice_get segments k ≡ Some t → x ≡ Some a → IsAhead sought t.offset t.body a) aheads i (Some ahead)
     (λ k x found t a on e. all k t a on (found ∙ ap Some e))
-    (λ t a on e. subst (IsAhead kind t.offset t.body) (some_same e) (subst (λ (u : ElfSegment). IsAhead kind u.offset u.body ahead) (some_same (sym is ∙ on)) new))
+    (λ t a on e. subst (IsAhead sought t.offset t.body) (some_same e) (subst (λ (u : ElfSegment). IsAhead sought u.offset u.body ahead) (some_same (sym is ∙ on)) new))
     j (Some more) at other more there refl
 
 -- what is kept of a segment
-pub ahead_at : (kind : ℕ) (segments : List ElfSegment) (aheads : List (Option Ahead)) (i : ℕ) (s : ElfSegment) (ahead : Ahead)
-    → AreAhead kind segments aheads → slice_get segments i ≡ Some s → i < length aheads → get_or aheads i None ≡ Some ahead → IsAhead kind s.offset s.body ahead
-ahead_at kind segments aheads i s ahead all is inside e = all i s ahead is (slice_get-get_or aheads i None inside ∙ ap Some e)
+pub ahead_at : (sought : Note → Bool) (segments : List ElfSegment) (aheads : List (Option Ahead)) (i : ℕ) (s : ElfSegment) (ahead : Ahead)
+    → AreAhead sought segments aheads → slice_get segments i ≡ Some s → i < length aheads → get_or aheads i None ≡ Some ahead → IsAhead sought s.offset s.body ahead
+ahead_at sought segments aheads i s ahead all is inside e = all i s ahead is (slice_get-get_or aheads i None inside ∙ ap Some e)

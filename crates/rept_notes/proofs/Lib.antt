@@ -1,2 +1,3 @@
 pub mod Leaping
 pub mod NoteLemmas
+pub mod NthLemmas

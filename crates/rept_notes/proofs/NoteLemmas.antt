@@ -9,7 +9,7 @@ use Rattle.rept_elf.specs.Segments.{ElfSegment, is_note}
 use Rattle.rept_elf.proofs.SegmentLemmas.{drop-slice_get}
 use Rattle.rept_notes.specs.Notes.{Note, HoldsNote, AreNotesThen, AreNotes, CutsNote, HaveNotes, AreCutAt, IsCutAt, IsInFile, first_note, after_note, note_size, note_header, note_segments}
 use Rattle.rept_notes.specs.Found.{AreFound, Adds, PassesSegment, CutsSegment, note_of, said_of}
-use Rattle.rept_notes.specs.Sought.{Says, Counted, counted, is_sought, head}
+use Rattle.rept_notes.specs.Sought.{SaysOf, Counted, counted, head}
 use Rattle.rept_notes.specs.declared.note.Note.{Note as CodeNote}
 use Rattle.rept_notes.specs.declared.note.Found.{Found}
 use Rattle.rept_notes.specs.declared.fault.NotePastEnd.{NotePastEnd}
@@ -51,16 +51,16 @@ or-head (Some x) xs ys = refl
 pub Adds-nothing : (found : Found) → Adds found found []
 Adds-nothing found = record { counted = omega arith; first = or-none (option_map note_of found.first) }
 
-pub Adds-then : (kind : ℕ) (a b c : Found) (front after : List Note) → Adds a b (filter (is_sought kind) front) → Adds b c (filter (is_sought kind) after) → Adds a c (filter (is_sought kind) (front ++ after))
-Adds-then kind a b c front after p q = rw filter-append (record {
-  counted = omega (arith, p.counted, q.counted, length-append (filter (is_sought kind) front) (filter (is_sought kind) after));
-  first = q.first ∙ ap (λ o. option_or o (head (filter (is_sought kind) after))) p.first ∙ or-head (option_map note_of a.first) (filter (is_sought kind) front) (filter (is_sought kind) after);
+pub Adds-then : (sought : Note → Bool) (a b c : Found) (front after : List Note) → Adds a b (filter sought front) → Adds b c (filter sought after) → Adds a c (filter sought (front ++ after))
+Adds-then sought a b c front after p q = rw filter-append (record {
+  counted = omega (arith, p.counted, q.counted, length-append (filter sought front) (filter sought after));
+  first = q.first ∙ ap (λ o. option_or o (head (filter sought after))) p.first ∙ or-head (option_map note_of a.first) (filter sought front) (filter sought after);
 })
 
-pub AreFound-then : (kind : ℕ) (a b : Found) (front after : List Note) → AreFound a (filter (is_sought kind) front) → Adds a b (filter (is_sought kind) after) → AreFound b (filter (is_sought kind) (front ++ after))
-AreFound-then kind a b front after p q = rw filter-append (record {
-  counted = omega (arith, p.counted, q.counted, length-append (filter (is_sought kind) front) (filter (is_sought kind) after));
-  first = q.first ∙ ap (λ o. option_or o (head (filter (is_sought kind) after))) p.first ∙ head-append (filter (is_sought kind) front) (filter (is_sought kind) after);
+pub AreFound-then : (sought : Note → Bool) (a b : Found) (front after : List Note) → AreFound a (filter sought front) → Adds a b (filter sought after) → AreFound b (filter sought (front ++ after))
+AreFound-then sought a b front after p q = rw filter-append (record {
+  counted = omega (arith, p.counted, q.counted, length-append (filter sought front) (filter sought after));
+  first = q.first ∙ ap (λ o. option_or o (head (filter sought after))) p.first ∙ head-append (filter sought front) (filter sought after);
 })
 
 -- what was found, and what was found after
@@ -71,28 +71,28 @@ joined found more found' count first notes are = record {
 }
 
 -- a note that is sought
-pub added : (kind : ℕ) (found found' : Found) (note : CodeNote) → is_sought kind (note_of note) ≡ true → found'.count ≡ found.count + 1 → found'.first ≡ option_or found.first (Some note)
-    → Adds found found' (filter (is_sought kind) (note_of note ∷ []))
-added kind found found' note sought count first = subst (λ b. Adds found found' (cond b (note_of note ∷ []) [])) (sym sought) (record {
+pub added : (sought : Note → Bool) (found found' : Found) (note : CodeNote) → sought (note_of note) ≡ true → found'.count ≡ found.count + 1 → found'.first ≡ option_or found.first (Some note)
+    → Adds found found' (filter sought (note_of note ∷ []))
+added sought found found' note is count first = subst (λ b. Adds found found' (cond b (note_of note ∷ []) [])) (sym is) (record {
   counted = omega (arith, count);
   first = ap (option_map note_of) first ∙ map-or note_of found.first (Some note);
 })
 
 -- one that isn't
-pub not_added : (kind : ℕ) (found : Found) (note : CodeNote) → is_sought kind (note_of note) ≡ false → Adds found found (filter (is_sought kind) (note_of note ∷ []))
-not_added kind found note other = subst (λ b. Adds found found (cond b (note_of note ∷ []) [])) (sym other) (Adds-nothing found)
+pub not_added : (sought : Note → Bool) (found : Found) (note : CodeNote) → sought (note_of note) ≡ false → Adds found found (filter sought (note_of note ∷ []))
+not_added sought found note other = subst (λ b. Adds found found (cond b (note_of note ∷ []) [])) (sym other) (Adds-nothing found)
 
 -- the notes of a segment so far
-pub record SoFar (kind offset : ℕ) (bytes rest : List ℕ) (found found' : Found) : Type 0 where
+pub record SoFar (sought : Note → Bool) (offset : ℕ) (bytes rest : List ℕ) (found found' : Found) : Type 0 where
   pub notes : List Note
   pub before : AreNotesThen offset bytes notes rest
-  pub adds : Adds found found' (filter (is_sought kind) notes)
+  pub adds : Adds found found' (filter sought notes)
   pub fewer : found'.count + length rest ≤ found.count + length bytes
   pub shorter : length rest ≤ length bytes
 
 -- at most one of one note is sought
-pub at_most_one : (kind : ℕ) (note : Note) → length (filter (is_sought kind) (note ∷ [])) ≤ 1
-at_most_one kind note = either (is_sought kind note)
+pub at_most_one : (sought : Note → Bool) (note : Note) → length (filter sought (note ∷ [])) ≤ 1
+at_most_one sought note = either (sought note)
   where
     either : (b : Bool) → length (cond b (note ∷ []) []) ≤ 1
     either true = omega arith
@@ -101,55 +101,55 @@ at_most_one kind note = either (is_sought kind note)
 pub shrinks : (rest rest' : List ℕ) → HoldsNote rest → rest' ≡ after_note rest → length rest' + 12 ≤ length rest
 shrinks rest rest' h e = rw (e, length-drop) (omega (arith, h.header))
 
-pub one_more_note : (kind offset : ℕ) (bytes rest rest' : List ℕ) (a b c : Found) (note : Note)
-    → SoFar kind offset bytes rest a b → HoldsNote rest → first_note (offset + (length bytes - length rest)) rest ≡ note → rest' ≡ after_note rest → Adds b c (filter (is_sought kind) (note ∷ []))
-    → SoFar kind offset bytes rest' a c
-one_more_note kind offset bytes rest rest' a b c note s h n e more = record {
+pub one_more_note : (sought : Note → Bool) (offset : ℕ) (bytes rest rest' : List ℕ) (a b c : Found) (note : Note)
+    → SoFar sought offset bytes rest a b → HoldsNote rest → first_note (offset + (length bytes - length rest)) rest ≡ note → rest' ≡ after_note rest → Adds b c (filter sought (note ∷ []))
+    → SoFar sought offset bytes rest' a c
+one_more_note sought offset bytes rest rest' a b c note s h n e more = record {
   notes = s.notes ++ note ∷ [];
   before = subst (λ r. AreNotesThen offset bytes (s.notes ++ note ∷ []) r) (sym e) (one_more offset bytes s.notes rest note s.before h n);
-  adds = Adds-then kind a b c s.notes (note ∷ []) s.adds more;
-  fewer = omega (arith, s.fewer, shrinks rest rest' h e, more.counted, at_most_one kind note);
+  adds = Adds-then sought a b c s.notes (note ∷ []) s.adds more;
+  fewer = omega (arith, s.fewer, shrinks rest rest' h e, more.counted, at_most_one sought note);
   shorter = omega (arith, s.shorter, shrinks rest rest' h e);
 }
 
 -- the segments that are left, and the notes of those before
-pub record Through (kind size : ℕ) (all left : List ElfSegment) (found : Found) : Type 0 where
+pub record Through (sought : Note → Bool) (size : ℕ) (all left : List ElfSegment) (found : Found) : Type 0 where
   pub notes : List Note
   pub have : (later : List Note) → HaveNotes size left later → HaveNotes size all (notes ++ later)
   pub cut : (offset : ℕ) → AreCutAt size left offset → AreCutAt size all offset
-  pub are : AreFound found (filter (is_sought kind) notes)
+  pub are : AreFound found (filter sought notes)
 
-pub past_one : (kind size : ℕ) (all : List ElfSegment) (s : ElfSegment) (left : List ElfSegment) (found found' : Found) (front : List Note)
-    → Through kind size all (s ∷ left) found → IsInFile size s → AreNotes s.offset s.body front → Adds found found' (filter (is_sought kind) front) → Through kind size all left found'
-past_one kind size all s left found found' front t inside are adds = record {
+pub past_one : (sought : Note → Bool) (size : ℕ) (all : List ElfSegment) (s : ElfSegment) (left : List ElfSegment) (found found' : Found) (front : List Note)
+    → Through sought size all (s ∷ left) found → IsInFile size s → AreNotes s.offset s.body front → Adds found found' (filter sought front) → Through sought size all left found'
+past_one sought size all s left found found' front t inside are adds = record {
   notes = t.notes ++ front;
   have = λ later h. rw append_assoc (t.have (front ++ later) (front, later, refl, inside, are, h));
   cut = λ offset h. t.cut offset (inr (inside, (front, are), h));
-  are = AreFound-then kind found found' t.notes front t.are adds;
+  are = AreFound-then sought found found' t.notes front t.are adds;
 }
 
-pub past_segment : (kind size : ℕ) (all segs : List ElfSegment) (i : ℕ) (s : ElfSegment) (found found' : Found)
-    → Through kind size all (note_segments (drop i segs)) found → slice_get segs i ≡ Some s → PassesSegment kind size s found found' → Through kind size all (note_segments (drop (i + 1) segs)) found'
-past_segment kind size all segs i s found found' t at p = either (is_note s) (subst (λ ss. Through kind size all (note_segments ss) found) (drop-slice_get segs i s at) t) p
+pub past_segment : (sought : Note → Bool) (size : ℕ) (all segs : List ElfSegment) (i : ℕ) (s : ElfSegment) (found found' : Found)
+    → Through sought size all (note_segments (drop i segs)) found → slice_get segs i ≡ Some s → PassesSegment sought size s found found' → Through sought size all (note_segments (drop (i + 1) segs)) found'
+past_segment sought size all segs i s found found' t at p = either (is_note s) (subst (λ ss. Through sought size all (note_segments ss) found) (drop-slice_get segs i s at) t) p
   where
-    either : (b : Bool) → Through kind size all (cond b (s ∷ note_segments (drop (i + 1) segs)) (note_segments (drop (i + 1) segs))) found
-        → MatchBool b (IsInFile size s × ((notes : List Note) × AreNotes s.offset s.body notes × Adds found found' (filter (is_sought kind) notes))) (found' ≡ found)
-        → Through kind size all (note_segments (drop (i + 1) segs)) found'
-    either true u q = past_one kind size all s (note_segments (drop (i + 1) segs)) found found' q.1.0 u q.0 q.1.1 q.1.2
-    either false u q = subst (Through kind size all (note_segments (drop (i + 1) segs))) (sym q) u
+    either : (b : Bool) → Through sought size all (cond b (s ∷ note_segments (drop (i + 1) segs)) (note_segments (drop (i + 1) segs))) found
+        → MatchBool b (IsInFile size s × ((notes : List Note) × AreNotes s.offset s.body notes × Adds found found' (filter sought notes))) (found' ≡ found)
+        → Through sought size all (note_segments (drop (i + 1) segs)) found'
+    either true u q = past_one sought size all s (note_segments (drop (i + 1) segs)) found found' q.1.0 u q.0 q.1.1 q.1.2
+    either false u q = subst (Through sought size all (note_segments (drop (i + 1) segs))) (sym q) u
 
-pub cut_segment : (kind size : ℕ) (all segs : List ElfSegment) (i : ℕ) (s : ElfSegment) (found : Found) (offset : ℕ)
-    → Through kind size all (note_segments (drop i segs)) found → slice_get segs i ≡ Some s → CutsSegment size s offset → AreCutAt size all offset
-cut_segment kind size all segs i s found offset t at c = either (is_note s) c.0 (subst (λ ss. Through kind size all (note_segments ss) found) (drop-slice_get segs i s at) t)
+pub cut_segment : (sought : Note → Bool) (size : ℕ) (all segs : List ElfSegment) (i : ℕ) (s : ElfSegment) (found : Found) (offset : ℕ)
+    → Through sought size all (note_segments (drop i segs)) found → slice_get segs i ≡ Some s → CutsSegment size s offset → AreCutAt size all offset
+cut_segment sought size all segs i s found offset t at c = either (is_note s) c.0 (subst (λ ss. Through sought size all (note_segments ss) found) (drop-slice_get segs i s at) t)
   where
-    either : (b : Bool) → b ≡ true → Through kind size all (cond b (s ∷ note_segments (drop (i + 1) segs)) (note_segments (drop (i + 1) segs))) found → AreCutAt size all offset
+    either : (b : Bool) → b ≡ true → Through sought size all (cond b (s ∷ note_segments (drop (i + 1) segs)) (note_segments (drop (i + 1) segs))) found → AreCutAt size all offset
     either true e u = u.cut offset (inl c.1)
     either false e u = cc
 
-pub past_all : (kind size : ℕ) (all segs : List ElfSegment) (i : ℕ) (found : Found) → Through kind size all (note_segments (drop i segs)) found → length segs ≤ i
-    → (notes : List Note) × HaveNotes size all notes × AreFound found (filter (is_sought kind) notes)
-past_all kind size all segs i found t h =
-    let u : Through kind size all [] found = subst (λ left. Through kind size all left found) (at_drop_all note_segments segs i h) t in (u.notes, rw append-nil at (u.have [] refl), u.are)
+pub past_all : (sought : Note → Bool) (size : ℕ) (all segs : List ElfSegment) (i : ℕ) (found : Found) → Through sought size all (note_segments (drop i segs)) found → length segs ≤ i
+    → (notes : List Note) × HaveNotes size all notes × AreFound found (filter sought notes)
+past_all sought size all segs i found t h =
+    let u : Through sought size all [] found = subst (λ left. Through sought size all left found) (at_drop_all note_segments segs i h) t in (u.notes, rw append-nil at (u.have [] refl), u.are)
 
 -- notes are determined by their bytes
 ends_same : (offset : ℕ) (bytes : List ℕ) (notes notes' : List Note) (rest rest' : List ℕ) → AreNotesThen offset bytes notes rest → AreNotesThen offset bytes notes' rest' → (HoldsNote rest → ⊥) → (HoldsNote rest' → ⊥)
@@ -206,17 +206,40 @@ whole_or_cuts size (s ∷ ss) notes offset (front, after, e, inside, are, have) 
 whole_or_cuts size (s ∷ ss) notes offset (front, after, e, inside, are, have) (inr b) = whole_or_cuts size ss after offset have b.2
 
 -- one thing is said of a core file
-pub said_once : (kind size : ℕ) (ss : List ElfSegment) (said said' : Result Counted ℕ) → Says kind size ss said → Says kind size ss said' → said ≡ said'
-said_once kind size ss said said' (inl a) (inl b) =
+pub said_once : (sought : Note → Bool) (size : ℕ) (ss : List ElfSegment) (said said' : Result Counted ℕ) → SaysOf sought size ss said → SaysOf sought size ss said' → said ≡ said'
+said_once sought size ss said said' (inl a) (inl b) =
     let wrap : ℕ → Result Counted ℕ = λ o. Err o in a.2 ∙ ap wrap (same_cuts size (note_segments ss) a.0 b.0 a.1 b.1) ∙ sym b.2
-said_once kind size ss said said' (inl a) (inr b) = absurd (whole_or_cuts size (note_segments ss) b.0 a.0 b.1 a.1)
-said_once kind size ss said said' (inr a) (inl b) = absurd (whole_or_cuts size (note_segments ss) a.0 b.0 a.1 b.1)
-said_once kind size ss said said' (inr a) (inr b) =
-    let wrap : List Note → Result Counted ℕ = λ ns. Ok (counted (filter (is_sought kind) ns)) in a.2 ∙ ap wrap (same_all size (note_segments ss) a.0 b.0 a.1 b.1) ∙ sym b.2
+said_once sought size ss said said' (inl a) (inr b) = absurd (whole_or_cuts size (note_segments ss) b.0 a.0 b.1 a.1)
+said_once sought size ss said said' (inr a) (inl b) = absurd (whole_or_cuts size (note_segments ss) a.0 b.0 a.1 b.1)
+said_once sought size ss said said' (inr a) (inr b) =
+    let wrap : List Note → Result Counted ℕ = λ ns. Ok (counted (filter sought ns)) in a.2 ∙ ap wrap (same_all size (note_segments ss) a.0 b.0 a.1 b.1) ∙ sym b.2
 
 -- what was read is what the notes say
-pub says : (kind size : ℕ) (ss : List ElfSegment) (r : Result Found NotePastEnd)
-    → IfOk r (λ found. (notes : List Note) × HaveNotes size (note_segments ss) notes × AreFound found (filter (is_sought kind) notes)) → IfErr r (λ fault. AreCutAt size (note_segments ss) fault.offset)
-    → Says kind size ss (said_of r)
-says kind size ss (Ok found) (notes, have, are) cut = inr (notes, have, rw (are.counted, are.first) refl)
-says kind size ss (Err fault) ok cut = inl (fault.offset, cut, refl)
+pub says : (sought : Note → Bool) (size : ℕ) (ss : List ElfSegment) (r : Result Found NotePastEnd)
+    → IfOk r (λ found. (notes : List Note) × HaveNotes size (note_segments ss) notes × AreFound found (filter sought notes)) → IfErr r (λ fault. AreCutAt size (note_segments ss) fault.offset)
+    → SaysOf sought size ss (said_of r)
+says sought size ss (Ok found) (notes, have, are) cut = inr (notes, have, rw (are.counted, are.first) refl)
+says sought size ss (Err fault) ok cut = inl (fault.offset, cut, refl)
+
+abbrev count_in : Result Counted ℕ → ℕ
+count_in (Ok c) = c.count
+count_in (Err e) = 0
+
+abbrev first_in : Result Counted ℕ → Option Note
+first_in (Ok c) = c.first
+first_in (Err e) = None
+
+err_same : {T : Type 0} {x y : ℕ} → (let r : Result T ℕ = Err x in r) ≡ Err y → x ≡ y
+err_same e = cc
+
+err_or_ok : {T E P : Type 0} {e : E} {t : T} → (let r : Result T E = Err e in r) ≡ Ok t → P
+err_or_ok h = cc
+
+-- what was found, by what the notes say
+pub found_said : (sought : Note → Bool) (size : ℕ) (ss : List ElfSegment) (found : Found) → SaysOf sought size ss (said_of (Ok found)) → (notes : List Note) × HaveNotes size (note_segments ss) notes × AreFound found (filter sought notes)
+found_said sought size ss found (inl (offset, cut, e)) = err_or_ok (sym e)
+found_said sought size ss found (inr (notes, have, e)) = (notes, have, record { counted = ap count_in e; first = ap first_in e })
+
+pub cut_said : (sought : Note → Bool) (size : ℕ) (ss : List ElfSegment) (offset : ℕ) → SaysOf sought size ss (Err offset) → AreCutAt size (note_segments ss) offset
+cut_said sought size ss offset (inl (place, cut, e)) = subst (AreCutAt size (note_segments ss)) (sym (err_same e)) cut
+cut_said sought size ss offset (inr (notes, have, e)) = err_or_ok e

@@ -1,26 +1,25 @@
 -- How far bytes were gone through for notes, one after the other (the project's own).
-use Rattle.std.specs.Prelude.{◌≡◌, ℕ, ◌+◌, ◌≤◌, List, length, drop, slice_get, Option, Some}
+use Rattle.std.specs.Prelude.{◌≡◌, ℕ, ◌+◌, ◌≤◌, List, length, drop, slice_get, Bool, Option, Some}
 use Rattle.std.specs.List.{filter}
 use Rattle.rept_elf.specs.Segments.{ElfSegment}
 use Rattle.rept_notes.specs.Notes.{Note, AreNotesThen}
 use Rattle.rept_notes.specs.Found.{AreFound}
-use Rattle.rept_notes.specs.Sought.{is_sought}
 use Rattle.rept_notes.specs.declared.ahead.Ahead.{Ahead}
 use Rattle.rept_notes.specs.declared.ahead.Leap.{Leap}
 
 -- the bytes, which stand at this offset of the file, are some whole notes and then this rest, and these are the sought among
 -- them
-pub record IsAhead (kind offset : ℕ) (bytes : List ℕ) (ahead : Ahead) : Type 0 where
+pub record IsAhead (sought : Note → Bool) (offset : ℕ) (bytes : List ℕ) (ahead : Ahead) : Type 0 where
   pub notes : List Note
   pub before : AreNotesThen offset bytes notes ahead.rest.now
-  pub found : AreFound ahead.found (filter (is_sought kind) notes)
+  pub found : AreFound ahead.found (filter sought notes)
   pub fewer : ahead.found.count + length ahead.rest.now ≤ length bytes
 
 -- what is kept of the notes of a file is so from its offset on
-abbrev pub AreLeaps : ℕ → List ℕ → List (Option Leap) → Type 0
-AreLeaps kind file leaps = (i : ℕ) (leap : Leap) → slice_get leaps i ≡ Some (Some leap) → IsAhead kind leap.at (drop leap.at file) leap.ahead
+abbrev pub AreLeaps : (Note → Bool) → List ℕ → List (Option Leap) → Type 0
+AreLeaps sought file leaps = (i : ℕ) (leap : Leap) → slice_get leaps i ≡ Some (Some leap) → IsAhead sought leap.at (drop leap.at file) leap.ahead
 
 -- what is kept of a segment is so of its bytes
-abbrev pub AreAhead : ℕ → List ElfSegment → List (Option Ahead) → Type 0
-AreAhead kind segments aheads =
-    (i : ℕ) (s : ElfSegment) (ahead : Ahead) → slice_get segments i ≡ Some s → slice_get aheads i ≡ Some (Some ahead) → IsAhead kind s.offset s.body ahead
+abbrev pub AreAhead : (Note → Bool) → List ElfSegment → List (Option Ahead) → Type 0
+AreAhead sought segments aheads =
+    (i : ℕ) (s : ElfSegment) (ahead : Ahead) → slice_get segments i ≡ Some s → slice_get aheads i ≡ Some (Some ahead) → IsAhead sought s.offset s.body ahead

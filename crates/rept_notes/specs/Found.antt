@@ -1,17 +1,27 @@
 -- The sought notes that were found so far: their count, and the first.
-use Rattle.std.specs.Prelude.{◌≡◌, ℕ, ◌+◌, List, length, MatchBool, IsTrue, Result, Ok, Err}
+use Rattle.std.specs.Prelude.{◌≡◌, ℕ, ◌+◌, List, length, Bool, MatchBool, IsTrue, Option, None, Some, Result, Ok, Err}
 use Rattle.std.specs.List.{filter}
 use Rattle.std.specs.Option.{option_map, option_or}
 use Rattle.rept_elf.specs.Segments.{ElfSegment, is_note}
 use Rattle.rept_notes.specs.Notes.{Note as NoteOf, AreNotes, IsInFile, IsCutAt}
-use Rattle.rept_notes.specs.Sought.{Counted, is_sought, head}
+use Rattle.rept_notes.specs.Sought.{Counted, is_sought, is_short, head}
 use Rattle.rept_notes.specs.declared.fault.NotePastEnd.{NotePastEnd}
 use Rattle.rept_notes.specs.declared.note.Note.{Note}
 use Rattle.rept_notes.specs.declared.note.Found.{Found}
+use Rattle.rept_notes.specs.declared.note.Sought.{Sought}
 
 -- a note of the code
 abbrev pub note_of : Note → NoteOf
 note_of n = record { offset = n.offset; kind = n.kind; name = n.name.now; desc = n.desc.now }
+
+-- the notes of a type, all or those that are short
+abbrev pub is_wanted : ℕ → Option ℕ → NoteOf → Bool
+is_wanted kind None = is_sought kind
+is_wanted kind (Some least) = is_short kind least
+
+-- what the code looks for
+abbrev pub wanted : Sought → NoteOf → Bool
+wanted sought = is_wanted sought.kind sought.below
 
 -- these notes were found
 pub record AreFound (found : Found) (notes : List NoteOf) : Type 0 where
@@ -24,9 +34,9 @@ pub record Adds (found found' : Found) (notes : List NoteOf) : Type 0 where
   pub first : option_map note_of found'.first ≡ option_or (option_map note_of found.first) (head notes)
 
 -- the segment is whole, and its sought notes were found besides; a segment without notes has none
-abbrev pub PassesSegment : ℕ → ℕ → ElfSegment → Found → Found → Type 0
-PassesSegment kind size s found found' = MatchBool (is_note s)
-    (IsInFile size s × ((notes : List NoteOf) × AreNotes s.offset s.body notes × Adds found found' (filter (is_sought kind) notes)))
+abbrev pub PassesSegment : (NoteOf → Bool) → ℕ → ElfSegment → Found → Found → Type 0
+PassesSegment sought size s found found' = MatchBool (is_note s)
+    (IsInFile size s × ((notes : List NoteOf) × AreNotes s.offset s.body notes × Adds found found' (filter sought notes)))
     (found' ≡ found)
 
 -- the segment is a note segment that is cut at this offset of the file

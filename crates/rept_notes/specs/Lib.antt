@@ -1,4 +1,5 @@
 pub mod Ahead
 pub mod Found
 pub mod Notes
+pub mod Nth
 pub mod Sought

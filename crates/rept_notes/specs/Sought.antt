@@ -1,5 +1,5 @@
 -- The notes of one type among those of a core file that the kernel named `CORE`.
-use Rattle.std.specs.Prelude.{◌≡◌, ℕ, ◌⊎◌, List, [], ◌∷◌, length, drop, Bool, ◌==◌, ◌&&◌, nat_eq, Option, None, Some, Result, Ok, Err}
+use Rattle.std.specs.Prelude.{◌≡◌, ℕ, ◌⊎◌, List, [], ◌∷◌, length, drop, Bool, ◌==◌, ◌&&◌, nat_eq, nat_lt, Option, None, Some, Result, Ok, Err}
 use Rattle.std.specs.List.{filter, list_all, starts_with}
 use Rattle.rept_elf.specs.Segments.{ElfSegment}
 use Rattle.rept_notes.specs.Notes.{Note, HaveNotes, AreCutAt, note_segments}
@@ -16,6 +16,10 @@ is_core_name name = starts_with nat_eq name core_name && list_all (λ b. b == 0)
 abbrev pub is_sought : ℕ → Note → Bool
 is_sought kind note = (note.kind == kind) && is_core_name note.name
 
+-- such a note, whose descriptor has fewer bytes than these
+abbrev pub is_short : ℕ → ℕ → Note → Bool
+is_short kind least note = is_sought kind note && nat_lt (length note.desc) least
+
 -- the first note
 abbrev pub head : List Note → Option Note
 head [] = None
@@ -29,9 +33,13 @@ pub record Counted : Type 0 where
 abbrev pub counted : List Note → Counted
 counted notes = record { count = length notes; first = head notes }
 
--- what the notes of a core file of so many bytes say of those of this type: where the first that isn't whole begins, or how
--- many are sought, and the first
-abbrev pub Says : ℕ → ℕ → List ElfSegment → Result Counted ℕ → Type 0
-Says kind size ss said =
+-- what the notes of a core file of so many bytes say of those that are sought: where the first that isn't whole begins, or how many are
+-- sought, and the first
+abbrev pub SaysOf : (Note → Bool) → ℕ → List ElfSegment → Result Counted ℕ → Type 0
+SaysOf sought size ss said =
     ((offset : ℕ) × AreCutAt size (note_segments ss) offset × (said ≡ Err offset))
-    ⊎ ((notes : List Note) × HaveNotes size (note_segments ss) notes × (said ≡ Ok (counted (filter (is_sought kind) notes))))
+    ⊎ ((notes : List Note) × HaveNotes size (note_segments ss) notes × (said ≡ Ok (counted (filter sought notes))))
+
+-- the same of those of one type
+abbrev pub Says : ℕ → ℕ → List ElfSegment → Result Counted ℕ → Type 0
+Says kind = SaysOf (is_sought kind)

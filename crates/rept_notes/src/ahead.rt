@@ -4,13 +4,15 @@
 //! side, one block of the file after the other, and what was read of the notes of a block is kept by the place where they
 //! begin: segments that come to the same note there go on as one.
 
-ghost use Rattle.std.specs.Prelude.{◌≡◌, ◌≤◌, ◌<◌, ◌+◌, ◌-◌, ◌^◌, List, ℕ, length, drop, take, slice_get, Some};
+ghost use Rattle.std.specs.Prelude.{◌≡◌, ◌≤◌, ◌<◌, ◌+◌, ◌-◌, ◌^◌, List, ℕ, Bool, length, drop, take, slice_get, Some};
 ghost use Rattle.rept_elf.specs.Image.{file_of, segments_of, segment_of};
 ghost use Rattle.rept_elf.specs.Segments.{part_of};
 ghost use Rattle.rept_notes.specs.Ahead.{IsAhead, AreLeaps, AreAhead};
+ghost use Rattle.rept_notes.specs.Found.{wanted};
+ghost use Rattle.rept_notes.specs.Notes.{Note as NoteOf};
 ghost use Rattle.rept_notes.specs.declared.ahead.Ahead.{Ahead as AheadOf};
 
-use crate::note::{Found, NOTE_HEADER, NOTHING, add_note, first_note, join};
+use crate::note::{Found, NOTE_HEADER, NOTHING, Sought, add_note, first_note, join};
 use rept_elf::{Image, PT_NOTE, Segment, after};
 
 /// The bytes of a block of the file, and the places at which notes of a block may begin.
@@ -36,7 +38,7 @@ pub struct Leap<'a> {
 
 /// No note of these bytes.
 pub fn start(bytes: &[u8]) -> Ahead<'_>
-    ensures { (kind offset : ℕ) → IsAhead kind offset bytes.now result }
+    ensures { (sought : NoteOf → Bool) (offset : ℕ) → IsAhead sought offset bytes.now result }
 {
     Ahead {
         found: NOTHING,
@@ -45,9 +47,9 @@ pub fn start(bytes: &[u8]) -> Ahead<'_>
 }
 
 /// The first notes of the file's bytes from this offset on, all that begin in its block and are whole.
-fn walk(bytes: &[u8], at: usize, kind: u32) -> Ahead<'_>
+fn walk(bytes: &[u8], at: usize, sought: Sought) -> Ahead<'_>
     requires { at + length bytes.now < 2 ^ 64 - 1 }
-    ensures { IsAhead kind at bytes.now result }
+    ensures { IsAhead (wanted sought) at bytes.now result }
 {
     let left = BLOCK - at % BLOCK;
     let mut ahead = start(bytes);
@@ -57,7 +59,7 @@ fn walk(bytes: &[u8], at: usize, kind: u32) -> Ahead<'_>
             return ahead;
         };
         ahead = Ahead {
-            found: add_note(ahead.found, &begun.note, kind),
+            found: add_note(ahead.found, &begun.note, sought),
             rest: begun.after,
         };
     }
@@ -65,13 +67,18 @@ fn walk(bytes: &[u8], at: usize, kind: u32) -> Ahead<'_>
 }
 
 /// The notes of a file from an offset up to the end of its block, as they are kept or else read and kept.
-fn leap_from<'a>(leaps: &mut [Option<Leap<'a>>], file: &'a [u8], at: usize, kind: u32) -> Ahead<'a>
+fn leap_from<'a>(
+    leaps: &mut [Option<Leap<'a>>],
+    file: &'a [u8],
+    at: usize,
+    sought: Sought,
+) -> Ahead<'a>
     requires places { length leaps.old ≡ 4096 }
     requires within { at < 2 ^ 62 }
-    requires leaps { AreLeaps kind file.now leaps.old }
+    requires leaps { AreLeaps (wanted sought) file.now leaps.old }
     ensures places { length leaps.new ≡ 4096 }
-    ensures leaps { AreLeaps kind file.now leaps.new }
-    ensures ahead { IsAhead kind at (drop at file.now) result }
+    ensures leaps { AreLeaps (wanted sought) file.now leaps.new }
+    ensures ahead { IsAhead (wanted sought) at (drop at file.now) result }
 {
     let place = at % BLOCK;
     if let Some(kept) = leaps[place] {
@@ -79,7 +86,7 @@ fn leap_from<'a>(leaps: &mut [Option<Leap<'a>>], file: &'a [u8], at: usize, kind
             return kept.ahead;
         }
     }
-    let ahead = walk(after(file, at), at, kind);
+    let ahead = walk(after(file, at), at, sought);
     leaps[place] = Some(Leap { at, ahead });
     ahead
 }
@@ -90,7 +97,7 @@ fn pass<'a>(ahead: Ahead<'a>, bytes: &'a [u8], leap: Ahead<'a>) -> Ahead<'a>
     requires front { ahead.rest.now ≡ take (length ahead.rest.now) bytes.now }
     requires room { ahead.found.count + length ahead.rest.now < 2 ^ 64 }
     requires less { leap.found.count + length leap.rest.now ≤ length bytes.now }
-    ensures { (kind offset : ℕ) (segment : List ℕ) → IsAhead kind offset segment ahead.entry → IsAhead kind (offset + (length segment - length ahead.entry.rest.now)) bytes.now leap.entry → IsAhead kind offset segment result }
+    ensures { (sought : NoteOf → Bool) (offset : ℕ) (segment : List ℕ) → IsAhead sought offset segment ahead.entry → IsAhead sought (offset + (length segment - length ahead.entry.rest.now)) bytes.now leap.entry → IsAhead sought offset segment result }
 {
     let passed = bytes.len() - leap.rest.len();
     if ahead.rest.len() < passed + NOTE_HEADER {
@@ -109,22 +116,22 @@ fn go_on<'a>(
     file: &'a [u8],
     block: usize,
     leaps: &mut [Option<Leap<'a>>],
-    kind: u32,
+    sought: Sought,
 ) -> Ahead<'a>
     requires part { segment.now.body.now ≡ part_of file.now segment.now.offset segment.now.filesz }
     requires size { length segment.now.body.now < 2 ^ 32 }
-    requires ahead { IsAhead kind segment.now.offset segment.now.body.now ahead }
+    requires ahead { IsAhead (wanted sought) segment.now.offset segment.now.body.now ahead }
     requires places { length leaps.old ≡ 4096 }
-    requires leaps { AreLeaps kind file.now leaps.old }
+    requires leaps { AreLeaps (wanted sought) file.now leaps.old }
     ensures places { length leaps.new ≡ 4096 }
-    ensures leaps { AreLeaps kind file.now leaps.new }
-    ensures ahead { IsAhead kind segment.now.offset segment.now.body.now result }
+    ensures leaps { AreLeaps (wanted sought) file.now leaps.new }
+    ensures ahead { IsAhead (wanted sought) segment.now.offset segment.now.body.now result }
 {
     let at = segment.offset as usize + (segment.body.len() - ahead.rest.len());
     if at / BLOCK != block {
         return ahead;
     }
-    pass(ahead, after(file, at), leap_from(leaps, file, at, kind))
+    pass(ahead, after(file, at), leap_from(leaps, file, at, sought))
 }
 
 /// Goes on over the notes of each note segment that begin in this block of the file.
@@ -133,43 +140,43 @@ fn go_on_all<'a>(
     block: usize,
     aheads: &mut [Option<Ahead<'a>>],
     leaps: &mut [Option<Leap<'a>>],
-    kind: u32,
+    sought: Sought,
 )
     requires room { length aheads.old ≡ 4096 }
-    requires aheads { AreAhead kind (segments_of core.now) aheads.old }
+    requires aheads { AreAhead (wanted sought) (segments_of core.now) aheads.old }
     requires places { length leaps.old ≡ 4096 }
-    requires leaps { AreLeaps kind (file_of core.now) leaps.old }
+    requires leaps { AreLeaps (wanted sought) (file_of core.now) leaps.old }
     ensures room { length aheads.new ≡ 4096 }
-    ensures aheads { AreAhead kind (segments_of core.now) aheads.new }
+    ensures aheads { AreAhead (wanted sought) (segments_of core.now) aheads.new }
     ensures places { length leaps.new ≡ 4096 }
-    ensures leaps { AreLeaps kind (file_of core.now) leaps.new }
+    ensures leaps { AreLeaps (wanted sought) (file_of core.now) leaps.new }
 {
     for i in 0..core.count() {
         let segment = core.segment(i);
         if segment.kind == PT_NOTE {
-            let ahead = ahead_of(&segment, aheads[i as usize], kind);
-            aheads[i as usize] = Some(go_on(&segment, ahead, core.file(), block, leaps, kind));
+            let ahead = ahead_of(&segment, aheads[i as usize], sought);
+            aheads[i as usize] = Some(go_on(&segment, ahead, core.file(), block, leaps, sought));
         }
     }
 }
 
 /// How far a segment was gone through: not at all where nothing is kept.
-pub fn ahead_of<'a>(segment: &Segment<'a>, kept: Option<Ahead<'a>>, kind: u32) -> Ahead<'a>
-    requires { (ahead : AheadOf) → kept ≡ Some ahead → IsAhead kind segment.now.offset segment.now.body.now ahead }
-    ensures { IsAhead kind segment.now.offset segment.now.body.now result }
+pub fn ahead_of<'a>(segment: &Segment<'a>, kept: Option<Ahead<'a>>, sought: Sought) -> Ahead<'a>
+    requires { (ahead : AheadOf) → kept ≡ Some ahead → IsAhead (wanted sought) segment.now.offset segment.now.body.now ahead }
+    ensures { IsAhead (wanted sought) segment.now.offset segment.now.body.now result }
 {
     kept.unwrap_or(start(segment.body))
 }
 
 /// Goes through the note segments of a core file side by side, each up to the last block in which it has a note.
-pub fn go_ahead<'a>(core: &Image<'a>, aheads: &mut [Option<Ahead<'a>>], kind: u32)
+pub fn go_ahead<'a>(core: &Image<'a>, aheads: &mut [Option<Ahead<'a>>], sought: Sought)
     requires room { length aheads.old ≡ 4096 }
-    requires aheads { AreAhead kind (segments_of core.now) aheads.old }
+    requires aheads { AreAhead (wanted sought) (segments_of core.now) aheads.old }
     ensures room { length aheads.new ≡ 4096 }
-    ensures aheads { AreAhead kind (segments_of core.now) aheads.new }
+    ensures aheads { AreAhead (wanted sought) (segments_of core.now) aheads.new }
 {
     let mut leaps = [None; BLOCK];
     for block in 0..core.file_size() / BLOCK + 1 {
-        go_on_all(core, block, aheads, &mut leaps, kind);
+        go_on_all(core, block, aheads, &mut leaps, sought);
     }
 }

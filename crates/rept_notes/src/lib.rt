@@ -5,7 +5,9 @@ mod ahead;
 mod fault;
 mod note;
 mod notes;
+mod nth;
 
 pub use fault::NotePastEnd;
 pub use note::{Found, Note};
-pub use notes::find_notes;
+pub use notes::{find_notes, find_short};
+pub use nth::find_nth;

@@ -2,7 +2,7 @@
 
 ghost use Rattle.std.specs.Prelude.{◌≡◌, ◌≤◌, ◌<◌, ◌+◌, ◌^◌, ◌==◌, List, [], ◌∷◌, length, MatchOption};
 ghost use Rattle.std.specs.List.{filter, list_all};
-ghost use Rattle.rept_notes.specs.Found.{AreFound, Adds, note_of};
+ghost use Rattle.rept_notes.specs.Found.{AreFound, Adds, note_of, wanted};
 ghost use Rattle.rept_notes.specs.Notes.{Note as NoteOf, HoldsNote, first_note as note_at, after_note, note_size, desc_offset, desc_size, note_header, padded as padded_size};
 ghost use Rattle.rept_notes.specs.Sought.{is_core_name, is_sought as is_sought_note};
 
@@ -77,8 +77,27 @@ fn is_core(name: &[u8]) -> bool
     name.starts_with(b"CORE") && is_zero(after(name, 4))
 }
 
+/// Which notes are sought, of those that are named `CORE`.
+#[derive(Clone, Copy)]
+pub struct Sought {
+    /// Their type.
+    pub kind: u32,
+    /// None for all of them; else the least bytes that a descriptor has of which the note isn't sought.
+    pub below: Option<usize>,
+}
+
+/// Whether a note is sought.
+fn is_wanted(note: &Note<'_>, sought: Sought) -> bool
+    ensures { result ≡ wanted sought (note_of note.now) }
+{
+    match sought.below {
+        None => is_sought(note, sought.kind),
+        Some(least) => is_sought(note, sought.kind) && note.desc.len() < least,
+    }
+}
+
 /// Whether a note is of this type and named `CORE`.
-fn is_sought(note: &Note<'_>, kind: u32) -> bool
+pub fn is_sought(note: &Note<'_>, kind: u32) -> bool
     ensures { result ≡ is_sought_note kind (note_of note.now) }
 {
     note.kind == kind && is_core(note.name)
@@ -100,11 +119,11 @@ pub const NOTHING: Found<'static> = Found {
 };
 
 /// What was found, and this note if it is sought.
-pub fn add_note<'a>(found: Found<'a>, note: &Note<'a>, kind: u32) -> Found<'a>
+pub fn add_note<'a>(found: Found<'a>, note: &Note<'a>, sought: Sought) -> Found<'a>
     requires { found.count + 1 < 2 ^ 64 }
-    ensures { Adds found.entry result (filter (is_sought_note kind) (note_of note.now ∷ [])) }
+    ensures { Adds found.entry result (filter (wanted sought) (note_of note.now ∷ [])) }
 {
-    if is_sought(note, kind) {
+    if is_wanted(note, sought) {
         Found {
             count: found.count + 1,
             first: found.first.or(Some(*note)),

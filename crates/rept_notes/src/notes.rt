@@ -4,13 +4,13 @@ ghost use Rattle.std.specs.Prelude.{◌≡◌, ◌≤◌, ◌<◌, ◌+◌, ◌^
 ghost use Rattle.std.specs.List.{filter};
 ghost use Rattle.rept_elf.specs.Image.{file_of, segments_of, segment_of};
 ghost use Rattle.rept_notes.specs.Ahead.{IsAhead};
-ghost use Rattle.rept_notes.specs.Found.{AreFound, Adds, PassesSegment, CutsSegment, said_of};
+ghost use Rattle.rept_notes.specs.Found.{AreFound, Adds, PassesSegment, CutsSegment, said_of, wanted};
 ghost use Rattle.rept_notes.specs.Notes.{Note as NoteOf, AreNotes, CutsNote, HaveNotes, AreCutAt, note_segments};
-ghost use Rattle.rept_notes.specs.Sought.{Counted, Says, is_sought};
+ghost use Rattle.rept_notes.specs.Sought.{Counted, Says, SaysOf, is_short};
 
 use crate::ahead::{Ahead, ahead_of, go_ahead};
 use crate::fault::NotePastEnd;
-use crate::note::{Found, NOTE_HEADER, NOTHING, add_note, first_note, join};
+use crate::note::{Found, NOTE_HEADER, NOTHING, Sought, add_note, first_note, join};
 use rept_elf::{Image, PT_NOTE, Segment};
 
 /// The most segments of a file.
@@ -21,14 +21,14 @@ const MOST_SEGMENTS: usize = 4096;
 fn read_notes<'a>(
     bytes: &'a [u8],
     offset: u32,
-    kind: u32,
+    sought: Sought,
     found: Found<'a>,
     ahead: Ahead<'a>,
 ) -> Result<Found<'a>, NotePastEnd>
     requires size { length bytes.now < 2 ^ 32 }
-    requires ahead { IsAhead kind offset bytes.now ahead }
+    requires ahead { IsAhead (wanted sought) offset bytes.now ahead }
     requires room { found.count + length bytes.now < 2 ^ 64 }
-    ensures ok { IfOk result (λ now. (notes : List NoteOf) × AreNotes offset bytes.now notes × Adds found.entry now (filter (is_sought kind) notes)) }
+    ensures ok { IfOk result (λ now. (notes : List NoteOf) × AreNotes offset bytes.now notes × Adds found.entry now (filter (wanted sought) notes)) }
     ensures few { IfOk result (λ now. now.count ≤ found.entry.count + length bytes.now) }
     ensures cut { IfErr result (λ fault. CutsNote offset bytes.now fault.offset) }
 {
@@ -39,7 +39,7 @@ fn read_notes<'a>(
         let Some(begun) = first_note(rest, place) else {
             return Err(NotePastEnd { offset: place });
         };
-        now = add_note(now, &begun.note, kind);
+        now = add_note(now, &begun.note, sought);
         rest = begun.after;
     }
     Ok(now)
@@ -50,14 +50,14 @@ fn read_notes<'a>(
 fn read_segment<'a>(
     segment: &Segment<'a>,
     size: usize,
-    kind: u32,
+    sought: Sought,
     found: Found<'a>,
     ahead: Ahead<'a>,
 ) -> Result<Found<'a>, NotePastEnd>
     requires size { length segment.now.body.now < 2 ^ 32 }
-    requires ahead { IsAhead kind segment.now.offset segment.now.body.now ahead }
+    requires ahead { IsAhead (wanted sought) segment.now.offset segment.now.body.now ahead }
     requires room { found.count + length segment.now.body.now < 2 ^ 64 }
-    ensures ok { IfOk result (λ now. PassesSegment kind size (segment_of segment.now) found.entry now) }
+    ensures ok { IfOk result (λ now. PassesSegment (wanted sought) size (segment_of segment.now) found.entry now) }
     ensures few { IfOk result (λ now. now.count ≤ found.entry.count + length segment.now.body.now) }
     ensures cut { IfErr result (λ fault. CutsSegment size (segment_of segment.now) fault.offset) }
 {
@@ -70,21 +70,21 @@ fn read_segment<'a>(
             offset: u64::from(segment.offset),
         });
     }
-    read_notes(segment.body, segment.offset, kind, found, ahead)
+    read_notes(segment.body, segment.offset, sought, found, ahead)
 }
 
 /// The sought notes of a core file.
-fn read_core<'a>(core: &Image<'a>, kind: u32) -> Result<Found<'a>, NotePastEnd>
-    ensures ok { IfOk result (λ found. (notes : List NoteOf) × HaveNotes (length (file_of core.now)) (note_segments (segments_of core.now)) notes × AreFound found (filter (is_sought kind) notes)) }
+fn read_core<'a>(core: &Image<'a>, sought: Sought) -> Result<Found<'a>, NotePastEnd>
+    ensures ok { IfOk result (λ found. (notes : List NoteOf) × HaveNotes (length (file_of core.now)) (note_segments (segments_of core.now)) notes × AreFound found (filter (wanted sought) notes)) }
     ensures cut { IfErr result (λ fault. AreCutAt (length (file_of core.now)) (note_segments (segments_of core.now)) fault.offset) }
 {
     let mut aheads = [None; MOST_SEGMENTS];
-    go_ahead(core, &mut aheads, kind);
+    go_ahead(core, &mut aheads, sought);
     let mut found = NOTHING;
     for i in 0..core.count() {
         let segment = core.segment(i);
-        let ahead = ahead_of(&segment, aheads[i as usize], kind);
-        found = read_segment(&segment, core.file_size(), kind, found, ahead)?;
+        let ahead = ahead_of(&segment, aheads[i as usize], sought);
+        found = read_segment(&segment, core.file_size(), sought, found, ahead)?;
     }
     Ok(found)
 }
@@ -95,5 +95,19 @@ pub fn find_notes<'a>(core: &Image<'a>, kind: u32) -> Result<Found<'a>, NotePast
     ensures said { Says kind (length (file_of core.now)) (segments_of core.now) (said_of result) }
     ensures only { (said : Result Counted ℕ) → Says kind (length (file_of core.now)) (segments_of core.now) said → said ≡ said_of result }
 {
-    read_core(core, kind)
+    read_core(core, Sought { kind, below: None })
+}
+
+/// The same of those of them alone whose descriptor has fewer than so many bytes.
+pub fn find_short<'a>(core: &Image<'a>, kind: u32, least: usize) -> Result<Found<'a>, NotePastEnd>
+    ensures said { SaysOf (is_short kind least) (length (file_of core.now)) (segments_of core.now) (said_of result) }
+    ensures only { (said : Result Counted ℕ) → SaysOf (is_short kind least) (length (file_of core.now)) (segments_of core.now) said → said ≡ said_of result }
+{
+    read_core(
+        core,
+        Sought {
+            kind,
+            below: Some(least),
+        },
+    )
 }

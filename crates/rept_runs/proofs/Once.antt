@@ -5,7 +5,7 @@ use Rattle.std.specs.List.{filter}
 use Rattle.std.proofs.lemmas.Bool.{cases_lt, lt-ltb, le-ltb}
 use Rattle.rept_elf.specs.Segments.{segments}
 use Rattle.rept_elf.specs.declared.fault.ElfFault.{ElfFault}
-use Rattle.rept_dump.specs.Notes.{Note}
+use Rattle.rept_notes.specs.Notes.{Note}
 use Rattle.rept_dump.specs.Program.{Program}
 use Rattle.rept_dump.specs.Registers.{is_status, all_registers, by_size, by_count, by_twin, first_short, first_twin, descs_of, pid_of, most_threads}
 use Rattle.rept_dump.specs.declared.dump.Dump.{Dump}

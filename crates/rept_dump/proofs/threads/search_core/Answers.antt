@@ -1,15 +1,13 @@
-use Rattle.std.proofs.Common.{◌≤◌, length, arith}
-use Rattle.rept_elf.specs.Image.{file_of, segments_of, segment_of}
-use Rattle.rept_dump.proofs.ThreadLemmas.{segment_found, segment_passed, all_segments}
+use Rattle.std.proofs.Common.{◌≡◌, ℕ, List, Some, length, slice_get, arith, sym, ap, subst}
+use Rattle.std.specs.List.{filter}
+use Rattle.rept_notes.specs.Found.{note_of}
+use Rattle.rept_dump.specs.Registers.{is_status}
+use Rattle.rept_dump.proofs.ThreadLemmas.{desc_at, length-descs}
 use Rattle.rept_dump.proofs.threads.search_core.Goals as goal
 
-pub returns-in-Found : goal.returns-in-Found
-returns-in-Found c = segment_found (length (file_of c.args.core.now)) (segments_of c.args.core.now) c.loop-i.i (segment_of c.segment-segment.result) c.args.skip c.loop-i.left c.in-Found.desc.now c.loop-i.invariant c.segment-segment.ensures.segment c.in-Found.ensures
+pub returns-in-Some : goal.returns-in-Some
+returns-in-Some c = λ descs h.
+    subst (λ (ds : List (List ℕ)). slice_get ds c.args.skip ≡ Some c.in-Some.note.desc.now) (sym h.2) (desc_at (filter is_status h.0) c.args.skip (note_of c.in-Some.note) (c.in-Some.ensures h.0 h.1))
 
-pub loop-i-preserved : goal.loop-i-preserved
-loop-i-preserved c = segment_passed (length (file_of c.args.core.now)) (segments_of c.args.core.now) c.loop-i.i (segment_of c.segment-segment.result) c.args.skip c.loop-i.left c.in-Past.more c.loop-i.invariant c.segment-segment.ensures.segment c.in-Past.ensures
-
-pub returns : goal.returns
-returns c =
-    let all : length (segments_of c.args.core.now) ≤ c.loop-i.i = omega (arith, c.count-i-end.ensures) in
-    all_segments (length (file_of c.args.core.now)) (segments_of c.args.core.now) c.loop-i.i c.args.skip c.loop-i.left c.loop-i.invariant all
+pub returns-in-None : goal.returns-in-None
+returns-in-None c = λ descs h. omega (arith, ap (length {A = List ℕ}) h.2, length-descs (filter is_status h.0), c.in-None.ensures h.0 h.1)

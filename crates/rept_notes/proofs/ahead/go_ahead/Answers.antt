@@ -1,5 +1,6 @@
 use Rattle.std.proofs.Common.{refl}
 use Rattle.rept_elf.specs.Image.{file_of}
+use Rattle.rept_notes.specs.Found.{wanted}
 use Rattle.rept_notes.proofs.Leaping.{no_leaps}
 use Rattle.rept_notes.proofs.ahead.go_ahead.Goals as goal
 
@@ -8,5 +9,5 @@ loop-block-init c = record {
   room = c.requires.room;
   aheads = c.requires.aheads;
   places = refl;
-  leaps = no_leaps c.args.kind (file_of c.args.core.now) 4096;
+  leaps = no_leaps (wanted c.args.sought) (file_of c.args.core.now) 4096;
 }

@@ -1,6 +1,7 @@
 use Rattle.std.proofs.Common.{arith, length, ◌<◌, ◌∙◌}
 use Rattle.std.proofs.lemmas.List.{length-set}
 use Rattle.rept_elf.specs.Image.{segments_of, segment_of}
+use Rattle.rept_notes.specs.Found.{wanted}
 use Rattle.rept_notes.proofs.Leaping.{ahead_at, ahead_put}
 use Rattle.rept_notes.proofs.ahead.go_on_all.Goals as goal
 use Rattle.rept_notes.proofs.ahead.go_on_all.Goals.{then-segment-eq-PT_NOTE, else-segment-eq-PT_NOTE}
@@ -10,13 +11,13 @@ ahead_of-ahead-requires c ahead e =
     let i = c.loop-i.invariant in
     let few = c.count-i-end.ensures.few in
     let inside : c.loop-i.i < length c.loop-i.aheads = omega (arith, i.room, few) in
-    ahead_at c.args.kind (segments_of c.args.core.now) c.loop-i.aheads c.loop-i.i (segment_of c.segment-segment.result) ahead i.aheads c.segment-segment.ensures.segment inside e
+    ahead_at (wanted c.args.sought) (segments_of c.args.core.now) c.loop-i.aheads c.loop-i.i (segment_of c.segment-segment.result) ahead i.aheads c.segment-segment.ensures.segment inside e
 
 pub loop-i-preserved : goal.loop-i-preserved
 loop-i-preserved c = elim c.if-segment-eq-PT_NOTE.branch [
   | then-segment-eq-PT_NOTE w ↦
       let i = c.loop-i.invariant in
-      let put = ahead_put c.args.kind (segments_of c.args.core.now) c.loop-i.aheads c.loop-i.i (segment_of c.segment-segment.result) w.go_on.result i.aheads c.segment-segment.ensures.segment w.go_on.ensures.ahead in
+      let put = ahead_put (wanted c.args.sought) (segments_of c.args.core.now) c.loop-i.aheads c.loop-i.i (segment_of c.segment-segment.result) w.go_on.result i.aheads c.segment-segment.ensures.segment w.go_on.ensures.ahead in
       rw (w.aheads-is, w.leaps-is) (record {
         room = length-set c.loop-i.aheads c.loop-i.i _ ∙ i.room;
         aheads = put;

@@ -1,12 +1,13 @@
 use Rattle.std.proofs.Common.{◌≡◌, length}
 use Rattle.rept_elf.specs.Image.{file_of, segments_of}
 use Rattle.rept_notes.specs.Ahead.{AreLeaps, AreAhead}
+use Rattle.rept_notes.specs.Found.{wanted}
 use Rattle.rept_notes.proofs.ahead.go_on_all.Given as goal
 
 abbrev pub invariant-loop-i : goal.invariant-loop-i
 invariant-loop-i l = record {
   room : length l.aheads ≡ 4096;
-  aheads : AreAhead l.kind (segments_of l.core) l.aheads;
+  aheads : AreAhead (wanted l.sought) (segments_of l.core) l.aheads;
   places : length l.leaps ≡ 4096;
-  leaps : AreLeaps l.kind (file_of l.core) l.leaps;
+  leaps : AreLeaps (wanted l.sought) (file_of l.core) l.leaps;
 }

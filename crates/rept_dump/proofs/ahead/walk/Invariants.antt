@@ -1,9 +1,0 @@
-use Rattle.std.proofs.Common.{length}
-use Rattle.rept_dump.specs.Ahead.{IsAhead}
-use Rattle.rept_dump.proofs.ahead.walk.Given as goal
-
-abbrev pub invariant-loop-ahead : goal.invariant-loop-ahead
-invariant-loop-ahead l = IsAhead l.bytes l.ahead
-
-abbrev pub decreases-loop-ahead : goal.decreases-loop-ahead
-decreases-loop-ahead l = length l.ahead.rest.now
