@@ -1,6 +1,6 @@
 -- Names of moments keep the laws of moments.
 use Rattle.std.proofs.Common.{slice_get, unwrap_or, ◌≡◌, ◌≢◌, ℕ, zero, suc, ◌+◌, ◌<◌, ◌≤◌, ◌&&◌, ◌||◌, not, Bool, true, false, List, [], ◌∷◌, length, Option, Some, None, inl, inr, refl, sym, ap, ◌∙◌, subst, arith}
-use Rattle.std.specs.Option.{is_some}
+use Rattle.std.specs.Option.{is_some, IsSome}
 use Rattle.std.proofs.lemmas.Bool.{false≢true, cases_Bool, or_cases, or_left, or_right, and_parts}
 use Rattle.std.proofs.lemmas.Option.{slice_get_within}
 use Rattle.rept_isa.specs.declared.row.StepRow.{StepRow}
@@ -11,11 +11,12 @@ use Rattle.rept_order.specs.Moments.{Moment, IsMoment, NotLater, Act, IsAct, Who
 use Rattle.rept_order.specs.Moments.Moment.{before, after, at_end}
 use Rattle.rept_order.specs.Moments.Act.{row, dark}
 use Rattle.rept_order.specs.Moments.ArePause.{between, last}
-use Rattle.rept_order.specs.Times.{wholly_before, wholly_after, falls_between}
+use Rattle.rept_order.specs.Times.{not_later, wholly_before, wholly_after, falls_between}
 use Rattle.rept_order.specs.Links.{moments_left}
 use Rattle.rept_order.specs.Legs.{points_before, point_at}
-use Rattle.rept_order.proofs.Sequence.{first_is_event, last_is_event, directly}
-use Rattle.rept_order.proofs.Between.{after_earlier, not_both}
+use Rattle.rept_order.proofs.Sequence.{first_is_event, last_is_event, directly, not_later_trans}
+use Rattle.rept_order.proofs.Between.{row_forward, after_earlier, not_both}
+use Rattle.rept_order.proofs.Decide.{not_later_true}
 use Rattle.rept_order.proofs.Falling.{before_true, before_from, after_true, after_from, falls_true, falls_from}
 use Rattle.rept_order.proofs.Links as links
 use Rattle.rept_order.proofs.Legs.{number_point, thread_inside}
@@ -250,6 +251,20 @@ module _ (C : Course) (sound : IsSound C) (N : Names) (names : AreNames C N) whe
         nearer = omega arith;
       }
 
+  -- of two rows at most one lies wholly after the other
+  later_apart : (q r : Row) → IsRow C q → IsRow C r → not_later C (after r) (before q) ≡ true → not_later C (after q) (before r) ≡ false
+  later_apart q r is its later =
+      elim (cases_Bool (not_later C (after q) (before r))) [
+        | inl back ↦
+            let onward = not_later_true C sound (after r) (before q) its is later in
+            let onward_too = not_later_true C sound (after q) (before r) is its back in
+            absurd (not_both C sound (row r) (before q) its onward (not_later_trans C (before q) (after q) (before r) (row_forward C q is) onward_too))
+        | inr out ↦ out
+      ]
+
+  leg_inside : (i : ℕ) → IsSome (row_at C (row_on C i)) → IsRow C (row_on C i)
+  leg_inside i is = let found = some_is (row_at C (row_on C i)) is in row_inside C (row_on C i) found.0 found.1
+
   pub are_moments : AreMoments (legs_on C) (moments_of C N)
   are_moments = record {
     rows_before = λ i its_row is. names.few (before (row_on C i)) (row_inside C (row_on C i) its_row is);
@@ -260,6 +275,7 @@ module _ (C : Course) (sound : IsSound C) (N : Names) (names : AreNames C N) whe
         (subst (λ (n : ℕ). n ≤ N.end) link.from_name (names.few found.0.from link.from), subst (λ (n : ℕ). n ≤ N.end) link.to_name (names.few found.0.to link.to));
     rows_past = λ i its_row is. or_right (not (stores C (row_on C i))) (wholly_before C (row (row_on C i)) (N.last N.end)) (ap (λ (m : Moment). wholly_before C (row (row_on C i)) m) last_end);
     dark_past = or_right (not (is_some C.dark)) (wholly_before C dark (N.last N.end)) (ap (λ (m : Moment). wholly_before C dark m) last_end);
+    later_apart = λ i j is its later. later_apart (row_on C i) (row_on C j) (leg_inside i is) (leg_inside j its) later;
     past_onward = λ i m w e h. rows_onward (row_on C i) m w e h;
     dark_onward = λ m w e h. dark_goes_on m w e h;
     past_back = λ i m w e h out. rows_back (row_on C i) m w e h out;

@@ -52,6 +52,7 @@ are_moments legs M t = record {
   inside = λ m w e. (∥∥₁_elim t (hlevel props) (λ a. (a.inside m w e).0), ∥∥₁_elim t (hlevel props) (λ a. (a.inside m w e).1));
   rows_past = λ i row e. ∥∥₁_elim t (hlevel props) (λ a. a.rows_past i row e);
   dark_past = ∥∥₁_elim t (hlevel props) (λ a. a.dark_past);
+  later_apart = λ i j is its later. ∥∥₁_elim t (hlevel props) (λ a. a.later_apart i j is its later);
   past_onward = λ i m w e past. (∥∥₁_elim t (hlevel props) (λ a. (a.past_onward i m w e past).0), ∥∥₁_elim t (hlevel props) (λ a. (a.past_onward i m w e past).1));
   dark_onward = λ m w e past. (∥∥₁_elim t (hlevel props) (λ a. (a.dark_onward m w e past).0), ∥∥₁_elim t (hlevel props) (λ a. (a.dark_onward m w e past).1));
   past_back = λ i m w e past falls. ∥∥₁_elim t (hlevel props) (λ a. a.past_back i m w e past falls);
