@@ -6,10 +6,11 @@ use Rattle.std.proofs.lemmas.Option.{slice_get_past, slice_get_cases}
 use Rattle.rept_isa.specs.declared.row.StepRow.{StepRow}
 use Rattle.rept_span.specs.Ranges.{legs_of}
 use Rattle.rept_report.specs.Moments.{points_of}
-use Rattle.rept_report.specs.Timeline.{Timeline, time_alone, IsLeastFrom, IsLastFrom, IsRowAt, IsRowTo, IsOpen, IsClose, IsLine, IsAlike, IsStrip}
+use Rattle.rept_report.specs.Timeline.{Timeline, time_alone, IsLeastFrom, IsGreatestTo, IsLastFrom, IsRowAt, IsRowTo, IsOpen, IsBegun, IsClose, IsLine, IsAlike, IsStrip}
 use Rattle.rept_report.specs.declared.paths.Line.{Line}
 use Rattle.rept_report.specs.declared.paths.Strip.{Strip}
 use Rattle.rept_report.proofs.Line.{next_is, is_next}
+use Rattle.rept_report.proofs.Begun.{begun_alone}
 
 none_there : (o : Option StepRow) → o ≡ None → IsSome o → ⊥
 none_there None e some = cc
@@ -68,6 +69,9 @@ module _ (rows : List StepRow) where
 
   pub close_is : (j least : ℕ) (r : Option ℕ) → IsBelowFrom (length rows) j least r → IsLeastFrom (IsClose T j) least r
   close_is j least r its = least_as (λ (i : ℕ). (i < length rows) × (j ≤ i)) (IsClose T j) (λ i is. record { row = row_there i is.0; close_to = le-ltb i j is.1 }) (λ i o. (row_below i o.row, ltb-false i j o.close_to)) least r its
+
+  pub begun_is : (m most : ℕ) (r : Option ℕ) → IsGreatestTo (λ (i : ℕ). (i < length rows) × (i < m)) most r → IsGreatestTo (IsBegun T m) most r
+  begun_is m most r its = begun_alone rows m most r its
 
 pub line_is : (n m : ℕ) (line : Line) → line.first ≡ 0 → line.last ≡ n → m ≤ n → IsLine (points_of n) m line
 line_is n m line first last few = record {

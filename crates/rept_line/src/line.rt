@@ -4,7 +4,7 @@ ghost use Rattle.std.specs.Prelude.{◌≡◌, ◌≤◌, length};
 
 use rept_isa::StepRow;
 use rept_report::paths::{Line, Strip};
-use rept_report::{Paths, least_below};
+use rept_report::{Paths, greatest_below, least_below};
 
 /// The rows of one thread, of which each is traced, at most 65,536: the moments of its memory are its points. This project's own.
 #[derive(Drop)]
@@ -128,6 +128,10 @@ impl<'a> Paths for OnePath<'a> {
 
     fn close_from(&self, row: u32, least: u32) -> Option<u32> {
         least_below(self.rows.len() as u32, row, least)
+    }
+
+    fn begun_to(&self, number: u32, most: u32) -> Option<u32> {
+        greatest_below(self.rows.len() as u32, number, most)
     }
 
     fn is_past(&self, row: u32, number: u32) -> bool {

@@ -50,6 +50,11 @@ abbrev pub IsLeastFrom : (ℕ → Type 0) → ℕ → Option ℕ → Type 0
 IsLeastFrom P least None = (w : ℕ) → least ≤ w → P w → ⊥
 IsLeastFrom P least (Some w) = P w × (least ≤ w) × ((v : ℕ) → least ≤ v → v < w → P v → ⊥)
 
+-- the greatest number up to one of which something holds, or that there is none
+abbrev pub IsGreatestTo : (ℕ → Type 0) → ℕ → Option ℕ → Type 0
+IsGreatestTo P most None = (w : ℕ) → w ≤ most → P w → ⊥
+IsGreatestTo P most (Some w) = P w × (w ≤ most) × ((v : ℕ) → w < v → v ≤ most → P v → ⊥)
+
 -- the least point from one on from which no row leads, or that there is none
 abbrev pub IsLastFrom : Legs → ℕ → Option ℕ → Type 0
 IsLastFrom legs least None = legs.count < least
@@ -80,6 +85,11 @@ IsRowBetween t m w (Some i) = IsBetween t m w i × ((j : ℕ) → IsBetween t m 
 pub record IsOpen (t : Timeline) (m i : ℕ) : Type 0 where
   pub row : IsSome (t.legs.row i)
   pub open_at : t.moments.past i m ≡ false
+
+-- a row that doesn't lie wholly after a moment
+pub record IsBegun (t : Timeline) (m i : ℕ) : Type 0 where
+  pub row : IsSome (t.legs.row i)
+  pub begun_at : t.moments.ahead i m ≡ false
 
 -- a row than which another one isn't later
 pub record IsClose (t : Timeline) (j i : ℕ) : Type 0 where

@@ -1,7 +1,7 @@
 //! The rows of all threads, and the moments of their memory, by numbers.
 
 ghost use Rattle.std.specs.Prelude.{◌≡◌, ◌≤◌, ◌<◌, true, IsSome};
-ghost use Rattle.rept_report.specs.Timeline.{Timeline, IsTimeline, moment_in, IsNextFrom, IsFormerFrom, IsFallingFrom, IsLeastFrom, IsLastFrom, IsRowAt, IsRowTo, IsRowBetween, IsOpen, IsClose, IsLine, IsStrip};
+ghost use Rattle.rept_report.specs.Timeline.{Timeline, IsTimeline, moment_in, IsNextFrom, IsFormerFrom, IsFallingFrom, IsLeastFrom, IsGreatestTo, IsLastFrom, IsRowAt, IsRowTo, IsRowBetween, IsOpen, IsBegun, IsClose, IsLine, IsStrip};
 
 use rept_isa::StepRow;
 
@@ -111,6 +111,10 @@ pub trait Paths {
         requires { IsSome ((timeline self.now).legs.row row) }
         ensures { IsLeastFrom (IsClose (timeline self.now) row) least result };
 
+    /// The greatest row up to `most` that doesn't lie wholly after a moment.
+    fn begun_to(&self, number: u32, most: u32) -> Option<u32>
+        ensures { IsGreatestTo (IsBegun (timeline self.now) number) most result };
+
     /// Whether the row lies wholly before the moment.
     fn is_past(&self, row: u32, number: u32) -> bool
         requires { IsSome ((timeline self.now).legs.row row) }
@@ -149,6 +153,20 @@ pub fn least_below(count: u32, low: u32, least: u32) -> Option<u32>
 {
     let from = if low < least { least } else { low };
     if from < count { Some(from) } else { None }
+}
+
+/// The greatest number up to one that is below a count and another number.
+pub fn greatest_below(count: u32, high: u32, most: u32) -> Option<u32>
+    ensures { IsGreatestTo (λ i. (i < count) × (i < high)) most result }
+{
+    let end = if count < high { count } else { high };
+    if most < end {
+        Some(most)
+    } else if end > 0 {
+        Some(end - 1)
+    } else {
+        None
+    }
 }
 
 /// The row that one moment lies before and another one after, if there is one. There is no second one.

@@ -1,4 +1,4 @@
--- The rows of threads than which a row isn't later.
+-- The rows of threads than which a row isn't later, and where rows end.
 use Rattle.std.proofs.Common.{◌≡◌, ℕ, ◌+◌, ◌-◌, ◌<◌, ◌≤◌, true, false, Option, Some, None, inl, inr, refl, sym, ◌∙◌, subst, arith}
 use Rattle.std.specs.Option.{IsSome}
 use Rattle.std.proofs.lemmas.Bool.{false≢true, cases_lt}
@@ -22,6 +22,10 @@ module _ (C : Course) where
         | inl early ↦ none w up early is
         | inr late ↦ let under = leg_below C w is in omega arith
       ]
+
+  -- none is there from the last point on
+  pub none_past : (last k : ℕ) → last ≡ points_in C - 1 → last ≤ k → IsSome (leg_row C k) → ⊥
+  none_past last k end past is = let under = leg_below C k is in omega arith
 
   module _ (row least from : ℕ) (low : least ≤ from) (none : (i : ℕ) → least ≤ i → i < from → IsClose (as_timeline (seen_many C)) row i → ⊥) where
     pub close_none : IsLeastFrom (λ (i : ℕ). IsSome (leg_row C i)) from None → IsCloseFrom (as_timeline (seen_many C)) row least None

@@ -2,6 +2,7 @@
 #![tactic(auto)]
 
 mod arriving;
+mod beginning;
 mod closing;
 mod opening;
 mod run_paths;

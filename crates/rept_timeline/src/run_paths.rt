@@ -13,12 +13,12 @@ ghost use Rattle.rept_timeline.specs.Strips.{AreStripsOf};
 
 use crate::storing::Storing;
 use crate::strips::Strips;
-use crate::{arriving, closing, opening};
+use crate::{arriving, beginning, closing, opening};
 use rept_carry::{Lines, Ways};
 use rept_isa::StepRow;
 use rept_moments::Course;
 use rept_report::paths::{Line, Strip};
-use rept_report::{Paths, least_below};
+use rept_report::{Paths, greatest_below, least_below};
 use rept_steps::Run;
 use std::alloc::{AllocError as OutOfMemory, Global};
 
@@ -195,6 +195,13 @@ impl<'a> Paths for RunPaths<'a> {
         match self.ways.course() {
             Course::One { steps } => least_below(steps.len(), row, least),
             Course::Many(many) => closing::close_from(many, row, least),
+        }
+    }
+
+    fn begun_to(&self, number: u32, most: u32) -> Option<u32> {
+        match self.ways.course() {
+            Course::One { steps } => greatest_below(steps.len(), number, most),
+            Course::Many(many) => beginning::begun_to(many, number, most),
         }
     }
 
