@@ -13,7 +13,7 @@ use Rattle.rept_elf.specs.Segments.{ElfSegment, segments}
 use Rattle.rept_elf.specs.Symbols.{FunctionSymbol}
 use Rattle.rept_elf.specs.Checks.{checks, first_failure}
 use Rattle.rept_elf.specs.declared.fault.Want.TheVariants.{Exec, Core}
-use Rattle.rept_dump.specs.Notes.{Note, HoldsNote, AreNotesThen, AreNotes, HaveNotes, first_note, after_note}
+use Rattle.rept_notes.specs.Notes.{Note, HoldsNote, AreNotesThen, AreNotes, HaveNotes, first_note, after_note}
 use Rattle.rept_dump.specs.Registers.{SaysOfAll, all_registers, pid_of, short_size, first_of, first_short, first_twin, by_size, by_twin}
 use Rattle.rept_dump.specs.Memory.{bytes_from, byte_at, code_at, held_by}
 use Rattle.rept_path.specs.Code.{instruction, words as words_of, look}
@@ -91,8 +91,8 @@ module _ (process : ℕ) (saved : List ℕ) (count : length saved ≡ 32) where
       let d : drop (72 + 4 * i) (status_of process saved) ≡ drop (4 * i) (bytes_of_words saved ++ (0 ∷ 0 ∷ 0 ∷ 0 ∷ [])) = drop_front (status_start ++ (process ∷ 0 ∷ 0 ∷ 0 ∷ status_middle)) (bytes_of_words saved ++ (0 ∷ 0 ∷ 0 ∷ 0 ∷ [])) (72 + 4 * i) (4 * i) refl in
       ap (λ (xs : List ℕ). little_number 4 xs) d ∙ word_there saved (0 ∷ 0 ∷ 0 ∷ 0 ∷ []) i (omega arith) small
 
-  abbrev pub read_note : Note
-  read_note = record { kind = 1; name = 67 ∷ 79 ∷ 82 ∷ 69 ∷ 0 ∷ []; desc = status_of process saved }
+  abbrev pub read_note : ℕ → Note
+  read_note offset = record { offset = offset; kind = 1; name = 67 ∷ 79 ∷ 82 ∷ 69 ∷ 0 ∷ []; desc = status_of process saved }
 
   module _ (rest : List ℕ) where
     desc_there : take 204 (status_of process saved ++ rest) ≡ status_of process saved
@@ -101,8 +101,8 @@ module _ (process : ℕ) (saved : List ℕ) (count : length saved ≡ 32) where
     rest_there : drop 204 (status_of process saved ++ rest) ≡ rest
     rest_there = let n = status_size in drop_front (status_of process saved) rest 204 0 (omega arith)
 
-    pub first_is : first_note (status_note process saved ++ rest) ≡ read_note
-    first_is = ap (λ (d : List ℕ). record { kind = 1; name = 67 ∷ 79 ∷ 82 ∷ 69 ∷ 0 ∷ []; desc = d }) desc_there
+    pub first_is : (offset : ℕ) → first_note offset (status_note process saved ++ rest) ≡ read_note offset
+    first_is offset = ap (λ (d : List ℕ). record { offset = offset; kind = 1; name = 67 ∷ 79 ∷ 82 ∷ 69 ∷ 0 ∷ []; desc = d }) desc_there
 
     pub after_is : after_note (status_note process saved ++ rest) ≡ rest
     after_is = rest_there
@@ -210,8 +210,8 @@ module _ (notes bytes : List ℕ) (count : length notes ≡ 896) (size : length 
   pub core_passes : first_failure (checks Core (core_header ++ (notes ++ bytes))) ≡ None
   core_passes = let n = core_size in rw n refl
 
-abbrev note_with : List ℕ → Note
-note_with desc = record { kind = 1; name = 67 ∷ 79 ∷ 82 ∷ 69 ∷ 0 ∷ []; desc = desc }
+abbrev note_with : ℕ → List ℕ → Note
+note_with offset desc = record { offset = offset; kind = 1; name = 67 ∷ 79 ∷ 82 ∷ 69 ∷ 0 ∷ []; desc = desc }
 
 no_twin : (p q r s : ℕ) → p ≡ 1 → q ≡ 2 → r ≡ 3 → s ≡ 4 → first_twin (p ∷ q ∷ r ∷ s ∷ []) ≡ None
 no_twin p q r s one two three four = rw (one, two, three, four) refl
@@ -220,24 +220,24 @@ not_short : (desc : List ℕ) → length desc ≡ 204 → short_size desc ≡ No
 not_short desc size = ap (λ (k : ℕ). cond (nat_lt k 204) (Some k) None) size
 
 four_say : (a b c d : List ℕ) → length a ≡ 204 → length b ≡ 204 → length c ≡ 204 → length d ≡ 204 → pid_of a ≡ 1 → pid_of b ≡ 2 → pid_of c ≡ 3 → pid_of d ≡ 4
-    → all_registers (note_with a ∷ note_with b ∷ note_with c ∷ note_with d ∷ []) ≡ Ok (a ∷ b ∷ c ∷ d ∷ [])
+    → all_registers (note_with 116 a ∷ note_with 340 b ∷ note_with 564 c ∷ note_with 788 d ∷ []) ≡ Ok (a ∷ b ∷ c ∷ d ∷ [])
 four_say a b c d one two three four p q r s =
     let w = not_short a one in
     let x = not_short b two in
     let y = not_short c three in
     let z = not_short d four in
-    let short : first_short (note_with a ∷ note_with b ∷ note_with c ∷ note_with d ∷ []) ≡ None = λ i. first_of (w i) (first_of (x i) (first_of (y i) (first_of (z i) None))) in
+    let short : first_short (note_with 116 a ∷ note_with 340 b ∷ note_with 564 c ∷ note_with 788 d ∷ []) ≡ None = λ i. first_of (w i) (first_of (x i) (first_of (y i) (first_of (z i) None))) in
     ap (λ (o : Option ℕ). by_size o (a ∷ b ∷ c ∷ d ∷ [])) short ∙ ap (λ (o : Option ℕ). by_twin o (a ∷ b ∷ c ∷ d ∷ [])) (no_twin (pid_of a) (pid_of b) (pid_of c) (pid_of d) p q r s)
 
-then_more : (process : ℕ) (saved : List ℕ) (count : length saved ≡ 32) (rest : List ℕ) (notes : List Note) → AreNotesThen rest notes [] → AreNotesThen (status_note process saved ++ rest) (note_with (status_of process saved) ∷ notes) []
-then_more process saved count rest notes h = (holds process saved count rest, first_is process saved count rest, subst (λ (bytes : List ℕ). AreNotesThen bytes notes []) (sym (after_is process saved count rest)) h)
+then_more : (offset process : ℕ) (saved : List ℕ) (count : length saved ≡ 32) (rest : List ℕ) (notes : List Note) → AreNotesThen (offset + 224) rest notes [] → AreNotesThen offset (status_note process saved ++ rest) (note_with offset (status_of process saved) ∷ notes) []
+then_more offset process saved count rest notes h = (holds process saved count rest, first_is process saved count rest offset, subst (λ (bytes : List ℕ). AreNotesThen (offset + 224) bytes notes []) (sym (after_is process saved count rest)) h)
 
 module _ (a b c d bytes : List ℕ) (one : length a ≡ 32) (two : length b ≡ 32) (three : length c ≡ 32) (four : length d ≡ 32) (size : length bytes ≡ 32) where
   abbrev pub statuses : List (List ℕ)
   statuses = status_of 1 a ∷ status_of 2 b ∷ status_of 3 c ∷ status_of 4 d ∷ []
 
   abbrev all_notes : List Note
-  all_notes = note_with (status_of 1 a) ∷ note_with (status_of 2 b) ∷ note_with (status_of 3 c) ∷ note_with (status_of 4 d) ∷ []
+  all_notes = note_with 116 (status_of 1 a) ∷ note_with 340 (status_of 2 b) ∷ note_with 564 (status_of 3 c) ∷ note_with 788 (status_of 4 d) ∷ []
 
   pub notes_size : length (notes_body a b c d) ≡ 896
   notes_size =
@@ -251,13 +251,13 @@ module _ (a b c d bytes : List ℕ) (one : length a ≡ 32) (two : length b ≡ 
       let l = length-append (status_note 4 d) [] in
       omega arith
 
-  are_notes : AreNotes (notes_body a b c d) all_notes
+  are_notes : AreNotes 116 (notes_body a b c d) all_notes
   are_notes = (
     [],
-    then_more 1 a one (status_note 2 b ++ (status_note 3 c ++ (status_note 4 d ++ []))) (note_with (status_of 2 b) ∷ note_with (status_of 3 c) ∷ note_with (status_of 4 d) ∷ [])
-        (then_more 2 b two (status_note 3 c ++ (status_note 4 d ++ [])) (note_with (status_of 3 c) ∷ note_with (status_of 4 d) ∷ [])
-        (then_more 3 c three (status_note 4 d ++ []) (note_with (status_of 4 d) ∷ [])
-        (then_more 4 d four [] [] refl))),
+    then_more 116 1 a one (status_note 2 b ++ (status_note 3 c ++ (status_note 4 d ++ []))) (note_with 340 (status_of 2 b) ∷ note_with 564 (status_of 3 c) ∷ note_with 788 (status_of 4 d) ∷ [])
+        (then_more 340 2 b two (status_note 3 c ++ (status_note 4 d ++ [])) (note_with 564 (status_of 3 c) ∷ note_with 788 (status_of 4 d) ∷ [])
+        (then_more 564 3 c three (status_note 4 d ++ []) (note_with 788 (status_of 4 d) ∷ [])
+        (then_more 788 4 d four [] [] refl))),
     omega arith,
   )
 
