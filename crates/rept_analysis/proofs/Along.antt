@@ -26,6 +26,6 @@ pub row_inside : (legs : Legs) → AreLegs legs → (i : ℕ) (o : Option StepRo
 row_inside legs laws i None is = tt
 row_inside legs laws i (Some row) is = laws.inside i row (sym is)
 
-pub last_few : (legs : Legs) (least : ℕ) (o : Option ℕ) → legs.count ≤ 65536 → IsLastFrom legs least o → IfSome o (λ p. p ≤ 65536)
+pub last_few : (legs : Legs) (least : ℕ) (o : Option ℕ) → legs.count ≤ 66560 → IsLastFrom legs least o → IfSome o (λ p. p ≤ 66560)
 last_few legs least None few its = tt
 last_few legs least (Some p) few its = let early = its.1 in omega (arith, few, early)

@@ -61,7 +61,7 @@ IsPass row i (With k) s = IsDrawnWith row i k s
 IsPass row i Cut s = Unit {0}
 
 pub record IsKept {W : Type 0} (s : State W) : Type 0 where
-  pub few : s.path.given.legs.count ≤ 65536
+  pub few : s.path.given.legs.count ≤ 66560
   pub registers : (p : ℕ) → length (s.path.given.last p) ≡ 32
   pub last_is : s.known.last ≡ s.path.given.legs.count
   pub sized : s.spans.points ≡ s.path.given.legs.count + 1

@@ -131,8 +131,8 @@ fn row_places<P: Paths, R: RowRules>(paths: &P, point: u32) -> u32
 
 /// So many bytes do the rows let one conclude at most.
 fn access_bytes<P: Paths, R: RowRules>(paths: &P) -> u32
-    requires { (P.timeline paths.now).legs.count ≤ 65536 }
-    ensures few { result ≤ 524288 }
+    requires { (P.timeline paths.now).legs.count ≤ 66560 }
+    ensures few { result ≤ 532480 }
     ensures sum { result ≡ sum_to (λ i. places_of R.rules ((P.timeline paths.now).legs.row i)) (P.timeline paths.now).legs.count }
 {
     let mut sum = 0;
@@ -150,7 +150,7 @@ impl<'a, P: Paths + Drop, L: LastValues + Drop, B: ByteFacts, W: Transfer, R: Ro
     W,
     R,
 > {
-    /// An analysis of these rows and moments, of at most 65,536 points, whose threads end in these register values, and all of them in this dump, by
+    /// An analysis of these rows and moments, of at most 66,560 points, whose threads end in these register values, and all of them in this dump, by
     /// these rules. Nothing is known yet. `OutOfMemory` says that its room can't be had.
     pub fn prepare(
         alloc: Global,
@@ -159,7 +159,7 @@ impl<'a, P: Paths + Drop, L: LastValues + Drop, B: ByteFacts, W: Transfer, R: Ro
         dump: &'a Dump<'a>,
         rules: R,
     ) -> Result<Analysis<'a, P, L, B, W, R>, OutOfMemory>
-        requires few { (P.timeline paths).legs.count ≤ 65536 }
+        requires few { (P.timeline paths).legs.count ≤ 66560 }
         requires registers { (p : ℕ) → length (L.values last p) ≡ 32 }
         ensures path { IfOk result (λ a. (a.paths ≡ paths) × (a.last ≡ last)) }
         ensures memory { IfOk result (λ a. (a.exe ≡ exe_of dump.now) × (a.core ≡ core_of dump.now)) }
@@ -194,7 +194,7 @@ impl<'a, P: Paths + Drop, L: LastValues + Drop, B: ByteFacts, W: Transfer, R: Ro
     /// The last point of all.
     fn count(&self) -> u32
         ensures value { result ≡ (P.timeline self.now.paths).legs.count }
-        ensures few { result ≤ 65536 }
+        ensures few { result ≤ 66560 }
         ensures last { self.now.known.last ≡ (P.timeline self.now.paths).legs.count }
         ensures sized { self.now.spans.points ≡ (P.timeline self.now.paths).legs.count + 1 }
         ensures filled { self.now.filled ≤ length self.now.known.log }

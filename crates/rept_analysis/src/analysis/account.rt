@@ -24,7 +24,7 @@ impl<'a, P: Paths + Drop, L: LastValues + Drop, B: ByteFacts, W: Transfer, R: Ro
     /// For callers whose contracts speak of the report: what `reg` answers of registers is what the report has, once all is learnt,
     /// and the facts were learnt one by one. The call does nothing.
     pub fn account(&self)
-        ensures few { (P.timeline self.now.paths).legs.count ≤ 65536 }
+        ensures few { (P.timeline self.now.paths).legs.count ≤ 66560 }
         ensures last { (p : ℕ) → length (L.values self.now.last p) ≡ 32 }
         ensures registers { self.now.complete ≡ true → (p r : ℕ) → register_answer (state_of (reader P.timeline L.values) W.sets W.moves R.rules B.store self.now) p r ≡ register_known (answers (state_of (reader P.timeline L.values) W.sets W.moves R.rules B.store self.now)) p r }
         ensures log { self.now.complete ≡ true → IsLogOf (setting_of (reader P.timeline L.values) W.sets W.moves R.rules self.now) (answers (state_of (reader P.timeline L.values) W.sets W.moves R.rules B.store self.now)) self.now.known.log }

@@ -102,7 +102,7 @@ impl<'a, P: Paths + Drop, L: LastValues + Drop, B: ByteFacts, W: Transfer, R: Ro
         ensures row { IsLeastFrom (IsOpen (P.timeline self.now.paths) moment) least result }
         ensures order { IfSome result (λ i. least ≤ i) }
         ensures inside { IfSome result (λ i. i < (P.timeline self.now.paths).legs.count) }
-        ensures few { (P.timeline self.now.paths).legs.count ≤ 65536 }
+        ensures few { (P.timeline self.now.paths).legs.count ≤ 66560 }
     {
         let _count = self.count();
         self.paths.open_from(moment, least)

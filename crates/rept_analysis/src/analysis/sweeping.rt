@@ -115,7 +115,7 @@ impl<'a, P: Paths + Drop, L: LastValues + Drop, B: ByteFacts, W: Transfer, R: Ro
     /// The first point from one on that is the last one of its thread, if there is one.
     fn next_last(&self, least: u32) -> Option<u32>
         ensures last { IsLastFrom (P.timeline self.now.paths).legs least result }
-        ensures few { IfSome result (λ p. p ≤ 65536) }
+        ensures few { IfSome result (λ p. p ≤ 66560) }
     {
         let _count = self.count();
         self.paths.next_last(least)
