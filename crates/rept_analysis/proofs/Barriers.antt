@@ -138,7 +138,7 @@ put_writings s t k w x found row free time is h = subst (λ (y : State _). AreWr
 
 -- only the list differs
 pub put_grows : {W : Type 0} (s t : State W) (list : List Writing) → t ≡ with_writing s list → (AreWritings s → AreWritings t) → Grows s t
-put_grows s t list is keeps = subst (λ (y : State _). (AreWritings s → AreWritings y) → Grows s y) (sym is) (λ f. record { path = refl; count = refl; row = λ i. refl; spans = refl; filled = refl; shown = refl; complete = refl; conflict = refl; answers = refl; older = refl; more = λ p c v e. e; tracked = λ a h. h; counted = omega arith; writing = f; fewer = omega arith; spent = omega arith; words = λ w. w }) keeps
+put_grows s t list is keeps = subst (λ (y : State _). (AreWritings s → AreWritings y) → Grows s y) (sym is) (λ f. record { path = refl; count = refl; row = λ i. refl; spans = refl; filled = refl; shown = refl; complete = refl; conflict = refl; answers = refl; older = refl; longer = omega arith; log = λ t h. refl; more = λ p c v e. e; tracked = λ a h. h; counted = omega arith; writing = f; fewer = omega arith; spent = omega arith; words = λ w. w }) keeps
 
 pub put_uncut : {W : Type 0} (s t : State W) (list : List Writing) → t ≡ with_writing s list → IsUncut s → IsUncut t
 put_uncut s t list is u = subst (λ (y : State _). IsUncut y) (sym is) u

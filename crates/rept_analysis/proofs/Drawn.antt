@@ -14,7 +14,7 @@ use Rattle.rept_analysis.specs.Drawing.{Knows, IsTracked, Grows, HasNews, Drew, 
 use Rattle.rept_analysis.specs.Drawing.HasNews.{fact, address, anew}
 
 pub Grows_itself : {W : Type 0} (a : State W) → Grows a a
-Grows_itself a = record { path = refl; count = refl; row = λ i. refl; spans = refl; filled = refl; shown = refl; complete = refl; conflict = refl; answers = refl; older = refl; more = λ p c v e. e; tracked = λ x h. h; counted = omega arith; writing = λ h. h; fewer = omega arith; spent = omega arith; words = λ w. w }
+Grows_itself a = record { path = refl; count = refl; row = λ i. refl; spans = refl; filled = refl; shown = refl; complete = refl; conflict = refl; answers = refl; older = refl; longer = omega arith; log = λ t h. refl; more = λ p c v e. e; tracked = λ x h. h; counted = omega arith; writing = λ h. h; fewer = omega arith; spent = omega arith; words = λ w. w }
 
 -- where nothing changed, no less is known
 pub Grows_same : {W : Type 0} (a b : State W) → b ≡ a → Grows a b
@@ -32,6 +32,8 @@ Grows_trans a b c g h = record {
   conflict = h.conflict ∙ g.conflict;
   answers = h.answers ∙ g.answers;
   older = h.older ∙ g.older;
+  longer = let i = g.longer in let j = h.longer in omega (arith, i, j);
+  log = λ t below. h.log t (let i = g.longer in omega (arith, i, below)) ∙ g.log t below;
   more = λ p d v e. h.more p d v (g.more p d v e);
   tracked = λ x t. h.tracked x (g.tracked x t);
   counted = let i = g.counted in let j = h.counted in omega (arith, i, j);

@@ -31,6 +31,7 @@ use Rattle.rept_analysis.specs.Kept.{IsKept}
 use Rattle.rept_analysis.specs.declared.pass.Pass.{Pass}
 use Rattle.rept_analysis.specs.declared.pass.Pass.TheVariants.{Never}
 use Rattle.rept_analysis.proofs.Barriers.{writings_still}
+use Rattle.rept_analysis.proofs.Begun.{log_added}
 use Rattle.rept_analysis.proofs.Passing.{passes_more, never_pass}
 use Rattle.rept_analysis.proofs.Reserve.{room_like, room_drawn, room_last, room_to_draw, room_to_read, room_tracked, room_to_track, room_new}
 use Rattle.rept_analysis.specs.Told.{IsTold, Tells, TellsByte, Tracks}
@@ -164,6 +165,8 @@ module _ {W : Type 0} (s : State W) (kept : IsKept s) (f : Fact) (keep : Bool) (
       conflict = refl;
       answers = old_part s.shown kept.shown;
       older = old_part s.filled kept.filled;
+      longer = no_shorter;
+      log = old_part;
       more = more;
       tracked = λ a h. subst (λ (xs : List ℕ). Contains xs a) (sym n.tracked) h;
       counted = rw n.tracked (omega arith);
@@ -175,6 +178,7 @@ module _ {W : Type 0} (s : State W) (kept : IsKept s) (f : Fact) (keep : Bool) (
     news = fact f.point f.cell f.value n.early n.cell n.new here;
     here = here;
     still = refl;
+    log = log_added keep f s.known.log k.log n.log;
   }
 
 -- a register
@@ -341,6 +345,8 @@ module _ {W : Type 0} (s : State W) (legs : AreLegs s.path.given.legs) (kept : I
       conflict = refl;
       answers = ap (λ (fs : List Fact). oldest s.shown fs) h.log;
       older = ap (λ (fs : List Fact). oldest s.filled fs) h.log;
+      longer = rw h.log (omega arith);
+      log = λ t below. ap (λ (fs : List Fact). oldest t fs) h.log;
       more = λ p c v e. sym (same_knows p c) ∙ e;
       tracked = still;
       counted = let long = length_push s.known.store.tracked a in rw h.tracked (omega (arith, long));

@@ -2,6 +2,7 @@ pub mod Account
 pub mod Along
 pub mod Answering
 pub mod Barriers
+pub mod Begun
 pub mod Cells
 pub mod Counting
 pub mod Drawn

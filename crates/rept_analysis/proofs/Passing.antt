@@ -138,6 +138,8 @@ module _ {W : Type 0} (s b : State W) (n i : ℕ) (p q : Pass) (once : n ≤ s.w
     conflict = grows.conflict;
     answers = grows.answers;
     older = grows.older;
+    longer = grows.longer;
+    log = grows.log;
     more = grows.more;
     tracked = grows.tracked;
     counted = grows.counted;

@@ -223,6 +223,8 @@ module _ {W : Type 0} (s : State W) (laws : HasLaws (along s.path)) (kept : IsKe
             conflict = refl;
             answers = rw log refl;
             older = rw log refl;
+            longer = rw log (omega arith);
+            log = λ t below. ap (λ (fs : List Fact). oldest t fs) log;
             more = λ p c w e. more_of p c w (g.more p c w e) facts k_log;
             tracked = λ b h. subst (λ (xs : List ℕ). Contains xs b) (sym same_tracked) h;
             counted = rw same_tracked (omega arith);

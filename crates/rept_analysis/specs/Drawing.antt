@@ -105,6 +105,8 @@ pub record Grows {W : Type 0} (old new : State W) : Type 0 where
   pub conflict : new.conflict ≡ old.conflict
   pub answers : oldest new.shown new.known.log ≡ oldest old.shown old.known.log
   pub older : oldest new.filled new.known.log ≡ oldest old.filled old.known.log
+  pub longer : length old.known.log ≤ length new.known.log
+  pub log : (t : ℕ) → t ≤ length old.known.log → oldest t new.known.log ≡ oldest t old.known.log
   pub more : (p : ℕ) (c : Cell) (v : ℕ) → Knows p c v old → Knows p c v new
   pub tracked : (a : ℕ) → IsTracked a old → IsTracked a new
   pub counted : length old.known.store.tracked ≤ length new.known.store.tracked

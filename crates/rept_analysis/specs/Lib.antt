@@ -5,6 +5,7 @@ pub mod Room
 pub mod Cells
 pub mod State
 pub mod Drawing
+pub mod Begun
 pub mod Kept
 pub mod Logged
 pub mod Told

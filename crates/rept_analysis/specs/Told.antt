@@ -11,6 +11,7 @@ use Rattle.rept_versions.specs.declared.facts.Carried.TheVariants.{Same, More, S
 use Rattle.rept_versions.specs.Facts.{Course}
 use Rattle.rept_report.specs.Why.{fact_of}
 use Rattle.rept_analysis.specs.Drawing.{Knows, IsTracked, Grows, HasNews, IsClash, IsSpreadTo}
+use Rattle.rept_analysis.specs.Begun.{IsLogWith}
 
 -- the fact is known now, and wasn't
 pub record IsTold {W : Type 0} (old new : State W) (f : Fact) : Type 0 where
@@ -18,6 +19,7 @@ pub record IsTold {W : Type 0} (old new : State W) (f : Fact) : Type 0 where
   pub news : HasNews old new
   pub here : Knows f.point f.cell f.value new
   pub still : new.work ≡ old.work
+  pub log : IsLogWith f old.known.log new.known.log
 
 -- what learning it did, by the answer: it was known, it was new, or another value of its cell was known
 abbrev pub Tells : {W : Type 0} → State W → State W → Fact → Answer → Type 0

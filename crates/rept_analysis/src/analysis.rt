@@ -12,6 +12,9 @@ ghost use Rattle.rept_span.specs.Filled.{entry_at};
 ghost use Rattle.rept_dump.specs.Memory.{byte_at};
 ghost use Rattle.rept_dump.specs.Program.{contents};
 ghost use Rattle.rept_report.specs.declared.conflict.ConflictKind.{ConflictKind};
+ghost use Rattle.rept_report.specs.Conflicts.{IsQuiet};
+ghost use Rattle.rept_report.specs.Log.{oldest};
+ghost use Rattle.rept_analysis.specs.Begun.{ends_told, KnowsEnds, LearnsEndsFirst};
 ghost use Rattle.rept_analysis.specs.State.{IsLined, given_of, path_of, setting_of, state_of, reader};
 ghost use Rattle.rept_report.specs.Views.{moment_of};
 ghost use Rattle.rept_report.specs.Why.{fact_of};
@@ -163,6 +166,8 @@ impl<'a, P: Paths + Drop, L: LastValues + Drop, B: ByteFacts, W: Transfer, R: Ro
         requires registers { (p : ℕ) → length (L.values last p) ≡ 32 }
         ensures path { IfOk result (λ a. (a.paths ≡ paths) × (a.last ≡ last)) }
         ensures memory { IfOk result (λ a. (a.exe ≡ exe_of dump.now) × (a.core ≡ core_of dump.now)) }
+        ensures begins { IfOk result (λ a. LearnsEndsFirst (state_of (reader P.timeline L.values) W.sets W.moves R.rules B.store a)) }
+        ensures calm { IfOk result (λ a. a.conflict ≡ None) }
     {
         let bytes = access_bytes::<P, R>(&paths);
         let count = paths.last_point();
@@ -327,6 +332,10 @@ impl<'a, P: Paths + Drop, L: LastValues + Drop, B: ByteFacts, W: Transfer, R: Ro
         // How far it is answered after a stop: all facts of the log where memory ran out, and those that show the conflict.
         ensures whole { result ≡ Err Stop.OutOfMemory → self.new.shown ≡ length self.new.known.log }
         ensures shown { self.old.conflict ≡ None → (kind : ConflictKind) → result ≡ Err (Stop.Conflict kind) → ShowsTo (state_of (reader P.timeline L.values) W.sets W.moves R.rules B.store self.new) self.new.shown kind }
+
+        // Where the last register values of all threads alone leave no set empty and no turn wrong, all of them are among the facts that are answered after a conflict.
+        ensures begins { LearnsEndsFirst (state_of (reader P.timeline L.values) W.sets W.moves R.rules B.store self.old) → LearnsEndsFirst (state_of (reader P.timeline L.values) W.sets W.moves R.rules B.store self.new) }
+        ensures ends { self.old.conflict ≡ None → LearnsEndsFirst (state_of (reader P.timeline L.values) W.sets W.moves R.rules B.store self.old) → IsQuiet (setting_of (reader P.timeline L.values) W.sets W.moves R.rules self.old) (ends_told (setting_of (reader P.timeline L.values) W.sets W.moves R.rules self.old)) → (kind : ConflictKind) → result ≡ Err (Stop.Conflict kind) → KnowsEnds (setting_of (reader P.timeline L.values) W.sets W.moves R.rules self.old) (told (oldest self.new.shown self.new.known.log)) }
 
         // Where the store joins bytes and the moments are one line, no memory is taken: it is Ok exactly where the closure has no conflict.
         ensures joins { B.JOINS ≡ true → IsLined (P.timeline self.old.paths) → result ≡ Err Stop.OutOfMemory → ⊥ }

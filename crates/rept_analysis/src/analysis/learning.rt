@@ -1,8 +1,10 @@
 //! What learning one fact does to an analysis.
 
-ghost use Rattle.std.specs.Prelude.{◌≡◌, ◌<◌, ◌≤◌, ◌^◌, ℕ, length, true, false, IfOk, IfErr, Ok, Err};
+ghost use Rattle.std.specs.Prelude.{◌≡◌, ◌≢◌, ◌<◌, ◌≤◌, ◌^◌, ℕ, length, true, false, IfOk, IfErr, Some, Ok, Err};
 ghost use Rattle.rept_reason.specs.declared.fact.Cell.{Cell};
 ghost use Rattle.rept_reason.specs.declared.fact.Cell.TheVariants.{Register, Byte};
+ghost use Rattle.rept_reason.specs.Facts.{told};
+ghost use Rattle.rept_analysis.specs.Begun.{IsLogWith};
 ghost use Rattle.rept_analysis.specs.State.{state_of, reader};
 ghost use Rattle.rept_report.specs.Why.{fact_of};
 ghost use Rattle.rept_analysis.specs.Drawing.{Knows, IsTracked, Grows, Drew, IsFollowing, IsBrought, IsHalt, IsLearntAt, IsRowAddress, HasPlace};
@@ -81,6 +83,8 @@ impl<'a, P: Paths + Drop, L: LastValues + Drop, B: ByteFacts, W: Transfer, R: Ro
         ensures grows { Grows (state_of (reader P.timeline L.values) W.sets W.moves R.rules B.store self.old) (state_of (reader P.timeline L.values) W.sets W.moves R.rules B.store self.new) }
         ensures drew { IfOk result (λ learnt. Drew (state_of (reader P.timeline L.values) W.sets W.moves R.rules B.store self.old) (state_of (reader P.timeline L.values) W.sets W.moves R.rules B.store self.new) learnt (Knows point (Register r) value)) }
         ensures known { IfOk result (λ _. Knows point (Register r) value (state_of (reader P.timeline L.values) W.sets W.moves R.rules B.store self.new)) }
+        ensures log { IsLogWith (fact_of point (Register r) value) self.old.known.log self.new.known.log }
+        ensures loud { IfErr result (λ _. (w : ℕ) × ((told self.old.known.log point (Register r) ≡ Some w) × (w ≢ value))) }
         ensures still { self.new.work ≡ self.old.work }
         ensures halt { IfErr result (λ h. IsHalt (state_of (reader P.timeline L.values) W.sets W.moves R.rules B.store self.new) h) }
     {

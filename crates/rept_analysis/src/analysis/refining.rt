@@ -4,6 +4,7 @@ ghost use Rattle.std.specs.Prelude.{◌≡◌, ◌<◌, ◌+◌, ◌*◌, ◌≤
 ghost use Rattle.rept_reason.specs.Facts.{told};
 ghost use Rattle.rept_report.specs.Conflicts.{IsQuiet};
 ghost use Rattle.rept_report.specs.declared.conflict.ConflictKind.{ConflictKind};
+ghost use Rattle.rept_analysis.specs.Begun.{ends_told, KnowsEnds, HasEndsFirst, LearnsEndsFirst};
 ghost use Rattle.rept_analysis.specs.State.{IsLined, setting_of, state_of, reader};
 ghost use Rattle.rept_analysis.specs.Drawing.{IsHalt, IsSettled, IsFitted, SameFacts, Continues, AreWritings, AreExact, IsUncut};
 ghost use Rattle.rept_analysis.specs.Work.{left};
@@ -71,6 +72,8 @@ impl<'a, P: Paths + Drop, L: LastValues + Drop, B: ByteFacts, W: Transfer, R: Ro
         ensures settled { result ≡ Ok true → IsSettled (state_of (reader P.timeline L.values) W.sets W.moves R.rules B.store self.new) }
         ensures loud { result ≡ Ok false → IsQuiet (setting_of (reader P.timeline L.values) W.sets W.moves R.rules self.new) (told self.new.known.log) → ⊥ }
         ensures halt { IfErr result (λ h. IsHalt (state_of (reader P.timeline L.values) W.sets W.moves R.rules B.store self.new) h) }
+        ensures begins { LearnsEndsFirst (state_of (reader P.timeline L.values) W.sets W.moves R.rules B.store self.old) → LearnsEndsFirst (state_of (reader P.timeline L.values) W.sets W.moves R.rules B.store self.new) }
+        ensures halted { LearnsEndsFirst (state_of (reader P.timeline L.values) W.sets W.moves R.rules B.store self.old) → IfErr result (λ _. HasEndsFirst (state_of (reader P.timeline L.values) W.sets W.moves R.rules B.store self.new)) }
     {
         loop {
             let len = self.len();
@@ -92,6 +95,7 @@ impl<'a, P: Paths + Drop, L: LastValues + Drop, B: ByteFacts, W: Transfer, R: Ro
         requires open { self.old.conflict ≡ None }
         ensures ended { IsEnded (state_of (reader P.timeline L.values) W.sets W.moves R.rules B.store self.old) (state_of (reader P.timeline L.values) W.sets W.moves R.rules B.store self.new) }
         ensures still { self.new.work.draws ≡ self.old.work.draws }
+        ensures log { self.new.known.log ≡ self.old.known.log }
     {
         self.held();
         let len = self.known.len();
@@ -106,6 +110,8 @@ impl<'a, P: Paths + Drop, L: LastValues + Drop, B: ByteFacts, W: Transfer, R: Ro
         ensures outcome { Outcome (state_of (reader P.timeline L.values) W.sets W.moves R.rules B.store self.old) (state_of (reader P.timeline L.values) W.sets W.moves R.rules B.store self.new) result }
         ensures plain { result ≡ Err Stop.OutOfMemory → B.JOINS ≡ true → IsLined (P.timeline self.old.paths) → ⊥ }
         ensures draws { self.new.work.draws ≤ self.old.work.draws + 12 * (P.timeline self.old.paths).legs.count }
+        ensures begins { LearnsEndsFirst (state_of (reader P.timeline L.values) W.sets W.moves R.rules B.store self.old) → LearnsEndsFirst (state_of (reader P.timeline L.values) W.sets W.moves R.rules B.store self.new) }
+        ensures ends { LearnsEndsFirst (state_of (reader P.timeline L.values) W.sets W.moves R.rules B.store self.old) → IsQuiet (setting_of (reader P.timeline L.values) W.sets W.moves R.rules self.old) (ends_told (setting_of (reader P.timeline L.values) W.sets W.moves R.rules self.old)) → (kind : ConflictKind) → result ≡ Err (Stop.Conflict kind) → KnowsEnds (setting_of (reader P.timeline L.values) W.sets W.moves R.rules self.old) (told (oldest self.new.shown self.new.known.log)) }
     {
         self.restart();
         match self.settle() {
@@ -123,6 +129,8 @@ impl<'a, P: Paths + Drop, L: LastValues + Drop, B: ByteFacts, W: Transfer, R: Ro
         ensures outcome { Outcome (state_of (reader P.timeline L.values) W.sets W.moves R.rules B.store self.old) (state_of (reader P.timeline L.values) W.sets W.moves R.rules B.store self.new) result }
         ensures plain { result ≡ Err Stop.OutOfMemory → B.JOINS ≡ true → IsLined (P.timeline self.old.paths) → ⊥ }
         ensures draws { self.new.work.draws ≤ self.old.work.draws + 12 * (P.timeline self.old.paths).legs.count }
+        ensures begins { LearnsEndsFirst (state_of (reader P.timeline L.values) W.sets W.moves R.rules B.store self.old) → LearnsEndsFirst (state_of (reader P.timeline L.values) W.sets W.moves R.rules B.store self.new) }
+        ensures ends { self.old.conflict ≡ None → LearnsEndsFirst (state_of (reader P.timeline L.values) W.sets W.moves R.rules B.store self.old) → IsQuiet (setting_of (reader P.timeline L.values) W.sets W.moves R.rules self.old) (ends_told (setting_of (reader P.timeline L.values) W.sets W.moves R.rules self.old)) → (kind : ConflictKind) → result ≡ Err (Stop.Conflict kind) → KnowsEnds (setting_of (reader P.timeline L.values) W.sets W.moves R.rules self.old) (told (oldest self.new.shown self.new.known.log)) }
         ensures again { (kind : ConflictKind) → self.old.conflict ≡ Some kind → (result ≡ Err (Stop.Conflict kind)) × ((state_of (reader P.timeline L.values) W.sets W.moves R.rules B.store self.new) ≡ (state_of (reader P.timeline L.values) W.sets W.moves R.rules B.store self.old)) }
         ensures settled { self.old.complete ≡ true → self.old.conflict ≡ None → IsOk result × ((state_of (reader P.timeline L.values) W.sets W.moves R.rules B.store self.new) ≡ (state_of (reader P.timeline L.values) W.sets W.moves R.rules B.store self.old)) }
     {

@@ -6,6 +6,7 @@ ghost use Rattle.rept_reason.specs.Facts.{told};
 ghost use Rattle.rept_report.specs.Conflicts.{IsQuiet};
 ghost use Rattle.rept_report.specs.declared.conflict.ConflictKind.{ConflictKind};
 ghost use Rattle.rept_report.specs.Log.{oldest};
+ghost use Rattle.rept_analysis.specs.Begun.{ends_told, KnowsEnds, HasEndsFirst, LearnsEndsFirst};
 ghost use Rattle.rept_analysis.specs.State.{IsLined, setting_of, state_of, reader};
 ghost use Rattle.rept_report.specs.Why.{fact_of};
 ghost use Rattle.rept_analysis.specs.Drawing.{IsHalt, SameFacts, IsClash};
@@ -84,6 +85,8 @@ impl<'a, P: Paths + Drop, L: LastValues + Drop, B: ByteFacts, W: Transfer, R: Ro
         requires kind { ClosureHas (setting_of (reader P.timeline L.values) W.sets W.moves R.rules self.old) kind }
         ensures ended { IsStopped (state_of (reader P.timeline L.values) W.sets W.moves R.rules B.store self.old) (state_of (reader P.timeline L.values) W.sets W.moves R.rules B.store self.new) kind }
         ensures still { self.new.work.draws ≡ self.old.work.draws }
+        ensures log { self.new.known.log ≡ self.old.known.log }
+        ensures limit { self.new.shown ≡ limit }
     {
         self.shown = limit;
         self.conflict = Some(kind);
@@ -95,6 +98,8 @@ impl<'a, P: Paths + Drop, L: LastValues + Drop, B: ByteFacts, W: Transfer, R: Ro
         requires loud { IsQuiet (setting_of (reader P.timeline L.values) W.sets W.moves R.rules self.old) (told self.old.known.log) → ⊥ }
         ensures ended { IsStopped (state_of (reader P.timeline L.values) W.sets W.moves R.rules B.store self.old) (state_of (reader P.timeline L.values) W.sets W.moves R.rules B.store self.new) result }
         ensures still { self.new.work.draws ≡ self.old.work.draws }
+        ensures log { self.new.known.log ≡ self.old.known.log }
+        ensures ends { LearnsEndsFirst (state_of (reader P.timeline L.values) W.sets W.moves R.rules B.store self.old) → IsQuiet (setting_of (reader P.timeline L.values) W.sets W.moves R.rules self.old) (ends_told (setting_of (reader P.timeline L.values) W.sets W.moves R.rules self.old)) → KnowsEnds (setting_of (reader P.timeline L.values) W.sets W.moves R.rules self.old) (told (oldest self.new.shown self.new.known.log)) }
     {
         self.held();
         let limit = self.bisect();
@@ -110,6 +115,8 @@ impl<'a, P: Paths + Drop, L: LastValues + Drop, B: ByteFacts, W: Transfer, R: Ro
         requires clash { IsClash (state_of (reader P.timeline L.values) W.sets W.moves R.rules B.store self.old) (fact_of point cell value) known }
         ensures ended { IsStopped (state_of (reader P.timeline L.values) W.sets W.moves R.rules B.store self.old) (state_of (reader P.timeline L.values) W.sets W.moves R.rules B.store self.new) result }
         ensures still { self.new.work.draws ≡ self.old.work.draws }
+        ensures log { self.new.known.log ≡ self.old.known.log }
+        ensures ends { HasEndsFirst (state_of (reader P.timeline L.values) W.sets W.moves R.rules B.store self.old) → IsQuiet (setting_of (reader P.timeline L.values) W.sets W.moves R.rules self.old) (ends_told (setting_of (reader P.timeline L.values) W.sets W.moves R.rules self.old)) → KnowsEnds (setting_of (reader P.timeline L.values) W.sets W.moves R.rules self.old) (told (oldest self.new.shown self.new.known.log)) }
     {
         self.held();
         let len = self.len();
@@ -131,6 +138,7 @@ impl<'a, P: Paths + Drop, L: LastValues + Drop, B: ByteFacts, W: Transfer, R: Ro
         requires quiet { QuietBelow (state_of (reader P.timeline L.values) W.sets W.moves R.rules B.store self.old) limit }
         ensures ended { IsPaused (state_of (reader P.timeline L.values) W.sets W.moves R.rules B.store self.old) (state_of (reader P.timeline L.values) W.sets W.moves R.rules B.store self.new) }
         ensures still { self.new.work.draws ≡ self.old.work.draws }
+        ensures log { self.new.known.log ≡ self.old.known.log }
     {
         self.shown = limit;
     }
@@ -140,6 +148,8 @@ impl<'a, P: Paths + Drop, L: LastValues + Drop, B: ByteFacts, W: Transfer, R: Ro
         requires open { self.old.complete ≡ false }
         ensures ended { IsHalted (state_of (reader P.timeline L.values) W.sets W.moves R.rules B.store self.old) (state_of (reader P.timeline L.values) W.sets W.moves R.rules B.store self.new) result }
         ensures still { self.new.work.draws ≡ self.old.work.draws }
+        ensures log { self.new.known.log ≡ self.old.known.log }
+        ensures ends { HasEndsFirst (state_of (reader P.timeline L.values) W.sets W.moves R.rules B.store self.old) → IsQuiet (setting_of (reader P.timeline L.values) W.sets W.moves R.rules self.old) (ends_told (setting_of (reader P.timeline L.values) W.sets W.moves R.rules self.old)) → (kind : ConflictKind) → result ≡ Stop.Conflict kind → KnowsEnds (setting_of (reader P.timeline L.values) W.sets W.moves R.rules self.old) (told (oldest self.new.shown self.new.known.log)) }
     {
         self.held();
         let len = self.len();
@@ -157,6 +167,8 @@ impl<'a, P: Paths + Drop, L: LastValues + Drop, B: ByteFacts, W: Transfer, R: Ro
         requires halt { IsHalt (state_of (reader P.timeline L.values) W.sets W.moves R.rules B.store self.old) halt.now }
         ensures ended { IsHalted (state_of (reader P.timeline L.values) W.sets W.moves R.rules B.store self.old) (state_of (reader P.timeline L.values) W.sets W.moves R.rules B.store self.new) result }
         ensures still { self.new.work.draws ≡ self.old.work.draws }
+        ensures log { self.new.known.log ≡ self.old.known.log }
+        ensures ends { HasEndsFirst (state_of (reader P.timeline L.values) W.sets W.moves R.rules B.store self.old) → IsQuiet (setting_of (reader P.timeline L.values) W.sets W.moves R.rules self.old) (ends_told (setting_of (reader P.timeline L.values) W.sets W.moves R.rules self.old)) → (kind : ConflictKind) → result ≡ Stop.Conflict kind → KnowsEnds (setting_of (reader P.timeline L.values) W.sets W.moves R.rules self.old) (told (oldest self.new.shown self.new.known.log)) }
         ensures plain { result ≡ Stop.OutOfMemory → B.JOINS ≡ true → IsLined (P.timeline self.old.paths) → ⊥ }
     {
         self.counted();

@@ -5,6 +5,7 @@ ghost use Rattle.rept_dump.specs.Memory.{byte_at};
 ghost use Rattle.rept_dump.specs.Program.{contents};
 ghost use Rattle.rept_report.specs.Setting.{IsLast};
 ghost use Rattle.rept_report.specs.Timeline.{IsLastFrom};
+ghost use Rattle.rept_analysis.specs.Begun.{HasEndsAlone, HasEndsFirst, LearnsEndsFirst};
 ghost use Rattle.rept_analysis.specs.State.{setting_of, state_of, reader};
 ghost use Rattle.rept_analysis.specs.Drawing.{IsTracked, Grows, Drew, IsHalt, IsFitted, LastKnownAt, LastPointKnown, AreWritings, AreExact, AllCarried, IsUncut, RowsClosed, LastByteKnown, LastBytesKnown, SingleKnown, PointSingles, SinglesKnown, IsDrawnAll, LastKnownBelow};
 
@@ -83,25 +84,33 @@ impl<'a, P: Paths + Drop, L: LastValues + Drop, B: ByteFacts, W: Transfer, R: Ro
         Ok(learnt)
     }
 
-    /// The value of a register at the last point of a thread.
+    /// The value of a register other than x0 at the last point of a thread.
     fn draw_last(&mut self, point: u32, r: Reg) -> Result<bool, Halt>
         requires point { IsLast (setting_of (reader P.timeline L.values) W.sets W.moves R.rules self.old) point }
+        requires named { 0 < r }
         requires open { self.old.complete ≡ false }
         ensures grows { Grows (state_of (reader P.timeline L.values) W.sets W.moves R.rules B.store self.old) (state_of (reader P.timeline L.values) W.sets W.moves R.rules B.store self.new) }
         ensures drew { IfOk result (λ learnt. Drew (state_of (reader P.timeline L.values) W.sets W.moves R.rules B.store self.old) (state_of (reader P.timeline L.values) W.sets W.moves R.rules B.store self.new) learnt (LastKnownAt point r)) }
+        ensures known { IfOk result (λ _. LastKnownAt point r (state_of (reader P.timeline L.values) W.sets W.moves R.rules B.store self.new)) }
+        ensures ends { HasEndsAlone (state_of (reader P.timeline L.values) W.sets W.moves R.rules B.store self.old) → HasEndsAlone (state_of (reader P.timeline L.values) W.sets W.moves R.rules B.store self.new) }
+        ensures calm { IfErr result (λ _. HasEndsAlone (state_of (reader P.timeline L.values) W.sets W.moves R.rules B.store self.old) → ⊥) }
         ensures halt { IfErr result (λ h. IsHalt (state_of (reader P.timeline L.values) W.sets W.moves R.rules B.store self.new) h) }
     {
+        let _number = r.number();
         let value = self.last_value(point, r);
-        let learnt = self.learn_if(point, r, Flat::Known(value))?;
+        let learnt = self.learn(point, r, value)?;
         Ok(learnt)
     }
 
-    /// The values of all registers at the last point of a thread.
+    /// The values of all registers at the last point of a thread. Where nothing but such values is known, none clashes.
     fn draw_last_point(&mut self, point: u32) -> Result<bool, Halt>
         requires point { IsLast (setting_of (reader P.timeline L.values) W.sets W.moves R.rules self.old) point }
         requires open { self.old.complete ≡ false }
         ensures grows { Grows (state_of (reader P.timeline L.values) W.sets W.moves R.rules B.store self.old) (state_of (reader P.timeline L.values) W.sets W.moves R.rules B.store self.new) }
         ensures drew { IfOk result (λ learnt. Drew (state_of (reader P.timeline L.values) W.sets W.moves R.rules B.store self.old) (state_of (reader P.timeline L.values) W.sets W.moves R.rules B.store self.new) learnt (LastPointKnown 32 point)) }
+        ensures known { IfOk result (λ _. LastPointKnown 32 point (state_of (reader P.timeline L.values) W.sets W.moves R.rules B.store self.new)) }
+        ensures ends { HasEndsAlone (state_of (reader P.timeline L.values) W.sets W.moves R.rules B.store self.old) → HasEndsAlone (state_of (reader P.timeline L.values) W.sets W.moves R.rules B.store self.new) }
+        ensures calm { IfErr result (λ _. HasEndsAlone (state_of (reader P.timeline L.values) W.sets W.moves R.rules B.store self.old) → ⊥) }
         ensures halt { IfErr result (λ h. IsHalt (state_of (reader P.timeline L.values) W.sets W.moves R.rules B.store self.new) h) }
     {
         let mut learnt = false;
@@ -126,11 +135,13 @@ impl<'a, P: Paths + Drop, L: LastValues + Drop, B: ByteFacts, W: Transfer, R: Ro
         requires open { self.old.complete ≡ false }
         ensures grows { Grows (state_of (reader P.timeline L.values) W.sets W.moves R.rules B.store self.old) (state_of (reader P.timeline L.values) W.sets W.moves R.rules B.store self.new) }
         ensures drew { IfOk result (λ learnt. Drew (state_of (reader P.timeline L.values) W.sets W.moves R.rules B.store self.old) (state_of (reader P.timeline L.values) W.sets W.moves R.rules B.store self.new) learnt (LastKnownBelow 32)) }
+        ensures begun { LearnsEndsFirst (state_of (reader P.timeline L.values) W.sets W.moves R.rules B.store self.old) → HasEndsFirst (state_of (reader P.timeline L.values) W.sets W.moves R.rules B.store self.new) }
         ensures halt { IfErr result (λ h. IsHalt (state_of (reader P.timeline L.values) W.sets W.moves R.rules B.store self.new) h) }
     {
         let mut learnt = false;
         let mut least = 0;
         loop {
+            self.held();
             let Some(point) = self.next_last(least) else {
                 return Ok(learnt);
             };
@@ -305,6 +316,7 @@ impl<'a, P: Paths + Drop, L: LastValues + Drop, B: ByteFacts, W: Transfer, R: Ro
         requires uncut { IsUncut (state_of (reader P.timeline L.values) W.sets W.moves R.rules B.store self.old) }
         ensures grows { Grows (state_of (reader P.timeline L.values) W.sets W.moves R.rules B.store self.old) (state_of (reader P.timeline L.values) W.sets W.moves R.rules B.store self.new) }
         ensures drew { IfOk result (λ learnt. Drew (state_of (reader P.timeline L.values) W.sets W.moves R.rules B.store self.old) (state_of (reader P.timeline L.values) W.sets W.moves R.rules B.store self.new) learnt (λ s. LastKnownBelow 32 s × AllCarried s × LastBytesKnown s × SinglesKnown s)) }
+        ensures begun { LearnsEndsFirst (state_of (reader P.timeline L.values) W.sets W.moves R.rules B.store self.old) → HasEndsFirst (state_of (reader P.timeline L.values) W.sets W.moves R.rules B.store self.new) }
         ensures halt { IfErr result (λ h. IsHalt (state_of (reader P.timeline L.values) W.sets W.moves R.rules B.store self.new) h) }
     {
         let last = self.draw_all_last()?;
@@ -322,6 +334,7 @@ impl<'a, P: Paths + Drop, L: LastValues + Drop, B: ByteFacts, W: Transfer, R: Ro
         requires uncut { IsUncut (state_of (reader P.timeline L.values) W.sets W.moves R.rules B.store self.old) }
         ensures grows { Grows (state_of (reader P.timeline L.values) W.sets W.moves R.rules B.store self.old) (state_of (reader P.timeline L.values) W.sets W.moves R.rules B.store self.new) }
         ensures drew { IfOk result (λ learnt. Drew (state_of (reader P.timeline L.values) W.sets W.moves R.rules B.store self.old) (state_of (reader P.timeline L.values) W.sets W.moves R.rules B.store self.new) learnt (IsDrawnAll)) }
+        ensures begun { LearnsEndsFirst (state_of (reader P.timeline L.values) W.sets W.moves R.rules B.store self.old) → HasEndsFirst (state_of (reader P.timeline L.values) W.sets W.moves R.rules B.store self.new) }
         ensures halt { IfErr result (λ h. IsHalt (state_of (reader P.timeline L.values) W.sets W.moves R.rules B.store self.new) h) }
     {
         let fresh = self.sweep_fresh()?;

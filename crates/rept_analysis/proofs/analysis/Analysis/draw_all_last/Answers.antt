@@ -1,13 +1,14 @@
-use Rattle.std.proofs.Common.{◌+◌, None, Some, subst, arith}
+use Rattle.std.proofs.Common.{◌+◌, None, Some, sym, subst, arith}
 use Rattle.rept_report.specs.Timeline.{IsLastFrom}
 use Rattle.rept_analysis.specs.State.{Path, state_of, reader}
 use Rattle.rept_analysis.specs.Drawing.{LastPointKnown, LastKnownBelow}
+use Rattle.rept_analysis.proofs.Begun.{begun_by, begun_unless, lasts_grow}
 use Rattle.rept_analysis.proofs.Drawn.{Drew_both, Drew_as, Drew_same, Grows_itself, Grows_trans}
 use Rattle.rept_analysis.proofs.Following.{LastsBelow, last_none, lasts_all, lasts_more}
 use Rattle.rept_analysis.proofs.analysis.Analysis.draw_all_last.Goals as goal
 
 pub loop-point-init : goal.loop-point-init
-loop-point-init g c = record { grows = Grows_itself _; drew = Drew_same _ _ (λ p less last. absurd (omega (arith, less))) }
+loop-point-init g c = record { grows = Grows_itself _; drew = Drew_same _ _ (λ p less last. absurd (omega (arith, less))); known = λ p less last. absurd (omega (arith, less)); ends = λ h. h }
 
 pub returns-in_default-clause-drew : goal.returns-in_default-clause-drew
 returns-in_default-clause-drew g c =
@@ -33,4 +34,19 @@ loop-point-preserved g c =
     record {
       grows = Grows_trans s t u i.grows c.in_ok-new.ensures.grows;
       drew = Drew_both s t u c.loop-point.learnt c.in_ok-new.new (LastsBelow c.loop-point.least) (LastPointKnown 32 c.in-Some.point) (LastsBelow (c.in-Some.point + 1)) i.grows c.in_ok-new.ensures.grows i.drew c.in_ok-new.ensures.drew (λ p q. lasts_more s c.loop-point.least c.in-Some.point next p q);
+      known = let after = subst (λ (P : Path g.row.W.Denot). IsLastFrom P.given.legs c.loop-point.least (Some c.in-Some.point)) (sym c.in_ok-new.ensures.grows.path) here in lasts_more u c.loop-point.least c.in-Some.point after (lasts_grow t u c.in_ok-new.ensures.grows c.loop-point.least i.known) c.in_ok-new.ensures.known;
+      ends = λ h. c.in_ok-new.ensures.ends (i.ends h);
     }
+
+pub returns-in_default-clause-begun : goal.returns-in_default-clause-begun
+returns-in_default-clause-begun g c =
+    let s = (state_of (reader g.P.Paths.timeline g.L.LastValues.values) g.W.Partial.sets g.W.Transfer.moves g.R.RowRules.rules g.B.ByteFacts.store c.args.self.now) in
+    let t = (state_of (reader g.P.Paths.timeline g.L.LastValues.values) g.W.Partial.sets g.W.Transfer.moves g.R.RowRules.rules g.B.ByteFacts.store c.loop-point.self) in
+    let none = last_none t.path.given.legs c.loop-point.least c.next_last.result c.in_default.not-Some c.next_last.ensures.last in
+    begun_by s t c.loop-point.invariant.grows c.held.ensures (lasts_all t c.loop-point.least none c.loop-point.invariant.known) c.loop-point.invariant.ends
+
+pub returns-in_err-new-clause-begun : goal.returns-in_err-new-clause-begun
+returns-in_err-new-clause-begun g c =
+    let s = (state_of (reader g.P.Paths.timeline g.L.LastValues.values) g.W.Partial.sets g.W.Transfer.moves g.R.RowRules.rules g.B.ByteFacts.store c.args.self.now) in
+    let u = (state_of (reader g.P.Paths.timeline g.L.LastValues.values) g.W.Partial.sets g.W.Transfer.moves g.R.RowRules.rules g.B.ByteFacts.store c.draw_last_point.new.self) in
+    begun_unless s u (Grows_trans _ _ _ c.loop-point.invariant.grows c.draw_last_point.ensures.grows) (λ h. c.in_err-new.ensures.calm (c.loop-point.invariant.ends h))

@@ -1,5 +1,6 @@
 use Rattle.std.proofs.Common.{◌+◌, ◌-◌}
 use Rattle.rept_analysis.specs.State.{state_of, reader}
+use Rattle.rept_analysis.specs.Begun.{HasEndsAlone}
 use Rattle.rept_analysis.specs.Drawing.{Grows, Drew}
 use Rattle.rept_analysis.proofs.Following.{LastsBelow}
 use Rattle.rept_analysis.proofs.analysis.Analysis.draw_all_last.Given as goal
@@ -10,6 +11,8 @@ invariant-loop-point g l =
     record {
       grows : Grows (st l.fn.self) (st l.self);
       drew : Drew (st l.fn.self) (st l.self) l.learnt (LastsBelow l.least);
+      known : LastsBelow l.least (st l.self);
+      ends : HasEndsAlone (st l.fn.self) → HasEndsAlone (st l.self);
     }
 
 abbrev pub decreases-loop-point : goal.decreases-loop-point

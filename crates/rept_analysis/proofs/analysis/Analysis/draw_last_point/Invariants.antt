@@ -1,4 +1,5 @@
 use Rattle.rept_analysis.specs.State.{state_of, reader}
+use Rattle.rept_analysis.specs.Begun.{HasEndsAlone}
 use Rattle.rept_analysis.specs.Drawing.{Grows, Drew, LastPointKnown}
 use Rattle.rept_analysis.proofs.analysis.Analysis.draw_last_point.Given as goal
 
@@ -8,4 +9,6 @@ invariant-loop-r g l =
     record {
       grows : Grows (st l.fn.self) (st l.self);
       drew : Drew (st l.fn.self) (st l.self) l.learnt (LastPointKnown l.r l.point);
+      known : LastPointKnown l.r l.point (st l.self);
+      ends : HasEndsAlone (st l.fn.self) → HasEndsAlone (st l.self);
     }

@@ -1,4 +1,5 @@
 use Rattle.std.proofs.Common.{refl, arith}
+use Rattle.rept_analysis.proofs.Begun.{none_learnt}
 use Rattle.rept_analysis.proofs.Learning.{fresh_kept}
 use Rattle.rept_analysis.proofs.analysis.Analysis.prepare.Goals as goal
 
@@ -8,3 +9,6 @@ invariant_of-result g c =
     let room = c.in_ok-writing.ensures.room in
     let end = c.end.ensures in
     fresh_kept _ c.access_bytes-bytes.result c.access_bytes-bytes.ensures.sum c.requires.few c.requires.registers (rw count at c.in_ok-known.ensures) (rw count at c.in_ok-spans.ensures.points) refl refl refl refl (omega (arith, room, end)) (rw count at c.in_ok-drawn.ensures.length) c.in_ok-drawn.ensures.never
+
+pub returns-clause-begins : goal.returns-clause-begins
+returns-clause-begins g c = none_learnt c.in_ok-known.ensures.log

@@ -46,3 +46,9 @@ returns-clause-exact g c = λ joins lined. exact_of (state_of (reader g.P.Paths.
 
 pub returns-clause-refused : goal.returns-clause-refused
 returns-clause-refused g c = λ joins lined. refused_of (state_of (reader g.P.Paths.timeline g.L.LastValues.values) g.W.Partial.sets g.W.Transfer.moves g.R.RowRules.rules g.B.ByteFacts.store c.args.self.now) (state_of (reader g.P.Paths.timeline g.L.LastValues.values) g.W.Partial.sets g.W.Transfer.moves g.R.RowRules.rules g.B.ByteFacts.store c.outcome-outcome.new.self) c.outcome-outcome.result c.outcome-outcome.ensures.outcome (λ e. c.outcome-outcome.ensures.plain e joins lined)
+
+pub returns-clause-begins : goal.returns-clause-begins
+returns-clause-begins g c = c.outcome-outcome.ensures.begins
+
+pub returns-clause-ends : goal.returns-clause-ends
+returns-clause-ends g c = c.outcome-outcome.ensures.ends

@@ -1,6 +1,11 @@
 use Rattle.std.proofs.Common.{◌≡◌, ◌+◌, ℕ, true, ap, sym, subst, arith}
-use Rattle.rept_analysis.specs.State.{Path, state_of, reader}
-use Rattle.rept_log.specs.Known.{known_of}
+use Rattle.rept_analysis.specs.State.{Path, along, state_of, reader}
+use Rattle.rept_reason.specs.Facts.{told}
+use Rattle.rept_report.specs.Conflicts.{IsQuiet}
+use Rattle.rept_report.specs.Log.{oldest}
+use Rattle.rept_log.specs.Known.{Held, known_of}
+use Rattle.rept_analysis.specs.Begun.{ends_told, KnowsEnds}
+use Rattle.rept_analysis.proofs.Begun.{begins_like, halted_path, same_err}
 use Rattle.rept_analysis.proofs.Ending.{same_stop, Continues_trans, ended_after, stopped_after, halted_after, known_like, known_after}
 use Rattle.rept_analysis.proofs.Passing.{left_most}
 use Rattle.rept_analysis.proofs.analysis.Analysis.run.Goals as goal
@@ -48,3 +53,24 @@ returns-in-Err-clause-plain g c =
     let u = (state_of (reader g.P.Paths.timeline g.L.LastValues.values) g.W.Partial.sets g.W.Transfer.moves g.R.RowRules.rules g.B.ByteFacts.store c.settle.new.self) in
     let both = Continues_trans s t u c.restart.ensures.continues c.settle.ensures.continues in
     λ e joins lined. c.stop.ensures.plain (same_stop e) joins (subst (λ (P : Path g.row.W.Denot). (m w : ℕ) → P.given.moments.next m w ≡ true → w ≡ m + 1) (sym both.path) lined)
+
+pub returns-in-Ok-true-clause-begins : goal.returns-in-Ok-true-clause-begins
+returns-in-Ok-true-clause-begins g c = λ h. begins_like (state_of (reader g.P.Paths.timeline g.L.LastValues.values) g.W.Partial.sets g.W.Transfer.moves g.R.RowRules.rules g.B.ByteFacts.store c.settle.new.self) (state_of (reader g.P.Paths.timeline g.L.LastValues.values) g.W.Partial.sets g.W.Transfer.moves g.R.RowRules.rules g.B.ByteFacts.store c.finish.new.self) c.finish.ensures.ended.path c.finish.ensures.log (c.settle.ensures.begins (begins_like (state_of (reader g.P.Paths.timeline g.L.LastValues.values) g.W.Partial.sets g.W.Transfer.moves g.R.RowRules.rules g.B.ByteFacts.store c.args.self.now) (state_of (reader g.P.Paths.timeline g.L.LastValues.values) g.W.Partial.sets g.W.Transfer.moves g.R.RowRules.rules g.B.ByteFacts.store c.restart.new.self) c.restart.ensures.continues.path (ap (λ (k : Held g.row.B.Denot). k.log) c.restart.ensures.facts) h))
+
+pub returns-in-Ok-false-clause-begins : goal.returns-in-Ok-false-clause-begins
+returns-in-Ok-false-clause-begins g c = λ h. begins_like (state_of (reader g.P.Paths.timeline g.L.LastValues.values) g.W.Partial.sets g.W.Transfer.moves g.R.RowRules.rules g.B.ByteFacts.store c.settle.new.self) (state_of (reader g.P.Paths.timeline g.L.LastValues.values) g.W.Partial.sets g.W.Transfer.moves g.R.RowRules.rules g.B.ByteFacts.store c.stop_least.new.self) c.stop_least.ensures.ended.path c.stop_least.ensures.log (c.settle.ensures.begins (begins_like (state_of (reader g.P.Paths.timeline g.L.LastValues.values) g.W.Partial.sets g.W.Transfer.moves g.R.RowRules.rules g.B.ByteFacts.store c.args.self.now) (state_of (reader g.P.Paths.timeline g.L.LastValues.values) g.W.Partial.sets g.W.Transfer.moves g.R.RowRules.rules g.B.ByteFacts.store c.restart.new.self) c.restart.ensures.continues.path (ap (λ (k : Held g.row.B.Denot). k.log) c.restart.ensures.facts) h))
+
+pub returns-in-Err-clause-begins : goal.returns-in-Err-clause-begins
+returns-in-Err-clause-begins g c = λ h. begins_like (state_of (reader g.P.Paths.timeline g.L.LastValues.values) g.W.Partial.sets g.W.Transfer.moves g.R.RowRules.rules g.B.ByteFacts.store c.settle.new.self) (state_of (reader g.P.Paths.timeline g.L.LastValues.values) g.W.Partial.sets g.W.Transfer.moves g.R.RowRules.rules g.B.ByteFacts.store c.stop.new.self) (halted_path (state_of (reader g.P.Paths.timeline g.L.LastValues.values) g.W.Partial.sets g.W.Transfer.moves g.R.RowRules.rules g.B.ByteFacts.store c.settle.new.self) (state_of (reader g.P.Paths.timeline g.L.LastValues.values) g.W.Partial.sets g.W.Transfer.moves g.R.RowRules.rules g.B.ByteFacts.store c.stop.new.self) c.stop.result c.stop.ensures.ended) c.stop.ensures.log (c.settle.ensures.begins (begins_like (state_of (reader g.P.Paths.timeline g.L.LastValues.values) g.W.Partial.sets g.W.Transfer.moves g.R.RowRules.rules g.B.ByteFacts.store c.args.self.now) (state_of (reader g.P.Paths.timeline g.L.LastValues.values) g.W.Partial.sets g.W.Transfer.moves g.R.RowRules.rules g.B.ByteFacts.store c.restart.new.self) c.restart.ensures.continues.path (ap (λ (k : Held g.row.B.Denot). k.log) c.restart.ensures.facts) h))
+
+pub returns-in-Ok-false-clause-ends : goal.returns-in-Ok-false-clause-ends
+returns-in-Ok-false-clause-ends g c = λ h quiet kind e.
+    let both = Continues_trans (state_of (reader g.P.Paths.timeline g.L.LastValues.values) g.W.Partial.sets g.W.Transfer.moves g.R.RowRules.rules g.B.ByteFacts.store c.args.self.now) (state_of (reader g.P.Paths.timeline g.L.LastValues.values) g.W.Partial.sets g.W.Transfer.moves g.R.RowRules.rules g.B.ByteFacts.store c.restart.new.self) (state_of (reader g.P.Paths.timeline g.L.LastValues.values) g.W.Partial.sets g.W.Transfer.moves g.R.RowRules.rules g.B.ByteFacts.store c.settle.new.self) c.restart.ensures.continues c.settle.ensures.continues in
+    let calm = subst (λ (P : Path g.row.W.Denot). IsQuiet (along P) (ends_told (along P))) (sym both.path) quiet in
+    subst (λ (P : Path g.row.W.Denot). KnowsEnds (along P) (told (oldest c.stop_least.new.self.shown c.stop_least.new.self.known.log))) both.path (c.stop_least.ensures.ends (c.settle.ensures.begins (begins_like (state_of (reader g.P.Paths.timeline g.L.LastValues.values) g.W.Partial.sets g.W.Transfer.moves g.R.RowRules.rules g.B.ByteFacts.store c.args.self.now) (state_of (reader g.P.Paths.timeline g.L.LastValues.values) g.W.Partial.sets g.W.Transfer.moves g.R.RowRules.rules g.B.ByteFacts.store c.restart.new.self) c.restart.ensures.continues.path (ap (λ (k : Held g.row.B.Denot). k.log) c.restart.ensures.facts) h)) calm)
+
+pub returns-in-Err-clause-ends : goal.returns-in-Err-clause-ends
+returns-in-Err-clause-ends g c = λ h quiet kind e.
+    let both = Continues_trans (state_of (reader g.P.Paths.timeline g.L.LastValues.values) g.W.Partial.sets g.W.Transfer.moves g.R.RowRules.rules g.B.ByteFacts.store c.args.self.now) (state_of (reader g.P.Paths.timeline g.L.LastValues.values) g.W.Partial.sets g.W.Transfer.moves g.R.RowRules.rules g.B.ByteFacts.store c.restart.new.self) (state_of (reader g.P.Paths.timeline g.L.LastValues.values) g.W.Partial.sets g.W.Transfer.moves g.R.RowRules.rules g.B.ByteFacts.store c.settle.new.self) c.restart.ensures.continues c.settle.ensures.continues in
+    let calm = subst (λ (P : Path g.row.W.Denot). IsQuiet (along P) (ends_told (along P))) (sym both.path) quiet in
+    subst (λ (P : Path g.row.W.Denot). KnowsEnds (along P) (told (oldest c.stop.new.self.shown c.stop.new.self.known.log))) both.path (c.stop.ensures.ends ((rw c.in-Err.is at c.settle.ensures.halted) (begins_like (state_of (reader g.P.Paths.timeline g.L.LastValues.values) g.W.Partial.sets g.W.Transfer.moves g.R.RowRules.rules g.B.ByteFacts.store c.args.self.now) (state_of (reader g.P.Paths.timeline g.L.LastValues.values) g.W.Partial.sets g.W.Transfer.moves g.R.RowRules.rules g.B.ByteFacts.store c.restart.new.self) c.restart.ensures.continues.path (ap (λ (k : Held g.row.B.Denot). k.log) c.restart.ensures.facts) h)) calm kind (same_err e))

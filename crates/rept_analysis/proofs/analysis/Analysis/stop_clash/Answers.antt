@@ -1,10 +1,13 @@
-use Rattle.std.proofs.Common.{◌∙◌, arith, inr}
+use Rattle.std.proofs.Common.{◌≡◌, ◌∙◌, arith, inr, sym, ap, subst}
 use Rattle.rept_reason.specs.Facts.{told}
 use Rattle.rept_report.specs.Conflicts.{IsQuiet}
 use Rattle.rept_report.specs.Closure.{ClosureHas}
+use Rattle.rept_report.specs.Log.{oldest}
 use Rattle.rept_report.specs.Why.{fact_of}
 use Rattle.rept_log.specs.Known.{Known}
 use Rattle.rept_analysis.specs.State.{state_of, Path, along, reader}
+use Rattle.rept_analysis.specs.Begun.{ends_told, KnowsEnds}
+use Rattle.rept_analysis.proofs.Begun.{begun_like, ends_among}
 use Rattle.rept_analysis.proofs.Ending.{forth, back_to, stopped_from, quiet_whole, quiet_part, shows_like}
 use Rattle.rept_analysis.proofs.Stopping.{quiet_before, clash_conflict}
 use Rattle.rept_analysis.proofs.analysis.Analysis.stop_clash.Goals as goal
@@ -41,3 +44,23 @@ returns-then-not-quiet-clause-still g c = c.stop_least.ensures.still ∙ c.is_qu
 
 pub returns-clause-still : goal.returns-clause-still
 returns-clause-still g c = c.stop_at.ensures.still ∙ c.is_quiet-quiet.ensures.same.draws
+
+pub returns-then-not-quiet-clause-log : goal.returns-then-not-quiet-clause-log
+returns-then-not-quiet-clause-log g c = c.stop_least.ensures.log ∙ ap (λ (k : Known). k.log) c.is_quiet-quiet.ensures.same.known
+
+pub returns-clause-log : goal.returns-clause-log
+returns-clause-log g c = c.stop_at.ensures.log ∙ ap (λ (k : Known). k.log) c.is_quiet-quiet.ensures.same.known
+
+pub returns-then-not-quiet-clause-ends : goal.returns-then-not-quiet-clause-ends
+returns-then-not-quiet-clause-ends g c = λ first quiet.
+    let a = (state_of (reader g.P.Paths.timeline g.L.LastValues.values) g.W.Partial.sets g.W.Transfer.moves g.R.RowRules.rules g.B.ByteFacts.store c.args.self.now) in
+    let b = (state_of (reader g.P.Paths.timeline g.L.LastValues.values) g.W.Partial.sets g.W.Transfer.moves g.R.RowRules.rules g.B.ByteFacts.store c.is_quiet-quiet.new.self) in
+    let same = c.is_quiet-quiet.ensures.same in
+    let calm = subst (λ (P : Path g.row.W.Denot). IsQuiet (along P) (ends_told (along P))) (sym same.path) quiet in
+    subst (λ (P : Path g.row.W.Denot). KnowsEnds (along P) (told (oldest c.stop_least.new.self.shown c.stop_least.new.self.known.log))) same.path (c.stop_least.ensures.ends (inr (begun_like a b same.path (ap (λ (k : Known). k.log) c.is_quiet-quiet.ensures.same.known) first)) calm)
+
+pub returns-clause-ends : goal.returns-clause-ends
+returns-clause-ends g c = λ first quiet.
+    let a = (state_of (reader g.P.Paths.timeline g.L.LastValues.values) g.W.Partial.sets g.W.Transfer.moves g.R.RowRules.rules g.B.ByteFacts.store c.args.self.now) in
+    let log : c.stop_at.new.self.known.log ≡ a.known.log = c.stop_at.ensures.log ∙ ap (λ (k : Known). k.log) c.is_quiet-quiet.ensures.same.known in
+    rw (c.stop_at.ensures.limit, log) (ends_among (along a.path) (record { sets = g.met.W.Partial.lawful; moves = g.met.W.Transfer.covers; rules = g.met.R.RowRules.lawful; legs = (g.met.P.Paths.lawful _).legs; moments = (g.met.P.Paths.lawful _).moments }) a.known.log c.held.ensures.once first quiet c.len-len.result (inr c.len-len.ensures.value))

@@ -1,10 +1,12 @@
-use Rattle.std.proofs.Common.{◌∙◌, ◌≤◌, length, inl}
+use Rattle.std.proofs.Common.{◌≡◌, ◌∙◌, ◌≤◌, length, inl, ap}
 use Rattle.rept_reason.specs.Facts.{told}
+use Rattle.rept_report.specs.Setting.{HasLaws}
 use Rattle.rept_report.specs.Conflicts.{Shows}
 use Rattle.rept_report.specs.Closure.{ClosureHas}
 use Rattle.rept_report.specs.Log.{oldest}
 use Rattle.rept_log.specs.Known.{Known}
 use Rattle.rept_analysis.specs.State.{state_of, Path, along, reader}
+use Rattle.rept_analysis.proofs.Begun.{ends_among, ends_first}
 use Rattle.rept_analysis.proofs.Ending.{Same_trans, forth, back_to, stopped_from, least_later, shows_like}
 use Rattle.rept_analysis.proofs.Stopping.{shown_conflict}
 use Rattle.rept_analysis.proofs.analysis.Analysis.stop_least.Goals as goal
@@ -50,3 +52,14 @@ returns-clause-ended g c =
 
 pub returns-clause-still : goal.returns-clause-still
 returns-clause-still g c = c.stop_at.ensures.still ∙ c.look.ensures.same.draws ∙ c.bisect-limit.ensures.same.draws
+
+pub returns-clause-log : goal.returns-clause-log
+returns-clause-log g c = c.stop_at.ensures.log ∙ ap (λ (k : Known). k.log) c.look.ensures.same.known ∙ ap (λ (k : Known). k.log) c.bisect-limit.ensures.same.known
+
+pub returns-clause-ends : goal.returns-clause-ends
+returns-clause-ends g c = λ begins quiet.
+    let a = (state_of (reader g.P.Paths.timeline g.L.LastValues.values) g.W.Partial.sets g.W.Transfer.moves g.R.RowRules.rules g.B.ByteFacts.store c.args.self.now) in
+    let laws : HasLaws (along a.path) = (record { sets = g.met.W.Partial.lawful; moves = g.met.W.Transfer.covers; rules = g.met.R.RowRules.lawful; legs = (g.met.P.Paths.lawful _).legs; moments = (g.met.P.Paths.lawful _).moments }) in
+    let first = ends_first a laws c.requires.loud quiet begins in
+    let log : c.stop_at.new.self.known.log ≡ a.known.log = c.stop_at.ensures.log ∙ ap (λ (k : Known). k.log) c.look.ensures.same.known ∙ ap (λ (k : Known). k.log) c.bisect-limit.ensures.same.known in
+    rw (c.stop_at.ensures.limit, log) (ends_among (along a.path) laws a.known.log c.held.ensures.once first quiet c.bisect-limit.result (inl c.bisect-limit.ensures.loud))

@@ -1,9 +1,11 @@
-use Rattle.std.proofs.Common.{◌∙◌, ◌<◌, ℕ, arith, ◌≡◌, length}
+use Rattle.std.proofs.Common.{◌∙◌, ◌<◌, ℕ, arith, ◌≡◌, length, inr, sym, ap, subst}
 use Rattle.rept_reason.specs.Facts.{told}
 use Rattle.rept_report.specs.Conflicts.{IsQuiet}
 use Rattle.rept_report.specs.Log.{oldest}
 use Rattle.rept_log.specs.Known.{Known}
 use Rattle.rept_analysis.specs.State.{state_of, Path, along, reader}
+use Rattle.rept_analysis.specs.Begun.{ends_told, KnowsEnds}
+use Rattle.rept_analysis.proofs.Begun.{begun_like}
 use Rattle.rept_analysis.proofs.Ending.{forth, back_to, stopped_from, paused_from, quiet_part}
 use Rattle.rept_analysis.proofs.Stopping.{quiet_before}
 use Rattle.rept_analysis.proofs.analysis.Analysis.stop_memory.Goals as goal
@@ -33,3 +35,17 @@ returns-then-not-quiet-clause-still g c = c.stop_least.ensures.still ∙ c.is_qu
 
 pub returns-clause-still : goal.returns-clause-still
 returns-clause-still g c = c.show.ensures.still ∙ c.is_quiet-quiet.ensures.same.draws
+
+pub returns-then-not-quiet-clause-log : goal.returns-then-not-quiet-clause-log
+returns-then-not-quiet-clause-log g c = c.stop_least.ensures.log ∙ ap (λ (k : Known). k.log) c.is_quiet-quiet.ensures.same.known
+
+pub returns-clause-log : goal.returns-clause-log
+returns-clause-log g c = c.show.ensures.log ∙ ap (λ (k : Known). k.log) c.is_quiet-quiet.ensures.same.known
+
+pub returns-then-not-quiet-clause-ends : goal.returns-then-not-quiet-clause-ends
+returns-then-not-quiet-clause-ends g c = λ first quiet kind e.
+    let a = (state_of (reader g.P.Paths.timeline g.L.LastValues.values) g.W.Partial.sets g.W.Transfer.moves g.R.RowRules.rules g.B.ByteFacts.store c.args.self.now) in
+    let b = (state_of (reader g.P.Paths.timeline g.L.LastValues.values) g.W.Partial.sets g.W.Transfer.moves g.R.RowRules.rules g.B.ByteFacts.store c.is_quiet-quiet.new.self) in
+    let same = c.is_quiet-quiet.ensures.same in
+    let calm = subst (λ (P : Path g.row.W.Denot). IsQuiet (along P) (ends_told (along P))) (sym same.path) quiet in
+    subst (λ (P : Path g.row.W.Denot). KnowsEnds (along P) (told (oldest c.stop_least.new.self.shown c.stop_least.new.self.known.log))) same.path (c.stop_least.ensures.ends (inr (begun_like a b same.path (ap (λ (k : Known). k.log) c.is_quiet-quiet.ensures.same.known) first)) calm)

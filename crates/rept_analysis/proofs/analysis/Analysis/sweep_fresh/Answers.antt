@@ -2,6 +2,7 @@ use Rattle.std.proofs.Common.{◌≡◌, ◌||◌, false}
 use Rattle.std.proofs.lemmas.Bool.{or_parts}
 use Rattle.rept_analysis.specs.State.{State, state_of, reader}
 use Rattle.rept_analysis.specs.Drawing.{Drew, LastKnownBelow, LastBytesKnown, AllCarried, SinglesKnown}
+use Rattle.rept_analysis.proofs.Begun.{begun_after}
 use Rattle.rept_analysis.proofs.Drawn.{Drew_both, Grows_trans}
 use Rattle.rept_analysis.proofs.Following.{fitted_after}
 use Rattle.rept_analysis.proofs.Listing.{writings_after}
@@ -56,3 +57,15 @@ returns-clause-drew g c =
       uncut = both.uncut;
     } in
     Drew_both a b3 b4 (news || c.in_ok-bytes.bytes) c.in_ok-singles.singles R SinglesKnown F g3 c.in_ok-singles.ensures.grows d3 c.in_ok-singles.ensures.drew (λ p q. (p.0, p.1, p.2, q))
+
+pub returns-in_err-rows-clause-begun : goal.returns-in_err-rows-clause-begun
+returns-in_err-rows-clause-begun g c = λ h. begun_after (state_of (reader g.P.Paths.timeline g.L.LastValues.values) g.W.Partial.sets g.W.Transfer.moves g.R.RowRules.rules g.B.ByteFacts.store c.draw_all_last.new.self) (state_of (reader g.P.Paths.timeline g.L.LastValues.values) g.W.Partial.sets g.W.Transfer.moves g.R.RowRules.rules g.B.ByteFacts.store c.draw_through.new.self) c.draw_through.ensures.grows (c.in_ok-last.ensures.begun h)
+
+pub returns-in_err-bytes-clause-begun : goal.returns-in_err-bytes-clause-begun
+returns-in_err-bytes-clause-begun g c = λ h. begun_after (state_of (reader g.P.Paths.timeline g.L.LastValues.values) g.W.Partial.sets g.W.Transfer.moves g.R.RowRules.rules g.B.ByteFacts.store c.draw_all_last.new.self) (state_of (reader g.P.Paths.timeline g.L.LastValues.values) g.W.Partial.sets g.W.Transfer.moves g.R.RowRules.rules g.B.ByteFacts.store c.carry_rest.new.self) (Grows_trans _ _ _ c.in_ok-rows.ensures.grows c.carry_rest.ensures.grows) (c.in_ok-last.ensures.begun h)
+
+pub returns-in_err-singles-clause-begun : goal.returns-in_err-singles-clause-begun
+returns-in_err-singles-clause-begun g c = λ h. begun_after (state_of (reader g.P.Paths.timeline g.L.LastValues.values) g.W.Partial.sets g.W.Transfer.moves g.R.RowRules.rules g.B.ByteFacts.store c.draw_all_last.new.self) (state_of (reader g.P.Paths.timeline g.L.LastValues.values) g.W.Partial.sets g.W.Transfer.moves g.R.RowRules.rules g.B.ByteFacts.store c.draw_singles.new.self) (Grows_trans _ _ _ c.in_ok-rows.ensures.grows (Grows_trans _ _ _ c.in_ok-bytes.ensures.grows c.draw_singles.ensures.grows)) (c.in_ok-last.ensures.begun h)
+
+pub returns-clause-begun : goal.returns-clause-begun
+returns-clause-begun g c = λ h. begun_after (state_of (reader g.P.Paths.timeline g.L.LastValues.values) g.W.Partial.sets g.W.Transfer.moves g.R.RowRules.rules g.B.ByteFacts.store c.draw_all_last.new.self) (state_of (reader g.P.Paths.timeline g.L.LastValues.values) g.W.Partial.sets g.W.Transfer.moves g.R.RowRules.rules g.B.ByteFacts.store c.draw_singles.new.self) (Grows_trans _ _ _ c.in_ok-rows.ensures.grows (Grows_trans _ _ _ c.in_ok-bytes.ensures.grows c.in_ok-singles.ensures.grows)) (c.in_ok-last.ensures.begun h)
