@@ -94,11 +94,15 @@ only_thread (note ∷ []) first e = go (nat_lt (length note.desc) status_size) e
   go false h = (cc)
 only_thread (note ∷ (other ∷ notes)) first e = absurd ((cc))
 
+pub one_note : (size : ℕ) (ss : List ElfSegment) (first : List ℕ) → Says size ss (Ok first) → HaveThreads size ss (first ∷ [])
+one_note size ss first (inl a) = let e = a.2 in absurd ((cc))
+one_note size ss first (inr a) = (a.0, a.1, sym (only_thread (filter is_status a.0) first a.2))
+
 pub one_thread : (size : ℕ) (ss : List ElfSegment) (first : List ℕ) → Says size ss (Ok first) → status_size ≤ length first → AreThreads size ss first 1
 one_thread size ss first (inl a) long = let e = a.2 in absurd ((cc))
 one_thread size ss first (inr a) long = record {
   descs = first ∷ [];
-  have = (a.0, a.1, sym (only_thread (filter is_status a.0) first a.2));
+  have = one_note size ss first (inr a);
   first_is = refl;
   counted = refl;
   long = λ i desc at. one i desc at;

@@ -1,5 +1,5 @@
 -- What a dump borrows: the files of its program, the core file's segments, and the descriptor of the register note.
-use Rattle.std.specs.Prelude.{◌≡◌, ℕ, List, length, slice_get, Some, Result, Ok, Err, IfOk, IfErr}
+use Rattle.std.specs.Prelude.{◌≡◌, ℕ, List, [], ◌∷◌, length, slice_get, Some, Result, Ok, Err, IfOk, IfErr}
 use Rattle.rept_elf.specs.Segments.{ElfSegment}
 use Rattle.rept_elf.specs.Image.{file_of, segments_of}
 use Rattle.rept_dump.specs.Files.{program_of}
@@ -28,6 +28,11 @@ threads_of dump = dump.threads
 abbrev pub HasThreads : Dump → List (List ℕ) → Type 0
 HasThreads dump descs = HaveThreads (length (file_of dump.core)) (segments_of dump.core) descs
 
+-- it is of one thread, whose registers it has
+pub record IsOfOne (dump : Dump) : Type 0 where
+  pub threads : HasThreads dump (registers_of dump ∷ [])
+  pub count : threads_of dump ≡ 1
+
 -- what was said of the core file's notes
 abbrev pub said_of : Result Dump CoreFault → Result (List ℕ) CoreFault
 said_of (Ok dump) = Ok (registers_of dump)
@@ -37,6 +42,7 @@ said_of (Err fault) = Err fault
 pub record AreRead (size : ℕ) (ss : List ElfSegment) (result : Result Dump CoreFault) : Type 0 where
   pub said : Says size ss (said_of result)
   pub only : (said : Result (List ℕ) CoreFault) → Says size ss said → said ≡ said_of result
+  pub one : IfOk result IsOfOne
 
 -- the same of all threads
 pub record AreReadOfAll (size : ℕ) (ss : List ElfSegment) (result : Result Dump CoreFault) : Type 0 where

@@ -45,7 +45,7 @@ impl<'a> Dump<'a> {
     ghost use Rattle.rept_dump.specs.Files.{program_of};
     ghost use Rattle.rept_dump.specs.Program.{contents};
     ghost use Rattle.rept_dump.specs.Program.Program.{OneFile, MappedFiles};
-    ghost use Rattle.rept_dump.specs.Dump.{exe_of, core_of, registers_of, said_of, threads_of, HasThreads, AreRead, AreReadOfAll};
+    ghost use Rattle.rept_dump.specs.Dump.{exe_of, core_of, registers_of, said_of, threads_of, HasThreads, IsOfOne, AreRead, AreReadOfAll};
     ghost use Rattle.rept_dump.specs.Registers.{SaysOfAll};
     ghost use Rattle.rept_dump.specs.declared.fault.CoreFault.{CoreFault};
     ghost use Rattle.rept_dump.specs.Status.{IsStatus};
@@ -54,6 +54,7 @@ impl<'a> Dump<'a> {
     pub fn read(exe: Image<'a>, core: Image<'a>) -> Result<Dump<'a>, CoreFault>
         ensures said { Says (length (file_of core.entry)) (segments_of core.entry) (said_of result) }
         ensures only { (said : Result (List ℕ) CoreFault) → Says (length (file_of core.entry)) (segments_of core.entry) said → said ≡ said_of result }
+        ensures one { IfOk result IsOfOne }
         ensures exe { IfOk result (λ dump. exe_of dump ≡ OneFile (file_of exe.entry)) }
         ensures core { IfOk result (λ dump. core_of dump ≡ segments_of core.entry) }
     {
@@ -98,6 +99,7 @@ impl<'a> Dump<'a> {
     fn join(files: Files<'a>, core: Image<'a>) -> Result<Dump<'a>, CoreFault>
         ensures said { Says (length (file_of core.entry)) (segments_of core.entry) (said_of result) }
         ensures only { (said : Result (List ℕ) CoreFault) → Says (length (file_of core.entry)) (segments_of core.entry) said → said ≡ said_of result }
+        ensures one { IfOk result IsOfOne }
         ensures files { IfOk result (λ dump. exe_of dump ≡ program_of files.entry) }
         ensures core { IfOk result (λ dump. core_of dump ≡ segments_of core.entry) }
     {
