@@ -113,14 +113,6 @@ impl<'a, P: Paths + Drop, L: LastValues + Drop, B: ByteFacts, W: Transfer, R: Ro
     ghost invariant = { λ a. IsKept (state_of (reader P.timeline L.values) W.sets W.moves R.rules B.store (record { paths = a.paths; last = a.last; exe = exe_of a.dump; core = core_of a.dump; known = a.known; spans = a.spans; filled = a.filled; rules = a.rules; shown = a.shown; complete = a.complete; conflict = a.conflict; work = work_of B.JOINS (R.draws a.rules) a.writing a.drawn })) };
 }
 
-/// The register of a number below 32.
-fn register(number: u8) -> Reg
-    requires { number < 32 }
-    ensures { result ≡ number }
-{
-    Reg::new(number).unwrap()
-}
-
 /// How many bytes the row that leads from a point, if one does, lets one conclude at most.
 fn row_places<P: Paths, R: RowRules>(paths: &P, point: u32) -> u32
     ensures value { result ≡ places_of R.rules ((P.timeline paths.now).legs.row point) }

@@ -18,6 +18,6 @@ pub use decoder::decode;
 pub use encoder::encode;
 pub use instr::{AmoOp, BranchOp, ImmOp, Instr, LoadOp, RegOp, StoreOp};
 pub use operands::{kind, reads, turn, writes};
-pub use reg::Reg;
+pub use reg::{Reg, register};
 pub use row::{StepRow, from_address};
 pub use shown::Shown;

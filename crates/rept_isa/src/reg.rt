@@ -52,3 +52,11 @@ impl Reg {
         }
     }
 }
+
+/// The register of a number below 32.
+pub fn register(number: u8) -> Reg
+    requires { number < 32 }
+    ensures { result ≡ number }
+{
+    Reg { number }
+}

@@ -6,18 +6,7 @@ ghost use Rattle.rept_make.specs.Draws.{IsSlot};
 ghost use Rattle.rept_make.specs.Code.{drawn_instr, straight, slot_instr, IsTame, IsStraight, IsPlaced};
 
 use crate::draw::Slot;
-use rept_isa::{BranchOp, ImmOp, Instr, LoadOp, Reg, RegOp, StoreOp};
-
-/// The register of a number.
-pub fn register(number: u8) -> Reg
-    requires { number < 32 }
-    ensures { result ≡ number }
-{
-    match Reg::new(number) {
-        Some(register) => register,
-        None => unreachable!(),
-    }
-}
+use rept_isa::{BranchOp, ImmOp, Instr, LoadOp, RegOp, StoreOp, register};
 
 /// An operation on two registers of the slot.
 fn operation(op: RegOp, slot: &Slot) -> Instr

@@ -5,7 +5,7 @@ ghost use Rattle.rept_isa.specs.Range.{InRange};
 ghost use Rattle.rept_play.specs.Drawn.{draw, slot_of, instr_of, made_instr};
 ghost use Rattle.rept_play.specs.Shares.{Uses, Owns};
 
-use rept_isa::{ImmOp, Instr, LoadOp, Reg, RegOp, StoreOp};
+use rept_isa::{ImmOp, Instr, LoadOp, RegOp, StoreOp, register};
 
 /// A number below another one, by its place among all that are drawn from a seed.
 pub fn draw(seed: u32, number: u32, below: u32) -> u32
@@ -47,17 +47,6 @@ fn draw_slot(seed: u32, thread: u32, slot: u32) -> Slot
         target: (base + 1 + draw(seed, first + 1, 2)) as u8,
         source: (base + 1 + draw(seed, first + 2, 2)) as u8,
         number: draw(seed, first + 3, 2048),
-    }
-}
-
-/// The register of a number.
-fn register(number: u8) -> Reg
-    requires { number < 32 }
-    ensures { result ≡ number }
-{
-    match Reg::new(number) {
-        Some(register) => register,
-        None => unreachable!(),
     }
 }
 

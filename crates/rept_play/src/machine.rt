@@ -10,7 +10,7 @@ ghost use Rattle.rept_play.specs.Ran.{Ran, IsStart};
 
 use crate::code::word_in;
 use crate::count::{all_rows, steps_before, thread_at};
-use rept_isa::{Instr, Reg};
+use rept_isa::{Instr, register};
 use rept_machine::{Halt, Machine};
 use rept_turns::Turn;
 use std::alloc::{AllocError, Global};
@@ -69,17 +69,6 @@ pub fn registers_of(machine: &Machine<'_>) -> [u32; 32]
         registers[usize::from(r)] = machine.reg(register(r));
     }
     registers
-}
-
-/// The register of a number.
-fn register(number: u8) -> Reg
-    requires { number < 32 }
-    ensures { result ≡ number }
-{
-    match Reg::new(number) {
-        Some(register) => register,
-        None => unreachable!(),
-    }
 }
 
 /// The 32 bytes from 0x20000 on.

@@ -4,8 +4,7 @@ ghost use Rattle.std.specs.Prelude.{◌≡◌, ◌+◌, ◌≤◌, ◌++◌, ◌
 ghost use Rattle.smallvec.specs.SmallVec.{HasRoomFor};
 ghost use Rattle.rept_rules.specs.MayWrite.{register_at, tells_atomic, tells_writes};
 
-use crate::touch::register;
-use rept_isa::{AmoOp, Instr, Reg};
+use rept_isa::{AmoOp, Instr, Reg, register};
 use rept_view::{RegisterAt, When};
 use smallvec::SmallVec;
 

@@ -10,7 +10,7 @@ ghost use Rattle.rept_rules.specs.MayWrite.{is_register, range_of, only_value, i
 
 use rept_alias::{Access, CallAccess, access};
 use rept_havoc::havoc;
-use rept_isa::{AmoOp, Instr, Reg, StoreOp};
+use rept_isa::{AmoOp, Instr, Reg, StoreOp, register};
 use rept_partial::{Flat, Partial, Range};
 use rept_view::{RowView, When};
 
@@ -112,14 +112,6 @@ fn is_failure(answer: Flat) -> bool
         Flat::Unknown => false,
         Flat::Known(v) => v != 0,
     }
-}
-
-/// The register of this number.
-pub fn register(number: u8) -> Reg
-    requires { number < 32 }
-    ensures { result ≡ number }
-{
-    Reg::new(number).unwrap()
 }
 
 /// The bytes of a call, over the ranges of its number, its arguments and its answer.

@@ -4,7 +4,7 @@ ghost use Rattle.std.specs.Prelude.{◌≡◌, ◌<◌, ◌≤◌, ◌+◌, ◌^
 ghost use Rattle.rept_isa.specs.Words.{field};
 ghost use Rattle.rept_rvc.specs.Halves.{rd_field, rs2_field, rs1_popular, rs2_popular};
 
-use rept_isa::Reg;
+use rept_isa::{Reg, register};
 
 /// The number in so many bits of the half, from bit `low` on.
 pub fn field(half: u16, low: u32, width: u32) -> u16
@@ -13,17 +13,6 @@ pub fn field(half: u16, low: u32, width: u32) -> u16
     ensures value { result ≡ field half low width }
 {
     (half >> low) % (1 << width)
-}
-
-/// The register of this number.
-pub fn register(n: u8) -> Reg
-    requires { n < 32 }
-    ensures { result ≡ n }
-{
-    match Reg::new(n) {
-        Some(register) => register,
-        None => unreachable!(),
-    }
 }
 
 /// The register in bits 7 to 11.

@@ -6,11 +6,11 @@ ghost use Rattle.rept_isa.specs.declared.instr.ImmOp.TheVariants.{Addi};
 ghost use Rattle.rept_rvc.specs.Halves.{rd_field, rs1_popular, six_bit_immediate, jump_offset, branch_offset};
 ghost use Rattle.rept_rvc.specs.Reading.{read_one, read_upper, read_operation, read_shift, read_register, operation_named};
 
-use crate::field::{field, rd, register, rs1_popular, rs2_popular};
+use crate::field::{field, rd, rs1_popular, rs2_popular};
 use crate::immediate::{
     addi16sp_immediate, branch_offset, jump_offset, lui_immediate, six_bit_immediate, six_bits,
 };
-use rept_isa::{BranchOp, ImmOp, Instr, Reg, RegOp};
+use rept_isa::{BranchOp, ImmOp, Instr, Reg, RegOp, register};
 
 pub fn quadrant_one(half: u16, function: u16) -> Option<Instr>
     ensures { result ≡ read_one function half }

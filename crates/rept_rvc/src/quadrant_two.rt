@@ -3,9 +3,9 @@
 ghost use Rattle.std.specs.Prelude.{◌≡◌, ◌<◌};
 ghost use Rattle.rept_rvc.specs.Reading.{read_two, read_slli, read_lwsp, read_move, read_jump};
 
-use crate::field::{field, rd, register, rs2};
+use crate::field::{field, rd, rs2};
 use crate::immediate::{lwsp_offset, swsp_offset};
-use rept_isa::{ImmOp, Instr, LoadOp, RegOp, StoreOp};
+use rept_isa::{ImmOp, Instr, LoadOp, RegOp, StoreOp, register};
 
 pub fn quadrant_two(half: u16, function: u16) -> Option<Instr>
     ensures { result ≡ read_two function half }

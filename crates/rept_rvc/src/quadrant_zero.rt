@@ -3,9 +3,9 @@
 ghost use Rattle.std.specs.Prelude.{◌≡◌};
 ghost use Rattle.rept_rvc.specs.Reading.{read_zero, read_addi4spn};
 
-use crate::field::{register, rs1_popular, rs2_popular};
+use crate::field::{rs1_popular, rs2_popular};
 use crate::immediate::{addi4spn_immediate, word_offset};
-use rept_isa::{ImmOp, Instr, LoadOp, StoreOp};
+use rept_isa::{ImmOp, Instr, LoadOp, StoreOp, register};
 
 pub fn quadrant_zero(half: u16, function: u16) -> Option<Instr>
     ensures { result ≡ read_zero function half }

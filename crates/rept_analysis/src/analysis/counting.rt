@@ -7,8 +7,8 @@ ghost use Rattle.rept_analysis.specs.State.{setting_of, state_of, reader};
 ghost use Rattle.rept_analysis.specs.Kept.{answers};
 ghost use Rattle.rept_analysis.specs.Counts.{is_call, base_of, is_store, row_is, rows_below, calls_below, stores_below, known_at, known_below, IsCounted};
 
-use super::{Analysis, register};
-use rept_isa::{Instr, Reg, reads};
+use super::Analysis;
+use rept_isa::{Instr, Reg, reads, register};
 use rept_log::LastValues;
 use rept_partial::Flat;
 use rept_report::{Counts, Paths};

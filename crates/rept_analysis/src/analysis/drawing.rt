@@ -15,12 +15,12 @@ ghost use Rattle.rept_analysis.specs.Drawing.{IsTracked, Grows, Drew, IsHalt, Ke
 ghost use Rattle.rept_log.specs.Known.{known_of};
 ghost use Rattle.rept_analysis.specs.Told.{Tracks};
 
+use super::Analysis;
 use super::carrying::is_store;
-use super::{Analysis, register};
 use crate::halt::Halt;
 use crate::offset::address;
 use crate::pass::Pass;
-use rept_isa::{Instr, Reg, StepRow, reads, writes};
+use rept_isa::{Instr, Reg, StepRow, reads, register, writes};
 use rept_log::views::point_at;
 use rept_log::{Around, LastValues};
 use rept_partial::Flat;

@@ -9,9 +9,9 @@ ghost use Rattle.rept_analysis.specs.Begun.{HasEndsAlone, HasEndsFirst, LearnsEn
 ghost use Rattle.rept_analysis.specs.State.{setting_of, state_of, reader};
 ghost use Rattle.rept_analysis.specs.Drawing.{IsTracked, Grows, Drew, IsHalt, IsFitted, LastKnownAt, LastPointKnown, AreWritings, AreExact, AllCarried, IsUncut, RowsClosed, LastByteKnown, LastBytesKnown, SingleKnown, PointSingles, SinglesKnown, IsDrawnAll, LastKnownBelow};
 
-use super::{Analysis, register};
+use super::Analysis;
 use crate::halt::Halt;
-use rept_isa::Reg;
+use rept_isa::{Reg, register};
 use rept_log::LastValues;
 use rept_partial::Flat;
 use rept_report::Paths;
