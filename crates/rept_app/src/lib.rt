@@ -18,6 +18,7 @@ mod top;
 
 pub use dumping::read_dump;
 pub use load::{Asked, CoreFiles, CrashFiles, Manner, load_files};
+pub use mapped::tell_failed;
 pub use path::trace_path;
 pub use refusal::{FileKind, Refusal};
 pub use status::Status;

@@ -128,8 +128,8 @@ fn failed_line(alloc: Global, name: &str) -> Result<Text, OutOfMemory>
     Ok(text)
 }
 
-/// Writes that line and answers its status; where memory runs out, the line and status of that; where the output fails, its status.
-fn tell_failed<K: Sink>(alloc: Global, out: &mut K, name: &str) -> Status
+/// Writes that the load of the mapped file of this name failed, and answers the status of that; where memory runs out, the line and status of that; where the output fails, its status.
+pub fn tell_failed<K: Sink>(alloc: Global, out: &mut K, name: &str) -> Status
     ensures { Delivers (TellsName name.now) (move (K.port out.old) (K.port out.new)) result }
 {
     match failed_line(alloc, name) {

@@ -6,6 +6,7 @@ ghost use Rattle.rept_play.specs.Shares.{sees};
 ghost use Rattle.rept_make.specs.Files.{bytes_of_words};
 ghost use Rattle.rept_maderuns.specs.Files.{executable, saved_of, status_note, core_file, pc_in};
 
+use rept_make::push_words;
 use rept_play::rows_in;
 use rept_turns::Turn;
 use rept_word::{OutOfMemory, Text};
@@ -38,16 +39,6 @@ const NOTE_MIDDLE: [u8; 44] = [
     0, 0, 0, 0, 0, 0, 0, 0, 0, 0, 0, 0, 0, 0, 0, 0, 0, 0, 0, 0, 0, 0, 0, 0, 0, 0, 0, 0, 0, 0, 0, 0,
     0, 0, 0, 0, 0, 0, 0, 0, 0, 0, 0, 0,
 ];
-
-/// Adds words, the least byte of each first.
-fn push_words(text: &mut Text, words: &[u32]) -> Result<(), OutOfMemory>
-    ensures { OnOk result (text.new ≡ text.old ++ bytes_of_words words.now) }
-{
-    for word in words {
-        text.push(&word.to_le_bytes())?;
-    }
-    Ok(())
-}
 
 /// The executable of these words of code.
 pub fn executable(alloc: Global, code: &[u32]) -> Result<Text, OutOfMemory>

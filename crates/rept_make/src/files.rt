@@ -29,8 +29,8 @@ const NOTE_START: [u8; 92] = [
     0, 0,
 ];
 
-/// Adds words, the least byte of each first.
-fn push_words(text: &mut Text, words: &[u32]) -> Result<(), OutOfMemory>
+/// Adds words of 32 bits as bytes, the least byte of each first.
+pub fn push_words(text: &mut Text, words: &[u32]) -> Result<(), OutOfMemory>
     ensures { OnOk result (text.new ≡ text.old ++ bytes_of_words words.now) }
 {
     for word in words {

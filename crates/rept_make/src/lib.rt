@@ -8,4 +8,5 @@ mod made;
 mod run;
 mod slot;
 
+pub use files::push_words;
 pub use made::{Made, make};
