@@ -15,7 +15,7 @@ use Rattle.rept_report.specs.Knowing.{Extends}
 use Rattle.rept_report.specs.Log.{Entry}
 use Rattle.rept_partial.specs.Ranges.{range_sets}
 use Rattle.rept_span.specs.Finer.{kind, IsFiner}
-use Rattle.rept_span.specs.RangeMoves.{range_moves}
+use Rattle.rept_span.specs.Tables.{range_moves}
 use Rattle.rept_known.specs.Both.{both_sets}
 use Rattle.rept_known.specs.BothMoves.{both_moves}
 use Rattle.rept_known.specs.declared.both.Both.{Both}

@@ -1,7 +1,7 @@
 -- The sets as which the values of registers are followed, by the domain that the words ask for. This project's own.
 use Rattle.rept_partial.specs.Ranges.{range_sets}
 use Rattle.rept_partial.specs.declared.range.Range.{Range}
-use Rattle.rept_span.specs.RangeMoves.{range_moves}
+use Rattle.rept_span.specs.Tables.{range_moves}
 use Rattle.rept_known.specs.Both.{both_sets}
 use Rattle.rept_known.specs.BothMoves.{both_moves}
 use Rattle.rept_known.specs.declared.both.Both.{Both}

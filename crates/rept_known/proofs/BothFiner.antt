@@ -11,14 +11,15 @@ use Rattle.rept_partial.specs.declared.range.Range.{Range}
 use Rattle.rept_partial.specs.Sets.{IsWithin}
 use Rattle.rept_partial.specs.Ranges.{range_has, range_sets, range_meet, from_to}
 use Rattle.rept_span.specs.Tables.{applied_range, base_of, base_leaves, with_second as range_with_second, leaves, narrowed_range}
-use Rattle.rept_span.specs.RangeBounds.{has_in, lies_within}
-use Rattle.rept_span.specs.RangeMoves.{range_moves, range_covers}
+use Rattle.rept_span.specs.Laws.RangeBounds.{has_in, lies_within}
+use Rattle.rept_span.specs.Tables.{range_moves}
+use Rattle.rept_span.specs.Laws.RangeMoves.{range_covers}
 use Rattle.rept_span.specs.Finer.{kind, IsFiner}
 use Rattle.rept_known.specs.declared.bits.Bits.{Bits}
 use Rattle.rept_known.specs.declared.both.Both.{Both}
 use Rattle.rept_known.specs.Operations.{applied_bits, narrowed_bits}
 use Rattle.rept_known.specs.Both.{both_has, reduced, both_sets}
-use Rattle.rept_known.specs.BothLaws.{both_parts, lowest_has, highest_has, reduced_common, reduced_none}
+use Rattle.rept_known.specs.Laws.BothLaws.{both_parts, lowest_has, highest_has, reduced_common, reduced_none}
 use Rattle.rept_known.specs.BothMoves.{both_moves, both_common, first_common, left_both, narrowed_both, or_all, reduced_cases, applied_common, pair_is, second_is, none_pair, some_pair}
 
 -- each word of the first is one of the second

@@ -13,7 +13,7 @@ use Rattle.rept_known.specs.declared.both.Both.{Both}
 use Rattle.rept_known.specs.Bits.{outside, bits_has}
 use Rattle.rept_known.specs.Least.{IsLeastFrom, IsGreatestTo}
 use Rattle.rept_known.specs.Both.{open_between, between, Least, Greatest, least_of, greatest_of, if_ordered, from_ends, reduced, IsReduced}
-use Rattle.rept_known.specs.BothLaws.{is_reduced, reduced_none}
+use Rattle.rept_known.specs.Laws.BothLaws.{is_reduced, reduced_none}
 
 same_range : (a b : Range) → a.lo ≡ b.lo → a.hi ≡ b.hi → a ≡ b
 same_range a b e f = from_to_is a.lo a.hi a.ordered a.small ∙ ap (λ x. from_to x a.hi) e ∙ ap (λ x. from_to b.lo x) f ∙ sym (from_to_is b.lo b.hi b.ordered b.small)

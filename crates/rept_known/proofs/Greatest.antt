@@ -2,8 +2,8 @@
 use Rattle.std.proofs.Common.{◌≡◌, ℕ, ◌-◌, ◌^◌, ◌<◌, ◌≤◌, true, arith}
 use Rattle.rept_known.specs.declared.bits.Bits.{Bits}
 use Rattle.rept_known.specs.Bits.{bits_has}
-use Rattle.rept_known.specs.BitsLaws.{has_parts, has_agrees, agrees_has}
-use Rattle.rept_known.specs.Sums.{flipped, flipped_agrees, agrees_flipped}
+use Rattle.rept_known.specs.Laws.BitsLaws.{has_parts, has_agrees, agrees_has}
+use Rattle.rept_known.specs.Laws.Sums.{flipped, flipped_agrees, agrees_flipped}
 use Rattle.rept_known.specs.Least.{IsLeastFrom, IsGreatestTo}
 
 flipped_has : (b : Bits) (u : ℕ) → bits_has b u ≡ true → bits_has (flipped b) (2 ^ 32 - 1 - u) ≡ true

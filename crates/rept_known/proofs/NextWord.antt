@@ -8,14 +8,14 @@ use Rattle.std.proofs.lemmas.Nat.{pow_pos, and_comm, and_assoc, and_le_r, and_bl
 use Rattle.std.proofs.lemmas.Nat.Bits.{bit_at_and, bit_at_or, bit_at_xor, bit_at-lt, and_high_mask}
 use Rattle.std.proofs.lemmas.Bool.{cases_lt}
 use Rattle.rept_span.specs.Tables.{digits, cover}
-use Rattle.rept_span.specs.RangeBounds.{digits_hold}
+use Rattle.rept_span.specs.Laws.RangeBounds.{digits_hold}
 use Rattle.rept_known.specs.declared.bits.Bits.{Bits}
 use Rattle.rept_known.specs.Masks.{but, but_apart, but_le, but_split, but_kept, but_cut, bit_cases}
 use Rattle.rept_known.specs.Bits.{bits_has}
-use Rattle.rept_known.specs.BitsLaws.{Agrees, value_small, loose_small, has_parts, has_agrees, agrees_has, open_bit}
-use Rattle.rept_known.specs.Sums.{least_below}
+use Rattle.rept_known.specs.Laws.BitsLaws.{Agrees, value_small, loose_small, has_parts, has_agrees, agrees_has, open_bit}
+use Rattle.rept_known.specs.Laws.Sums.{least_below}
 use Rattle.rept_known.specs.Least.{IsLeastFrom}
-use Rattle.rept_known.specs.Tops.{same_by_xor, top_clear, top_set, left_ordered}
+use Rattle.rept_known.specs.Laws.Tops.{same_by_xor, top_clear, top_set, left_ordered}
 use Rattle.rept_known.specs.Parts.{next_part}
 use Rattle.rept_known.proofs.PartsOrder.{next_after}
 

@@ -25,17 +25,17 @@ use Rattle.rept_machine.specs.State.{State, IsState}
 use Rattle.rept_machine.specs.Step.{HasEffect}
 use Rattle.rept_machine.specs.Ways.{Tells, way_tells}
 use Rattle.rept_partial.specs.Sets.{IsWithin}
-use Rattle.rept_span.specs.RangeBounds.{word_small}
-use Rattle.rept_span.specs.RangeMoves.{named_target}
+use Rattle.rept_span.specs.Laws.RangeBounds.{word_small}
+use Rattle.rept_span.specs.Laws.RangeMoves.{named_target}
 use Rattle.rept_span.specs.Moves.{Moves, Covers, StepsFrom, AreWithin, AreMoves}
 use Rattle.rept_known.specs.declared.bits.Bits.{Bits}
 use Rattle.rept_known.specs.Masks.{bit_of_word}
 use Rattle.rept_known.specs.Bits.{word, bits_has, bits_meet, bits_sets}
-use Rattle.rept_known.specs.BitsLaws.{Agrees, KnowsAll, value_small, loose_small, has_parts, has_agrees, agrees_has, within_knows, knows_within, in_outside, all_agree, one_agrees, bits_lawful}
+use Rattle.rept_known.specs.Laws.BitsLaws.{Agrees, KnowsAll, value_small, loose_small, has_parts, has_agrees, agrees_has, within_knows, knows_within, in_outside, all_agree, one_agrees, bits_lawful}
 use Rattle.rept_known.specs.Operations.{all_open, all_known, low_open, amount, operation_bits, loaded_bits, applied_bits, tells_equal, with_both, left_bits, narrowed_bits}
-use Rattle.rept_known.specs.Sums.{sum_covers, sum_knows, difference_covers, difference_knows}
-use Rattle.rept_known.specs.Selected.{moved_covers, moved_knows, left_moves, right_moves, sign_moves}
-use Rattle.rept_known.specs.Joined.{and_covers, and_knows, or_covers, or_knows, xor_covers, xor_knows}
+use Rattle.rept_known.specs.Laws.Sums.{sum_covers, sum_knows, difference_covers, difference_knows}
+use Rattle.rept_known.specs.Laws.Selected.{moved_covers, moved_knows, left_moves, right_moves, sign_moves}
+use Rattle.rept_known.specs.Laws.Joined.{and_covers, and_knows, or_covers, or_knows, xor_covers, xor_knows}
 
 abbrev pub bits_moves : Moves Bits
 bits_moves = record { apply = λ instr address a b. applied_bits instr address a b; narrow = λ row a b. narrowed_bits row a b; note = λ a. Some (2 ^ 32 - 1 - a.loose, a.value) }

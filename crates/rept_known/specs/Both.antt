@@ -10,13 +10,13 @@ use Rattle.rept_partial.specs.declared.range.Range.{Range}
 use Rattle.rept_partial.specs.Sets.{Sets}
 use Rattle.rept_partial.specs.Ranges.{bounded, range_has, range_meet, range_exact}
 use Rattle.rept_span.specs.Tables.{digits, cover}
-use Rattle.rept_span.specs.RangeBounds.{digits_hold}
+use Rattle.rept_span.specs.Laws.RangeBounds.{digits_hold}
 use Rattle.rept_known.specs.declared.bits.Bits.{Bits}
 use Rattle.rept_known.specs.declared.both.Both.{Both}
 use Rattle.rept_known.specs.Masks.{bit_cases}
 use Rattle.rept_known.specs.Bits.{word, outside, bits_has, bits_meet}
-use Rattle.rept_known.specs.BitsLaws.{Agrees, has_parts, has_agrees, agrees_has, least_agrees, greatest_agrees, in_outside}
-use Rattle.rept_known.specs.Sums.{xor_alike}
+use Rattle.rept_known.specs.Laws.BitsLaws.{Agrees, has_parts, has_agrees, agrees_has, least_agrees, greatest_agrees, in_outside}
+use Rattle.rept_known.specs.Laws.Sums.{xor_alike}
 use Rattle.rept_known.specs.Operations.{all_open, all_known}
 use Rattle.rept_known.specs.Least.{IsLeastFrom, IsGreatestTo, least_word, greatest_word, least_some, least_none, greatest_some, greatest_none, option_cases}
 

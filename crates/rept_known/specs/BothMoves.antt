@@ -24,21 +24,21 @@ use Rattle.rept_partial.specs.declared.range.Range.{Range}
 use Rattle.rept_partial.specs.Sets.{IsWithin}
 use Rattle.rept_partial.specs.Ranges.{range_has, range_sets}
 use Rattle.rept_span.specs.Tables.{full, applied_range, operation_range, immediate_range, loaded_range, narrowed_range}
-use Rattle.rept_span.specs.RangeBounds.{IsIn, in_has, in_from_to, in_full, in_one, word_small, shifted_small}
-use Rattle.rept_span.specs.RangeCovering.{upper_small}
+use Rattle.rept_span.specs.Laws.RangeBounds.{IsIn, in_has, in_from_to, in_full, in_one, word_small, shifted_small}
+use Rattle.rept_span.specs.Laws.RangeCovering.{upper_small}
 use Rattle.rept_span.specs.RangeCovering as ranges
-use Rattle.rept_span.specs.RangeMoves.{range_covers}
+use Rattle.rept_span.specs.Laws.RangeMoves.{range_covers}
 use Rattle.rept_span.specs.Moves.{Moves, Covers, StepsFrom, AreWithin, AreMoves}
 use Rattle.rept_known.specs.declared.bits.Bits.{Bits}
 use Rattle.rept_known.specs.declared.both.Both.{Both}
 use Rattle.rept_known.specs.Masks.{bit_of_word}
 use Rattle.rept_known.specs.Bits.{word, bits_has, bits_sets}
-use Rattle.rept_known.specs.BitsLaws.{Agrees, has_agrees, agrees_has, in_outside, all_agree, one_agrees}
+use Rattle.rept_known.specs.Laws.BitsLaws.{Agrees, has_agrees, agrees_has, in_outside, all_agree, one_agrees}
 use Rattle.rept_known.specs.Operations.{all_open, all_known, operation_bits, loaded_bits, applied_bits, narrowed_bits}
 use Rattle.rept_known.specs.BitsMoves.{bits_moves, bits_covers, low_agrees}
 use Rattle.rept_known.specs.BitsMoves as bits
 use Rattle.rept_known.specs.Both.{both_has, whole, reduced, both_sets}
-use Rattle.rept_known.specs.BothLaws.{both_parts, lowest_has, reduced_common, reduced_none, range_within, bits_within}
+use Rattle.rept_known.specs.Laws.BothLaws.{both_parts, lowest_has, reduced_common, reduced_none, range_within, bits_within}
 
 -- a set that isn't empty; the other case doesn't come
 abbrev pub or_all : Option Both → Both

@@ -4,7 +4,7 @@ use Rattle.std.proofs.Common.{◌⊎◌, inl, inr, refl, sym, ap, subst, ◌∙�
 use Rattle.std.proofs.lemmas.Bool.{cases_Bool, cases_lt}
 use Rattle.rept_known.specs.declared.bits.Bits.{Bits}
 use Rattle.rept_known.specs.Bits.{bits_has}
-use Rattle.rept_known.specs.BitsLaws.{has_parts}
+use Rattle.rept_known.specs.Laws.BitsLaws.{has_parts}
 
 -- the least word of a set that is at least the bound
 pub record IsLeastFrom (b : Bits) (bound v : ℕ) : Type 0 where

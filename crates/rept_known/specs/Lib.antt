@@ -1,14 +1,9 @@
 pub mod Masks
 pub mod Bits
-pub mod BitsLaws
 pub mod Operations
-pub mod Sums
-pub mod Selected
-pub mod Joined
 pub mod BitsMoves
 pub mod Least
 pub mod Parts
-pub mod Tops
 pub mod Both
-pub mod BothLaws
 pub mod BothMoves
+pub mod Laws

@@ -42,7 +42,7 @@ impl Bits {
 
 impl Partial for Bits {
     ghost use Rattle.rept_known.specs.Bits.{bits_sets};
-    ghost use Rattle.rept_known.specs.BitsLaws.{bits_lawful};
+    ghost use Rattle.rept_known.specs.Laws.BitsLaws.{bits_lawful};
 
     ghost sets = { bits_sets };
 

@@ -48,7 +48,7 @@ impl Both {
 
 impl Partial for Both {
     ghost use Rattle.rept_known.specs.Both.{both_sets};
-    ghost use Rattle.rept_known.specs.BothLaws.{both_lawful};
+    ghost use Rattle.rept_known.specs.Laws.BothLaws.{both_lawful};
 
     ghost sets = { both_sets };
 

@@ -4,7 +4,7 @@ use Rattle.std.proofs.lemmas.Nat.{leading_le}
 use Rattle.std.proofs.lemmas.Nat.Bits.{ones_shr}
 use Rattle.std.specs.Int.Count.{count_leading_zeros}
 use Rattle.rept_span.specs.Tables.{cover}
-use Rattle.rept_known.specs.Tops.{cover_none}
+use Rattle.rept_known.specs.Laws.Tops.{cover_none}
 use Rattle.rept_known.proofs.nearest.filled.Goals as goal
 
 pub returns-then-v-eq0 : goal.returns-then-v-eq0

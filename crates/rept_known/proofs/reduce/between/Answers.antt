@@ -1,6 +1,6 @@
 -- The upper word agrees with the lower one outside the bits that are open between them.
 use Rattle.rept_known.specs.Bits.{outside}
-use Rattle.rept_known.specs.BitsLaws.{agrees_has}
+use Rattle.rept_known.specs.Laws.BitsLaws.{agrees_has}
 use Rattle.rept_known.specs.Both.{open_between, upper_word}
 use Rattle.rept_known.proofs.reduce.between.Goals as goal
 

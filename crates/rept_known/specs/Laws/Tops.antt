@@ -4,7 +4,7 @@ use Rattle.std.specs.Prelude.{bit_xor}
 use Rattle.std.specs.Int.{bit_at}
 use Rattle.std.specs.Int.Bits.{xor_add_and}
 use Rattle.rept_span.specs.Tables.{cover}
-use Rattle.rept_span.specs.RangeBounds.{digits_hold}
+use Rattle.rept_span.specs.Laws.RangeBounds.{digits_hold}
 use Rattle.std.proofs.lemmas.Nat.{pow_pos, and_le_l, and_le_r, mod_below, mod-pow-add, div-add-mod'}
 
 -- numbers without a bit in which they differ

@@ -6,11 +6,11 @@ use mir.Syntax.{w32}
 use Rattle.std.proofs.Math.Nat.{mul-add-div_right}
 use Rattle.std.proofs.lemmas.Nat.{pow_pos, and_le_l, and_le_r, and_mod, div_below, div-add-mod', mod_below}
 use Rattle.std.proofs.lemmas.Nat.Bits.{bit_at_and, bit_at_or, bit_at_xor, bit_at_not, bit_at-lt, same_from_bits_below}
-use Rattle.rept_span.specs.RangeBounds.{div_more}
+use Rattle.rept_span.specs.Laws.RangeBounds.{div_more}
 use Rattle.rept_known.specs.declared.bits.Bits.{Bits}
 use Rattle.rept_known.specs.Masks.{bit_cases, bit_of_word}
 use Rattle.rept_known.specs.Bits.{word, outside}
-use Rattle.rept_known.specs.BitsLaws.{Agrees, KnowsAll, value_small, loose_small, open_bit, least_agrees, greatest_agrees, greatest_open, in_outside, outside_same, outside_knows, value_kept}
+use Rattle.rept_known.specs.Laws.BitsLaws.{Agrees, KnowsAll, value_small, loose_small, open_bit, least_agrees, greatest_agrees, greatest_open, in_outside, outside_same, outside_knows, value_kept}
 use Rattle.rept_known.specs.Operations.{sum_bits, difference_bits}
 
 -- the carry into bit i of the sum of two numbers and a first carry

@@ -11,14 +11,14 @@ use Rattle.rept_partial.specs.declared.range.Range.{Range}
 use Rattle.rept_partial.specs.Sets.{AreLawful, IsWithin}
 use Rattle.rept_partial.specs.Ranges.{range_has, range_meet, range_exact, range_sets, range_lawful}
 use Rattle.rept_span.specs.Tables.{digits, cover}
-use Rattle.rept_span.specs.RangeBounds.{has_in, in_has, lies_within, div_more, digits_hold}
+use Rattle.rept_span.specs.Laws.RangeBounds.{has_in, in_has, lies_within, div_more, digits_hold}
 use Rattle.rept_known.specs.declared.bits.Bits.{Bits}
 use Rattle.rept_known.specs.declared.both.Both.{Both}
 use Rattle.rept_known.specs.Masks.{but, but_le, but_split, but_bit, bit_cases}
-use Rattle.rept_known.specs.Tops.{same_by_xor, top_clear, top_set, left_ordered, upper_less, cover_none}
+use Rattle.rept_known.specs.Laws.Tops.{same_by_xor, top_clear, top_set, left_ordered, upper_less, cover_none}
 use Rattle.rept_known.specs.Bits.{outside, bits_has, bits_meet, bits_sets}
-use Rattle.rept_known.specs.BitsLaws.{Agrees, has_agrees, agrees_has, knows_within, in_outside, outside_same, all_agree, one_agrees, bits_lawful}
-use Rattle.rept_known.specs.Selected.{right_bit}
+use Rattle.rept_known.specs.Laws.BitsLaws.{Agrees, has_agrees, agrees_has, knows_within, in_outside, outside_same, all_agree, one_agrees, bits_lawful}
+use Rattle.rept_known.specs.Laws.Selected.{right_bit}
 use Rattle.rept_known.specs.Operations.{all_open, all_known}
 use Rattle.rept_known.specs.Both.{both_has, open_between, closed_between, alike_above, between, whole, least_has, greatest_has, in_order, Least, Greatest, least_of, greatest_of, if_ordered, from_ends, reduced, reduced_if, both_meet, both_sets, Differ, IsReduced}
 

@@ -8,7 +8,7 @@ use Rattle.std.proofs.lemmas.Bool.{cases_eq}
 use Rattle.rept_known.specs.declared.bits.Bits.{Bits}
 use Rattle.rept_known.specs.Masks.{but, but_bit, bit_of_word}
 use Rattle.rept_known.specs.Bits.{outside}
-use Rattle.rept_known.specs.BitsLaws.{Agrees, KnowsAll, value_small, open_bit, in_outside, outside_knows, value_kept}
+use Rattle.rept_known.specs.Laws.BitsLaws.{Agrees, KnowsAll, value_small, open_bit, in_outside, outside_knows, value_kept}
 use Rattle.rept_known.specs.Operations.{and_bits, or_bits, xor_bits}
 
 -- a bit (its value and whether it is open) is known where another one is, and alike

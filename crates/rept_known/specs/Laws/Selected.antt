@@ -7,11 +7,11 @@ use Rattle.std.proofs.lemmas.Nat.Bits.{bit_at_not, bit_at-lt, bit_at-zero, bit_a
 use Rattle.std.proofs.lemmas.Bool.{cases_lt}
 use Rattle.rept_isa.specs.declared.instr.RegOp.TheVariants.{Sra}
 use Rattle.rept_machine.specs.Arithmetic.{computed}
-use Rattle.rept_span.specs.RangeBounds.{shifted_positive, shifted_negative, shifted_small}
+use Rattle.rept_span.specs.Laws.RangeBounds.{shifted_positive, shifted_negative, shifted_small}
 use Rattle.rept_known.specs.declared.bits.Bits.{Bits}
 use Rattle.rept_known.specs.Masks.{bit_of_word}
 use Rattle.rept_known.specs.Bits.{word, outside}
-use Rattle.rept_known.specs.BitsLaws.{Agrees, KnowsAll, value_small, loose_small, in_outside, outside_knows, value_kept}
+use Rattle.rept_known.specs.Laws.BitsLaws.{Agrees, KnowsAll, value_small, loose_small, in_outside, outside_knows, value_kept}
 
 -- each bit of an answer is 0, or a certain one of the argument
 pub record MovesBits (f : ℕ → ℕ) : Type 0 where

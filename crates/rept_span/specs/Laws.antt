@@ -1,0 +1,5 @@
+pub mod RangeBounds
+pub mod RangeCovering
+pub mod RangeMonotony
+pub mod RangeNarrowing
+pub mod RangeMoves
