@@ -65,10 +65,10 @@ module _ {W : Type 0} (S : Setting W) (K L : Knowledge) (same : SameRegisters K 
   same_candidate k h = record { may = may_write_same S K L same k a ∙ h.may; reaches = h.reaches }
 
   last_same : (j : ℕ) → IsLastCandidate S K (spot p a) j → IsLastCandidate S L (spot p a) j
-  last_same j h = record { candidate = candidate_same j h.candidate; after = λ k c other. h.after k (same_candidate k c) other; dark = h.dark }
+  last_same j h = record { one = candidate_same j h.one; after = λ k c other. h.after k (same_candidate k c) other; dark = h.dark }
 
   same_last : (j : ℕ) → IsLastCandidate S L (spot p a) j → IsLastCandidate S K (spot p a) j
-  same_last j h = record { candidate = same_candidate j h.candidate; after = λ k c other. h.after k (candidate_same k c) other; dark = h.dark }
+  same_last j h = record { one = same_candidate j h.one; after = λ k c other. h.after k (candidate_same k c) other; dark = h.dark }
 
   certain_same : (j : ℕ) (b : Bool) → is_certain S K (spot p a) j ≡ b → is_certain S L (spot p a) j ≡ b
   certain_same j b e = ap (λ (x : Bool). x && S.moments.past j p) (sym (is_sure_same S K L same j)) ∙ e

@@ -12,9 +12,10 @@ use Rattle.rept_report.specs.Moments.{Moments}
 use Rattle.rept_report.specs.Setting.{Setting}
 use Rattle.rept_report.specs.Spots.{spot}
 use Rattle.rept_report.specs.Views.{may_write, registers_at, touched_by}
-use Rattle.rept_report.specs.Writers.{IsLastCandidate, is_certain, IsWriter}
+use Rattle.rept_report.specs.Writers.{is_certain, IsWriter}
 use Rattle.rept_analysis.specs.declared.sought.Sought.{Sought}
-use Rattle.rept_analysis.specs.Latest.{IsBegun, IsSought, IsBefore, IsLatest, IsPossibleWriter}
+use Rattle.rept_report.specs.Latest.{IsBefore, IsLatest}
+use Rattle.rept_analysis.specs.Latest.{IsBegun, IsSought, IsPossibleWriter}
 
 module _ (moments : Moments) (Is : ℕ → Type 0) where
   -- where one of them is the last one and has a number between these, it is this one
@@ -139,20 +140,14 @@ module _ {W : Type 0} (S : Setting W) (K : Knowledge) where
     abbrev Is : ℕ → Type 0
     Is = IsSought S K (record { moment = m; address = Some a })
 
-    last_of : (j : ℕ) → IsLatest S.moments Is j → IsLastCandidate S K (spot m a) j
-    last_of j h = record { candidate = h.one; after = λ k one other. let before = h.after k one other in (before.later, before.apart); dark = h.dark }
-
-    of_last : (j : ℕ) → IsLastCandidate S K (spot m a) j → IsLatest S.moments Is j
-    of_last j h = record { one = h.candidate; after = λ k one other. let before = h.after k one other in record { later = before.0; apart = before.1 }; dark = h.dark }
-
     pub possible_writes : (j : ℕ) → IsPossibleWriter S.moments Is (writers.TheVariants.MayWrite j) → is_certain S K (spot m a) j ≡ true → IsWriter S K (spot m a) (writers.TheVariants.Writes j)
-    possible_writes j h certain = (last_of j h, certain)
+    possible_writes j h certain = (h, certain)
 
     pub possible_may_write : (j : ℕ) → IsPossibleWriter S.moments Is (writers.TheVariants.MayWrite j) → is_certain S K (spot m a) j ≡ false → IsWriter S K (spot m a) (writers.TheVariants.MayWrite j)
-    possible_may_write j h certain = (last_of j h, certain)
+    possible_may_write j h certain = (h, certain)
 
     pub possible_other : (w : Writer) → ((j : ℕ) → w ≡ writers.TheVariants.MayWrite j → ⊥) → IsPossibleWriter S.moments Is w → IsWriter S K (spot m a) w
     possible_other (writers.TheVariants.Writes j) never h = absurd h
     possible_other (writers.TheVariants.MayWrite j) never h = absurd (never j refl)
-    possible_other writers.TheVariants.Several never h = (λ j last. h.0 j (of_last j last), λ none. h.1 (record { rows = none.rows; light = none.light }))
-    possible_other writers.TheVariants.None never h = record { rows = h.rows; light = h.light }
+    possible_other writers.TheVariants.Several never h = h
+    possible_other writers.TheVariants.None never h = h

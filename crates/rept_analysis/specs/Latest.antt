@@ -2,6 +2,7 @@
 use Rattle.std.specs.Prelude.{◌≡◌, ℕ, ◌<◌, true, false, Option, Some, None}
 use Rattle.std.specs.Option.{IsSome}
 use Rattle.rept_reason.specs.Facts.{Knowledge}
+use Rattle.rept_report.specs.Latest.{IsLatest, HasNone}
 use Rattle.rept_report.specs.Moments.{Moments}
 use Rattle.rept_report.specs.Setting.{Setting}
 use Rattle.rept_report.specs.Spots.{spot}
@@ -22,22 +23,6 @@ sought_by S K m (Some a) i = IsCandidate S K (spot m a) i
 -- one of the rows of which the last one is sought, by what is known
 abbrev pub IsSought : {W : Type 0} → Setting W → Knowledge → Sought → ℕ → Type 0
 IsSought S K x i = sought_by S K x.moment x.address i
-
--- a row lies wholly before another one, and not after it
-pub record IsBefore (moments : Moments) (i j : ℕ) : Type 0 where
-  pub later : moments.later j i ≡ true
-  pub apart : moments.later i j ≡ false
-
--- the one of some rows that lies wholly after all others, and after the writers that aren't traced
-pub record IsLatest (moments : Moments) (Is : ℕ → Type 0) (j : ℕ) : Type 0 where
-  pub one : Is j
-  pub after : (k : ℕ) → Is k → (k ≡ j → ⊥) → IsBefore moments k j
-  pub dark : moments.is_dark ≡ true → moments.dark_before j ≡ true
-
--- there is none of them, and each writer is traced
-pub record HasNone (moments : Moments) (Is : ℕ → Type 0) : Type 0 where
-  pub rows : (k : ℕ) → Is k → ⊥
-  pub light : moments.is_dark ≡ false
 
 -- what is said of the row that last wrote, where each of some rows may have written and no other did: exactly one of the three fits
 abbrev pub IsPossibleWriter : Moments → (ℕ → Type 0) → Writer → Type 0

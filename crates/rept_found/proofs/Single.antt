@@ -87,12 +87,12 @@ module _ {W : Type 0} (P : Path W) (K : Knowledge) (p a : ℕ) where
     where
       last : Rattle.rept_report.specs.Writers.IsLastCandidate S K (spot p a) j
       last = record {
-        candidate = record { may = may; reaches = lt-leb p j less };
+        one = record { may = may; reaches = lt-leb p j less };
         after = λ k its other.
             let under = before_point k its in
             elim (cases_order k j) [
               | inl same ↦ absurd (other same)
-              | inr (inl low) ↦ (lt-ltb k j low, le-ltb j k (omega arith))
+              | inr (inl low) ↦ record { later = lt-ltb k j low; apart = le-ltb j k (omega arith) }
               | inr (inr high) ↦ absurd (later k high under its.may)
             ];
         dark = λ dark. absurd (false≢true dark);

@@ -50,14 +50,14 @@ module _ {W : Type 0} (S : Setting W) (K : Knowledge) (x : Spot) where
   one_last i j h k =
       elim (cases_eq i j) [
         | inl same ↦ same
-        | inr other ↦ absurd (false≢true (sym (k.after i h.candidate other).1 ∙ (h.after j k.candidate (λ e. other (sym e))).0))
+        | inr other ↦ absurd (false≢true (sym (k.after i h.one other).apart ∙ (h.after j k.one (λ e. other (sym e))).later))
       ]
 
   last_named : (w : Writer) (j : ℕ) → IsWriter S K x w → IsLastCandidate S K x j → named_row w ≡ Some j
   last_named (writers.Writes i) j h last = ap (λ (k : ℕ). Some k) (one_last i j h.0 last)
   last_named (writers.MayWrite i) j h last = ap (λ (k : ℕ). Some k) (one_last i j h.0 last)
   last_named writers.Several j h last = absurd (h.0 j last)
-  last_named writers.None j h last = absurd (h.rows j last.candidate)
+  last_named writers.None j h last = absurd (h.rows j last.one)
 
 -- what is told of last writers at the points of one thread
 module _ {W : Type 0} (t : Trip W) (sound : IsSound t.course) (K : Knowledge) (thread address : ℕ) where
@@ -85,17 +85,17 @@ module _ {W : Type 0} (t : Trip W) (sound : IsSound t.course) (K : Knowledge) (t
         let last = last_at p step e in
         elim (cases_lt (row_on t.course step).step p) [
           | inl less ↦ less
-          | inr late ↦ absurd (false≢true (sym last.candidate.reaches ∙ own_ahead t sound thread below p step few (candidate_row t sound thread below K address p step last.candidate) own late))
+          | inr late ↦ absurd (false≢true (sym last.one.reaches ∙ own_ahead t sound thread below p step few (candidate_row t sound thread below K address p step last.one) own late))
         ]
 
     since : (step q p : ℕ) → p ≤ length (rows_of t.course thread) → (row_on t.course step).thread ≡ thread → named_row (told p) ≡ Some step → (row_on t.course step).step < q → q ≤ p → named_row (told q) ≡ Some step
     since step q p few own e low high =
         let last = last_at p step e in
-        named_at q step (last_back t sound thread below K address q p step high few last (own_not_ahead t sound thread below q step (omega arith) (candidate_row t sound thread below K address p step last.candidate) own low))
+        named_at q step (last_back t sound thread below K address q p step high few last (own_not_ahead t sound thread below q step (omega arith) (candidate_row t sound thread below K address p step last.one) own low))
 
     between : (step o q p : ℕ) → p ≤ length (rows_of t.course thread) → named_row (told o) ≡ Some step → named_row (told p) ≡ Some step → o ≤ q → q ≤ p → named_row (told q) ≡ Some step
     between step o q p few first then low high =
-        let here = candidate_on t sound thread below K address o q step low (omega arith) (last_at o step first).candidate in
+        let here = candidate_on t sound thread below K address o q step low (omega arith) (last_at o step first).one in
         named_at q step (last_back t sound thread below K address q p step high few (last_at p step then) here.reaches)
 
     none : (q p : ℕ) → p ≤ length (rows_of t.course thread) → told p ≡ writers.None → q ≤ p → told q ≡ writers.None

@@ -116,10 +116,13 @@ module _ {W : Type 0} (sets : Sets W) (moves : Moves W) (rules : Rules) (g : Giv
 
   pub last_candidate : (K : Knowledge) (p a j : ℕ) → WriteLastBefore K p a j → IsLastCandidate S K (spot p a) j
   last_candidate K p a j h = record {
-    candidate = record { may = h.may; reaches = subst (λ (t : Moments). t.ahead j p ≡ false) (sym line.moments) (past_false j h.earlier) };
+    one = record { may = h.may; reaches = subst (λ (t : Moments). t.ahead j p ≡ false) (sym line.moments) (past_false j h.earlier) };
     after = λ k c other.
         let before : k < j = below k c other in
-        (subst (λ (t : Moments). t.later j k ≡ true) (sym line.moments) (lt-ltb k j before), subst (λ (t : Moments). t.later k j ≡ false) (sym line.moments) (le-ltb j k (omega arith)));
+        record {
+          later = subst (λ (t : Moments). t.later j k ≡ true) (sym line.moments) (lt-ltb k j before);
+          apart = subst (λ (t : Moments). t.later k j ≡ false) (sym line.moments) (le-ltb j k (omega arith));
+        };
     dark = λ e. absurd (false≢true (subst (λ (t : Moments). t.is_dark ≡ true) line.moments e));
   }
     where
@@ -147,13 +150,13 @@ module _ {W : Type 0} (sets : Sets W) (moves : Moves W) (rules : Rules) (g : Giv
 
   pub candidate_last : (K : Knowledge) (p a j : ℕ) → IsLastCandidate S K (spot p a) j → WriteLastBefore K p a j
   candidate_last K p a j h = record {
-    earlier = reached j h.candidate;
-    may = h.candidate.may;
+    earlier = reached j h.one;
+    may = h.one.may;
     later = λ k above low.
         elim (cases_Bool (may_write S K k a)) [
           | inl may ↦
               let x = h.after k (record { may = may; reaches = subst (λ (t : Moments). t.ahead k p ≡ false) (sym line.moments) (past_false k low) }) (λ same. omega arith) in
-              let less = ltb-true k j (subst (λ (t : Moments). t.later j k ≡ true) line.moments x.0) in
+              let less = ltb-true k j (subst (λ (t : Moments). t.later j k ≡ true) line.moments x.later) in
               absurd (omega arith)
           | inr out ↦ out
         ];

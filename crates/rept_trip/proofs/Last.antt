@@ -8,6 +8,7 @@ use Rattle.rept_report.specs.declared.writer.Writer as writers
 use Rattle.rept_report.specs.Setting.{Setting}
 use Rattle.rept_report.specs.Spots.{Spot}
 use Rattle.rept_report.specs.Views.{registers_at, touched_by, may_write}
+use Rattle.rept_report.specs.Latest.{IsBefore}
 use Rattle.rept_report.specs.Writers.{IsCandidate, IsLastCandidate, HasNoCandidate, is_certain, IsWriter}
 use Rattle.rept_trip.specs.Last.{all_below, greatest_below, is_candidate, comes_after, is_last, has_none, said_of, writer_found}
 
@@ -80,12 +81,12 @@ module _ {W : Type 0} (S : Setting W) (K : Knowledge) (x : Spot) (legs : AreLegs
   last_true j e =
       let one = and_parts (is_candidate S K x j) ((not S.moments.is_dark || S.moments.dark_before j) && all_below (is_behind j) S.legs.count) e in
       let two = and_parts (not S.moments.is_dark || S.moments.dark_before j) (all_below (is_behind j) S.legs.count) one.1 in
-      record { candidate = candidate_true j one.0; after = λ k its other. after_by k its other (all_true (is_behind j) S.legs.count two.1 k (may_below k its.may)); dark = dark_by two.0 }
+      record { one = candidate_true j one.0; after = λ k its other. after_by k its other (all_true (is_behind j) S.legs.count two.1 k (may_below k its.may)); dark = dark_by two.0 }
     where
-      after_from : (k : ℕ) → comes_after S.moments j k ≡ true → (S.moments.later j k ≡ true) × (S.moments.later k j ≡ false)
-      after_from k e = let parts = and_parts (S.moments.later j k) (not (S.moments.later k j)) e in (parts.0, not-true (S.moments.later k j) parts.1)
+      after_from : (k : ℕ) → comes_after S.moments j k ≡ true → IsBefore S.moments k j
+      after_from k e = let parts = and_parts (S.moments.later j k) (not (S.moments.later k j)) e in record { later = parts.0; apart = not-true (S.moments.later k j) parts.1 }
 
-      after_by : (k : ℕ) → IsCandidate S K x k → (k ≡ j → ⊥) → is_behind j k ≡ true → (S.moments.later j k ≡ true) × (S.moments.later k j ≡ false)
+      after_by : (k : ℕ) → IsCandidate S K x k → (k ≡ j → ⊥) → is_behind j k ≡ true → IsBefore S.moments k j
       after_by k its other e =
           elim (or_cases (eqb k j) (not (is_candidate S K x k) || comes_after S.moments j k) e) [
             | inl same ↦ absurd (other (eqb-true k j same))
@@ -105,7 +106,7 @@ module _ {W : Type 0} (S : Setting W) (K : Knowledge) (x : Spot) (legs : AreLegs
 
   last_from : (j : ℕ) → IsLastCandidate S K x j → is_last S K x j ≡ true
   last_from j h =
-      and_from (is_candidate S K x j) ((not S.moments.is_dark || S.moments.dark_before j) && all_below (is_behind j) S.legs.count) (candidate_from j h.candidate)
+      and_from (is_candidate S K x j) ((not S.moments.is_dark || S.moments.dark_before j) && all_below (is_behind j) S.legs.count) (candidate_from j h.one)
       (and_from (not S.moments.is_dark || S.moments.dark_before j) (all_below (is_behind j) S.legs.count) (dark_by S.moments.is_dark refl)
       (all_from (is_behind j) S.legs.count (λ k less. behind k (is_candidate S K x k) refl)))
     where
@@ -120,7 +121,7 @@ module _ {W : Type 0} (S : Setting W) (K : Knowledge) (x : Spot) (legs : AreLegs
             | inl same ↦ or_left (eqb k j) (not (is_candidate S K x k) || comes_after S.moments j k) (eq-eqb k j same)
             | inr other ↦
                 let after = h.after k (candidate_true k its) other in
-                or_right (eqb k j) (not (is_candidate S K x k) || comes_after S.moments j k) (or_right (not (is_candidate S K x k)) (comes_after S.moments j k) (and_from (S.moments.later j k) (not (S.moments.later k j)) after.0 (not_from_false (S.moments.later k j) after.1)))
+                or_right (eqb k j) (not (is_candidate S K x k) || comes_after S.moments j k) (or_right (not (is_candidate S K x k)) (comes_after S.moments j k) (and_from (S.moments.later j k) (not (S.moments.later k j)) after.later (not_from_false (S.moments.later k j) after.apart)))
           ]
 
   none_true : has_none S K x ≡ true → HasNoCandidate S K x
@@ -146,7 +147,7 @@ module _ {W : Type 0} (S : Setting W) (K : Knowledge) (x : Spot) (legs : AreLegs
 
   by_greatest : (o : Option ℕ) → greatest_below (is_last S K x) S.legs.count ≡ o → IsWriter S K x (said_of S K x o)
   by_greatest (Some j) e = by_certain j (last_true j (greatest_some (is_last S K x) S.legs.count j e)) (is_certain S K x j) refl
-  by_greatest None e = by_none (λ j h. greatest_none (is_last S K x) S.legs.count e j (may_below j h.candidate.may) (last_from j h)) (has_none S K x) refl
+  by_greatest None e = by_none (λ j h. greatest_none (is_last S K x) S.legs.count e j (may_below j h.one.may) (last_from j h)) (has_none S K x) refl
 
   pub found_fits : IsWriter S K x (writer_found S K x)
   found_fits = by_greatest (greatest_below (is_last S K x) S.legs.count) refl

@@ -194,7 +194,7 @@ module _ {W : Type 0} (trip : Trip W) (sound : IsSound trip.course) (t : ℕ) (b
     -- so the last candidate at a point is the last at each earlier one at which it is a candidate
     pub last_back : (q p j : ℕ) → q ≤ p → p ≤ n → IsLastCandidate S K (spot (at p) a) j → S.moments.ahead j (at q) ≡ false → IsLastCandidate S K (spot (at q) a) j
     last_back q p j few most final reaches = record {
-      candidate = record { may = final.candidate.may; reaches = reaches };
+      one = record { may = final.one.may; reaches = reaches };
       after = λ k its other. final.after k (candidate_on q p k few most its) other;
       dark = final.dark;
     }

@@ -5,7 +5,8 @@ ghost use Rattle.rept_reason.specs.Facts.{told};
 ghost use Rattle.rept_report.specs.Log.{oldest};
 ghost use Rattle.rept_analysis.specs.State.{setting_of, state_of, reader};
 ghost use Rattle.rept_analysis.specs.Drawing.{IsFitted};
-ghost use Rattle.rept_analysis.specs.Latest.{IsBegun, IsBefore, IsSought, IsLatest, IsGreatest, IsPossibleWriter};
+ghost use Rattle.rept_report.specs.Latest.{IsBefore, IsLatest};
+ghost use Rattle.rept_analysis.specs.Latest.{IsBegun, IsSought, IsGreatest, IsPossibleWriter};
 
 use super::Analysis;
 use crate::sought::Sought;
