@@ -26,7 +26,7 @@ use Rattle.rept_partial.specs.Ranges.{range_has, range_sets}
 use Rattle.rept_span.specs.Tables.{full, applied_range, operation_range, immediate_range, loaded_range, narrowed_range}
 use Rattle.rept_span.specs.Laws.RangeBounds.{IsIn, in_has, in_from_to, in_full, in_one, word_small, shifted_small}
 use Rattle.rept_span.specs.Laws.RangeCovering.{upper_small}
-use Rattle.rept_span.specs.RangeCovering as ranges
+use Rattle.rept_span.specs.Laws.RangeCovering as ranges
 use Rattle.rept_span.specs.Laws.RangeMoves.{range_covers}
 use Rattle.rept_span.specs.Moves.{Moves, Covers, StepsFrom, AreWithin, AreMoves}
 use Rattle.rept_known.specs.declared.bits.Bits.{Bits}
