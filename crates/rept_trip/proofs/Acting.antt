@@ -153,6 +153,6 @@ module _ {W : Type 0} (t : Trip W) (h : History) (sound : IsSound t.course) (x :
 
     pub writer_so : (K : Knowledge) (w : Writer) → IsWriter S K (spot m a) w → WriterHolds S run (spot m a) w → order.WriterHolds C D h (spot_on C m a) (writer_on C w)
     writer_so K (writers.TheVariants.Writes j) is holds = let its = step_row j a holds.0 in (its.1, over j its.0 its.1 holds.1, since j its.0 holds.2)
-    writer_so K (writers.TheVariants.MayWrite j) is holds = since j (may_row K j a is.0.candidate.may) holds
+    writer_so K (writers.TheVariants.MayWrite j) is holds = since j (may_row K j a is.0.one.may) holds
     writer_so K writers.TheVariants.Several is holds = tt
     writer_so K writers.TheVariants.None is holds = never holds.0 holds.1
