@@ -1,3 +1,5 @@
+pub mod Enders
+pub mod Numbers
 pub mod Settings
 pub mod Single
 pub mod Tellings

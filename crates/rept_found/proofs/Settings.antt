@@ -1,7 +1,9 @@
--- The path of an analysis is that of its steps and crash.
-use Rattle.std.proofs.Common.{◌≡◌, ℕ, zero, suc, get_or, cond, false, ◌+◌, ◌*◌, ◌<◌, List, [], ◌∷◌, length, Some, slice_get, refl, Bool, eqb, arith, Result, Err, sym, ap, subst, ◌∙◌}
+-- An analysis over the paths of a run is of its trip.
+use Rattle.std.proofs.Common.{◌≡◌, ℕ, zero, suc, get_or, cond, false, ◌+◌, ◌*◌, ◌<◌, List, [], ◌∷◌, length, map, Option, Some, None, slice_get, inl, inr, refl, Bool, eqb, arith, sym, ap, subst, ◌∙◌}
+use mathlib.Core.Path.{fun_ext}
 use Rattle.std.proofs.lemmas.List.FromFn.{fill_by_all}
 use Rattle.std.proofs.lemmas.Bool.Decides.{nat_tests}
+use Rattle.std.proofs.lemmas.Option.{slice_get_cases}
 use Rattle.rept_elf.specs.Header.{word_at}
 use Rattle.rept_elf.specs.Segments.{ElfSegment}
 use Rattle.rept_dump.specs.Memory.{byte_at}
@@ -9,19 +11,32 @@ use Rattle.rept_dump.specs.Program.{Program, contents}
 use Rattle.rept_dump.specs.Status.{IsStatus}
 use Rattle.rept_dump.specs.declared.status.Status.{Status}
 use Rattle.rept_isa.specs.declared.row.StepRow.{StepRow}
+use Rattle.rept_steps.specs.declared.threads.ThreadRows.{ThreadRows}
+use Rattle.rept_steps.specs.Course.{Course}
+use Rattle.rept_steps.specs.Runs.{course_of, run_of_one}
+use Rattle.rept_order.specs.Legs.{points_before}
+use Rattle.rept_course.proofs.Naming.{points_next}
+use Rattle.rept_moments.specs.declared.course.Course as courses
+use Rattle.rept_moments.specs.Courses.{seen_in, IsCourseOf}
+use Rattle.rept_moments.specs.Points.{points_in}
+use Rattle.rept_moments.specs.Seen.{Seen, seen, seen_by, alone_by}
+use Rattle.rept_places.proofs.Naming.{is_only}
 use Rattle.rept_report.specs.Closure.{ClosureHas, IsReport}
 use Rattle.rept_report.specs.declared.conflict.ConflictKind.{ConflictKind}
-use Rattle.rept_report.specs.Given.{Given}
-use Rattle.rept_report.specs.OneThread.{Alone, Path, given_alone, along}
-use Rattle.rept_analysis.specs.State.{Path as Read, Whole, path_of}
-use Rattle.rept_analysis.specs.declared.thread_end.ThreadEnd.{ThreadEnd}
+use Rattle.rept_report.specs.Given.{Given, setting_by}
+use Rattle.rept_report.specs.Setting.{Setting}
+use Rattle.rept_timeline.specs.declared.run_paths.RunPaths.{RunPaths}
+use Rattle.rept_analysis.specs.State.{Path as Read, Whole, given_of, path_of, setting_of}
 use Rattle.rept_analysis.specs.Kept.{answers}
 use Rattle.rept_analysis.specs.Logged.{IsLogOf}
-use Rattle.rept_analysis.specs.declared.stop.Stop.{Stop}
-use Rattle.rept_analysis.specs.declared.stop.Stop.TheVariants.{Conflict, OutOfMemory}
-use Rattle.rept_found.specs.Crash.{Crash, Means, Scene, last_value, last_values, route}
-use Rattle.rept_line.specs.declared.line.OnePath.{OnePath}
-use Rattle.rept_found.specs.View.{View, ends_at, alone_of, IsFoundIn, IsPreparedFor, state_in, path_in}
+use Rattle.rept_trip.specs.Alone.{registers_alone, trip_of}
+use Rattle.rept_trip.specs.Trip.{Trip, thread_on, given_on, setting_on}
+use Rattle.rept_found.specs.Crash.{Crash, Means, Ended, Scene, ended, last_value, last_values, path_of as crash_path, route, trip_by, values_of}
+use Rattle.rept_found.specs.Ends.{Ends, registers_of_one, registers_in, last_values_in, AreEnds, AreNoted, AreWhole}
+use Rattle.rept_found.specs.View.{View, read_in, ended_as, IsFoundIn, IsOfRun, IsPreparedFor, scene_in, state_in, trip_in}
+use Rattle.rept_found.specs.declared.over.RunRows.{RunRows}
+use Rattle.rept_found.specs.declared.over.RunEnds.{RunEnds}
+use Rattle.rept_found.proofs.Enders.{thread_inside, values_same}
 
 -- the registers of a status are the last values
 pub last_are : (note : List ℕ) (status : Status) → IsStatus note status → length status.regs ≡ 32 → status.regs ≡ last_values note
@@ -34,68 +49,122 @@ last_are note status is long = fill_by_all (last_value note) status.regs 32 0 lo
         let named : eqb (suc k) 0 ≡ false = grind (arith, nat_tests) in
         is.regs (suc k) (omega arith) below ∙ ap (λ (b : Bool). cond b 0 (word_at note (72 + 4 * suc k))) (sym named)
 
-abbrev made : {W : Type 0} → Means W → List StepRow → List ℕ → Program → List ElfSegment → Path W
-made m rows last exe core = record { sets = m.sets; moves = m.moves; rules = m.rules; given = record { rows = rows; last = last; dump = byte_at (contents exe) core; image_end = (contents exe).end } }
+some_is : {A : Type 0} {x y : A} → Some x ≡ Some y → x ≡ y
+some_is e = cc
 
--- the path that an analysis is of
-abbrev pub on_path : {B W R : Type 0} → Means W → Whole OnePath ThreadEnd B W R → Path W
-on_path m a = record { sets = m.sets; moves = m.moves; rules = m.rules; given = alone_of a }
+-- the notes and ends of all threads but the first one
+rest_noted : (note : List ℕ) (notes : List (List ℕ)) (status : Status) (statuses : List Status) → AreNoted (note ∷ notes) (status ∷ statuses) → AreNoted notes statuses
+rest_noted note notes status statuses noted = record { each = λ t x at. noted.each (suc t) x at }
 
--- an analysis of these steps, registers and segments
-pub route_is : {B W R : Type 0} (m : Means W) (a : Whole OnePath ThreadEnd B W R) (crash : Crash) (rows : List StepRow) → a.paths.rows.now ≡ rows → (status : Status) → IsStatus crash.note status → a.last.values ≡ status.regs → length a.last.values ≡ 32 → (a.exe ≡ crash.exe) × (a.core ≡ crash.core) → on_path m a ≡ route m crash rows
-route_is m a crash rows r s is same long (e, k) =
-    let last : a.last.values ≡ last_values crash.note = same ∙ last_are crash.note s is (ap length (sym same) ∙ long) in
-    ap (λ (x : List StepRow). made m x a.last.values a.exe a.core) r ∙ ap (λ (x : List ℕ). made m rows x a.exe a.core) last ∙ ap (λ (x : Program). made m rows (last_values crash.note) x a.core) e ∙ ap (λ (x : List ElfSegment). made m rows (last_values crash.note) crash.exe x) k
+-- the first thread's end has what its note has
+first_noted : (note : List ℕ) (notes : List (List ℕ)) (status : Status) (statuses : List Status) → AreNoted (note ∷ notes) (status ∷ statuses) → IsStatus note status
+first_noted note notes status statuses noted =
+    let its = noted.each 0 status refl in
+    subst (λ (d : List ℕ). IsStatus d status) (sym (some_is its.1)) its.2
 
--- two lists of rows from which the same rows lead are one
-same_rows : (xs ys : List StepRow) → length xs ≡ length ys → ((i : ℕ) → slice_get xs i ≡ slice_get ys i) → xs ≡ ys
-same_rows [] [] long same = refl
-same_rows [] (y ∷ ys) long same = absurd (omega (arith, long))
-same_rows (x ∷ xs) [] long same = absurd (omega (arith, long))
-same_rows (x ∷ xs) (y ∷ ys) long same = rw (same_row (same 0), same_rows xs ys (omega (arith, long)) (λ i. same (suc i))) refl
+pub registers_are : (notes : List (List ℕ)) (statuses : List Status) → AreWhole statuses → AreNoted notes statuses → length statuses ≡ length notes → (t : ℕ) → registers_of_one (slice_get statuses t) ≡ values_of (slice_get notes t)
+registers_are [] [] whole noted same t = refl
+registers_are [] (status ∷ statuses) whole noted same t = absurd (omega (arith, same))
+registers_are (note ∷ notes) [] whole noted same t = absurd (omega (arith, same))
+registers_are (note ∷ notes) (status ∷ statuses) whole noted same zero = last_are note status (first_noted note notes status statuses noted) (whole 0 status refl)
+registers_are (note ∷ notes) (status ∷ statuses) whole noted same (suc t) = registers_are notes statuses (λ k x at. whole (suc k) x at) (rest_noted note notes status statuses noted) (omega (arith, same)) t
+
+pub ended_are : (notes : List (List ℕ)) (statuses : List Status) → AreNoted notes statuses → length statuses ≡ length notes → map ended_as statuses ≡ map ended notes
+ended_are [] [] noted same = refl
+ended_are [] (status ∷ statuses) noted same = absurd (omega (arith, same))
+ended_are (note ∷ notes) [] noted same = absurd (omega (arith, same))
+ended_are (note ∷ notes) (status ∷ statuses) noted same =
+    let its = first_noted note notes status statuses noted in
+    let rest = ended_are notes statuses (rest_noted note notes status statuses noted) (omega (arith, same)) in
+    ap (λ (n : ℕ). record { end_pc = n; process = status.pid } ∷ map ended_as statuses) its.pc
+    ∙ ap (λ (n : ℕ). record { end_pc = word_at note 72; process = n } ∷ map ended_as statuses) its.pid
+    ∙ ap (λ (xs : List Ended). ended note ∷ xs) rest
+
+-- a run that ends so, and the scene of it
+pub trip_is : {W R : Type 0} (m : Means W) (v : View W R) (notes : List (List ℕ)) → AreWhole v.ends.statuses → AreNoted notes v.ends.statuses → length v.ends.statuses ≡ length notes → trip_in m v ≡ route m (record { exe = v.program; core = v.core; notes = notes }) v.ends.course
+trip_is m v notes whole noted same =
+    ap (λ (f : ℕ → List ℕ). trip_by m v.ends.course (record { registers = f; dump = byte_at (contents v.program) v.core; image_end = (contents v.program).end }))
+    (fun_ext (λ t. registers_are notes v.ends.statuses whole noted same t))
+
+pub scene_is : {W R : Type 0} (v : View W R) (notes : List (List ℕ)) → AreNoted notes v.ends.statuses → length v.ends.statuses ≡ length notes → scene_in v ≡ record { threads = map ended notes; program = v.program }
+scene_is v notes noted same = ap (λ (xs : List Ended). record { threads = xs; program = v.program }) (ended_are notes v.ends.statuses noted same)
+
+-- the rows and moments of a course of the code are those of its run
+pub seen_same : (C : Course) (c : courses.Course) → IsCourseOf C c → seen_in c ≡ seen C
+seen_same C (courses.TheVariants.One steps) its = ap (seen_by C) (sym its)
+seen_same C (courses.TheVariants.Many many) its = ap (λ (D : Course). seen_by D None) its.0 ∙ ap (seen_by C) (sym its.1)
+
+abbrev given_with : Seen → (ℕ → List ℕ) → Program → List ElfSegment → Given
+given_with x last program core = record { legs = x.legs; moments = x.moments; last = last; dump = byte_at (contents program) core; image_end = (contents program).end }
+
+-- an analysis of these paths, ends and files
+pub given_is : {B W R : Type 0} (a : Whole RunRows RunEnds B W R) (paths : RunPaths) (ends : Ends) (program : Program) (core : List ElfSegment) → a.paths.paths.now ≡ paths → a.last.ends.now ≡ ends → (a.exe ≡ program) × (a.core ≡ core) → IsCourseOf ends.course paths.ways → given_of read_in a ≡ given_on ends.course (record { registers = registers_in ends; dump = byte_at (contents program) core; image_end = (contents program).end })
+given_is a paths ends program core p l (e, k) its =
+    ap (λ (x : RunPaths). given_with (seen_in x.ways) (last_values_in a.last.ends.now) a.exe a.core) p
+    ∙ ap (λ (x : Ends). given_with (seen_in paths.ways) (last_values_in x) a.exe a.core) l
+    ∙ ap (λ (x : Program). given_with (seen_in paths.ways) (last_values_in ends) x a.core) e
+    ∙ ap (λ (x : List ElfSegment). given_with (seen_in paths.ways) (last_values_in ends) program x) k
+    ∙ ap (λ (x : Seen). given_with x (last_values_in ends) program core) (seen_same ends.course paths.ways its)
+
+-- each point's last values are 32
+pub values_long : (e : Ends) → AreEnds e → 0 < length e.course.threads → (p : ℕ) → length (last_values_in e p) ≡ 32
+values_long e ends some p =
+    let inside = thread_inside e.course p some in
+    let count = ends.count in
+    elim (slice_get_cases e.statuses (thread_on e.course p)).1 [
+      | inl found ↦ ap (λ (xs : List ℕ). length xs) (values_same e.course (registers_in e) p some ∙ ap registers_of_one found.2) ∙ ends.whole (thread_on e.course p) found.0 found.2
+      | inr past ↦ absurd (let far = past.0 in omega arith)
+    ]
+
+-- there is one point more than the number of the last one
+pub points_are : (C : Course) → 0 < length C.threads → suc (seen C).legs.count ≡ points_in C
+points_are C some = by (alone_by C.threads C.dark) refl
   where
-    same_row : Some x ≡ Some y → x ≡ y
-    same_row e = cc
+    by : (o : Option (List StepRow)) → alone_by C.threads C.dark ≡ o → suc (seen_by C o).legs.count ≡ points_in C
+    by None e = let all = points_next C.threads 0 0 some (omega arith) in omega arith
+    by (Some rows) e =
+        let only = is_only C.threads C.dark rows e in
+        let own : length only.only.steps ≡ length rows = ap (λ (xs : List StepRow). length xs) only.own in
+        let all : points_before (only.only ∷ []) 1 ≡ suc (length only.only.steps) = omega arith in
+        let here : points_in C ≡ suc (length only.only.steps) = ap (λ (xs : List ThreadRows). points_before xs (length xs)) only.is ∙ all in
+        omega arith
 
--- what is given of two threads is the same only where they are one
-same_alone : (g h : Alone) → given_alone g ≡ given_alone h → g ≡ h
-same_alone g h e =
-    let rows = same_rows g.rows h.rows (ap (λ (x : Given). x.legs.count) e) (λ i. ap (λ (x : Given). x.legs.row i) e) in
-    let last : g.last ≡ h.last = ap (λ (x : Given). x.last 0) e in
-    ap (λ (x : List StepRow). record { rows = x; last = g.last; dump = g.dump; image_end = g.image_end }) rows
-    ∙ ap (λ (x : List ℕ). record { rows = h.rows; last = x; dump = g.dump; image_end = g.image_end }) last
-    ∙ ap (λ (x : Given). record { rows = h.rows; last = h.last; dump = x.dump; image_end = x.image_end }) e
+-- the setting of an analysis is that of its trip
+pub setting_is : {W R : Type 0} (m : Means W) (v : View W R) → IsOfRun v → setting_of read_in m.sets m.moves m.rules v.analysis ≡ setting_on (trip_in m v)
+setting_is m v of = ap (setting_by m.sets m.moves m.rules) of.given
 
--- so an analysis that reads the same is of the same path
-pub path_back : {B W R : Type 0} (m : Means W) (a b : Whole OnePath ThreadEnd B W R) → path_of ends_at m.sets m.moves m.rules a ≡ path_of ends_at m.sets m.moves m.rules b → on_path m a ≡ on_path m b
-path_back m a b e = ap (λ (g : Alone). record { sets = m.sets; moves = m.moves; rules = m.rules; given = g }) (same_alone (alone_of a) (alone_of b) (ap (λ (x : Read _). x.given) e))
+-- an analysis that reads the same is of the same trip
+pub still_of : {B W R : Type 0} (m : Means W) (a b : Whole RunRows RunEnds B W R) (g : Given) → path_of read_in m.sets m.moves m.rules b ≡ path_of read_in m.sets m.moves m.rules a → given_of read_in a ≡ g → given_of read_in b ≡ g
+still_of m a b g same is = ap (λ (x : Read _). x.given) same ∙ is
 
 -- what it has, said of that setting
-pub found_in : {W R : Type 0} (m : Means W) (v : View W R) (P : Path W) (scene : Scene) → path_in m v ≡ P → v.scene ≡ scene → IsReport (along (path_in m v)) (answers (state_in m v)) → IsLogOf (along (path_in m v)) (answers (state_in m v)) (state_in m v).known.log → IsFoundIn m P scene v
-found_in {W} m v P scene e p report log = record {
-  path = e;
-  same_scene = p;
-  report = subst (λ (Q : Path W). IsReport (along Q) (answers (state_in m v))) e report;
-  log = subst (λ (Q : Path W). IsLogOf (along Q) (answers (state_in m v)) (state_in m v).known.log) e log;
+pub found_in : {W R : Type 0} (m : Means W) (v : View W R) → IsOfRun v → IsReport (setting_of read_in m.sets m.moves m.rules v.analysis) (answers (state_in m v)) → IsLogOf (setting_of read_in m.sets m.moves m.rules v.analysis) (answers (state_in m v)) (state_in m v).known.log → IsFoundIn m (trip_in m v) (scene_in v) v
+found_in {W} m v of report log = record {
+  trip = refl;
+  same_scene = refl;
+  report = subst (λ (S : Setting W). IsReport S (answers (state_in m v))) (setting_is m v of) report;
+  log = subst (λ (S : Setting W). IsLogOf S (answers (state_in m v)) (state_in m v).known.log) (setting_is m v of) log;
 }
 
--- what is found of what was prepared for a path is of that path
-pub found_there : {W R : Type 0} (m : Means W) (p v : View W R) (P : Path W) (scene : Scene) → IsPreparedFor m P scene p → IsFoundIn m (path_in m p) p.scene v → IsFoundIn m P scene v
-found_there {W} m p v P scene at h = record {
-  path = h.path ∙ at.path;
+-- what is found of what was prepared for a trip is of that trip
+pub found_there : {W R : Type 0} (m : Means W) (p v : View W R) (t : Trip W) (scene : Scene) → IsPreparedFor m t scene p → IsFoundIn m (trip_in m p) (scene_in p) v → IsFoundIn m t scene v
+found_there {W} m p v t scene at h = record {
+  trip = h.trip ∙ at.trip;
   same_scene = h.same_scene ∙ at.same_scene;
-  report = subst (λ (Q : Path W). IsReport (along Q) (answers (state_in m v))) at.path h.report;
-  log = subst (λ (Q : Path W). IsLogOf (along Q) (answers (state_in m v)) (state_in m v).known.log) at.path h.log;
+  report = subst (λ (x : Trip W). IsReport (setting_on x) (answers (state_in m v))) at.trip h.report;
+  log = subst (λ (x : Trip W). IsLogOf (setting_on x) (answers (state_in m v)) (state_in m v).known.log) at.trip h.log;
 }
 
--- a conflict of one path is one of the same path
-pub conflict_of : {W : Type 0} (P Q : Path W) (kind : ConflictKind) → P ≡ Q → ClosureHas (along P) kind → ClosureHas (along Q) kind
-conflict_of {W} P Q kind e h = subst (λ (R : Path W). ClosureHas (along R) kind) e h
+-- a conflict of one setting is one of the same setting
+pub conflict_of : {W : Type 0} (S T : Setting W) (kind : ConflictKind) → S ≡ T → ClosureHas S kind → ClosureHas T kind
+conflict_of {W} S T kind e h = subst (λ (U : Setting W). ClosureHas U kind) e h
 
--- a stop that is the conflict is told by a result of it
-pub stop_is : {A : Type 0} (r : Result A Stop) (stop : Stop) (kind : ConflictKind) → r ≡ Err stop → stop ≡ Conflict kind → r ≡ Err (Conflict kind)
-stop_is {A} r stop kind e f = let at : Stop → Result A Stop = λ x. Err x in e ∙ ap at f
-
--- so is one for want of memory
-pub memory_is : {A : Type 0} (r : Result A Stop) (stop : Stop) → r ≡ Err stop → stop ≡ OutOfMemory → r ≡ Err OutOfMemory
-memory_is {A} r stop e f = let at : Stop → Result A Stop = λ x. Err x in e ∙ ap at f
+-- a run of one thread is the trip of its path
+pub single_trip : {W : Type 0} (m : Means W) (crash : Crash) (note : List ℕ) (rows : List StepRow) (skipped : ℕ) → crash.notes ≡ note ∷ [] → route m crash (course_of (run_of_one rows skipped)) ≡ trip_of (crash_path m crash rows)
+single_trip {W} m crash note rows skipped only =
+    subst (λ (notes : List (List ℕ)). route m (record { exe = crash.exe; core = crash.core; notes = notes }) (course_of (run_of_one rows skipped)) ≡ trip_of (crash_path m (record { exe = crash.exe; core = crash.core; notes = notes }) rows)) (sym only)
+    (ap (λ (f : ℕ → List ℕ). trip_by m (course_of (run_of_one rows 0)) (record { registers = f; dump = byte_at (contents crash.exe) crash.core; image_end = (contents crash.exe).end })) (fun_ext each))
+  where
+    each : (t : ℕ) → values_of (slice_get (note ∷ []) t) ≡ registers_alone (last_values note) t
+    each zero = refl
+    each (suc t) = refl

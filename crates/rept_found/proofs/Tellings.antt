@@ -14,7 +14,6 @@ use Rattle.rept_report.specs.Setting.{Setting}
 use Rattle.rept_report.specs.Spots.{Spot, spot}
 use Rattle.rept_report.specs.Writers.{IsLastCandidate, HasNoCandidate, IsWriter}
 use Rattle.rept_report.proofs.WriterLaws.{one_writer}
-use Rattle.rept_report.specs.OneThread.{Path, along}
 use Rattle.rept_analysis.specs.Counts.{IsCounted}
 use Rattle.rept_session.specs.LastWriters.{AreLastWriters, named_row}
 use Rattle.rept_trip.specs.Trip.{Trip, setting_on}
@@ -110,9 +109,8 @@ module _ {W : Type 0} (t : Trip W) (sound : IsSound t.course) (K : Knowledge) (t
   }
 
 -- counts by their equations
-pub counted : {W : Type 0} (P : Path W) (K : Knowledge) (c : Counts) → IsCounted (along P) K c → c ≡ counts_of (along P) K
-counted P K c h =
-    let S = along P in
+pub counted : {W : Type 0} (S : Setting W) (K : Knowledge) (c : Counts) → IsCounted S K c → c ≡ counts_of S K
+counted S K c h =
     ap (λ n. record { steps = n; calls = c.calls; registers = c.registers; exact = c.exact; inexact = c.inexact }) h.steps
     ∙ ap (λ n. record { steps = (counts_of S K).steps; calls = n; registers = c.registers; exact = c.exact; inexact = c.inexact }) h.calls
     ∙ ap (λ n. record { steps = (counts_of S K).steps; calls = (counts_of S K).calls; registers = n; exact = c.exact; inexact = c.inexact }) h.registers

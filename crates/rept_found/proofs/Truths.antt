@@ -1,5 +1,5 @@
 -- What is told of a report holds in every execution, and reasons rest on it.
-use Rattle.std.proofs.Common.{◌≡◌, ℕ, ◌+◌, ◌<◌, ◌≤◌, ◌^◌, Bool, true, cond, eqb, List, All, Option, Some, None, inl, inr, refl, sym, ap, subst, ◌∙◌, arith}
+use Rattle.std.proofs.Common.{◌≡◌, ℕ, ◌+◌, ◌<◌, ◌≤◌, ◌^◌, Bool, true, cond, eqb, List, [], ◌∷◌, All, Option, Some, None, inl, inr, refl, sym, ap, subst, ◌∙◌, arith}
 use mathlib.Core.Path.{fun_ext}
 use Rattle.std.specs.Prelude.{bit_and}
 use Rattle.std.proofs.lemmas.Bool.{cases_eq, cond-true, cond-false, eq-eqb, ne_eqb, leb-true}
@@ -28,7 +28,7 @@ use Rattle.rept_report.specs.Implied.{HasEnded, known_at_end}
 use Rattle.rept_report.specs.Log.{Entry, logged_of}
 use Rattle.rept_report.proofs.OneThread.{rows_within, are_points, execution_runs, none_later, writes_told}
 use Rattle.rept_report.specs.OneThread.{Path, along}
-use Rattle.rept_found.specs.Crash.{Crash, Means, route, setting, Scene}
+use Rattle.rept_found.specs.Crash.{Crash, Means, path_of, Scene}
 use Rattle.rept_trip.specs.Alone.{trip_of}
 use Rattle.rept_trip.specs.Last.{writer_found}
 use Rattle.rept_found.specs.Telling.{noted, shown_of}
@@ -95,10 +95,10 @@ module _ {W : Type 0} (P : Path W) where
 
 module _ {W : Type 0} (m : Means W) (sets : AreLawfulSets m.sets) (moves : AreMoves m.sets m.moves) (crash : Crash) (rows : List StepRow) (K : Knowledge) where
   abbrev Here : Setting W
-  Here = setting m crash rows
+  Here = along (path_of m crash rows)
 
   abbrev There : Path W
-  There = route m crash rows
+  There = path_of m crash rows
 
   answers_true : IsSound Here K → (end : Scene) (run : ℕ → State) → Executes There run → IsTrueOf There (shown_of There K end) run
   answers_true sound end run x = record {
@@ -125,5 +125,5 @@ module _ {W : Type 0} (m : Means W) (sets : AreLawfulSets m.sets) (moves : AreMo
         reason_true l.entries l.tracked log why l.knows (premises l.entries l.tracked f why l.ended here) (ranges l.entries l.tracked f why l.ended here);
   }
 
-pub uses_here : {W : Type 0} (m : Means W) (crash : Crash) (rows : List StepRow) → Uses (setting m crash rows) m.sets m.moves m.rules
+pub uses_here : {W : Type 0} (m : Means W) (crash : Crash) (rows : List StepRow) → Uses (along (path_of m crash rows)) m.sets m.moves m.rules
 uses_here m crash rows = record { its_sets = refl; its_moves = refl; its_rules = refl; its_legs = rows_within rows; its_moments = are_points rows }

@@ -1,9 +1,9 @@
--- What a crash leaves, and the analysis of a path that ends in it (ELF-32 Object File Format; Linux core notes of RISC-V).
-use Rattle.std.specs.Prelude.{ℕ, ◌+◌, ◌*◌, List, [], ◌∷◌, map, ◌==◌, if◌then◌else◌, unwrap_or, slice_get}
+-- What a crash leaves, and the analysis of a run that ends in it (ELF-32 Object File Format; Linux core notes of RISC-V).
+use Rattle.std.specs.Prelude.{ℕ, ◌+◌, ◌*◌, List, [], map, ◌==◌, if◌then◌else◌, Option, Some, None, unwrap_or, slice_get}
 use Rattle.std.specs.List.{range_with_len}
 use Rattle.rept_elf.specs.Header.{word_at}
 use Rattle.rept_elf.specs.Segments.{ElfSegment}
-use Rattle.rept_dump.specs.Dump.{exe_of, core_of, registers_of}
+use Rattle.rept_dump.specs.Dump.{exe_of, core_of}
 use Rattle.rept_dump.specs.Memory.{byte_at}
 use Rattle.rept_dump.specs.Program.{Program, contents}
 use Rattle.rept_dump.specs.declared.dump.Dump.{Dump}
@@ -12,19 +12,24 @@ use Rattle.rept_partial.specs.Sets.{Sets}
 use Rattle.rept_report.specs.Setting.{Setting}
 use Rattle.rept_span.specs.Moves.{Moves}
 use Rattle.rept_view.specs.Rules.{Rules}
-use Rattle.rept_report.specs.OneThread.{Path, along}
+use Rattle.rept_report.specs.OneThread.{Path}
 use Rattle.rept_steps.specs.Course.{Course}
 use Rattle.rept_order.specs.History.{Ending}
-use Rattle.rept_trip.specs.Trip.{Trip}
+use Rattle.rept_trip.specs.Trip.{Trip, setting_on}
 
--- a program and the core file of its crash: its files, the segments of the core file, and the descriptor of the register note
+-- a program and the core file of its crash: its files, the segments of the core file, and the descriptors of the register notes, one of each thread
 pub record Crash : Type 0 where
   pub exe : Program
   pub core : List ElfSegment
-  pub note : List ℕ
+  pub notes : List (List ℕ)
 
-abbrev pub crash_of : Dump → Crash
-crash_of dump = record { exe = exe_of dump; core = core_of dump; note = registers_of dump }
+-- that of a dump whose notes have these descriptors
+abbrev pub crash_of : Dump → List (List ℕ) → Crash
+crash_of dump notes = record { exe = exe_of dump; core = core_of dump; notes = notes }
+
+-- the descriptor of a thread's note; past the last thread it is empty
+abbrev pub note_at : Crash → ℕ → List ℕ
+note_at crash t = unwrap_or (slice_get crash.notes t) []
 
 -- the program counter in the descriptor of a register note
 abbrev pub end_pc : List ℕ → ℕ
@@ -48,9 +53,12 @@ pub record Scene : Type 0 where
 abbrev pub ended_at : Scene → ℕ → Ended
 ended_at scene t = unwrap_or (slice_get scene.threads t) (record { end_pc = 0; process = 0 })
 
--- of the one thread of the note
+-- by its note
+abbrev pub ended : List ℕ → Ended
+ended note = record { end_pc = end_pc note; process = process note }
+
 abbrev pub scene_of : Crash → Scene
-scene_of crash = record { threads = record { end_pc = end_pc crash.note; process = process crash.note } ∷ []; program = crash.exe }
+scene_of crash = record { threads = map ended crash.notes; program = crash.exe }
 
 -- the last value of a register
 abbrev pub last_value : List ℕ → ℕ → ℕ
@@ -73,15 +81,32 @@ means sets moves rules = record { sets = sets; moves = moves; rules = rules }
 abbrev pub trip_by : {W : Type 0} → Means W → Course → Ending → Trip W
 trip_by m course ending = record { sets = m.sets; moves = m.moves; rules = m.rules; course = course; ending = ending }
 
--- a path over the program, and the registers and bytes of the core file in which it ends
-abbrev pub route : {W : Type 0} → Means W → Crash → List StepRow → Path W
-route m crash rows = record {
+-- the last values of a thread that has a note; no other one has any
+abbrev pub values_of : Option (List ℕ) → List ℕ
+values_of None = []
+values_of (Some note) = last_values note
+
+-- how a run ended: with the registers of the notes, and with the bytes of the core file
+abbrev pub ending_of : Crash → Ending
+ending_of crash = record {
+  registers = λ t. values_of (slice_get crash.notes t);
+  dump = byte_at (contents crash.exe) crash.core;
+  image_end = (contents crash.exe).end;
+}
+
+-- a run of the program, and the registers and bytes of the core file in which it ends
+abbrev pub route : {W : Type 0} → Means W → Crash → Course → Trip W
+route m crash course = trip_by m course (ending_of crash)
+
+-- the setting of which a report of that run speaks
+abbrev pub setting : {W : Type 0} → Means W → Crash → Course → Setting W
+setting m crash course = setting_on (route m crash course)
+
+-- a path of one thread, with the first note's registers
+abbrev pub path_of : {W : Type 0} → Means W → Crash → List StepRow → Path W
+path_of m crash rows = record {
   sets = m.sets;
   moves = m.moves;
   rules = m.rules;
-  given = record { rows = rows; last = last_values crash.note; dump = byte_at (contents crash.exe) crash.core; image_end = (contents crash.exe).end };
+  given = record { rows = rows; last = last_values (note_at crash 0); dump = byte_at (contents crash.exe) crash.core; image_end = (contents crash.exe).end };
 }
-
--- the setting of which a report of that path speaks
-abbrev pub setting : {W : Type 0} → Means W → Crash → List StepRow → Setting W
-setting m crash rows = along (route m crash rows)

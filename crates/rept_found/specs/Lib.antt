@@ -1,4 +1,5 @@
 pub mod Crash
+pub mod Ends
 pub mod Histories
 pub mod Single
 pub mod Telling

@@ -1,51 +1,71 @@
 -- An analysis that is prepared, or has ended, as contracts see it. This project's own.
-use Rattle.std.specs.Prelude.{◌≡◌}
-use Rattle.rept_report.specs.Closure.{IsReport}
-use Rattle.rept_versions.specs.OnLine.{Parts, store}
+use Rattle.std.specs.Prelude.{◌≡◌, ◌<◌, List, length, map}
+use Rattle.rept_elf.specs.Segments.{ElfSegment}
 use Rattle.rept_dump.specs.Memory.{byte_at}
-use Rattle.rept_dump.specs.Program.{contents}
-use Rattle.rept_line.specs.declared.line.OnePath.{OnePath}
-use Rattle.rept_report.specs.OneThread.{Alone, Path, along}
-use Rattle.rept_report.specs.Timeline.{Timeline, time_alone}
-use Rattle.rept_analysis.specs.State.{State, Whole, Reader, reader, state_of}
-use Rattle.rept_analysis.specs.declared.thread_end.ThreadEnd.{ThreadEnd}
+use Rattle.rept_dump.specs.Program.{Program, contents}
+use Rattle.rept_dump.specs.declared.status.Status.{Status}
+use Rattle.rept_steps.specs.Course.{IsSound}
+use Rattle.rept_order.specs.History.{Ending}
+use Rattle.rept_report.specs.Closure.{IsReport}
+use Rattle.rept_timeline.specs.Times.{time_of}
+use Rattle.rept_versions.specs.OnLine.{Parts, store}
+use Rattle.rept_analysis.specs.State.{State, Whole, Reader, reader, given_of, state_of}
 use Rattle.rept_analysis.specs.Kept.{answers}
 use Rattle.rept_analysis.specs.Logged.{IsLogOf}
-use Rattle.rept_found.specs.Crash.{Means, Scene}
+use Rattle.rept_trip.specs.Trip.{Trip, given_on, setting_on}
+use Rattle.rept_found.specs.Crash.{Means, Ended, Scene, trip_by}
+use Rattle.rept_found.specs.Ends.{Ends, registers_in, last_values_in}
+use Rattle.rept_found.specs.declared.over.RunRows.{RunRows}
+use Rattle.rept_found.specs.declared.over.RunEnds.{RunEnds}
 
--- the analysis, and what is told of the crash besides
+-- the analysis, how the threads of its run ended, the files of the program, and the segments of the core file
 pub record View (W R : Type 0) : Type 0 where
-  pub analysis : Whole OnePath ThreadEnd Parts W R
-  pub scene : Scene
+  pub analysis : Whole RunRows RunEnds Parts W R
+  pub ends : Ends
+  pub program : Program
+  pub core : List ElfSegment
 
--- the rows and moments of one path
-abbrev pub time_of : OnePath → Timeline
-time_of paths = time_alone paths.rows.now
+-- the rows and moments of the run, and the last values of registers
+abbrev pub read_in : Reader RunRows RunEnds
+read_in = reader (λ rows. time_of rows.paths.now.ways) (λ ends. last_values_in ends.ends.now)
 
--- and the last register values of its thread
-abbrev pub ends_at : Reader OnePath ThreadEnd
-ends_at = reader time_of (λ end point. end.values)
+-- how the run ended
+abbrev pub ending_in : {W R : Type 0} → View W R → Ending
+ending_in v = record {
+  registers = registers_in v.ends;
+  dump = byte_at (contents v.program) v.core;
+  image_end = (contents v.program).end;
+}
 
--- the thread
-abbrev pub alone_of : {B W R : Type 0} → Whole OnePath ThreadEnd B W R → Alone
-alone_of a = record { rows = a.paths.rows.now; last = a.last.values; dump = byte_at (contents a.exe) a.core; image_end = (contents a.exe).end }
+-- the trip that the analysis is of
+abbrev pub trip_in : {W R : Type 0} → Means W → View W R → Trip W
+trip_in m v = trip_by m v.ends.course (ending_in v)
+
+abbrev pub ended_as : Status → Ended
+ended_as status = record { end_pc = status.pc; process = status.pid }
+
+-- what a session tells of the crash besides
+abbrev pub scene_in : {W R : Type 0} → View W R → Scene
+scene_in v = record { threads = map ended_as v.ends.statuses; program = v.program }
 
 -- the analysis, as definitions speak of it
 abbrev pub state_in : {W R : Type 0} → Means W → View W R → State W
-state_in m v = state_of ends_at m.sets m.moves m.rules store v.analysis
+state_in m v = state_of read_in m.sets m.moves m.rules store v.analysis
 
--- the path that it is of
-abbrev pub path_in : {W R : Type 0} → Means W → View W R → Path W
-path_in m v = record { sets = m.sets; moves = m.moves; rules = m.rules; given = alone_of v.analysis }
+-- it goes over the rows and moments of a sound run of at least one thread, and ends as that does
+pub record IsOfRun {W R : Type 0} (v : View W R) : Type 0 where
+  pub some : 0 < length v.ends.course.threads
+  pub sound : IsSound v.ends.course
+  pub given : given_of read_in v.analysis ≡ given_on v.ends.course (ending_in v)
 
--- it is of this path and crash
-pub record IsPreparedFor {W R : Type 0} (m : Means W) (P : Path W) (scene : Scene) (v : View W R) : Type 0 where
-  pub path : path_in m v ≡ P
-  pub same_scene : v.scene ≡ scene
+-- it is of this trip and crash
+pub record IsPreparedFor {W R : Type 0} (m : Means W) (t : Trip W) (scene : Scene) (v : View W R) : Type 0 where
+  pub trip : trip_in m v ≡ t
+  pub same_scene : scene_in v ≡ scene
 
 -- it has the report, and an order in which that was learnt
-pub record IsFoundIn {W R : Type 0} (m : Means W) (P : Path W) (scene : Scene) (v : View W R) : Type 0 where
-  pub path : path_in m v ≡ P
-  pub same_scene : v.scene ≡ scene
-  pub report : IsReport (along P) (answers (state_in m v))
-  pub log : IsLogOf (along P) (answers (state_in m v)) (state_in m v).known.log
+pub record IsFoundIn {W R : Type 0} (m : Means W) (t : Trip W) (scene : Scene) (v : View W R) : Type 0 where
+  pub trip : trip_in m v ≡ t
+  pub same_scene : scene_in v ≡ scene
+  pub report : IsReport (setting_on t) (answers (state_in m v))
+  pub log : IsLogOf (setting_on t) (answers (state_in m v)) (state_in m v).known.log

@@ -1,60 +1,62 @@
 //! An analysis that has ended.
 
-ghost use Rattle.std.specs.Prelude.{IfOk, IfErr, IsOk};
+ghost use Rattle.std.specs.Prelude.{◌≡◌, true, IfOk, IsOk, Err};
 ghost use Rattle.rept_report.specs.Closure.{ClosureHas, IsConsistent};
-ghost use Rattle.rept_report.specs.OneThread.{along};
-ghost use Rattle.rept_trip.specs.Alone.{trip_of};
+ghost use Rattle.rept_report.specs.declared.conflict.ConflictKind.{ConflictKind};
 ghost use Rattle.rept_trip.specs.Executed.{HasNoHistory};
+ghost use Rattle.rept_trip.specs.Trip.{setting_on};
+ghost use Rattle.rept_analysis.specs.State.{IsLined};
 ghost use Rattle.rept_found.specs.Crash.{means};
-ghost use Rattle.rept_found.specs.Truth.{HasNoExecution};
-ghost use Rattle.rept_found.specs.View.{IsFoundIn, path_in};
+ghost use Rattle.rept_found.specs.View.{IsFoundIn, read_in, scene_in, trip_in};
 
+use crate::ends::ThreadEnds;
+use crate::over::{RunEnds, RunRows};
 use crate::prepared::Prepared;
-use rept_analysis::{Analysis, Stop, ThreadEnd};
+use rept_analysis::{Analysis, Stop};
 use rept_dump::Dump;
-use rept_line::OnePath;
-use rept_report::ConflictKind;
 use rept_span::Transfer;
+use rept_timeline::RunPaths;
 use rept_versions::SpanFacts;
 use rept_view::RowRules;
 use std::marker::Model;
 
-/// What an analysis found out: the report of a path and the dump in which it ends, by one kind of sets of values and of rules.
+/// What an analysis found out: the report of a run and the dump in which it ends, by one kind of sets of values and of rules.
 #[derive(Drop)]
 pub struct Found<'a, W: Transfer, R: RowRules> {
-    pub(crate) analysis: Analysis<'a, OnePath<'a>, ThreadEnd, SpanFacts, W, R>,
-    pub(crate) end_pc: u32,
-    pub(crate) process: u32,
+    pub(crate) analysis: Analysis<'a, RunRows<'a>, RunEnds<'a>, SpanFacts, W, R>,
+    pub(crate) paths: &'a RunPaths<'a>,
+    pub(crate) ends: &'a ThreadEnds<'a>,
     pub(crate) dump: &'a Dump<'a>,
 }
 
 impl<'a, W: Transfer, R: RowRules> Model for Found<'a, W, R> {
-    ghost use Rattle.std.specs.Prelude.{◌≡◌, ◌≤◌, [], ◌∷◌, length, true};
-    ghost use Rattle.rept_dump.specs.Dump.{exe_of};
-    ghost use Rattle.rept_found.specs.View.{View};
+    ghost use Rattle.std.specs.Prelude.{◌≡◌, true};
+    ghost use Rattle.rept_dump.specs.Dump.{exe_of, core_of};
+    ghost use Rattle.rept_moments.specs.Courses.{IsCourseOf};
+    ghost use Rattle.rept_found.specs.View.{View, IsOfRun};
 
     ghost Value = { View W R };
 
-    ghost view = { λ f. record { analysis = f.analysis; scene = record { threads = record { end_pc = f.end_pc; process = f.process } ∷ []; program = exe_of f.dump.now } } };
+    ghost view = { λ f. record { analysis = f.analysis; ends = f.ends.now; program = exe_of f.dump.now; core = core_of f.dump.now } };
 
-    ghost invariant = { λ f. (f.analysis.complete ≡ true) × (length f.analysis.paths.rows.now ≤ 65536) };
+    ghost invariant = { λ f. (f.analysis.complete ≡ true) × IsOfRun (record { analysis = f.analysis; ends = f.ends.now; program = exe_of f.dump.now; core = core_of f.dump.now }) × IsCourseOf f.ends.now.course f.paths.now.ways };
 }
 
-/// Learns all that follows, which takes no memory: it is Ok exactly where the closure of the rules has no conflict. A conflict that is told is
-/// one of the closure, and then no execution of the steps ends in the dump, and no history of the run of their one thread does.
+/// Learns all that follows. Where each moment leads on to the one of the next number alone, as of one thread in one slice, all of which is told, that takes no memory: it is Ok exactly where the
+/// closure of the rules has no conflict. Of any other run memory may run out. A conflict that is told is one of the closure, and then no execution of all threads ends in the dump.
 pub fn search<'a, W: Transfer, R: RowRules>(
     prepared: Prepared<'a, W, R>,
-) -> Result<Found<'a, W, R>, ConflictKind>
-    ensures found { IfOk result (IsFoundIn (means W.sets W.moves R.rules) (path_in (means W.sets W.moves R.rules) prepared.entry) prepared.entry.scene) }
-    ensures conflict { IfErr result (λ kind. ClosureHas (along (path_in (means W.sets W.moves R.rules) prepared.entry)) kind) }
-    ensures no_history { IfErr result (λ _. HasNoHistory (trip_of (path_in (means W.sets W.moves R.rules) prepared.entry))) }
-    ensures impossible { IfErr result (λ _. HasNoExecution (path_in (means W.sets W.moves R.rules) prepared.entry)) }
-    ensures exact { IsConsistent (along (path_in (means W.sets W.moves R.rules) prepared.entry)) → IsOk result }
+) -> Result<Found<'a, W, R>, Stop>
+    ensures found { IfOk result (IsFoundIn (means W.sets W.moves R.rules) (trip_in (means W.sets W.moves R.rules) prepared.entry) (scene_in prepared.entry)) }
+    ensures conflict { (kind : ConflictKind) → result ≡ Err (Stop.Conflict kind) → ClosureHas (setting_on (trip_in (means W.sets W.moves R.rules) prepared.entry)) kind }
+    ensures impossible { (kind : ConflictKind) → result ≡ Err (Stop.Conflict kind) → HasNoHistory (trip_in (means W.sets W.moves R.rules) prepared.entry) }
+    ensures whole { IsLined (read_in.timeline prepared.entry.analysis.paths) → result ≡ Err Stop.OutOfMemory → ⊥ }
+    ensures exact { IsLined (read_in.timeline prepared.entry.analysis.paths) → IsConsistent (setting_on (trip_in (means W.sets W.moves R.rules) prepared.entry)) → IsOk result }
 {
     let Prepared {
         analysis,
-        end_pc,
-        process,
+        paths,
+        ends,
         dump,
     } = prepared;
     let mut analysis = analysis;
@@ -63,12 +65,11 @@ pub fn search<'a, W: Transfer, R: RowRules>(
             analysis.account();
             Ok(Found {
                 analysis,
-                end_pc,
-                process,
+                paths,
+                ends,
                 dump,
             })
         }
-        Err(Stop::Conflict(kind)) => Err(kind),
-        Err(Stop::OutOfMemory) => unreachable!(),
+        Err(stop) => Err(stop),
     }
 }

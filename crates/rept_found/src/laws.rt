@@ -1,29 +1,34 @@
 //! Laws of the definitions, for callers whose contracts speak of any run and crash. The calls do nothing.
 
-ghost use Rattle.std.specs.Prelude.{◌<◌, ℕ, List, length};
+ghost use Rattle.std.specs.Prelude.{◌≡◌, ◌<◌, ℕ, List, [], ◌∷◌, length};
 ghost use Rattle.rept_isa.specs.declared.row.StepRow.{StepRow};
 ghost use Rattle.rept_steps.specs.Course.{Course, IsSound};
 ghost use Rattle.rept_order.specs.History.{Ending};
 ghost use Rattle.rept_reason.specs.Facts.{Knowledge};
 ghost use Rattle.rept_report.specs.declared.conflict.ConflictKind.{ConflictKind};
 ghost use Rattle.rept_report.specs.Closure.{ClosureHas, IsReport};
-ghost use Rattle.rept_report.specs.OneThread.{Path};
+ghost use Rattle.rept_report.specs.OneThread.{Path, along};
+ghost use Rattle.rept_steps.specs.Runs.{course_of, run_of_one};
 ghost use Rattle.rept_session.specs.LastWriters.{AreLastWriters};
+ghost use Rattle.rept_trip.specs.Alone.{trip_of};
 ghost use Rattle.rept_trip.specs.Trip.{setting_on};
 ghost use Rattle.rept_trip.specs.Executed.{HasNoHistory};
-ghost use Rattle.rept_found.specs.Crash.{Crash, Scene, means, route, setting, trip_by};
+ghost use Rattle.rept_found.specs.Crash.{Crash, Scene, means, path_of, route, trip_by};
 ghost use Rattle.rept_found.specs.Histories.{IsTrueTrip};
 ghost use Rattle.rept_found.specs.Single.{IsOneThread};
 ghost use Rattle.rept_found.specs.Telling.{shown_of, shown_on};
-ghost use Rattle.rept_found.specs.Truth.{IsTrueReport};
+ghost use Rattle.rept_found.specs.Truth.{HasNoExecution, IsTrueReport};
 
 use rept_report::{facts_have_reasons, reports_are_sound};
 use rept_span::Transfer;
 use rept_view::RowRules;
 
-/// What a session tells of a report holds in every execution of the path that ends in the crash, and its reasons rest on the report.
+/// What a session tells of a report holds in every execution of the path that ends in the crash, and its reasons rest on the report. Where the closure has a conflict, there is no such execution.
+/// The run of one thread is the trip of its path, so that the same is found and shown of it.
 pub fn reports_are_true<W: Transfer, R: RowRules>()
-    ensures { (crash : Crash) (rows : List StepRow) (K : Knowledge) → IsReport (setting (means W.sets W.moves R.rules) crash rows) K → IsTrueReport (route (means W.sets W.moves R.rules) crash rows) K }
+    ensures report { (crash : Crash) (rows : List StepRow) (K : Knowledge) → IsReport (along (path_of (means W.sets W.moves R.rules) crash rows)) K → IsTrueReport (path_of (means W.sets W.moves R.rules) crash rows) K }
+    ensures impossible { (crash : Crash) (rows : List StepRow) (kind : ConflictKind) → ClosureHas (along (path_of (means W.sets W.moves R.rules) crash rows)) kind → HasNoExecution (path_of (means W.sets W.moves R.rules) crash rows) }
+    ensures trip { (crash : Crash) (note : List ℕ) (rows : List StepRow) (skipped : ℕ) → crash.notes ≡ note ∷ [] → route (means W.sets W.moves R.rules) crash (course_of (run_of_one rows skipped)) ≡ trip_of (path_of (means W.sets W.moves R.rules) crash rows) }
 {
     reports_are_sound::<W, R>();
     facts_have_reasons::<W, R>();

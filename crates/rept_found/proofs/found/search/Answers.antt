@@ -1,53 +1,56 @@
-use Rattle.std.proofs.Common.{[], ◌∷◌, ◌∙◌, ap, refl, subst, sym}
-use Rattle.rept_dump.specs.Dump.{exe_of}
-use Rattle.rept_report.specs.Closure.{ClosureHas}
-use Rattle.rept_report.specs.OneThread.{Path, along}
+use Rattle.std.proofs.Common.{◌≡◌, Result, Err, IsOk, ◌∙◌, ap, refl, subst, sym}
+use Rattle.rept_dump.specs.Dump.{exe_of, core_of}
+use Rattle.rept_report.specs.Closure.{ClosureHas, IsConsistent}
+use Rattle.rept_report.specs.Setting.{Setting}
 use Rattle.rept_report.specs.Soundness.{HasNoExecution}
-use Rattle.rept_report.specs.declared.conflict.ConflictKind.{ConflictKind}
-use Rattle.rept_analysis.specs.State.{alone_lined}
+use Rattle.rept_analysis.specs.declared.stop.Stop.{Stop}
+use Rattle.rept_analysis.specs.declared.stop.Stop.TheVariants.{Conflict, OutOfMemory}
+use Rattle.rept_analysis.specs.State.{IsLined}
+use Rattle.rept_trip.specs.Executed.{HasNoHistory}
+use Rattle.rept_trip.specs.Trip.{given_on, setting_on}
 use Rattle.rept_found.specs.Crash.{means}
-use Rattle.rept_found.specs.View.{View, path_in}
-use Rattle.rept_found.proofs.Settings.{conflict_of, found_in, memory_is, path_back, stop_is}
-use Rattle.rept_found.proofs.Trips.{no_history_alone}
-use Rattle.rept_found.proofs.Truths.{no_execution}
+use Rattle.rept_found.specs.View.{View, ending_in, read_in, scene_in, trip_in, IsFoundIn, IsOfRun}
+use Rattle.rept_found.proofs.Settings.{conflict_of, found_in, setting_is, still_of}
+use Rattle.rept_found.proofs.Trips.{no_history}
 use Rattle.rept_found.proofs.found.search.Goals as goal
 
 pub returns-in-Ok-clause-found : goal.returns-in-Ok-clause-found
 returns-in-Ok-clause-found g c =
     let m = means g.W.Partial.sets g.W.Transfer.moves g.R.RowRules.rules in
-    let at = c.prepared.view_is in
-    found_in m (record { analysis = c.refine.new.self; scene = record { threads = record { end_pc = c.prepared.inside.end_pc; process = c.prepared.inside.process } ∷ []; program = exe_of c.prepared.inside.dump.now } }) (path_in m c.args.prepared) c.args.prepared.scene
-    (path_back m c.refine.new.self c.prepared.inside.analysis c.refine.ensures.path ∙ ap (λ (v : View g.row.W.Denot g.row.R.Denot). path_in (means g.W.Partial.sets g.W.Transfer.moves g.R.RowRules.rules) v) at)
-    (ap (λ (v : View g.row.W.Denot g.row.R.Denot). v.scene) at) c.in-Ok.ensures.report (c.account.ensures.log c.in-Ok.ensures.complete)
+    let here : View g.row.W.Denot g.row.R.Denot = record { analysis = c.prepared.inside.analysis; ends = c.prepared.inside.ends.now; program = exe_of c.prepared.inside.dump.now; core = core_of c.prepared.inside.dump.now } in
+    let new : View g.row.W.Denot g.row.R.Denot = record { analysis = c.refine.new.self; ends = c.prepared.inside.ends.now; program = exe_of c.prepared.inside.dump.now; core = core_of c.prepared.inside.dump.now } in
+    let of : IsOfRun new = record { some = c.prepared.invariant.0.some; sound = c.prepared.invariant.0.sound; given = still_of m here.analysis new.analysis (given_on here.ends.course (ending_in here)) c.refine.ensures.path c.prepared.invariant.0.given } in
+    subst (λ (v : View g.row.W.Denot g.row.R.Denot). IsFoundIn m (trip_in m v) (scene_in v) new) c.prepared.view_is (found_in m new of c.in-Ok.ensures.report (c.account.ensures.log c.in-Ok.ensures.complete))
 
-pub returns-in-Err-Conflict-clause-conflict : goal.returns-in-Err-Conflict-clause-conflict
-returns-in-Err-Conflict-clause-conflict g c =
-    let here = ap (λ (v : View g.row.W.Denot g.row.R.Denot). path_in (means g.W.Partial.sets g.W.Transfer.moves g.R.RowRules.rules) v) c.prepared.view_is in
-    subst (λ (k : ConflictKind). ClosureHas (along (path_in (means g.W.Partial.sets g.W.Transfer.moves g.R.RowRules.rules) c.args.prepared)) k) (sym c.in-Err-Conflict.kind-is)
-    (conflict_of _ (path_in (means g.W.Partial.sets g.W.Transfer.moves g.R.RowRules.rules) c.args.prepared) c.in-Err-Conflict.kind here
-    (c.refine.ensures.conflict c.in-Err-Conflict.kind (stop_is c.refine.result c.in-Err-Conflict.field-0 c.in-Err-Conflict.kind c.in-Err-Conflict.is c.in-Err-Conflict.field-0-is)))
+-- a stop of the analysis is one of the search
+stop_at : {A B : Type 0} (e : Stop) (stop : Stop) (r : Result A Stop) → r ≡ Err e → ◌≡◌ {A = Result B Stop} (Err e) (Err stop) → r ≡ Err stop
+stop_at e stop r is same = is ∙ ap (λ (x : Stop). Err x) (same_err same)
+  where
+    same_err : {B : Type 0} {x y : Stop} → ◌≡◌ {A = Result B Stop} (Err x) (Err y) → x ≡ y
+    same_err e = cc
 
-pub returns-in-Err-Conflict-clause-impossible : goal.returns-in-Err-Conflict-clause-impossible
-returns-in-Err-Conflict-clause-impossible g c =
-    let here = ap (λ (v : View g.row.W.Denot g.row.R.Denot). path_in (means g.W.Partial.sets g.W.Transfer.moves g.R.RowRules.rules) v) c.prepared.view_is in
-    no_execution (path_in (means g.W.Partial.sets g.W.Transfer.moves g.R.RowRules.rules) c.args.prepared)
-    (subst (λ (P : Path g.row.W.Denot). HasNoExecution (along P)) here
-    (c.refine.ensures.impossible c.in-Err-Conflict.kind (stop_is c.refine.result c.in-Err-Conflict.field-0 c.in-Err-Conflict.kind c.in-Err-Conflict.is c.in-Err-Conflict.field-0-is)))
+pub returns-clause-conflict : goal.returns-clause-conflict
+returns-clause-conflict g c = λ kind e.
+    let m = means g.W.Partial.sets g.W.Transfer.moves g.R.RowRules.rules in
+    let here : View g.row.W.Denot g.row.R.Denot = record { analysis = c.prepared.inside.analysis; ends = c.prepared.inside.ends.now; program = exe_of c.prepared.inside.dump.now; core = core_of c.prepared.inside.dump.now } in
+    subst (λ (v : View g.row.W.Denot g.row.R.Denot). ClosureHas (setting_on (trip_in m v)) kind) c.prepared.view_is
+    (conflict_of _ (setting_on (trip_in m here)) kind (setting_is m here c.prepared.invariant.0) (c.refine.ensures.conflict kind (stop_at c.in-Err.stop (Conflict kind) c.refine.result c.in-Err.is e)))
 
-pub returns-in-Err-Conflict-clause-no_history : goal.returns-in-Err-Conflict-clause-no_history
-returns-in-Err-Conflict-clause-no_history g c =
-    let here = ap (λ (v : View g.row.W.Denot g.row.R.Denot). path_in (means g.W.Partial.sets g.W.Transfer.moves g.R.RowRules.rules) v) c.prepared.view_is in
-    no_history_alone (path_in (means g.W.Partial.sets g.W.Transfer.moves g.R.RowRules.rules) c.args.prepared)
-    (subst (λ (P : Path g.row.W.Denot). HasNoExecution (along P)) here
-    (c.refine.ensures.impossible c.in-Err-Conflict.kind (stop_is c.refine.result c.in-Err-Conflict.field-0 c.in-Err-Conflict.kind c.in-Err-Conflict.is c.in-Err-Conflict.field-0-is)))
+pub returns-clause-impossible : goal.returns-clause-impossible
+returns-clause-impossible g c = λ kind e.
+    let m = means g.W.Partial.sets g.W.Transfer.moves g.R.RowRules.rules in
+    let here : View g.row.W.Denot g.row.R.Denot = record { analysis = c.prepared.inside.analysis; ends = c.prepared.inside.ends.now; program = exe_of c.prepared.inside.dump.now; core = core_of c.prepared.inside.dump.now } in
+    subst (λ (v : View g.row.W.Denot g.row.R.Denot). HasNoHistory (trip_in m v)) c.prepared.view_is
+    (no_history (trip_in m here) c.prepared.invariant.0.sound c.prepared.invariant.0.some (subst (λ (S : Setting g.row.W.Denot). HasNoExecution S) (setting_is m here c.prepared.invariant.0) (c.refine.ensures.impossible kind (stop_at c.in-Err.stop (Conflict kind) c.refine.result c.in-Err.is e))))
 
-pub returns-in-Err-Conflict-clause-exact : goal.returns-in-Err-Conflict-clause-exact
-returns-in-Err-Conflict-clause-exact g c = λ consistent.
-    let here = ap (λ (v : View g.row.W.Denot g.row.R.Denot). path_in (means g.W.Partial.sets g.W.Transfer.moves g.R.RowRules.rules) v) c.prepared.view_is in
-    absurd
-    (consistent c.in-Err-Conflict.kind
-    (subst (λ (P : Path g.row.W.Denot). ClosureHas (along P) c.in-Err-Conflict.kind) here
-    (c.refine.ensures.conflict c.in-Err-Conflict.kind (stop_is c.refine.result c.in-Err-Conflict.field-0 c.in-Err-Conflict.kind c.in-Err-Conflict.is c.in-Err-Conflict.field-0-is))))
+pub returns-clause-whole : goal.returns-clause-whole
+returns-clause-whole g c = λ lined e.
+    c.refine.ensures.joins refl (subst (λ (v : View g.row.W.Denot g.row.R.Denot). IsLined (read_in.timeline v.analysis.paths)) (sym c.prepared.view_is) lined) (stop_at c.in-Err.stop OutOfMemory c.refine.result c.in-Err.is e)
 
-pub unreachable-requires : goal.unreachable-requires
-unreachable-requires g c = c.refine.ensures.joins refl (alone_lined _) (memory_is c.refine.result c.in-Err-OutOfMemory.field-0 c.in-Err-OutOfMemory.is c.in-Err-OutOfMemory.field-0-is)
+pub returns-clause-exact : goal.returns-clause-exact
+returns-clause-exact g c = λ lined consistent.
+    let m = means g.W.Partial.sets g.W.Transfer.moves g.R.RowRules.rules in
+    let here : View g.row.W.Denot g.row.R.Denot = record { analysis = c.prepared.inside.analysis; ends = c.prepared.inside.ends.now; program = exe_of c.prepared.inside.dump.now; core = core_of c.prepared.inside.dump.now } in
+    subst (λ (r : Result _ Stop). IsOk r) c.in-Err.is
+    (c.refine.ensures.exact refl (subst (λ (v : View g.row.W.Denot g.row.R.Denot). IsLined (read_in.timeline v.analysis.paths)) (sym c.prepared.view_is) lined)
+    (subst (λ (S : Setting g.row.W.Denot). IsConsistent S) (sym (setting_is m here c.prepared.invariant.0)) (subst (λ (v : View g.row.W.Denot g.row.R.Denot). IsConsistent (setting_on (trip_in m v))) (sym c.prepared.view_is) consistent)))

@@ -1,20 +1,46 @@
-use Rattle.std.proofs.Common.{ℕ, [], ◌∷◌, ◌∙◌, ap}
-use Rattle.rept_dump.specs.Dump.{exe_of, registers_of}
-use Rattle.rept_elf.specs.Header.{word_at}
-use Rattle.rept_line.specs.declared.line.OnePath.{OnePath}
-use Rattle.rept_analysis.specs.declared.thread_end.ThreadEnd.{ThreadEnd}
-use Rattle.rept_found.specs.Crash.{crash_of, means}
-use Rattle.rept_found.proofs.Settings.{route_is}
+use Rattle.std.proofs.Common.{◌≡◌, ◌≤◌, length, ap, subst, sym, arith, ◌∙◌}
+use Rattle.rept_dump.specs.Dump.{exe_of, core_of}
+use Rattle.rept_moments.specs.Courses.{seen_in}
+use Rattle.rept_moments.specs.Seen.{Seen}
+use Rattle.rept_timeline.specs.declared.run_paths.RunPaths.{RunPaths}
+use Rattle.rept_found.specs.Crash.{means}
+use Rattle.rept_found.specs.View.{View}
+use Rattle.rept_found.specs.declared.over.RunRows.{RunRows}
+use Rattle.rept_found.specs.declared.over.RunEnds.{RunEnds}
+use Rattle.rept_found.specs.Ends.{Ends, last_values_in}
+use Rattle.rept_found.proofs.Settings.{given_is, points_are, scene_is, seen_same, trip_is, values_long}
 use Rattle.rept_found.proofs.prepared.prepare.Goals as goal
 
+pub prepare-requires-clause-few : goal.prepare-requires-clause-few
+prepare-requires-clause-few g c =
+    let all = points_are c.args.ends.now.course c.account.ensures.some in
+    let few = c.account.ensures.few in
+    let here : (seen_in c.args.paths.now.ways).legs.count ≤ 66560 = subst (λ (x : Seen). x.legs.count ≤ 66560) (sym (seen_same c.args.ends.now.course c.args.paths.now.ways c.requires.course)) (omega arith) in
+    subst (λ (x : RunPaths). (seen_in x.ways).legs.count ≤ 66560) (sym c.new-rows.ensures) here
+
 pub prepare-requires-clause-registers : goal.prepare-requires-clause-registers
-prepare-requires-clause-registers g c = λ p. c.new-last.result.whole
+prepare-requires-clause-registers g c = λ p. subst (λ (x : Ends). length (last_values_in x p) ≡ 32) (sym c.new-last.ensures) (values_long c.args.ends.now c.account.ensures.ends c.account.ensures.some p)
+
+pub invariant_of-result : goal.invariant_of-result
+invariant_of-result g c =
+    let its = c.in_ok-analysis.ensures in
+    let paths = ap (λ (x : RunRows). x.paths.now) its.path.0 ∙ c.new-rows.ensures in
+    let ends = ap (λ (x : RunEnds). x.ends.now) its.path.1 ∙ c.new-last.ensures in (
+      record {
+        some = c.account.ensures.some;
+        sound = c.requires.sound;
+        given = given_is c.in_ok-analysis.analysis c.args.paths.now c.args.ends.now (exe_of c.args.dump.now) (core_of c.args.dump.now) paths ends its.memory c.requires.course;
+      },
+      c.requires.course,
+    )
 
 pub returns : goal.returns
-returns g c = record {
-  prepared =
-      record {
-        path = route_is (means g.W.Partial.sets g.W.Transfer.moves g.R.RowRules.rules) c.in_ok-analysis.analysis (crash_of c.args.dump.now) c.args.steps.now (ap (λ (p : OnePath). p.rows.now) c.in_ok-analysis.ensures.path.0 ∙ c.new-paths.ensures ∙ c.rows.ensures.list) c.status-status.result c.status-status.ensures (ap (λ (e : ThreadEnd). e.values) c.in_ok-analysis.ensures.path.1 ∙ c.new-last.ensures) (c.account.ensures.last 0) c.in_ok-analysis.ensures.memory;
-        same_scene = ap (λ (n : ℕ). record { threads = record { end_pc = n; process = c.status-status.result.pid } ∷ []; program = exe_of c.args.dump.now }) c.status-status.ensures.pc ∙ ap (λ (n : ℕ). record { threads = record { end_pc = word_at (registers_of c.args.dump.now) 72; process = n } ∷ []; program = exe_of c.args.dump.now }) c.status-status.ensures.pid;
+returns g c =
+    let m = means g.W.Partial.sets g.W.Transfer.moves g.R.RowRules.rules in
+    let new : View g.row.W.Denot g.row.R.Denot = record { analysis = c.in_ok-analysis.analysis; ends = c.args.ends.now; program = exe_of c.args.dump.now; core = core_of c.args.dump.now } in
+    record {
+      prepared = λ notes noted same. record {
+        trip = trip_is m new notes c.account.ensures.ends.whole noted same;
+        same_scene = scene_is new notes noted same;
       };
-}
+    }

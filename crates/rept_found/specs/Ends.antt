@@ -1,0 +1,36 @@
+-- How the threads of a run ended, by what their register notes have. This project's own.
+use Rattle.std.specs.Prelude.{◌≡◌, ℕ, List, [], length, Option, Some, None, slice_get}
+use Rattle.rept_dump.specs.Status.{IsStatus}
+use Rattle.rept_dump.specs.declared.status.Status.{Status}
+use Rattle.rept_steps.specs.Course.{Course}
+use Rattle.rept_moments.specs.Seen.{alone_by}
+use Rattle.rept_trip.specs.Trip.{values_by}
+
+pub record Ends : Type 0 where
+  pub course : Course
+  pub statuses : List Status
+
+-- the registers of a thread; past the last one there are none
+abbrev pub registers_of_one : Option Status → List ℕ
+registers_of_one None = []
+registers_of_one (Some status) = status.regs
+
+abbrev pub registers_in : Ends → ℕ → List ℕ
+registers_in e t = registers_of_one (slice_get e.statuses t)
+
+-- the last values at a point of its thread
+abbrev pub last_values_in : Ends → ℕ → List ℕ
+last_values_in e p = values_by e.course (registers_in e) (alone_by e.course.threads e.course.dark) p
+
+-- each has 32 registers
+abbrev pub AreWhole : List Status → Type 0
+AreWhole statuses = (t : ℕ) (status : Status) → slice_get statuses t ≡ Some status → length status.regs ≡ 32
+
+-- there is one for each thread
+pub record AreEnds (e : Ends) : Type 0 where
+  pub count : length e.statuses ≡ length e.course.threads
+  pub whole : AreWhole e.statuses
+
+-- each is that of the note of its thread
+pub record AreNoted (descs : List (List ℕ)) (statuses : List Status) : Type 0 where
+  pub each : (t : ℕ) (status : Status) → slice_get statuses t ≡ Some status → (desc : List ℕ) × (slice_get descs t ≡ Some desc) × IsStatus desc status
