@@ -1,3 +1,4 @@
+pub mod Contradictions
 pub mod Crash
 pub mod Ends
 pub mod Histories

@@ -12,7 +12,7 @@ use Rattle.rept_report.specs.Setting.{Setting, way_of}
 use Rattle.rept_report.specs.Spots.{spot}
 use Rattle.rept_report.specs.Views.{bounds}
 use Rattle.rept_report.specs.Why.{IsReason}
-use Rattle.rept_report.specs.OneThread.{Path, along}
+use Rattle.rept_report.specs.OneThread.{Path}
 use Rattle.rept_moments.specs.Seen.{seen, moment_in}
 use Rattle.rept_analysis.specs.Counts.{rows_below, calls_below, stores_below, known_below}
 use Rattle.rept_session.specs.Shown.{Shown, Told, told}
@@ -72,6 +72,10 @@ pub record Account : Type 0 where
   pub scene : Scene
   pub skipped : ℕ
 
--- what a session tells of it, with reasons by that order
+-- what a session tells of a trip, with reasons by that order
+abbrev pub told_on : {W : Type 0} → Trip W → Account → Told
+told_on t a = told (shown_on t a.known a.scene) a.skipped (IsReason (setting_on t) a.log)
+
+-- and of a path
 abbrev pub told_of : {W : Type 0} → Path W → Account → Told
-told_of P a = told (shown_of P a.known a.scene) a.skipped (IsReason (along P) a.log)
+told_of P a = told_on (trip_of P) a

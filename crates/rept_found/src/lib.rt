@@ -1,6 +1,7 @@
 //! What an analysis finds out of a run of any number of threads and the dump in which they end, for the session that tells it.
 #![tactic(auto)]
 
+pub mod contradiction;
 pub mod ends;
 pub mod found;
 mod laws;
@@ -8,6 +9,7 @@ pub mod over;
 pub mod prepared;
 mod telling;
 
+pub use contradiction::{Contradiction, name_conflict};
 pub use ends::ThreadEnds;
 pub use found::{Found, search};
 pub use laws::{paths_are_one_thread, reports_are_true, trips_are_true};
