@@ -1,3 +1,4 @@
+pub mod Alone
 pub mod Enders
 pub mod Numbers
 pub mod Settings

@@ -1,9 +1,10 @@
 //! Laws of the definitions, for callers whose contracts speak of any run and crash. The calls do nothing.
 
-ghost use Rattle.std.specs.Prelude.{◌≡◌, ◌<◌, ℕ, List, [], ◌∷◌, length};
+ghost use Rattle.std.specs.Prelude.{◌≡◌, ◌<◌, ℕ, List, [], ◌∷◌, length, Some};
 ghost use Rattle.rept_isa.specs.declared.row.StepRow.{StepRow};
 ghost use Rattle.rept_steps.specs.Course.{Course, IsSound};
 ghost use Rattle.rept_order.specs.History.{Ending};
+ghost use Rattle.rept_moments.specs.Seen.{alone_by};
 ghost use Rattle.rept_reason.specs.Facts.{Knowledge};
 ghost use Rattle.rept_report.specs.declared.conflict.ConflictKind.{ConflictKind};
 ghost use Rattle.rept_report.specs.Closure.{ClosureHas, IsReport};
@@ -13,7 +14,7 @@ ghost use Rattle.rept_session.specs.LastWriters.{AreLastWriters};
 ghost use Rattle.rept_trip.specs.Alone.{trip_of};
 ghost use Rattle.rept_trip.specs.Trip.{setting_on};
 ghost use Rattle.rept_trip.specs.Executed.{HasNoHistory};
-ghost use Rattle.rept_found.specs.Crash.{Crash, Scene, means, path_of, route, trip_by};
+ghost use Rattle.rept_found.specs.Crash.{Crash, Scene, means, path_of, route, setting, trip_by};
 ghost use Rattle.rept_found.specs.Histories.{IsTrueTrip};
 ghost use Rattle.rept_found.specs.Single.{IsOneThread};
 ghost use Rattle.rept_found.specs.Telling.{shown_of, shown_on};
@@ -48,4 +49,10 @@ pub fn trips_are_true<W: Transfer, R: RowRules>()
 /// What is shown of a path is what its one thread's own words say: its points and moments are one.
 pub fn paths_are_one_thread<W: Transfer>()
     ensures { (P : Path W) (K : Knowledge) (scene : Scene) → IsOneThread P K (shown_of P K scene) }
+{}
+
+/// A run that is one path, of one thread in one slice, all of which is told, has the setting of that path, and the same is shown of it, in whichever slice of time it ran.
+pub fn runs_are_paths<W: Transfer, R: RowRules>()
+    ensures setting { (crash : Crash) (C : Course) (rows : List StepRow) → alone_by C.threads C.dark ≡ Some rows → 0 < length crash.notes → setting (means W.sets W.moves R.rules) crash C ≡ along (path_of (means W.sets W.moves R.rules) crash rows) }
+    ensures shown { (crash : Crash) (C : Course) (rows : List StepRow) (K : Knowledge) (scene : Scene) → alone_by C.threads C.dark ≡ Some rows → 0 < length crash.notes → shown_on (route (means W.sets W.moves R.rules) crash C) K scene ≡ shown_of (path_of (means W.sets W.moves R.rules) crash rows) K scene }
 {}

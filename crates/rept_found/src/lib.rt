@@ -12,5 +12,5 @@ mod telling;
 pub use contradiction::{Contradiction, name_conflict};
 pub use ends::ThreadEnds;
 pub use found::{Found, search};
-pub use laws::{paths_are_one_thread, reports_are_true, trips_are_true};
+pub use laws::{paths_are_one_thread, reports_are_true, runs_are_paths, trips_are_true};
 pub use prepared::{Prepared, prepare};
