@@ -1,7 +1,9 @@
 -- What is told of a report of any number of threads holds in every execution of them.
-use Rattle.std.proofs.Common.{◌≡◌, ℕ, ◌<◌, ◌≤◌, Bool, List, All, length, refl, sym, ap, subst, ◌∙◌, arith}
+use Rattle.std.proofs.Common.{◌≡◌, ℕ, ◌<◌, ◌≤◌, Bool, List, All, length, Option, Some, None, refl, sym, ap, subst, ◌∙◌, arith}
 use mathlib.Core.Path.{fun_ext}
+use Rattle.std.proofs.lemmas.Bool.{false≢true}
 use Rattle.std.proofs.lemmas.List.Elements.{All-weaker}
+use Rattle.rept_isa.specs.declared.row.StepRow.{StepRow}
 use Rattle.rept_partial.specs.Sets.{AreLawful as AreLawfulSets}
 use Rattle.rept_steps.specs.Course.{Course, IsSound}
 use Rattle.rept_order.specs.History.{History, Ending}
@@ -9,7 +11,10 @@ use Rattle.rept_order.specs.Legs.{registers_on}
 use Rattle.rept_order.specs.Moments.{Moment}
 use Rattle.rept_order.specs.Points.{memory_at}
 use Rattle.rept_order.specs.Writers as order
-use Rattle.rept_places.specs.Places.{last_on, place_on}
+use Rattle.rept_course.specs.Numbered.{row_on}
+use Rattle.rept_course.proofs.Naming.{row_inside}
+use Rattle.rept_moments.specs.Seen.{alone_by, seen_by}
+use Rattle.rept_places.specs.Places.{last_by, last_on, place_on}
 use Rattle.rept_reason.specs.declared.fact.Fact.{Fact}
 use Rattle.rept_reason.specs.declared.fact.Cell.{Cell}
 use Rattle.rept_reason.specs.declared.fact.Cell.TheVariants.{Register, Byte}
@@ -20,6 +25,10 @@ use Rattle.rept_moments.proofs.Apart.{legs_seen, moments_seen}
 use Rattle.rept_report.specs.Setting.{Setting, Uses, way_of}
 use Rattle.rept_report.specs.Spots.{spot}
 use Rattle.rept_report.specs.Runs.{Runs}
+use Rattle.rept_report.specs.declared.writer.Writer.{Writer}
+use Rattle.rept_report.specs.declared.writer.Writer as writers
+use Rattle.rept_report.specs.Views.{registers_at as seen_registers, touched_by}
+use Rattle.rept_report.specs.Writers.{IsCandidate, IsWriter}
 use Rattle.rept_report.specs.Soundness.{IsSound as IsSoundReport, HasNoExecution as HasNoRun}
 use Rattle.rept_report.specs.Why.{Because, IsReason, IsGiven, RangeAlwaysHolds as RangeHoldsInRuns}
 use Rattle.rept_report.specs.Implied.{HasEnded, known_at_end}
@@ -33,9 +42,10 @@ use Rattle.rept_trip.proofs.Acting.{writer_so}
 use Rattle.rept_trip.proofs.Naming.{place_named}
 use Rattle.rept_trip.proofs.Paths.{is_sound}
 use Rattle.rept_trip.proofs.Seeing.{history_runs}
+use Rattle.rept_trip.proofs.Telling.{IsTold, told_by}
 use Rattle.rept_found.specs.Crash.{Means, Scene, trip_by}
 use Rattle.rept_found.specs.Telling.{shown_on}
-use Rattle.rept_found.specs.Histories.{IsTrueIn, RangeHoldsInAll, IsTrueBecause, IsTrueTrip}
+use Rattle.rept_found.specs.Histories.{IsReached, IsTrueIn, RangeHoldsInAll, IsTrueBecause, IsTrueTrip, WriterReaches}
 use Rattle.rept_found.proofs.Tellings.{writer_fits}
 use Rattle.rept_found.proofs.Truths.{register_true, left_true, noted_true}
 
@@ -60,6 +70,25 @@ module _ {W : Type 0} (m : Means W) (sets : AreLawfulSets m.sets) (moves : AreMo
   runs : (h : History) → IsHistoryOf There h → Runs Here (run_on C h)
   runs h x = history_runs There h sound some x
 
+  -- a row that may write a byte, and doesn't lie wholly after the moment
+  row_reached : (k a j : ℕ) → k ≤ Here.moments.end → IsCandidate Here K (spot k a) j → IsReached C (record { moment = last_on C k; address = a }) (row_on C j)
+  row_reached k a j few its = by (Here.legs.row j) refl
+    where
+      told : IsTold C (seen_by C (alone_by C.threads C.dark)) (last_by C (alone_by C.threads C.dark))
+      told = told_by C sound (alone_by C.threads C.dark) refl
+
+      by : (o : Option StepRow) → Here.legs.row j ≡ o → IsReached C (record { moment = last_on C k; address = a }) (row_on C j)
+      by (Some its_row) e =
+          let is = row_inside C (row_on C j) its_row (told.there j its_row e) in
+          record { is = is; not_after = λ past. false≢true (sym its.reaches ∙ told.ahead_from j k few is past) }
+      by None e = absurd (false≢true (sym (ap (λ (o : Option StepRow). touched_by Here o (seen_registers Here K j) a) e) ∙ its.may))
+
+  writer_reached : (k a : ℕ) → k ≤ Here.moments.end → (w : Writer) → IsWriter Here K (spot k a) w → WriterReaches C (record { moment = last_on C k; address = a }) (writer_on C w)
+  writer_reached k a few (writers.TheVariants.Writes j) is = row_reached k a j few is.0.one
+  writer_reached k a few (writers.TheVariants.MayWrite j) is = row_reached k a j few is.0.one
+  writer_reached k a few writers.TheVariants.Several is = tt
+  writer_reached k a few writers.TheVariants.None is = tt
+
   answers_true : IsSoundReport Here K → (scene : Scene) (h : History) → IsHistoryOf There h → IsTrueIn There (shown_on There K scene) h
   answers_true report scene h x = record {
     registers = λ p r v early e. register_true K (record { register = registers_on C h p; memory = λ a. 0 }) p r v ((runs h x).zero p (omega arith)) (λ known. report.facts p (Register r) v known (run_on C h) (runs h x)) e;
@@ -67,8 +96,12 @@ module _ {W : Type 0} (m : Means W) (sets : AreLawfulSets m.sets) (moves : AreMo
     notes = λ p r n early e. noted_true m moves (range (way_of Here) K p r) (registers_on C h p r) n (λ set is. report.ranges p r set (omega arith) is (run_on C h) (runs h x)) e;
     bytes = λ k a v early e. ap (λ (y : Moment). memory_at C h y a) (place_named C sound k (omega arith)) ∙ report.facts k (Byte a) v e (run_on C h) (runs h x);
     writers = λ k a early small. writer_so_named k a (omega arith) (writer_so There h sound x k a (omega arith) K (writer_found Here K (spot k a)) (writer_fits There K k a) (report.writers k a (writer_found Here K (spot k a)) (omega arith) small (writer_fits There K k a) (run_on C h) (runs h x)));
+    reached = λ k a early. reached_named k a (omega arith) (writer_reached k a (omega arith) (writer_found Here K (spot k a)) (writer_fits There K k a));
   }
     where
+      reached_named : (k a : ℕ) → k ≤ Here.moments.end → WriterReaches C (record { moment = last_on C k; address = a }) (writer_on C (writer_found Here K (spot k a))) → WriterReaches C (record { moment = moment_named C (place_on C k); address = a }) (writer_on C (writer_found Here K (spot k a)))
+      reached_named k a few holds = subst (λ (y : Moment). WriterReaches C (record { moment = y; address = a }) (writer_on C (writer_found Here K (spot k a)))) (sym (place_named C sound k few)) holds
+
       writer_so_named : (k a : ℕ) → k ≤ Here.moments.end → order.WriterHolds C D h (record { moment = last_on C k; address = a }) (writer_on C (writer_found Here K (spot k a))) → order.WriterHolds C D h (record { moment = moment_named C (place_on C k); address = a }) (writer_on C (writer_found Here K (spot k a)))
       writer_so_named k a few holds = subst (λ (y : Moment). order.WriterHolds C D h (record { moment = y; address = a }) (writer_on C (writer_found Here K (spot k a)))) (sym (place_named C sound k few)) holds
 

@@ -1,8 +1,8 @@
 -- What is told of a report holds in every execution, and reasons rest on it.
-use Rattle.std.proofs.Common.{◌≡◌, ℕ, ◌+◌, ◌<◌, ◌≤◌, ◌^◌, Bool, true, cond, eqb, List, [], ◌∷◌, All, Option, Some, None, inl, inr, refl, sym, ap, subst, ◌∙◌, arith}
+use Rattle.std.proofs.Common.{◌≡◌, ℕ, ◌+◌, ◌<◌, ◌≤◌, ◌^◌, Bool, true, cond, eqb, List, All, Option, Some, None, inl, inr, refl, sym, ap, subst, ◌∙◌, arith}
 use mathlib.Core.Path.{fun_ext}
 use Rattle.std.specs.Prelude.{bit_and}
-use Rattle.std.proofs.lemmas.Bool.{cases_eq, cond-true, cond-false, eq-eqb, ne_eqb, leb-true}
+use Rattle.std.proofs.lemmas.Bool.{cases_eq, cond-true, cond-false, eq-eqb, ne_eqb, leb-true, leb-false}
 use Rattle.std.proofs.lemmas.List.Elements.{All-weaker}
 use Rattle.rept_isa.specs.declared.row.StepRow.{StepRow}
 use Rattle.rept_machine.specs.State.{State}
@@ -21,6 +21,7 @@ use Rattle.rept_report.specs.Spots.{spot}
 use Rattle.rept_report.specs.declared.writer.Writer.{Writer}
 use Rattle.rept_report.specs.declared.writer.Writer as writers
 use Rattle.rept_report.specs.Views.{bounds}
+use Rattle.rept_report.specs.Writers.{IsWriter}
 use Rattle.rept_report.proofs.ViewLaws.{bounds_cover, words_between}
 use Rattle.rept_report.specs.Soundness.{IsSound, HasNoExecution as HasNoRun, WriterHolds as WriterHoldsIn}
 use Rattle.rept_report.specs.Why.{Because, IsReason, IsGiven, RangeAlwaysHolds as RangeHoldsInRuns}
@@ -83,11 +84,11 @@ module _ {W : Type 0} (P : Path W) where
     writes = writes_told P.sets P.moves P.rules P.given h.row.instr P.given.image_end (states j).register (states (j + 1)).register (states j).memory (states (cond (is_call h.row.instr) j (j + 1))).memory (states j).memory (states (j + 1)).memory a h.writes;
   }
 
-  writer_true : (states : ℕ → State) (p a : ℕ) (w : Writer) → WriterHoldsIn (along P) (run_of states) (spot p a) w → WriterHolds P states (spot p a) w
-  writer_true states p a (writers.TheVariants.Writes j) h = (row_step states j a h.0, λ k above low w. none_later P.sets P.moves P.rules P.given (run_of states) p a j h.2 k above low (step_row states k a w))
-  writer_true states p a (writers.TheVariants.MayWrite j) h = λ k above low w. none_later P.sets P.moves P.rules P.given (run_of states) p a j h k above low (step_row states k a w)
-  writer_true states p a writers.TheVariants.Several h = tt
-  writer_true states p a writers.TheVariants.None h = λ k low w. let high = leb-true p k (h.1 k (step_row states k a w)) in omega (arith, low, high)
+  writer_true : (K : Knowledge) (states : ℕ → State) (p a : ℕ) (w : Writer) → IsWriter (along P) K (spot p a) w → WriterHoldsIn (along P) (run_of states) (spot p a) w → WriterHolds P states (spot p a) w
+  writer_true K states p a (writers.TheVariants.Writes j) is h = (leb-false p j is.0.one.reaches, row_step states j a h.0, λ k above low w. none_later P.sets P.moves P.rules P.given (run_of states) p a j h.2 k above low (step_row states k a w))
+  writer_true K states p a (writers.TheVariants.MayWrite j) is h = (leb-false p j is.0.one.reaches, λ k above low w. none_later P.sets P.moves P.rules P.given (run_of states) p a j h k above low (step_row states k a w))
+  writer_true K states p a writers.TheVariants.Several is h = tt
+  writer_true K states p a writers.TheVariants.None is h = λ k low w. let high = leb-true p k (h.1 k (step_row states k a w)) in omega (arith, low, high)
 
   -- so do ranges
   ranges_true : (xs : List Looked) → All (RangeHoldsInRuns (along P)) xs → All (RangeAlwaysHolds P) xs
@@ -106,7 +107,7 @@ module _ {W : Type 0} (m : Means W) (sets : AreLawfulSets m.sets) (moves : AreMo
     ranges = λ p r early. left_true m sets (range (way_of Here) K p r) ((run p).register r) ((x.states p early).words r) (λ set is. sound.ranges p r set early is (run_of run) (runs There run x));
     notes = λ p r n early e. noted_true m moves (range (way_of Here) K p r) ((run p).register r) n (λ set is. sound.ranges p r set early is (run_of run) (runs There run x)) e;
     bytes = λ p a v e. sound.facts p (Byte a) v e (run_of run) (runs There run x);
-    writers = λ p a early small. writer_true There run p a (writer_found Here K (spot p a)) (sound.writers p a (writer_found Here K (spot p a)) early small (writer_fits (trip_of There) K p a) (run_of run) (runs There run x));
+    writers = λ p a early small. writer_true There K run p a (writer_found Here K (spot p a)) (writer_fits (trip_of There) K p a) (sound.writers p a (writer_found Here K (spot p a)) early small (writer_fits (trip_of There) K p a) (run_of run) (runs There run x));
   }
 
   -- what the laws of reasons say of an order in which the report was learnt

@@ -1,8 +1,12 @@
 -- What is told of a report of any number of threads holds in every execution of them that ends in the dump. This project's own.
-use Rattle.std.specs.Prelude.{◌≡◌, ℕ, ◌<◌, ◌≤◌, ◌^◌, All, List, Some, bit_and}
+use Rattle.std.specs.Prelude.{◌≡◌, ℕ, ◌<◌, ◌≤◌, ◌^◌, ⊤, All, List, Some, bit_and}
+use Rattle.rept_steps.specs.Course.{Course, Row, IsRow}
 use Rattle.rept_order.specs.History.{History}
+use Rattle.rept_order.specs.Moments.{WhollyAfter}
+use Rattle.rept_order.specs.Moments.Act.{row}
 use Rattle.rept_order.specs.Points.{registers_at, memory_at}
-use Rattle.rept_order.specs.Writers.{Spot, WriterHolds}
+use Rattle.rept_order.specs.Writers.{Spot, Writer, WriterHolds}
+use Rattle.rept_order.specs.Writers.Writer.{writes, may_write, several, none}
 use Rattle.rept_reason.specs.declared.fact.Fact.{Fact}
 use Rattle.rept_reason.specs.declared.reason.Looked.{Looked}
 use Rattle.rept_reason.specs.Facts.{Knowledge}
@@ -27,14 +31,27 @@ byte_in t s h m a = memory_at t.course h (moment_named t.course (s.place m)) a
 abbrev pub spot_in : {W : Type 0} → Trip W → Shown → ℕ → ℕ → Spot
 spot_in t s m a = record { moment = moment_named t.course (s.place m); address = a }
 
+-- the row is one of the run, and the order doesn't put it after the moment
+pub record IsReached (C : Course) (x : Spot) (r : Row) : Type 0 where
+  pub is : IsRow C r
+  pub not_after : WhollyAfter C (row r) x.moment → ⊥
+
+-- so of the row of which it is told that it wrote the byte, or may have
+abbrev pub WriterReaches : Course → Spot → Writer → Type 0
+WriterReaches C x (writes r) = IsReached C x r
+WriterReaches C x (may_write r) = IsReached C x r
+WriterReaches C x several = ⊤
+WriterReaches C x none = ⊤
+
 -- Of one execution of all threads: each value of a register and each byte that is told is the one that it has at the point or moment by whose name it is told, each register
--- lies between the bounds that are told and has the bits that are noted, and what is told of the row that last wrote a byte is so.
+-- lies between the bounds that are told and has the bits that are noted, and what is told of the row that last wrote a byte is so, which isn't one that comes after the moment.
 pub record IsTrueIn {W : Type 0} (t : Trip W) (s : Shown) (h : History) : Type 0 where
   pub registers : (p r v : ℕ) → p < s.points → s.register p r ≡ Some v → value_at t h (s.point p) r ≡ v
   pub ranges : (p r : ℕ) → p < s.points → ((s.range p r).lo ≤ value_at t h (s.point p) r) × (value_at t h (s.point p) r ≤ (s.range p r).hi)
   pub notes : (p r : ℕ) (n : ℕ × ℕ) → p < s.points → s.note p r ≡ Some n → bit_and (value_at t h (s.point p) r) n.0 ≡ n.1
   pub bytes : (m a v : ℕ) → m < s.moments → s.byte m a ≡ Some v → byte_in t s h m a ≡ v
   pub writers : (m a : ℕ) → m < s.moments → a < 2 ^ 32 → WriterHolds t.course t.ending h (spot_in t s m a) (writer_on t.course (s.writer m a))
+  pub reached : (m a : ℕ) → m < s.moments → WriterReaches t.course (spot_in t s m a) (writer_on t.course (s.writer m a))
 
 -- the register's value lies in the range in every execution
 abbrev pub RangeHoldsInAll : {W : Type 0} → Trip W → Looked → Type 0

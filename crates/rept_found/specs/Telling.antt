@@ -1,4 +1,5 @@
--- What a session tells of a report: what is known, and what follows from it. This project's own.
+-- What a session tells of a report: what is known, and what follows from it. That of one path point p is p, its moment too, and the writer of a byte the greatest step before the point that may write it, says
+-- `IsOneThread` of Single.antt. This project's own.
 use Rattle.std.specs.Prelude.{ℕ, ◌+◌, true, false, List, length, Option, Some, None}
 use Rattle.rept_steps.specs.Course.{rows_of}
 use Rattle.rept_order.specs.Legs.{points_before}

@@ -31,17 +31,21 @@ pub record StepWrites {W : Type 0} (P : Path W) (run : ℕ → State) (j a : ℕ
   pub is_row : slice_get P.given.rows j ≡ Some row
   pub writes : Writes P.given.image_end row (run j) (run (j + 1)) a
 
--- Of an execution: step j writes the byte, and no later step before the point does; or no step after j and before the point
+-- no step after step j and before the point writes the byte
+abbrev pub NoneAfter : {W : Type 0} → Path W → (ℕ → State) → Spot → ℕ → Type 0
+NoneAfter P run x j = (k : ℕ) → j < k → k < x.point → StepWrites P run k x.address → ⊥
+
+-- Of an execution: step j, which is before the point, writes the byte, and no later step before the point does; or no step after step j, which is before the point, and before the point
 -- does; or no step before the point does. Of several nothing is said, nor are they told of one path.
 abbrev pub WriterHolds : {W : Type 0} → Path W → (ℕ → State) → Spot → Writer → Type 0
-WriterHolds P run x (writers.TheVariants.Writes j) = StepWrites P run j x.address × ((k : ℕ) → j < k → k < x.point → StepWrites P run k x.address → ⊥)
-WriterHolds P run x (writers.TheVariants.MayWrite j) = (k : ℕ) → j < k → k < x.point → StepWrites P run k x.address → ⊥
+WriterHolds P run x (writers.TheVariants.Writes j) = (j < x.point) × StepWrites P run j x.address × NoneAfter P run x j
+WriterHolds P run x (writers.TheVariants.MayWrite j) = (j < x.point) × NoneAfter P run x j
 WriterHolds P run x writers.TheVariants.Several = ⊤
 WriterHolds P run x writers.TheVariants.None = (k : ℕ) → k < x.point → StepWrites P run k x.address → ⊥
 
 -- Of one execution: each value of a register and each byte that is told is the one that it has, each register lies between the
--- bounds that are told and has the bits that are noted, and what is told of the step that last wrote a byte is so: that step wrote it and no later one did, no later
--- one did, or none did.
+-- bounds that are told and has the bits that are noted, and what is told of the step that last wrote a byte is so: that step came before the point, wrote it and no later one did; it came before and no later
+-- one did; or none did.
 pub record IsTrueOf {W : Type 0} (P : Path W) (s : Shown) (run : ℕ → State) : Type 0 where
   pub registers : (p r v : ℕ) → p ≤ length P.given.rows → s.register p r ≡ Some v → (run p).register r ≡ v
   pub ranges : (p r : ℕ) → p ≤ length P.given.rows → ((s.range p r).lo ≤ (run p).register r) × ((run p).register r ≤ (s.range p r).hi)
