@@ -4,39 +4,39 @@ use Rattle.rept_elf.specs.declared.fault.ElfFault.{ElfFault}
 use Rattle.rept_dump.specs.declared.fault.CoreFault.{CoreFault}
 use Rattle.rept_path.specs.declared.fault.PathFault.{PathFault}
 use Rattle.rept_path.specs.declared.fault.PathFault.TheVariants as fault
-use Rattle.rept_path.specs.declared.rebuilding.Path.{Path}
+use Rattle.rept_steps.specs.declared.run.Run.{Run}
 use Rattle.rept_runs.specs.Kind.{is_several}
 use Rattle.rept_ports.specs.Port.{Port, Move}
-use Rattle.rept_found.specs.Truth.{HasNoExecution}
 use Rattle.rept_serve.specs.Serving.{Reading}
 use Rattle.rept_app.specs.Delivered.{Says, Tells}
 use Rattle.rept_app.specs.Ends.{Stopped, Yields, PortsEnd}
-use Rattle.rept_app.specs.Examine.{Walks, Examines, PathYields, WalkYields, NoteYields, FilesEnd, FilesHold, IsPathStatus, IsWalkStatus, IsWalked, IsExamined, PathExcludes, FilesExclude, WalkHolds}
+use Rattle.rept_app.specs.Examine.{Walks, Examines, RunYields, WalkYields, NoteYields, FilesEnd, FilesHold, IsRunStatus, IsWalkStatus, IsWalked, IsExamined, TraceExcludes, FilesExclude, WalkHolds}
 use Rattle.rept_app.specs.Forms.{executable_fault, program_fault, core_image_fault}
 use Rattle.rept_app.specs.Lines.{status_of}
-use Rattle.rept_app.specs.Path.{IsPathOf, HasNoPathOf}
 use Rattle.rept_app.specs.Reading.{HasNoCrash, HasNoDump, NotesRefuse}
 use Rattle.rept_app.specs.Study.{Studies, IsStudied, StudyHolds}
 use Rattle.rept_app.specs.Loading.{CrashBytes}
-use Rattle.rept_app.specs.Told.{CoreSays, CrashTrace, trace_in, path_in, route_of, Examined, NotesTold, Reads}
+use Rattle.rept_app.specs.Told.{CoreSays, CrashTrace, trace_in, run_in, Examined, NotesTold, Reads}
+use Rattle.rept_app.specs.TraceRun.{IsRunOf, HasNoRunOf}
+use Rattle.rept_app.specs.True.{IsExcluded}
 use Rattle.rept_app.specs.declared.refusal.Refusal.{Refusal}
 use Rattle.rept_app.specs.declared.refusal.Refusal.TheVariants as refusal
 use Rattle.rept_app.specs.declared.status.Status.{Status}
 use Rattle.rept_app.specs.declared.status.Status.TheVariants as ends
 
--- how a call ends that tells why there is no path
+-- how a call ends that tells why there is no run
 abbrev pub WalkTold : Status → Type 0
 WalkTold status = (status ≡ ends.Trace) ⊎ Stopped status
 
-pub stopped_path : (status : Status) → Stopped status → IsPathStatus status
-stopped_path status h = inr (inr (inr (inr h)))
+pub stopped_run : (status : Status) → Stopped status → IsRunStatus status
+stopped_run status h = inr (inr (inr (inr h)))
 
 pub all_walks : (status : Status) → WalkTold status → IsWalkStatus status
 all_walks status (inl h) = inl h
-all_walks status (inr h) = inr (stopped_path status h)
+all_walks status (inr h) = inr (stopped_run status h)
 
--- a path that is told has another status than a trace that has none
-no_trace : (status : Status) → IsPathStatus status → status ≡ ends.Trace → ⊥
+-- a run that is told has another status than a trace that has none
+no_trace : (status : Status) → IsRunStatus status → status ≡ ends.Trace → ⊥
 no_trace status (inl h) e = cc
 no_trace status (inr (inl h)) e = cc
 no_trace status (inr (inr (inl h))) e = cc
@@ -44,7 +44,7 @@ no_trace status (inr (inr (inr (inl h)))) e = cc
 no_trace status (inr (inr (inr (inr (inl h))))) e = cc
 no_trace status (inr (inr (inr (inr (inr h))))) e = cc
 
--- the status of a trace without a path
+-- the status of a trace without a run
 trace_told : (f : PathFault) (status : Status) → (f ≡ fault.OutOfMemory → ⊥) → Yields (status_of (refusal.Path f)) status → Yields ends.Trace status
 trace_told (fault.NoStart k) status never h = h
 trace_told (fault.NotCode a) status never h = h
@@ -110,15 +110,15 @@ module _ (t : CrashTrace) (status : Status) where
     ends_so = all_walks status so;
   }
 
-  -- a call that stopped ends so whatever the path is
-  stopped_rows : Stopped status → (path : Path) → PathYields (path_in t path) status
-  stopped_rows s path = record { conflict = λ _ _. inr s; report = λ _. inr (inr (inr s)) }
+  -- a call that stopped ends so whatever the run is
+  stopped_rows : Stopped status → (run : Run) → RunYields (run_in t run) status
+  stopped_rows s run = record { conflict = λ _ _. inr s; report = λ _. inr (inr (inr s)) }
 
   pub memory_yields : Stopped status → WalkYields t status
   memory_yields s = record {
     refused = λ _ _. inr s;
-    walked = λ path _. stopped_rows s path;
-    only = λ e. absurd (no_trace status (stopped_path status s) e);
+    walked = λ run _. stopped_rows s run;
+    only = λ e. absurd (no_trace status (stopped_run status s) e);
   }
 
   -- where memory ran out
@@ -129,39 +129,39 @@ module _ (t : CrashTrace) (status : Status) where
       stops (inl h) = inr h
       stops (inr h) = h
 
-  module _ (f : PathFault) (none : (path : Path) → IsPathOf t.crash t.trace t.manner.from path → f ≡ fault.OutOfMemory) (one : (g : PathFault) → HasNoPathOf t.crash t.trace t.manner.from g → (f ≡ fault.OutOfMemory) ⊎ (f ≡ g)) (no_memory : (g : PathFault) → HasNoPathOf t.crash t.trace t.manner.from g → g ≢ fault.OutOfMemory) where
-    pub refused_told : (f ≡ fault.OutOfMemory) ⊎ HasNoPathOf t.crash t.trace t.manner.from f → Yields (status_of (refusal.Path f)) status → WalkTold status
+  module _ (f : PathFault) (none : (run : Run) → IsRunOf t.crash t.trace t.manner.from run → f ≡ fault.OutOfMemory) (one : (g : PathFault) → HasNoRunOf t.crash t.trace t.manner.from g → (f ≡ fault.OutOfMemory) ⊎ (f ≡ g)) (no_memory : (g : PathFault) → HasNoRunOf t.crash t.trace t.manner.from g → g ≢ fault.OutOfMemory) where
+    pub refused_told : (f ≡ fault.OutOfMemory) ⊎ HasNoRunOf t.crash t.trace t.manner.from f → Yields (status_of (refusal.Path f)) status → WalkTold status
     refused_told (inl e) so = inr (memory_stops f e so)
     refused_told (inr has) so = trace_told f status (no_memory f has) so
 
-    pub refused_yields : (f ≡ fault.OutOfMemory) ⊎ HasNoPathOf t.crash t.trace t.manner.from f → Yields (status_of (refusal.Path f)) status → WalkYields t status
+    pub refused_yields : (f ≡ fault.OutOfMemory) ⊎ HasNoRunOf t.crash t.trace t.manner.from f → Yields (status_of (refusal.Path f)) status → WalkYields t status
     refused_yields why so = record {
       refused = λ g has. same g has (one g has);
-      walked = λ path is. stopped_rows (memory_stops f (none path is) so) path;
+      walked = λ run is. stopped_rows (memory_stops f (none run is) so) run;
       only = λ e. which e why;
     }
       where
-        same : (g : PathFault) → HasNoPathOf t.crash t.trace t.manner.from g → (f ≡ fault.OutOfMemory) ⊎ (f ≡ g) → Yields ends.Trace status
+        same : (g : PathFault) → HasNoRunOf t.crash t.trace t.manner.from g → (f ≡ fault.OutOfMemory) ⊎ (f ≡ g) → Yields ends.Trace status
         same g has (inl e) = inr (memory_stops f e so)
         same g has (inr e) = trace_told g status (no_memory g has) (subst (λ (x : PathFault). Yields (status_of (refusal.Path x)) status) e so)
 
-        which : status ≡ ends.Trace → (f ≡ fault.OutOfMemory) ⊎ HasNoPathOf t.crash t.trace t.manner.from f → (g : PathFault) × HasNoPathOf t.crash t.trace t.manner.from g
-        which e (inl m) = absurd (no_trace status (stopped_path status (memory_stops f m so)) e)
+        which : status ≡ ends.Trace → (f ≡ fault.OutOfMemory) ⊎ HasNoRunOf t.crash t.trace t.manner.from f → (g : PathFault) × HasNoRunOf t.crash t.trace t.manner.from g
+        which e (inl m) = absurd (no_trace status (stopped_run status (memory_stops f m so)) e)
         which e (inr has) = (f, has)
 
-  -- where it has a path
-  module _ (path : Path) (only : (others : Path) → IsPathOf t.crash t.trace t.manner.from others → path ≡ others) (none : (f : PathFault) → HasNoPathOf t.crash t.trace t.manner.from f → ⊥) where
-    path_yields : PathYields (path_in t path) status → (status ≡ ends.Trace → ⊥) → WalkYields t status
-    path_yields yields never = record {
+  -- where it tells a run
+  module _ (run : Run) (only : (others : Run) → IsRunOf t.crash t.trace t.manner.from others → run ≡ others) (none : (f : PathFault) → HasNoRunOf t.crash t.trace t.manner.from f → ⊥) where
+    run_yields : RunYields (run_in t run) status → (status ≡ ends.Trace → ⊥) → WalkYields t status
+    run_yields yields never = record {
       refused = λ f has. absurd (none f has);
-      walked = λ others is. subst (λ (p : Path). PathYields (path_in t p) status) (only others is) yields;
+      walked = λ others is. subst (λ (p : Run). RunYields (run_in t p) status) (only others is) yields;
       only = λ e. absurd (never e);
     }
 
-    pub studied_walked : (source sink : Move Port) → IsStudied (path_in t path) source sink status → IsWalked t source sink status
+    pub studied_walked : (source sink : Move Port) → IsStudied (run_in t run) source sink status → IsWalked t source sink status
     studied_walked source sink s = record {
       ports = s.ports;
-      yields = path_yields (record { conflict = s.conflict; report = s.report }) (no_trace status s.ends_so);
+      yields = run_yields (record { conflict = s.conflict; report = s.report }) (no_trace status s.ends_so);
       ends_so = inr s.ends_so;
     }
 
@@ -172,40 +172,40 @@ module _ (t : CrashTrace) (reading : Reading) (text : List ℕ) (status : Status
       plain : Says (refusal.Path fault.OutOfMemory) text status → Says refusal.OutOfMemory text status
       plain s = record { line = s.line; ending = s.ending }
 
-  pub refused_walks : (f : PathFault) → (f ≡ fault.OutOfMemory) ⊎ HasNoPathOf t.crash t.trace t.manner.from f → Tells (refusal.Path f) text status → Walks t reading text status
+  pub refused_walks : (f : PathFault) → (f ≡ fault.OutOfMemory) ⊎ HasNoRunOf t.crash t.trace t.manner.from f → Tells (refusal.Path f) text status → Walks t reading text status
   refused_walks f (inl e) (inl h) = inr (inl (as_memory f e h))
   refused_walks f (inr has) (inl h) = inl (inl (f, has, h))
   refused_walks f why (inr h) = inr (inl h)
 
-  pub studies_walk : (path : Path) → IsPathOf t.crash t.trace t.manner.from path → Studies (path_in t path) reading text status → Walks t reading text status
-  studies_walk path is (inl h) = inl (inr (path, is, inl h))
-  studies_walk path is (inr (inl (a, account, inl h))) = inl (inr (path, is, inr (a, account, h)))
-  studies_walk path is (inr (inl (a, account, inr h))) = inr (inr (path, a, is, account, h))
-  studies_walk path is (inr (inr h)) = inr (inl h)
+  pub studies_walk : (run : Run) → IsRunOf t.crash t.trace t.manner.from run → Studies (run_in t run) reading text status → Walks t reading text status
+  studies_walk run is (inl h) = inl (inr (run, is, inl h))
+  studies_walk run is (inr (inl (a, account, inl h))) = inl (inr (run, is, inr (a, account, h)))
+  studies_walk run is (inr (inl (a, account, inr h))) = inr (inr (run, a, is, account, h))
+  studies_walk run is (inr (inr h)) = inr (inl h)
 
-pub path_excludes : (t : CrashTrace) (path : Path) → ((others : Path) → IsPathOf t.crash t.trace t.manner.from others → path ≡ others) → HasNoExecution (route_of (path_in t path)) → PathExcludes t
-path_excludes t path only none others is = subst (λ (p : Path). HasNoExecution (route_of (path_in t p))) (only others is) none
+pub trace_excludes : (t : CrashTrace) (run : Run) → ((others : Run) → IsRunOf t.crash t.trace t.manner.from others → run ≡ others) → IsExcluded (run_in t run) → TraceExcludes t
+trace_excludes t run only none others is = subst (λ (p : Run). IsExcluded (run_in t p)) (only others is) none
 
--- where a session may have been held over a path, so it may over its trace and its files
-pub study_holds : {P : Type 0} (t : CrashTrace) (path : Path) (status : Status) → IsPathOf t.crash t.trace t.manner.from path → P ⊎ StudyHolds (path_in t path) status → P ⊎ WalkHolds t status
-study_holds t path status is (inl p) = inl p
-study_holds t path status is (inr (consistent, so)) = inr ((path, is, consistent), so)
+-- where a session may have been held over a run, so it may over its trace and its files
+pub study_holds : {P : Type 0} (t : CrashTrace) (run : Run) (status : Status) → IsRunOf t.crash t.trace t.manner.from run → P ⊎ StudyHolds (run_in t run) status → P ⊎ WalkHolds t status
+study_holds t run status is (inl p) = inl p
+study_holds t run status is (inr (consistent, so)) = inr ((run, is, consistent), so)
 
--- the files are accepted, and this is what the note holds
-pub reads_here : (bytes : CrashBytes) (note : List ℕ) → None ≡ program_fault bytes.program → None ≡ core_image_fault bytes.core → CoreSays bytes (Ok note) → Reads bytes note
-reads_here bytes note e k says = record { program_accepted = sym e; core_accepted = sym k; noted = says }
+-- the files are accepted, and these are the notes
+pub reads_here : (bytes : CrashBytes) (notes : List (List ℕ)) → None ≡ program_fault bytes.program → None ≡ core_image_fault bytes.core → CoreSays bytes (Ok notes) → Reads bytes notes
+reads_here bytes notes e k says = record { program_accepted = sym e; core_accepted = sym k; noted = says }
 
-pub walk_holds : {P : Type 0} (bytes : CrashBytes) (note : List ℕ) (status : Status) → Reads bytes note → P ⊎ WalkHolds (trace_in bytes note) status → P ⊎ FilesHold bytes status
-walk_holds bytes note status read (inl p) = inl p
-walk_holds bytes note status read (inr ((path, is, consistent), so)) = inr ((note, path, read, is, consistent), so)
+pub walk_holds : {P : Type 0} (bytes : CrashBytes) (notes : List (List ℕ)) (status : Status) → Reads bytes notes → P ⊎ WalkHolds (trace_in bytes notes) status → P ⊎ FilesHold bytes status
+walk_holds bytes notes status read (inl p) = inl p
+walk_holds bytes notes status read (inr ((run, is, consistent), so)) = inr ((notes, run, read, is, consistent), so)
 
 -- the files of the examination
 module _ (bytes : CrashBytes) (status : Status) where
   abbrev AfterExe : Option ElfFault → Type 0
-  AfterExe o = MatchOption o (MatchOption (core_image_fault bytes.core) ((said : Result (List ℕ) CoreFault) → CoreSays bytes said → NoteYields bytes said status) (λ _. Yields ends.Core status)) (λ _. Yields ends.Executable status)
+  AfterExe o = MatchOption o (MatchOption (core_image_fault bytes.core) ((said : Result (List (List ℕ)) CoreFault) → CoreSays bytes said → NoteYields bytes said status) (λ _. Yields ends.Core status)) (λ _. Yields ends.Executable status)
 
   abbrev AfterCore : Option ElfFault → Type 0
-  AfterCore o = MatchOption o ((said : Result (List ℕ) CoreFault) → CoreSays bytes said → NoteYields bytes said status) (λ _. Yields ends.Core status)
+  AfterCore o = MatchOption o ((said : Result (List (List ℕ)) CoreFault) → CoreSays bytes said → NoteYields bytes said status) (λ _. Yields ends.Core status)
 
   -- a refusal of the files ends the call with its status
   pub refused_ends : (r : Refusal) → HasNoCrash (is_several bytes.trace) bytes r → Yields (status_of r) status → FilesEnd bytes status
@@ -215,12 +215,12 @@ module _ (bytes : CrashBytes) (status : Status) where
       named s e = subst (λ (x : Refusal). Yields (status_of x) status) e so
 
       at : (a b : Option ElfFault) → MatchOption a (MatchOption b (NotesRefuse (is_several bytes.trace) bytes.core r) (λ f. r ≡ refusal.CoreImage f)) (λ f. r ≡ refusal.Executable f)
-          → MatchOption a (MatchOption b ((said : Result (List ℕ) CoreFault) → CoreSays bytes said → NoteYields bytes said status) (λ _. Yields ends.Core status)) (λ _. Yields ends.Executable status)
+          → MatchOption a (MatchOption b ((said : Result (List (List ℕ)) CoreFault) → CoreSays bytes said → NoteYields bytes said status) (λ _. Yields ends.Core status)) (λ _. Yields ends.Executable status)
       at (Some f) b e = named (refusal.Executable f) e
       at None (Some f) e = named (refusal.CoreImage f) e
-      at None None (f, says, only, e) = λ said says'. subst (λ (x : Result (List ℕ) CoreFault). NoteYields bytes x status) (sym (only said says')) (named (refusal.Core f) e)
+      at None None (f, says, only, e) = λ said says'. subst (λ (x : Result (List (List ℕ)) CoreFault). NoteYields bytes x status) (sym (only said says')) (named (refusal.Core f) e)
 
-  module _ (e : None ≡ program_fault bytes.program) (k : None ≡ core_image_fault bytes.core) (here : Result (List ℕ) CoreFault) (only : (said : Result (List ℕ) CoreFault) → CoreSays bytes said → said ≡ here) where
+  module _ (e : None ≡ program_fault bytes.program) (k : None ≡ core_image_fault bytes.core) (here : Result (List (List ℕ)) CoreFault) (only : (said : Result (List (List ℕ)) CoreFault) → CoreSays bytes said → said ≡ here) where
     pub notes_end : NoteYields bytes here status → FilesEnd bytes status
     notes_end yields = subst AfterExe e (subst AfterCore k (λ said says. subst (λ s. NoteYields bytes s status) (sym (only said says)) yields))
 
@@ -228,25 +228,25 @@ module _ (bytes : CrashBytes) (status : Status) where
   pub stopped_end : Stopped status → FilesEnd bytes status
   stopped_end s = at (program_fault bytes.program) (core_image_fault bytes.core)
     where
-      note : (said : Result (List ℕ) CoreFault) → NoteYields bytes said status
-      note (Err fault) = inr s
-      note (Ok n) = memory_yields (trace_in bytes n) status s
+      notes : (said : Result (List (List ℕ)) CoreFault) → NoteYields bytes said status
+      notes (Err fault) = inr s
+      notes (Ok n) = memory_yields (trace_in bytes n) status s
 
-      at : (a b : Option ElfFault) → MatchOption a (MatchOption b ((said : Result (List ℕ) CoreFault) → CoreSays bytes said → NoteYields bytes said status) (λ _. Yields ends.Core status)) (λ _. Yields ends.Executable status)
+      at : (a b : Option ElfFault) → MatchOption a (MatchOption b ((said : Result (List (List ℕ)) CoreFault) → CoreSays bytes said → NoteYields bytes said status) (λ _. Yields ends.Core status)) (λ _. Yields ends.Executable status)
       at (Some f) b = inr s
       at None (Some f) = inr s
-      at None None = λ said says. note said
+      at None None = λ said says. notes said
 
   all_statuses : (status ≡ ends.Executable) ⊎ (status ≡ ends.Core) ⊎ Stopped status → (status ≡ ends.Executable) ⊎ (status ≡ ends.Core) ⊎ IsWalkStatus status
   all_statuses (inl h) = inl h
   all_statuses (inr (inl h)) = inr (inl h)
-  all_statuses (inr (inr h)) = inr (inr (inr (stopped_path status h)))
+  all_statuses (inr (inr h)) = inr (inr (inr (stopped_run status h)))
 
   pub told_examined : (source sink : Move Port) → PortsEnd source sink status → (status ≡ ends.Executable) ⊎ (status ≡ ends.Core) ⊎ Stopped status → FilesEnd bytes status → IsExamined bytes source sink status
   told_examined source sink ports so yields = record { ports = ports; yields = yields; ends_so = all_statuses so }
 
-  pub walked_examined : (note : List ℕ) → FilesEnd bytes status → (source sink : Move Port) → IsWalked (trace_in bytes note) source sink status → IsExamined bytes source sink status
-  walked_examined note yields source sink w = record { ports = w.ports; yields = yields; ends_so = inr (inr w.ends_so) }
+  pub walked_examined : (notes : List (List ℕ)) → FilesEnd bytes status → (source sink : Move Port) → IsWalked (trace_in bytes notes) source sink status → IsExamined bytes source sink status
+  walked_examined notes yields source sink w = record { ports = w.ports; yields = yields; ends_so = inr (inr w.ends_so) }
 
 -- what is written of them
 module _ (bytes : CrashBytes) (reading : Reading) (text : List ℕ) (status : Status) where
@@ -274,23 +274,23 @@ module _ (bytes : CrashBytes) (reading : Reading) (text : List ℕ) (status : St
     notes_examine : NotesTold bytes reading.input text status → Examined bytes reading.input text status
     notes_examine h = subst TextExe e (subst TextCore k h)
 
-    module _ (note : List ℕ) (says : CoreSays bytes (Ok note)) where
-      pub walks_examine : Walks (trace_in bytes note) reading text status → Examines bytes reading text status
-      walks_examine (inl h) = inl (notes_examine (Ok note, says, h))
+    module _ (notes : List (List ℕ)) (says : CoreSays bytes (Ok notes)) where
+      pub walks_examine : Walks (trace_in bytes notes) reading text status → Examines bytes reading text status
+      walks_examine (inl h) = inl (notes_examine (Ok notes, says, h))
       walks_examine (inr (inl h)) = inr (inl h)
-      walks_examine (inr (inr cut)) = inr (inr (note, reads_here bytes note e k says, cut))
+      walks_examine (inr (inr cut)) = inr (inr (notes, reads_here bytes notes e k says, cut))
 
-abbrev pub said_ok : List ℕ → Result (List ℕ) CoreFault
+abbrev pub said_ok : List (List ℕ) → Result (List (List ℕ)) CoreFault
 said_ok n = Ok n
 
-module _ (bytes : CrashBytes) (note : List ℕ) (only : (said : Result (List ℕ) CoreFault) → CoreSays bytes said → said ≡ Ok note) where
-  same_note : (n : List ℕ) → said_ok n ≡ said_ok note → n ≡ note
+module _ (bytes : CrashBytes) (notes : List (List ℕ)) (only : (said : Result (List (List ℕ)) CoreFault) → CoreSays bytes said → said ≡ Ok notes) where
+  same_note : (n : List (List ℕ)) → said_ok n ≡ said_ok notes → n ≡ notes
   same_note n e = cc
 
-  pub files_exclude : PathExcludes (trace_in bytes note) → FilesExclude bytes
+  pub files_exclude : TraceExcludes (trace_in bytes notes) → FilesExclude bytes
   files_exclude none n read =
       let same = same_note n (only (Ok n) read.noted) in
-      subst (λ m. PathExcludes (trace_in bytes m)) (sym same) none
+      subst (λ m. TraceExcludes (trace_in bytes m)) (sym same) none
 
 -- the status of a refusal of the files
 pub refused_status : (many : Bool) (exe core : List ℕ) (r : Refusal) → HasNoDump many exe core r → (status_of r ≡ ends.Executable) ⊎ (status_of r ≡ ends.Core)

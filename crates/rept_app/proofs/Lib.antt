@@ -10,9 +10,11 @@ pub mod MadeLemmas
 pub mod WordsLemmas
 pub mod PromiseLemmas
 pub mod ReadingLemmas
-pub mod SharedLemmas
+pub mod RunLemmas
 pub mod Counted
 pub mod Failing
 pub mod MappedLemmas
 pub mod MappedTop
 pub mod MappedExits
+pub mod Notes
+pub mod TrueLemmas

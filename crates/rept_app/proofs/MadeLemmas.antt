@@ -16,14 +16,16 @@ use Rattle.rept_path.specs.Traced.{IsTraced}
 use Rattle.rept_path.specs.declared.fault.PathFault.{PathFault}
 use Rattle.rept_path.specs.declared.fault.PathFault.TheVariants as fault
 use Rattle.rept_path.specs.declared.rebuilding.Path.{Path}
+use Rattle.rept_steps.specs.Runs.{course_of, run_of_one}
+use Rattle.rept_steps.specs.declared.run.Run.{Run}
 use Rattle.rept_runs.specs.Kind.{is_several}
 use Rattle.rept_ports.specs.Causes.{OneFault}
 use Rattle.rept_ports.specs.Port.{Port, Move, move}
-use Rattle.rept_reason.specs.Facts.{Knowledge}
-use Rattle.rept_report.specs.Closure.{ClosureHas, IsConsistent, IsReport}
+use Rattle.rept_report.specs.Closure.{ClosureHas, IsConsistent}
+use Rattle.rept_report.specs.OneThread.{along}
 use Rattle.rept_report.specs.declared.conflict.ConflictKind.{ConflictKind}
-use Rattle.rept_found.specs.Crash.{Crash, last_value, last_values, setting, route}
-use Rattle.rept_found.specs.Truth.{Executes, HasNoExecution, IsTrueReport}
+use Rattle.rept_found.specs.Crash.{Crash, last_value, last_values, path_of, setting}
+use Rattle.rept_found.specs.Truth.{Executes, HasNoExecution}
 use Rattle.rept_make.specs.Files.{bytes_of_words}
 use Rattle.rept_make.specs.Laid.{laid}
 use Rattle.rept_make.specs.Made.{IsMade}
@@ -36,14 +38,18 @@ use Rattle.rept_app.specs.Examine.{Examines, WalkYields, NoteYields, FilesEnd}
 use Rattle.rept_app.specs.Forms.{program_fault, core_image_fault, crash_in}
 use Rattle.rept_app.specs.Lines.{status_of}
 use Rattle.rept_app.specs.MadeRun.{Sums}
-use Rattle.rept_app.specs.Path.{IsTracePath, IsSharedPath, IsPathOf}
+use Rattle.rept_app.specs.Claims.{MadeHolds}
+use Rattle.rept_app.specs.Path.{IsTracePath}
 use Rattle.rept_app.specs.Reading.{NotesSay}
 use Rattle.rept_app.specs.Loading.{CrashBytes}
-use Rattle.rept_app.specs.Told.{CoreSays, CrashTrace, trace_in, NotesTold, Walked, Reads, Opening, OpensMade, MadeHolds, made_bytes, summary_line}
+use Rattle.rept_app.specs.Told.{CoreSays, CrashTrace, trace_in, NotesTold, Walked, Reads, Opening, OpensMade, made_bytes, run_at, summary_line}
+use Rattle.rept_app.specs.TraceRun.{IsRunOf}
+use Rattle.rept_app.specs.True.{IsExecuted}
 use Rattle.rept_app.specs.declared.refusal.Refusal.TheVariants as refusal
 use Rattle.rept_app.specs.declared.status.Status.{Status}
 use Rattle.rept_app.specs.declared.status.Status.TheVariants as ends
-use Rattle.rept_app.proofs.SharedLemmas.{one_stream_file, to_one}
+use Rattle.rept_app.proofs.RunLemmas.{one_stream_file, path_told}
+use Rattle.rept_app.proofs.TrueLemmas.{TrueOf, opened_whole}
 use Rattle.rept_app.proofs.DeliveredLemmas.{delivers_as, ends_told, told_ports}
 
 -- the registers that an analysis begins from are those of the note
@@ -70,69 +76,78 @@ last_at note r above below =
     let here : get_or (range_with_len 0 32) r 0 ≡ r = omega (arith, get_or-range_with_len 0 32 r 0 below) in
     mapped_at (last_value note) (range_with_len 0 32) r (omega arith) ∙ ap (last_value note) here ∙ register_at note r above
 
-abbrev path_of : List StepRow → Path
-path_of rows = record { steps = rows; skipped = 0 }
+abbrev path_along : List StepRow → Path
+path_along rows = record { steps = rows; skipped = 0 }
 
 -- the files of a made crash are read, and an execution of the path ends in the dump
 module _ (seed steps : ℕ) (made : Made) (m : IsMade seed steps made) where
   abbrev pub crash_made : Crash
-  crash_made = crash_in (OneFile made.exe) made.core m.status
+  crash_made = crash_in (OneFile made.exe) made.core (m.status ∷ [])
 
   -- the trace is one of one stream
   one_made : is_several made.trace ≡ false
   one_made = one_stream_file made.trace (record { halves = false; bytes = m.rest }) m.layout
 
-  says_made : CoreSays (made_bytes made) (Ok m.status)
-  says_made = subst (λ (b : Bool). NotesSay b made.core (Ok m.status)) (sym one_made) m.notes
+  says_made : CoreSays (made_bytes made) (Ok (m.status ∷ []))
+  says_made = subst (λ (b : Bool). NotesSay b made.core (Ok (m.status ∷ []))) (sym one_made) (m.status, m.notes, refl)
 
-  reads_made : Reads (made_bytes made) m.status
+  reads_made : Reads (made_bytes made) (m.status ∷ [])
   reads_made = record { program_accepted = m.exe_read; core_accepted = m.core_read; noted = says_made }
 
-  traced_made : IsTracePath crash_made made.trace 0 (path_of m.rows)
+  traced_made : IsTracePath crash_made made.trace 0 (path_along m.rows)
   traced_made = (record { halves = false; bytes = m.rest }, m.layout, subst (λ (p : ℕ). IsTraced (record { code = words (of_executable made.exe); stream = plain false m.rest; from = 0; pc = p }) 0 m.rows) (sym m.last_pc) m.path)
 
-  path_made : IsPathOf crash_made made.trace 0 (path_of m.rows)
-  path_made = to_one (IsSharedPath crash_made made.trace 0 (path_of m.rows)) (is_several made.trace) one_made traced_made
+  -- the run of its one thread
+  abbrev run_made : Run
+  run_made = run_of_one m.rows 0
 
-  abbrev run_made : ℕ → State
-  run_made = λ i. laid (bytes_of_words m.words) (m.run i)
+  told_made : IsRunOf crash_made made.trace 0 run_made
+  told_made = path_told crash_made made.trace 0 one_made (path_along m.rows) traced_made
 
-  runs_made : Executes (route (means_of domain.Ranges) crash_made m.rows) run_made
+  abbrev states_made : ℕ → State
+  states_made = λ i. laid (bytes_of_words m.words) (m.run i)
+
+  runs_made : Executes (path_of (means_of domain.Ranges) crash_made m.rows) states_made
   runs_made = m.execution (last_values m.status) (last_size m.status) (λ r above below. last_at m.status r above below)
 
   abbrev opening_made : Opening
-  opening_made = record { bytes = made_bytes made; note = m.status; path = path_of m.rows }
+  opening_made = record { bytes = made_bytes made; notes = m.status ∷ []; run = run_made }
 
   opens_made : OpensMade made opening_made
-  opens_made = record { bytes = refl; read = reads_made; path = path_made }
+  opens_made = record { bytes = refl; read = reads_made; told = told_made }
+
+  executed_made : IsExecuted (run_at opening_made)
+  executed_made = (m.rows, refl, states_made, runs_made)
 
   -- so the closure has no conflict
-  consistent_made : ((kind : ConflictKind) → ClosureHas (setting (means_of domain.Ranges) crash_made m.rows) kind → HasNoExecution (route (means_of domain.Ranges) crash_made m.rows)) → IsConsistent (setting (means_of domain.Ranges) crash_made m.rows)
-  consistent_made none kind has = none kind has run_made runs_made
+  consistent_made : ((kind : ConflictKind) → ClosureHas (along (path_of (means_of domain.Ranges) crash_made m.rows)) kind → HasNoExecution (path_of (means_of domain.Ranges) crash_made m.rows)) → IsConsistent (setting (means_of domain.Ranges) crash_made (course_of run_made))
+  consistent_made none kind has = none kind has states_made runs_made
 
   abbrev AfterCore : Status → Option ElfFault → Type 0
-  AfterCore status o = MatchOption o ((said : Result (List ℕ) CoreFault) → CoreSays (made_bytes made) said → NoteYields (made_bytes made) said status) (λ _. Yields ends.Core status)
+  AfterCore status o = MatchOption o ((said : Result (List (List ℕ)) CoreFault) → CoreSays (made_bytes made) said → NoteYields (made_bytes made) said status) (λ _. Yields ends.Core status)
 
   abbrev AfterExe : Status → Option ElfFault → Type 0
   AfterExe status o = MatchOption o (AfterCore status (core_image_fault made.core)) (λ _. Yields ends.Executable status)
 
-  pub session_made : ((kind : ConflictKind) → ClosureHas (setting (means_of domain.Ranges) crash_made m.rows) kind → HasNoExecution (route (means_of domain.Ranges) crash_made m.rows)) → (status : Status) → FilesEnd (made_bytes made) status → EndsSession status
+  pub session_made : ((kind : ConflictKind) → ClosureHas (along (path_of (means_of domain.Ranges) crash_made m.rows)) kind → HasNoExecution (path_of (means_of domain.Ranges) crash_made m.rows)) → (status : Status) → FilesEnd (made_bytes made) status → EndsSession status
   session_made none status h =
-      let notes : (said : Result (List ℕ) CoreFault) → CoreSays (made_bytes made) said → NoteYields (made_bytes made) said status =
+      let notes : (said : Result (List (List ℕ)) CoreFault) → CoreSays (made_bytes made) said → NoteYields (made_bytes made) said status =
       subst (AfterCore status) m.core_read (subst (AfterExe status) m.exe_read h) in
-      let walk : WalkYields (trace_in (made_bytes made) m.status) status = notes (Ok m.status) says_made in
-      (walk.walked (path_of m.rows) path_made).report (consistent_made none)
+      let walk : WalkYields (trace_in (made_bytes made) (m.status ∷ [])) status = notes (Ok (m.status ∷ [])) says_made in
+      (walk.walked run_made told_made).report (consistent_made none)
 
-pub made_holds : (seed steps : ℕ) → ((crash : Crash) (rows : List StepRow) (known : Knowledge) → IsReport (setting (means_of domain.Ranges) crash rows) known → IsTrueReport (route (means_of domain.Ranges) crash rows) known) → MadeHolds seed steps
+pub made_holds : (seed steps : ℕ) → TrueOf (means_of domain.Ranges) → MadeHolds seed steps
 made_holds seed steps true_of made m =
-    (opening_made seed steps made m, opens_made seed steps made m, (run_made seed steps made m, runs_made seed steps made m), λ known report. true_of (crash_made seed steps made m) m.rows known report)
+    let o = opening_made seed steps made m in
+    let opens = opens_made seed steps made m in
+    (o, opens, executed_made seed steps made m, λ known report. true_of (crash_made seed steps made m) (run_made seed steps made m) known (opened_whole o opens.read opens.told) report)
 
 -- what is written, by what is written of the files
 pub sums : (seed steps : ℕ) (made : Made) → IsMade seed steps made → (left : Option (List ℕ)) (text : List ℕ) (status : Status) → Examines (made_bytes made) (record { input = summary_line; left = left }) text status → Sums seed steps text status
 sums seed steps made m left text status (inl h) = inl (made, m, h)
 sums seed steps made m left text status (inr (inl h)) = inr (inl h)
-sums seed steps made m left text status (inr (inr (note, read, (path, a, is, account, cut)))) =
-    inr (inr (made, m, record { bytes = made_bytes made; note = note; path = path }, record { bytes = refl; read = read; path = is }, a, account, left, cut))
+sums seed steps made m left text status (inr (inr (notes, read, (run, a, is, account, cut)))) =
+    inr (inr (made, m, record { bytes = made_bytes made; notes = notes; run = run }, record { bytes = refl; read = read; told = is }, a, account, left, cut))
 
 -- the input isn't too long
 no_path_status : (f : PathFault) → status_of (refusal.Path f) ≡ ends.TooMuchInput → ⊥
@@ -157,11 +172,11 @@ no_path_status fault.OutOfMemory e = cc
 module _ (bytes : CrashBytes) (text : List ℕ) where
   walked_short : (t : CrashTrace) → Walked t summary_line text ends.TooMuchInput → ⊥
   walked_short t (inl (f, has, says)) = no_path_status f (sym says.ending)
-  walked_short t (inr (path, is, inl (kind, has, says))) = let bad : ends.TooMuchInput ≡ ends.Inconsistent = says.ending in cc
-  walked_short t (inr (path, is, inr (a, account, (answered, over, e)))) = let long : 1048576 < 8 = over.long in omega arith
+  walked_short t (inr (run, is, inl (kind, has, says))) = let bad : ends.TooMuchInput ≡ ends.Inconsistent = says.ending in cc
+  walked_short t (inr (run, is, inr (a, account, (answered, over, e)))) = let long : 1048576 < 8 = over.long in omega arith
 
   notes_short : NotesTold bytes summary_line text ends.TooMuchInput → ⊥
-  notes_short (Ok note, said, h) = walked_short (trace_in bytes note) h
+  notes_short (Ok notes, said, h) = walked_short (trace_in bytes notes) h
   notes_short (Err f, said, says) = let bad : ends.TooMuchInput ≡ ends.Core = says.ending in cc
 
   examined_short : (a b : Option ElfFault) → MatchOption a (MatchOption b (NotesTold bytes summary_line text ends.TooMuchInput) (λ f. Says (refusal.CoreImage f) text ends.TooMuchInput)) (λ f. Says (refusal.Executable f) text ends.TooMuchInput) → ⊥
@@ -172,7 +187,7 @@ module _ (bytes : CrashBytes) (text : List ℕ) where
   pub never_long : (left : Option (List ℕ)) → Examines bytes (record { input = summary_line; left = left }) text ends.TooMuchInput → ⊥
   never_long left (inl h) = examined_short (program_fault bytes.program) (core_image_fault bytes.core) h
   never_long left (inr (inl says)) = let bad : ends.TooMuchInput ≡ ends.OutOfMemory = says.ending in cc
-  never_long left (inr (inr (note, read, (path, a, is, account, cut)))) = absurd cut
+  never_long left (inr (inr (notes, read, (run, a, is, account, cut)))) = absurd cut
 
 -- a source that counts no fault has none
 never_failed : OneFault 0 0 → ⊥

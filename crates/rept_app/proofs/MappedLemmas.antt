@@ -7,7 +7,7 @@ use Rattle.std.proofs.lemmas.List.{length-map}
 use Rattle.rept_elf.specs.Segments.{segments}
 use Rattle.rept_elf.specs.declared.fault.ElfFault.{ElfFault}
 use Rattle.rept_dump.specs.Program.Program.{MappedFiles}
-use Rattle.rept_dump.specs.Dump.{said_of, AreRead, AreReadOfAll}
+use Rattle.rept_dump.specs.Dump.{AreRead, AreReadOfAll}
 use Rattle.rept_dump.specs.declared.dump.Dump.{Dump}
 use Rattle.rept_dump.specs.declared.fault.CoreFault.{CoreFault}
 use Rattle.rept_found.specs.Crash.{Crash}
@@ -33,7 +33,7 @@ use Rattle.rept_app.specs.Told.{Examined, crash_trace, trace_in}
 use Rattle.rept_app.specs.declared.refusal.Refusal.TheVariants as refusal
 use Rattle.rept_app.specs.declared.status.Status.{Status}
 use Rattle.rept_app.specs.declared.status.Status.TheVariants as ends
-use Rattle.rept_app.proofs.ReadingLemmas.{AreSaid, said_by}
+use Rattle.rept_app.proofs.Notes.{AreNoted, AreSaid, noted_by}
 use Rattle.rept_app.proofs.ExamineLemmas.{all_walks, stopped_end}
 use Rattle.rept_app.proofs.Counted.{counted}
 
@@ -50,21 +50,21 @@ mapped_stopped m status s = at (core_image_fault m.bytes.core)
     at None = λ said says. list said
 
 -- the crash of mapped files
-parts_crash : (crash : Crash) (ms : List Mapping) (core : List ℕ) → crash.exe ≡ MappedFiles ms → crash.core ≡ segments core → crash ≡ crash_in (MappedFiles ms) core crash.note
+parts_crash : (crash : Crash) (ms : List Mapping) (core : List ℕ) → crash.exe ≡ MappedFiles ms → crash.core ≡ segments core → crash ≡ crash_in (MappedFiles ms) core crash.notes
 parts_crash crash ms core e k =
-    ap (λ x. record { exe = x; core = crash.core; note = crash.note }) e ∙ ap (λ x. record { exe = MappedFiles ms; core = x; note = crash.note }) k
+    ap (λ x. record { exe = x; core = crash.core; notes = crash.notes }) e ∙ ap (λ x. record { exe = MappedFiles ms; core = x; notes = crash.notes }) k
 
-pub parts_trace : (crash : Crash) (ms : List Mapping) (c : CoreBytes) (trace : List ℕ) → crash.exe ≡ MappedFiles ms → crash.core ≡ segments c.core → trace ≡ c.trace → crash_trace crash trace c.manner ≡ trace_in (parts_bytes ms c) crash.note
+pub parts_trace : (crash : Crash) (ms : List Mapping) (c : CoreBytes) (trace : List ℕ) → crash.exe ≡ MappedFiles ms → crash.core ≡ segments c.core → trace ≡ c.trace → crash_trace crash trace c.manner ≡ trace_in (parts_bytes ms c) crash.notes
 parts_trace crash ms c trace e k t =
-    ap (λ (x : Crash). crash_trace x trace c.manner) (parts_crash crash ms c.core e k) ∙ ap (λ (x : List ℕ). crash_trace (crash_in (MappedFiles ms) c.core crash.note) x c.manner) t
+    ap (λ (x : Crash). crash_trace x trace c.manner) (parts_crash crash ms c.core e k) ∙ ap (λ (x : List ℕ). crash_trace (crash_in (MappedFiles ms) c.core crash.notes) x c.manner) t
 
 -- the kind of a trace is that of the slice of it
 pub kind_is : (many : Bool) (slice trace : List ℕ) → many ≡ is_several slice → slice ≡ trace → many ≡ is_several trace
 kind_is many slice trace e t = e ∙ ap is_several t
 
 -- what was read of the notes, as the trace asks for it
-pub parts_said : (c : CoreBytes) (many : Bool) (r : Result Dump CoreFault) → many ≡ is_several c.trace → MatchBool many (AreReadOfAll (length c.core) (segments c.core) r) (AreRead (length c.core) (segments c.core) r) → AreSaid (is_several c.trace) c.core (said_of r)
-parts_said c many r e h = subst (λ (b : Bool). AreSaid b c.core (said_of r)) e (said_by c.core many r h)
+pub parts_noted : (c : CoreBytes) (many : Bool) (r : Result Dump CoreFault) → many ≡ is_several c.trace → MatchBool many (AreReadOfAll (length c.core) (segments c.core) r) (AreRead (length c.core) (segments c.core) r) → AreNoted (is_several c.trace) c.core r
+parts_noted c many r e h = subst (λ (b : Bool). AreNoted b c.core r) e (noted_by c.core many r h)
 
 pub parts_refused : (ms : List Mapping) (c : CoreBytes) (f : CoreFault) → core_image_fault c.core ≡ None → AreSaid (is_several c.trace) c.core (Err f) → HasNoCrash (is_several c.trace) (parts_bytes ms c) (refusal.Core f)
 parts_refused ms c f accepted says =
@@ -223,7 +223,7 @@ module _ (c : MappedCall) (text : List ℕ) (status : Status) where
     pub files_written : Examines (mapped_bytes c.crash desc) c.reading text status → ExaminesMapped c text status
     files_written (inl h) = inl (subst Whole (sym accepted) (Ok desc, listed, h))
     files_written (inr (inl h)) = inr (inl h)
-    files_written (inr (inr (note, read, cut))) = inr (inr (inr (mapped_bytes c.crash desc, note, record { accepted = accepted; desc = desc; listed = listed; same = refl }, read, cut)))
+    files_written (inr (inr (notes, read, cut))) = inr (inr (inr (mapped_bytes c.crash desc, notes, record { accepted = accepted; desc = desc; listed = listed; same = refl }, read, cut)))
 
     pub name_written : (place : ℕ) (name : List ℕ) → slice_get (asked_names desc) place ≡ Some name → c.loads.after ≡ loads_after (suc place) c.loads.before → TellsName name text status → ExaminesMapped c text status
     name_written place name named loads (inl h) =

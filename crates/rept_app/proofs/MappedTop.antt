@@ -10,7 +10,8 @@ use Rattle.rept_app.specs.Loading.{CoreBytes, CrashBytes, Loading, loading, Load
 use Rattle.rept_app.specs.Loading.Loading.{LoadedCore}
 use Rattle.rept_app.specs.Mapped.{IsMappedAs, NameFails, NamesLoaded, mapped_crash}
 use Rattle.rept_app.specs.MappedEnds.{ExaminesMapped, IsExaminedMapped, MappedEnd, MappedExcludes, MappedHolds, mapped_call, moves}
-use Rattle.rept_app.specs.Told.{Given, given, ComeToReport, IsCrashOf, NoExecution, ToldOf, Writes}
+use Rattle.rept_app.specs.Claims.{ComeToReport, NoExecution}
+use Rattle.rept_app.specs.Told.{Given, given, IsCrashOf, ToldOf, Writes}
 use Rattle.rept_app.specs.Top.{AskedEnds, EndsAt, EndsByFiles, FaultsEnd, LacksFile, LoadEnds, LoadsOf, ShelfCauses, TopCauses}
 use Rattle.rept_words.specs.Words.{Meaning}
 use Rattle.rept_words.specs.Words.Meaning.{Open, Maps, Made}
@@ -155,10 +156,10 @@ module _ (words : List (List ℕ)) (files : Files) (c : CoreBytes) (at : loading
   mapped_ends status h = subst (λ (l : Loading). EndsAt files l status) (sym at) h
 
   pub mapped_holds : (status : Status) → MappedHolds (mapped_crash files c) status → ComeToReport words files
-  mapped_holds status (bytes, is, ((note, path, read, traced, consistent), so)) = (opening bytes note path, record { loaded = opens_as bytes is; read = read; path = traced }, consistent)
+  mapped_holds status (bytes, is, ((notes, run, read, traced, consistent), so)) = (opening bytes notes run, record { loaded = opens_as bytes is; read = read; told = traced }, consistent)
 
   pub mapped_excludes : MappedExcludes (mapped_crash files c) → NoExecution words files
-  mapped_excludes none o opens = none o.bytes (subst (λ (l : Loading). IsCrashOf files l o.bytes) at opens.loaded) o.note opens.read o.path opens.path
+  mapped_excludes none o opens = none o.bytes (subst (λ (l : Loading). IsCrashOf files l o.bytes) at opens.loaded) o.notes opens.read o.run opens.told
 
   module _ (shelf : Move Shelved) (asked_before : ℕ) (reading : Reading) (text : List ℕ) (status : Status) (loads : asked_before ≡ core_loads_to file.Trace shelf.before.loads) where
     abbrev Here : Given
@@ -168,8 +169,8 @@ module _ (words : List (List ℕ)) (files : Files) (c : CoreBytes) (at : loading
     mapped_writes (inl told) = inl (subst (λ (l : Loading). ToldOf Here l text status) (sym at) told)
     mapped_writes (inr (inl says)) = inr (inr (inl says))
     mapped_writes (inr (inr (inl fails))) = inr (inl (inr (inr (c, at, subst (λ n. NameFails (mapped_crash files c) (move n shelf.after.loads) text status) loads fails))))
-    mapped_writes (inr (inr (inr (bytes, note, is, read, (path, a, traced, account, cut))))) =
-        inr (inr (inr (inl (opening bytes note path, a, record { loaded = opens_as bytes is; read = read; path = traced }, account, cut))))
+    mapped_writes (inr (inr (inr (bytes, notes, is, read, (run, a, traced, account, cut))))) =
+        inr (inr (inr (inl (opening bytes notes run, a, record { loaded = opens_as bytes is; read = read; told = traced }, account, cut))))
 
 -- a session may have been held where the files are told
 pub mapped_stays : {P : Type 0} (o o' : Option Files) (H K : Files → Type 0) (status : Status) → o' ≡ o → ((files : Files) → o ≡ Some files → K files → H files) → P ⊎ (EndsSession status × IfSome o' K) → P ⊎ (EndsSession status × IfSome o H)

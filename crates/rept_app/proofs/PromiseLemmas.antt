@@ -14,9 +14,10 @@ use Rattle.rept_app.specs.Lines.{status_of, status_of_path}
 use Rattle.rept_app.specs.Loading.{CrashBytes, crash_bytes, CoreBytes, core_bytes, Loading, loading, loading_by, fetched, fetched_all, fetched_core, manner_of, limit_of}
 use Rattle.rept_app.specs.Loading.Loading.{Refused, Loaded, LoadedCore, MadeRun}
 use Rattle.rept_app.specs.Mapped.{mapped_crash, mapped_bytes, ListSays}
+use Rattle.rept_app.specs.Claims.{NoExecution}
 use Rattle.rept_app.specs.Promise.{IsOpened, IsAnswered, IsImpossible, Promise}
-use Rattle.rept_app.specs.Told.{Given, Opening, Reads, Analysed, Walked, NotesTold, Examined, Told, ToldOf, IsCrashOf, Writes, NoExecution, crash_at, domain_at, path_at, trace_in, made_bytes, summary_line}
-use Rattle.rept_app.specs.Path.{IsPathOf}
+use Rattle.rept_app.specs.Told.{Given, Opening, Reads, Analysed, Walked, NotesTold, Examined, Told, ToldOf, IsCrashOf, Writes, crash_at, domain_at, run_at, trace_in, made_bytes, summary_line}
+use Rattle.rept_app.specs.TraceRun.{IsRunOf}
 use Rattle.rept_app.specs.Top.{EndsAt, EndsByFiles}
 use Rattle.rept_app.specs.declared.refusal.FileKind.{FileKind}
 use Rattle.rept_app.specs.declared.refusal.FileKind.TheVariants as file
@@ -26,7 +27,8 @@ use Rattle.rept_app.specs.declared.status.Status.{Status}
 use Rattle.rept_app.specs.declared.status.Status.TheVariants as ends
 use Rattle.rept_app.specs.declared.load.Manner.{Manner}
 use Rattle.rept_app.proofs.Failing.{load_ending}
-use Rattle.rept_app.proofs.TopLemmas.{ReportsAreTrue}
+use Rattle.rept_app.proofs.RunLemmas.{IsWhole}
+use Rattle.rept_app.proofs.TrueLemmas.{ReportsAreTrue, opened_whole}
 use Rattle.rept_words.specs.Words.{CoreNames, Names, Meaning, meaning_of}
 use Rattle.rept_words.specs.Words.Meaning.{Open, Maps, Made as MadeWords}
 use Rattle.rept_words.specs.declared.request.Domain.TheVariants as domain
@@ -103,13 +105,13 @@ no_conflict files (Some (MadeWords seed steps)) = tt
 no_conflict files (Some (Maps names from)) = two_files files names (manner_of domain.Ranges from)
 no_conflict files (Some (Open d names from)) = all_files files names (manner_of d from)
 
--- the trace of these files has a path, and it is analysed
+-- the trace of these files tells a run, and it is analysed
 pub record Analyses (bytes : CrashBytes) (lines text : List ℕ) (status : Status) : Type 0 where
   pub opening : Opening
   pub same : opening.bytes ≡ bytes
-  pub read : Reads opening.bytes opening.note
-  pub path : IsPathOf (crash_at opening) opening.bytes.trace opening.bytes.manner.from opening.path
-  pub analysed : Analysed (path_at opening) lines text status
+  pub read : Reads opening.bytes opening.notes
+  pub told : IsRunOf (crash_at opening) opening.bytes.trace opening.bytes.manner.from opening.run
+  pub analysed : Analysed (run_at opening) lines text status
 
 module _ (lines text : List ℕ) (status : Status) (promised : (status ≡ ends.Ok) ⊎ (status ≡ ends.Inconsistent)) where
   never : {P : Type 0} (other : Status) → (other ≡ ends.Ok → ⊥) → (other ≡ ends.Inconsistent → ⊥) → status ≡ other → P
@@ -130,12 +132,12 @@ module _ (lines text : List ℕ) (status : Status) (promised : (status ≡ ends.
   no_core e = never ends.Core (λ (k : ends.Core ≡ ends.Ok). cc) (λ (k : ends.Core ≡ ends.Inconsistent). cc) e
 
   module _ (bytes : CrashBytes) where
-    walked : (note : List ℕ) → Reads bytes note → Walked (trace_in bytes note) lines text status → Analyses bytes lines text status
-    walked note read (inl (f, has, says)) = no_path f says.ending
-    walked note read (inr (path, is, analysed)) = record { opening = record { bytes = bytes; note = note; path = path }; same = refl; read = read; path = is; analysed = analysed }
+    walked : (notes : List (List ℕ)) → Reads bytes notes → Walked (trace_in bytes notes) lines text status → Analyses bytes lines text status
+    walked notes read (inl (f, has, says)) = no_path f says.ending
+    walked notes read (inr (run, is, analysed)) = record { opening = record { bytes = bytes; notes = notes; run = run }; same = refl; read = read; told = is; analysed = analysed }
 
     noted : program_fault bytes.program ≡ None → core_image_fault bytes.core ≡ None → NotesTold bytes lines text status → Analyses bytes lines text status
-    noted exe core (Ok note, said, h) = walked note (record { program_accepted = exe; core_accepted = core; noted = said }) h
+    noted exe core (Ok notes, said, h) = walked notes (record { program_accepted = exe; core_accepted = core; noted = said }) h
     noted exe core (Err f, said, says) = no_core says.ending
 
     core_read : (o : Option ElfFault) → core_image_fault bytes.core ≡ o → program_fault bytes.program ≡ None → MatchOption o (NotesTold bytes lines text status) (λ f. Says (refusal.CoreImage f) text status) → Analyses bytes lines text status
@@ -151,9 +153,9 @@ module _ (lines text : List ℕ) (status : Status) (promised : (status ≡ ends.
     pub examined : Examined bytes lines text status → Analyses bytes lines text status
     examined h = exe_read (program_fault bytes.program) refl h
 
--- What was written is that of a path which is analysed: that of the files of the words, or of a made crash.
+-- What was written is that of a run which is analysed: that of the files of the words, or of a made crash.
 abbrev pub IsOf : Given → List ℕ → Status → Type 0
-IsOf g text status = (o : Opening) × (lines : List ℕ) × IsOpened g o lines × Analysed (path_at o) lines text status
+IsOf g text status = (o : Opening) × (lines : List ℕ) × IsOpened g o lines × Analysed (run_at o) lines text status
 
 module _ (g : Given) (text : List ℕ) (status : Status) (promised : (status ≡ ends.Ok) ⊎ (status ≡ ends.Inconsistent)) where
   refused : (r : Refusal) → loading g.words g.files ≡ Refused r → status ≡ status_of r → IsOf g text status
@@ -173,7 +175,7 @@ module _ (g : Given) (text : List ℕ) (status : Status) (promised : (status ≡
   examined_of : (l : Loading) (bytes : CrashBytes) → loading g.words g.files ≡ l → IsCrashOf g.files l bytes → Examined bytes g.reading.input text status → IsOf g text status
   examined_of l bytes e is h =
       let a = examined g.reading.input text status promised bytes h in
-      (a.opening, g.reading.input, inl (record { loaded = subst (λ (b : CrashBytes). IsCrashOf g.files (loading g.words g.files) b) (sym a.same) (opens_by l bytes e is); read = a.read; path = a.path }, refl), a.analysed)
+      (a.opening, g.reading.input, inl (record { loaded = subst (λ (b : CrashBytes). IsCrashOf g.files (loading g.words g.files) b) (sym a.same) (opens_by l bytes e is); read = a.read; told = a.told }, refl), a.analysed)
 
   never_core : {P : Type 0} → status ≡ ends.Core → P
   never_core e = no_core [] text status promised e
@@ -196,10 +198,10 @@ module _ (g : Given) (text : List ℕ) (status : Status) (promised : (status ≡
   by_loading (LoadedCore bytes) e h = mapped bytes e (core_image_fault bytes.core) refl h
   by_loading (MadeRun seed steps) e (made, is, h) =
       let a = examined summary_line text status promised (made_bytes made) h in
-      (a.opening, summary_line, inr (seed, steps, made, e, is, record { bytes = a.same; read = a.read; path = a.path }, refl), a.analysed)
+      (a.opening, summary_line, inr (seed, steps, made, e, is, record { bytes = a.same; read = a.read; told = a.told }, refl), a.analysed)
 
-  pub told_of_path : Told g text status → IsOf g text status
-  told_of_path h = by_loading (loading g.words g.files) refl h
+  pub told_of_run : Told g text status → IsOf g text status
+  told_of_run h = by_loading (loading g.words g.files) refl h
 
 -- a call that was cut short ends with neither status
 no_memory_ok : {P : Type 0} (text : List ℕ) → Says refusal.OutOfMemory text ends.Ok → P
@@ -209,24 +211,28 @@ no_memory_conflict : {P : Type 0} (text : List ℕ) → Says refusal.OutOfMemory
 no_memory_conflict text says = let bad : ends.Inconsistent ≡ ends.OutOfMemory = says.ending in let no : ⊥ = cc in absurd no
 
 whole_ok : (g : Given) (text : List ℕ) → Writes g text ends.Ok → IsOf g text ends.Ok
-whole_ok g text (inl told) = told_of_path g text ends.Ok (inl refl) told
+whole_ok g text (inl told) = told_of_run g text ends.Ok (inl refl) told
 whole_ok g text (inr (inl failed)) = let bad : ends.Ok ≡ ends.LoadFault = load_ending g text ends.Ok failed in let no : ⊥ = cc in absurd no
 whole_ok g text (inr (inr (inl says))) = no_memory_ok text says
 whole_ok g text (inr (inr (inr (inl (o, a, opens, is, cut))))) = absurd cut
 whole_ok g text (inr (inr (inr (inr (seed, steps, asked, (made, m, o, opens, a, is, left, cut)))))) = absurd cut
 
 whole_conflict : (g : Given) (text : List ℕ) → Writes g text ends.Inconsistent → IsOf g text ends.Inconsistent
-whole_conflict g text (inl told) = told_of_path g text ends.Inconsistent (inr refl) told
+whole_conflict g text (inl told) = told_of_run g text ends.Inconsistent (inr refl) told
 whole_conflict g text (inr (inl failed)) = let bad : ends.Inconsistent ≡ ends.LoadFault = load_ending g text ends.Inconsistent failed in let no : ⊥ = cc in absurd no
 whole_conflict g text (inr (inr (inl says))) = no_memory_conflict text says
 whole_conflict g text (inr (inr (inr (inl (o, a, opens, is, cut))))) = absurd cut
 whole_conflict g text (inr (inr (inr (inr (seed, steps, asked, (made, m, o, opens, a, is, left, cut)))))) = absurd cut
 
 module _ (true_of : ReportsAreTrue) (g : Given) (out : Move Port) where
+  whole_of : (o : Opening) (lines : List ℕ) → IsOpened g o lines → IsWhole (crash_at o) o.run
+  whole_of o lines (inl (opens, same)) = opened_whole o opens.read opens.told
+  whole_of o lines (inr (seed, steps, made, asked, is, opens, same)) = opened_whole o opens.read opens.told
+
   answered_by : (text : List ℕ) → Appends out.before.bytes out.after.bytes text → IsOf g text ends.Ok → IsAnswered g out
   answered_by text written (o, lines, opened, inl (kind, has, says)) = let bad : ends.Ok ≡ ends.Inconsistent = says.ending in let no : ⊥ = cc in absurd no
   answered_by text written (o, lines, opened, inr (a, is, answers)) =
-      record { opening = o; lines = lines; opened = opened; account = a; report = is; text = text; answers = answers; written = written; holds = true_of (domain_at o) (crash_at o) o.path.steps a.known is.report }
+      record { opening = o; lines = lines; opened = opened; account = a; report = is; text = text; answers = answers; written = written; holds = true_of (domain_at o) (crash_at o) o.run a.known (whole_of o lines opened) is.report }
 
   -- a made run isn't inconsistent
   made_ends_well : (l : Loading) (seed steps : ℕ) → l ≡ MadeRun seed steps → EndsAt g.files l ends.Inconsistent → ⊥

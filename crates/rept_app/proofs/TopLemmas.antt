@@ -4,28 +4,9 @@ use Rattle.std.proofs.lemmas.Bool.Decides.{nat_tests}
 use Rattle.rept_ports.specs.Causes.{Rose, OneFault}
 use Rattle.rept_ports.specs.Port.{Port, Move, move}
 use Rattle.rept_ports.specs.Shelves.{Files, Shelved, IsOver}
-use Rattle.rept_isa.specs.declared.row.StepRow.{StepRow}
-use Rattle.rept_path.specs.declared.rebuilding.Path.{Path}
-use Rattle.rept_reason.specs.Facts.{Knowledge}
-use Rattle.rept_report.specs.Closure.{IsReport}
-use Rattle.rept_report.specs.Setting.{Setting, Uses}
-use Rattle.rept_report.specs.Beside.{beside}
-use Rattle.rept_report.specs.Implied.{HasEnded, known_at_end}
-use Rattle.rept_report.specs.Knowing.{Extends}
-use Rattle.rept_report.specs.Log.{Entry}
-use Rattle.rept_partial.specs.Ranges.{range_sets}
-use Rattle.rept_span.specs.Finer.{kind, IsFiner}
-use Rattle.rept_span.specs.Tables.{range_moves}
-use Rattle.rept_known.specs.Both.{both_sets}
-use Rattle.rept_known.specs.BothMoves.{both_moves}
-use Rattle.rept_known.specs.declared.both.Both.{Both}
-use Rattle.rept_known.proofs.BothFiner.{both_finer}
-use Rattle.rept_amo.specs.Atomic.{atomic_rules}
-use Rattle.rept_found.proofs.Truths.{uses_here}
+use Rattle.rept_steps.specs.declared.run.Run.{Run}
 use Rattle.rept_session.specs.Shown.{Told as SessionTold}
-use Rattle.rept_found.specs.Crash.{Crash, Means, setting, route}
-use Rattle.rept_found.specs.Telling.{told_of}
-use Rattle.rept_found.specs.Truth.{IsTrueReport}
+use Rattle.rept_found.specs.Telling.{told_on}
 use Rattle.rept_serve.specs.Serving.{Reading}
 use Rattle.rept_app.specs.Delivered.{Delivers, Says, Tells}
 use Rattle.rept_app.specs.Ends.{Stopped, Yields, EndsSession, FaultEnds, PortsEnd}
@@ -36,13 +17,13 @@ use Rattle.rept_app.specs.Loading.{CrashBytes, crash_bytes, core_bytes, Loading,
 use Rattle.rept_app.specs.Loading.Loading.{Refused, Loaded, LoadedCore, MadeRun}
 use Rattle.rept_app.specs.Mapped.{mapped_crash}
 use Rattle.rept_app.specs.MadeRun.{Sums}
-use Rattle.rept_app.specs.Told.{Given, given, ToldOf, IsCrashOf, summary_line, Opening, Writes, ComeToReport, ReportHolds, BitsKnowMore, MadeHolds, AskedHolds, NoExecution, crash_at, domain_at, route_at}
+use Rattle.rept_app.specs.Claims.{ComeToReport, MadeHolds, AskedHolds, NoExecution}
+use Rattle.rept_app.specs.Told.{Given, given, ToldOf, IsCrashOf, summary_line, Opening, Writes, route_at}
 use Rattle.rept_app.specs.Top.{TopCauses, ShelfCauses, LacksFile, LoadEnds, LoadsOf, EndsAt, EndsByFiles, AskedEnds, NoneFails, Completes}
 use Rattle.rept_words.specs.Words.{CoreNames, Names, Meaning, meaning_of}
 use Rattle.rept_words.specs.Words.Meaning.{Open, Maps, Made}
 use Rattle.rept_words.specs.declared.request.Domain.{Domain}
 use Rattle.rept_words.specs.declared.request.Domain.TheVariants as domain
-use Rattle.rept_app.specs.Domains.{means_of}
 use Rattle.rept_app.specs.declared.load.Manner.{Manner}
 use Rattle.rept_app.specs.declared.load.Asked.{Asked}
 use Rattle.rept_app.specs.declared.load.Asked.TheVariants as asked
@@ -165,8 +146,8 @@ core_fetched files names manner =
     one_fetched file.Core (files names.core) (λ core. fetched file.Trace (files names.trace) (λ trace. LoadedCore (core_bytes core trace manner)))
     (λ core. one_fetched file.Trace (files names.trace) (λ trace. LoadedCore (core_bytes core trace manner)) (λ trace. tt))
 
-abbrev pub opening : CrashBytes → List ℕ → Path → Opening
-opening bytes note path = record { bytes = bytes; note = note; path = path }
+abbrev pub opening : CrashBytes → List (List ℕ) → Run → Opening
+opening bytes notes run = record { bytes = bytes; notes = notes; run = run }
 
 module _ (words : List (List ℕ)) (files : Files) where
   -- which load was the last
@@ -272,8 +253,8 @@ module _ (words : List (List ℕ)) (files : Files) where
     pub examined_writes : (bytes : CrashBytes) → loading words files ≡ Loaded bytes → Examines bytes (record { input = input; left = source.after.bytes }) text status → Writes Here text status
     examined_writes bytes at (inl h) = inl (subst Whole (sym at) h)
     examined_writes bytes at (inr (inl h)) = inr (inr (inl h))
-    examined_writes bytes at (inr (inr (note, read, (path, a, is, account, cut)))) =
-        inr (inr (inr (inl (opening bytes note path, a, record { loaded = subst (λ (l : Loading). IsCrashOf files l bytes) (sym at) refl; read = read; path = is }, account, cut))))
+    examined_writes bytes at (inr (inr (notes, read, (run, a, is, account, cut)))) =
+        inr (inr (inr (inl (opening bytes notes run, a, record { loaded = subst (λ (l : Loading). IsCrashOf files l bytes) (sym at) refl; read = read; told = is }, account, cut))))
 
     pub made_writes : (seed steps : ℕ) → loading words files ≡ MadeRun seed steps → meaning_of words ≡ Some (Made seed steps) → Sums seed steps text status → Writes Here text status
     made_writes seed steps at named (inl h) = inl (subst Whole (sym at) h)
@@ -282,7 +263,7 @@ module _ (words : List (List ℕ)) (files : Files) where
 
   module _ (bytes : CrashBytes) (at : loading words files ≡ Loaded bytes) where
     pub files_hold : (status : Status) → FilesHold bytes status → ComeToReport words files
-    files_hold status ((note, path, read, is, consistent), so) = (opening bytes note path, record { loaded = subst (λ (l : Loading). IsCrashOf files l bytes) (sym at) refl; read = read; path = is }, consistent)
+    files_hold status ((notes, run, read, is, consistent), so) = (opening bytes notes run, record { loaded = subst (λ (l : Loading). IsCrashOf files l bytes) (sym at) refl; read = read; told = is }, consistent)
 
     pub examined_ends : (source sink : Move Port) (status : Status) → IsExamined bytes source sink status → EndsByFiles words files status
     examined_ends source sink status c = subst (Ends status) (sym at) (inl c.yields)
@@ -291,22 +272,7 @@ module _ (words : List (List ℕ)) (files : Files) where
     same_files other h = let same : other ≡ bytes = subst (λ (l : Loading). IsCrashOf files l other) at h in sym same
 
     pub examined_excludes : FilesExclude bytes → NoExecution words files
-    examined_excludes none o opens = subst (λ (b : CrashBytes). FilesExclude b) (same_files o.bytes opens.loaded) none o.note opens.read o.path opens.path
-
--- what is told of the report of any path and crash is true, in either domain
-abbrev pub ReportsAreTrue : Type 0
-ReportsAreTrue = (d : Domain) (crash : Crash) (rows : List StepRow) (known : Knowledge) → IsReport (setting (means_of d) crash rows) known → IsTrueReport (route (means_of d) crash rows) known
-
-abbrev TrueOf : {W : Type 0} → Means W → Type 0
-TrueOf m = (crash : Crash) (rows : List StepRow) (known : Knowledge) → IsReport (setting m crash rows) known → IsTrueReport (route m crash rows) known
-
-pub true_in_both : TrueOf (means_of domain.Ranges) → TrueOf (means_of domain.KnownBits) → ReportsAreTrue
-true_in_both ranges bits domain.Ranges = ranges
-true_in_both ranges bits domain.KnownBits = bits
-
--- so it is of that of the files
-pub reports_hold : (words : List (List ℕ)) (files : Files) → ReportsAreTrue → ReportHolds words files
-reports_hold words files true_of o known opens report = true_of (domain_at o) (crash_at o) o.path.steps known report
+    examined_excludes none o opens = subst (λ (b : CrashBytes). FilesExclude b) (same_files o.bytes opens.loaded) none o.notes opens.read o.run opens.told
 
 -- a session that was cut short ends with one of two statuses
 cut_ends : (t : SessionTold) (reading : Reading) (text : List ℕ) (status : Status) → CutOff t reading text status → (status ≡ ends.InputFault) ⊎ (status ≡ ends.OutOfMemory)
@@ -331,9 +297,9 @@ completed g shelf source sink status c (inl (text, inl h, appended, calm)) calm_
 completed g shelf source sink status c (inl (text, inr (inl failed), appended, calm)) calm_ports = absurd (calm_ports.loaded (c.load (load_ending g text status failed)))
 completed g shelf source sink status c (inl (text, inr (inr (inl says)), appended, calm)) calm_ports = inl says.ending
 completed g shelf source sink status c (inl (text, inr (inr (inr (inl (o, a, opens, account, cut)))), appended, calm)) calm_ports =
-    elim (cut_ends (told_of (route_at o) a) g.reading text status cut) [ inl e ↦ absurd (calm_ports.read (c.ports.input e).rose) | inr e ↦ inl e ]
+    elim (cut_ends (told_on (route_at o) a) g.reading text status cut) [ inl e ↦ absurd (calm_ports.read (c.ports.input e).rose) | inr e ↦ inl e ]
 completed g shelf source sink status c (inl (text, inr (inr (inr (inr (seed, steps, named, (made, is, o, opens, a, account, left, cut))))), appended, calm)) calm_ports =
-    elim (cut_ends (told_of (route_at o) a) (record { input = summary_line; left = left }) text status cut) [ inl e ↦ absurd (calm_ports.read (c.ports.input e).rose) | inr e ↦ inl e ]
+    elim (cut_ends (told_on (route_at o) a) (record { input = summary_line; left = left }) text status cut) [ inl e ↦ absurd (calm_ports.read (c.ports.input e).rose) | inr e ↦ inl e ]
 
 -- what is said of a call of which one fault of the shelf at most was counted
 pub record AllCauses (shelf : Move Shelved) (source sink : Move Port) (status : Status) : Type 0 where
@@ -667,16 +633,3 @@ module _ (r : Result Asked Refusal) (a : Asked) where
 
   pub made_at : (seed steps : ℕ) (m : Option Meaning) (old new : Shelved) → r ≡ Ok a → a ≡ asked.Made seed steps → IfOk r (λ x. IsAsked x m (move old new)) → m ≡ Some (Made seed steps)
   made_at seed steps m old new e same h = (ok_at r a (asked.Made seed steps) (λ x. IsAsked x m (move old new)) e same h).0
-
--- what is known by ranges is known by ranges with known bits, of one path and crash
-abbrev pub FinerLaw : Type 0
-FinerLaw =
-    (S : Setting Both) (es : List Entry) (tracked : ℕ → Bool) (K : Knowledge) → Uses S both_sets both_moves atomic_rules → IsFiner (kind both_sets both_moves) (kind range_sets range_moves) → HasEnded S es tracked
-    → IsReport (beside S range_sets range_moves) K → Extends K (known_at_end S es tracked)
-
-pub bits_know : (words : List (List ℕ)) (files : Files) → FinerLaw → BitsKnowMore words files
-bits_know words files law o by_ranges by_bits opens r b p c v e =
-    let m : Means Both = means_of domain.KnownBits in
-    let rows : List StepRow = o.path.steps in
-    let known = law (setting m (crash_at o) rows) b.log.entries b.log.tracked by_ranges.known (uses_here m (crash_at o) rows) both_finer b.log.ended r.report p c v e in
-    sym (b.log.knows p c) ∙ known

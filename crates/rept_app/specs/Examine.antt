@@ -2,28 +2,28 @@
 use Rattle.std.specs.Prelude.{◌≡◌, ◌⊎◌, ℕ, List, Result, MatchOption, MatchResult}
 use Rattle.rept_dump.specs.declared.fault.CoreFault.{CoreFault}
 use Rattle.rept_path.specs.declared.fault.PathFault.{PathFault}
-use Rattle.rept_path.specs.declared.rebuilding.Path.{Path}
+use Rattle.rept_steps.specs.declared.run.Run.{Run}
 use Rattle.rept_ports.specs.Port.{Port, Move}
 use Rattle.rept_report.specs.Closure.{ClosureHas, IsConsistent}
-use Rattle.rept_found.specs.Truth.{HasNoExecution}
 use Rattle.rept_report.specs.declared.conflict.ConflictKind.{ConflictKind}
-use Rattle.rept_found.specs.Telling.{Account, told_of}
+use Rattle.rept_found.specs.Telling.{Account, told_on}
 use Rattle.rept_serve.specs.Serving.{Reading}
 use Rattle.rept_app.specs.Delivered.{Says}
 use Rattle.rept_app.specs.Ends.{Yields, EndsSession, PortsEnd}
 use Rattle.rept_app.specs.Forms.{program_fault, core_image_fault, crash_in}
 use Rattle.rept_app.specs.Held.{CutOff}
-use Rattle.rept_app.specs.Path.{IsPathOf, HasNoPathOf}
 use Rattle.rept_app.specs.Loading.{CrashBytes}
-use Rattle.rept_app.specs.Told.{CrashPath, CoreSays, route_of, setting_of, CrashTrace, trace_in, path_in, Walked, Examined, Reads, IsAccountOf}
+use Rattle.rept_app.specs.Told.{CrashRun, CoreSays, route_of, setting_of, CrashTrace, trace_in, run_in, Walked, Examined, Reads, IsAccountOf}
+use Rattle.rept_app.specs.TraceRun.{IsRunOf, HasNoRunOf}
+use Rattle.rept_app.specs.True.{IsExcluded}
 use Rattle.rept_app.specs.declared.refusal.Refusal.TheVariants as refusal
 use Rattle.rept_app.specs.declared.status.Status.{Status}
 use Rattle.rept_app.specs.declared.status.Status.TheVariants as ends
 
--- the session over the path's report was cut short
+-- the session over the run's report was cut short
 abbrev pub WalkCut : CrashTrace → Reading → List ℕ → Status → Type 0
 WalkCut t reading text status =
-    (path : Path) × (a : Account) × IsPathOf t.crash t.trace t.manner.from path × IsAccountOf (path_in t path) a × CutOff (told_of (route_of (path_in t path)) a) reading text status
+    (run : Run) × (a : Account) × IsRunOf t.crash t.trace t.manner.from run × IsAccountOf (run_in t run) a × CutOff (told_on (route_of (run_in t run)) a) reading text status
 
 -- all of it; or memory ran out; or the session was cut short
 abbrev pub Walks : CrashTrace → Reading → List ℕ → Status → Type 0
@@ -32,37 +32,37 @@ Walks t reading text status = Walked t reading.input text status ⊎ Says refusa
 abbrev pub Examines : CrashBytes → Reading → List ℕ → Status → Type 0
 Examines bytes reading text status =
     Examined bytes reading.input text status ⊎ Says refusal.OutOfMemory text status
-    ⊎ ((note : List ℕ) × Reads bytes note × WalkCut (trace_in bytes note) reading text status)
+    ⊎ ((notes : List (List ℕ)) × Reads bytes notes × WalkCut (trace_in bytes notes) reading text status)
 
--- how the analysis of a path ends the call
-pub record PathYields {W : Type 0} (p : CrashPath W) (status : Status) : Type 0 where
+-- how the analysis of a run ends the call
+pub record RunYields {W : Type 0} (p : CrashRun W) (status : Status) : Type 0 where
   pub conflict : (kind : ConflictKind) → ClosureHas (setting_of p) kind → Yields ends.Inconsistent status
   pub report : IsConsistent (setting_of p) → EndsSession status
 
--- How a trace ends the call, whatever the input is. Its status comes only where it has no path.
+-- How a trace ends the call, whatever the input is. Its status comes only where it tells no run.
 pub record WalkYields (t : CrashTrace) (status : Status) : Type 0 where
-  pub refused : (fault : PathFault) → HasNoPathOf t.crash t.trace t.manner.from fault → Yields ends.Trace status
-  pub walked : (path : Path) → IsPathOf t.crash t.trace t.manner.from path → PathYields (path_in t path) status
-  pub only : status ≡ ends.Trace → (fault : PathFault) × HasNoPathOf t.crash t.trace t.manner.from fault
+  pub refused : (fault : PathFault) → HasNoRunOf t.crash t.trace t.manner.from fault → Yields ends.Trace status
+  pub walked : (run : Run) → IsRunOf t.crash t.trace t.manner.from run → RunYields (run_in t run) status
+  pub only : status ≡ ends.Trace → (fault : PathFault) × HasNoRunOf t.crash t.trace t.manner.from fault
 
 -- how what the notes say ends the call
-abbrev pub NoteYields : CrashBytes → Result (List ℕ) CoreFault → Status → Type 0
-NoteYields bytes said status = MatchResult said (λ note. WalkYields (trace_in bytes note) status) (λ _. Yields ends.Core status)
+abbrev pub NoteYields : CrashBytes → Result (List (List ℕ)) CoreFault → Status → Type 0
+NoteYields bytes said status = MatchResult said (λ notes. WalkYields (trace_in bytes notes) status) (λ _. Yields ends.Core status)
 
 -- how the files end the call
 abbrev pub FilesEnd : CrashBytes → Status → Type 0
 FilesEnd bytes status =
     MatchOption (program_fault bytes.program)
-    (MatchOption (core_image_fault bytes.core) ((said : Result (List ℕ) CoreFault) → CoreSays bytes said → NoteYields bytes said status) (λ _. Yields ends.Core status))
+    (MatchOption (core_image_fault bytes.core) ((said : Result (List (List ℕ)) CoreFault) → CoreSays bytes said → NoteYields bytes said status) (λ _. Yields ends.Core status))
     (λ _. Yields ends.Executable status)
 
--- the statuses of a path that is told
-abbrev pub IsPathStatus : Status → Type 0
-IsPathStatus status = (status ≡ ends.Inconsistent) ⊎ EndsSession status
+-- the statuses of a run that is told
+abbrev pub IsRunStatus : Status → Type 0
+IsRunStatus status = (status ≡ ends.Inconsistent) ⊎ EndsSession status
 
 -- the statuses of a trace that is walked
 abbrev pub IsWalkStatus : Status → Type 0
-IsWalkStatus status = (status ≡ ends.Trace) ⊎ IsPathStatus status
+IsWalkStatus status = (status ≡ ends.Trace) ⊎ IsRunStatus status
 
 -- each fault has its cause and ends the call, and each status comes where the trace says so
 pub record IsWalked (t : CrashTrace) (source sink : Move Port) (status : Status) : Type 0 where
@@ -76,19 +76,19 @@ pub record IsExamined (bytes : CrashBytes) (source sink : Move Port) (status : S
   pub yields : FilesEnd bytes status
   pub ends_so : (status ≡ ends.Executable) ⊎ (status ≡ ends.Core) ⊎ IsWalkStatus status
 
--- a session may have been held, since the trace has a path whose closure has no conflict
+-- a session may have been held, since the trace tells a run whose closure has no conflict
 abbrev pub WalkHolds : CrashTrace → Status → Type 0
-WalkHolds t status = ((path : Path) × IsPathOf t.crash t.trace t.manner.from path × IsConsistent (setting_of (path_in t path))) × EndsSession status
+WalkHolds t status = ((run : Run) × IsRunOf t.crash t.trace t.manner.from run × IsConsistent (setting_of (run_in t run))) × EndsSession status
 
 -- the same of the files
 abbrev pub FilesHold : CrashBytes → Status → Type 0
 FilesHold bytes status =
-    ((note : List ℕ) × (path : Path) × Reads bytes note × IsPathOf (crash_in bytes.program bytes.core note) bytes.trace bytes.manner.from path × IsConsistent (setting_of (path_in (trace_in bytes note) path)))
+    ((notes : List (List ℕ)) × (run : Run) × Reads bytes notes × IsRunOf (crash_in bytes.program bytes.core notes) bytes.trace bytes.manner.from run × IsConsistent (setting_of (run_in (trace_in bytes notes) run)))
     × EndsSession status
 
--- no execution of the path ends in the crash
-abbrev pub PathExcludes : CrashTrace → Type 0
-PathExcludes t = (path : Path) → IsPathOf t.crash t.trace t.manner.from path → HasNoExecution (route_of (path_in t path))
+-- no execution of the run ends in the crash
+abbrev pub TraceExcludes : CrashTrace → Type 0
+TraceExcludes t = (run : Run) → IsRunOf t.crash t.trace t.manner.from run → IsExcluded (run_in t run)
 
 abbrev pub FilesExclude : CrashBytes → Type 0
-FilesExclude bytes = (note : List ℕ) → Reads bytes note → PathExcludes (trace_in bytes note)
+FilesExclude bytes = (notes : List (List ℕ)) → Reads bytes notes → TraceExcludes (trace_in bytes notes)

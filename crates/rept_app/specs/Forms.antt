@@ -21,6 +21,6 @@ program_fault (MappedFiles ms) = None
 abbrev pub core_image_fault : List ℕ → Option ElfFault
 core_image_fault core = first_failure (checks want.Core core)
 
--- the crash that a program's files, a core file and the descriptor of its register note tell
-abbrev pub crash_in : Program → List ℕ → List ℕ → Crash
-crash_in program core note = record { exe = program; core = segments core; note = note }
+-- the crash that a program's files, a core file and the descriptors of its register notes tell
+abbrev pub crash_in : Program → List ℕ → List (List ℕ) → Crash
+crash_in program core notes = record { exe = program; core = segments core; notes = notes }

@@ -1,5 +1,6 @@
 pub mod Delivered
 pub mod Domains
+pub mod Claims
 pub mod Ends
 pub mod Examine
 pub mod Forms
@@ -15,4 +16,6 @@ pub mod Status
 pub mod Study
 pub mod Told
 pub mod Top
+pub mod TraceRun
+pub mod True
 pub mod Reading

@@ -1,5 +1,5 @@
 -- The line that is written before a status, and the status.
-use Rattle.std.specs.Prelude.{ℕ, ◌%◌, List, [], ◌∷◌, ◌++◌, codes}
+use Rattle.std.specs.Prelude.{ℕ, ◌%◌, List, [], ◌∷◌, ◌++◌, codes, nat_lt, if◌then◌else◌}
 use Rattle.std.specs.Fmt.{decimal}
 use Rattle.rept_word.specs.Hex.{hex_word, hex_byte}
 use Rattle.rept_elf.specs.declared.fault.ElfFault.{ElfFault}
@@ -16,6 +16,9 @@ use Rattle.rept_reason.specs.declared.fact.Cell.{Cell}
 use Rattle.rept_reason.specs.declared.fact.Cell.TheVariants.{Register, Byte}
 use Rattle.rept_report.specs.declared.conflict.ConflictKind.{ConflictKind}
 use Rattle.rept_report.specs.declared.conflict.ConflictKind.TheVariants.{TwoValues, EmptyRange, WrongTurn}
+use Rattle.rept_found.specs.declared.contradiction.Contradiction.{Contradiction}
+use Rattle.rept_session.specs.Texts.{place_text}
+use Rattle.rept_session.specs.declared.place.Place.{Place}
 use Rattle.rept_app.specs.declared.refusal.FileKind.{FileKind}
 use Rattle.rept_app.specs.declared.refusal.FileKind.TheVariants as file
 use Rattle.rept_app.specs.declared.refusal.Refusal.{Refusal}
@@ -38,7 +41,7 @@ status_of (refusal.CoreImage f) = ends.Core
 status_of (refusal.Core f) = ends.Core
 status_of (refusal.Maps f) = ends.Core
 status_of (refusal.Path f) = status_of_path f
-status_of (refusal.Inconsistent kind) = ends.Inconsistent
+status_of (refusal.Inconsistent c) = ends.Inconsistent
 status_of refusal.InputFault = ends.InputFault
 status_of refusal.OutOfMemory = ends.OutOfMemory
 status_of refusal.TooMuchInput = ends.TooMuchInput
@@ -121,15 +124,23 @@ abbrev pub value_text_in : Cell → ℕ → List ℕ
 value_text_in (Register r) value = hex_word value
 value_text_in (Byte address) value = hex_byte (value % 256)
 
-abbrev pub two_values_text : ℕ → Cell → ℕ → ℕ → List ℕ
-two_values_text point cell v w =
-    codes "inconsistent two-values " ++ decimal point ++ codes " " ++ cell_text cell ++ codes " " ++ value_text_in cell v ++ codes " " ++ value_text_in cell w
+abbrev pub two_values_text : Place → Cell → ℕ → ℕ → List ℕ
+two_values_text place cell v w =
+    codes "inconsistent two-values " ++ place_text place ++ codes " " ++ cell_text cell ++ codes " " ++ value_text_in cell v ++ codes " " ++ value_text_in cell w
 
--- two values of a register or byte at a point, a register without a value at a point, or a step that went another way
-abbrev pub conflict_text : ConflictKind → List ℕ
-conflict_text (TwoValues point cell v w) = two_values_text point cell v w
-conflict_text (EmptyRange point reg) = codes "inconsistent empty-range " ++ decimal point ++ codes " x" ++ decimal reg
-conflict_text (WrongTurn step) = codes "inconsistent wrong-turn " ++ decimal step
+-- Two values of a register or byte, a register without a value, or a step that went another way: at a point, or of a byte at a moment
+-- (`after-J` after a step, `end`).
+abbrev pub conflict_text : Place → ConflictKind → List ℕ
+conflict_text place (TwoValues point cell v w) = two_values_text place cell v w
+conflict_text place (EmptyRange point reg) = codes "inconsistent empty-range " ++ place_text place ++ codes " x" ++ decimal reg
+conflict_text place (WrongTurn step) = codes "inconsistent wrong-turn " ++ place_text place
+
+-- ` of T`, where there are several threads
+abbrev pub of_thread : ℕ → ℕ → List ℕ
+of_thread threads thread = if nat_lt 1 threads then codes " of " ++ decimal thread else []
+
+abbrev pub contradiction_text : Contradiction → List ℕ
+contradiction_text c = conflict_text c.at.place c.kind ++ of_thread c.threads c.at.thread
 
 abbrev pub words_of : Refusal → List ℕ
 words_of refusal.Usage = codes "usage: rept open|bits EXE CORE TRACE [FROM] | rept self SEED STEPS | rept maps CORE TRACE [FROM]"
@@ -141,7 +152,7 @@ words_of (refusal.CoreImage f) = codes "core-image " ++ elf_fault_text f
 words_of (refusal.Core f) = core_fault_text f
 words_of (refusal.Maps f) = map_fault_text f
 words_of (refusal.Path f) = path_fault_text f
-words_of (refusal.Inconsistent kind) = conflict_text kind
+words_of (refusal.Inconsistent c) = contradiction_text c
 words_of refusal.InputFault = codes "input-fault"
 words_of refusal.OutOfMemory = codes "out-of-memory"
 words_of refusal.TooMuchInput = codes "too-much-input"

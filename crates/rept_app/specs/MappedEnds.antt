@@ -28,7 +28,7 @@ mapped_call crash loads reading = record { crash = crash; loads = loads; reading
 abbrev pub ExaminesMapped : MappedCall → List ℕ → Status → Type 0
 ExaminesMapped c text status =
     MappedTold c.crash c.reading.input text status ⊎ Says refusal.OutOfMemory text status ⊎ NameFails c.crash c.loads text status
-    ⊎ ((bytes : CrashBytes) × (note : List ℕ) × IsMappedAs c.crash bytes × Reads bytes note × WalkCut (trace_in bytes note) c.reading text status)
+    ⊎ ((bytes : CrashBytes) × (notes : List (List ℕ)) × IsMappedAs c.crash bytes × Reads bytes notes × WalkCut (trace_in bytes notes) c.reading text status)
 
 -- how what the core file's list says ends the call
 abbrev pub ListEnds : MappedCrash → Result (List ℕ) MapFault → Status → Type 0
@@ -55,11 +55,11 @@ pub record IsExaminedMapped (bytes : CoreBytes) (m : Moves) (status : Status) : 
   pub ends_so : (status ≡ ends.LoadFault) ⊎ (status ≡ ends.Core) ⊎ IsWalkStatus status
   pub yields : IfSome m.shelf.before.files (λ files. MappedEnd (mapped_crash files bytes) status ⊎ (status ≡ ends.LoadFault))
 
--- a session may have been held, since the trace has a path whose closure has no conflict
+-- a session may have been held, since the trace tells a run whose closure has no conflict
 abbrev pub MappedHolds : MappedCrash → Status → Type 0
 MappedHolds m status = (bytes : CrashBytes) × IsMappedAs m bytes × FilesHold bytes status
 
--- no execution of the path ends in the crash
+-- no execution of the run ends in the crash
 abbrev pub MappedExcludes : MappedCrash → Type 0
 MappedExcludes m = (bytes : CrashBytes) → IsMappedAs m bytes → FilesExclude bytes
 

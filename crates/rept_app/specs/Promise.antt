@@ -3,14 +3,14 @@
 use Rattle.std.specs.Prelude.{◌≡◌, ◌⊎◌, ℕ, List}
 use Rattle.std.specs.Io.KnownBytes.{Appends}
 use Rattle.rept_ports.specs.Port.{Port, Move}
-use Rattle.rept_found.specs.Telling.{Account, told_of}
-use Rattle.rept_found.specs.Truth.{HasNoExecution, IsTrueReport}
+use Rattle.rept_found.specs.Telling.{Account, told_on}
 use Rattle.rept_serve.specs.Serving.{Ended}
 use Rattle.rept_make.specs.Made.{IsMade}
 use Rattle.rept_make.specs.declared.made.Made.{Made}
 use Rattle.rept_app.specs.Loading.{loading}
 use Rattle.rept_app.specs.Loading.Loading.{MadeRun}
-use Rattle.rept_app.specs.Told.{Given, Opening, Opens, OpensMade, IsAccountOf, path_at, route_at, summary_line}
+use Rattle.rept_app.specs.Told.{Given, Opening, Opens, OpensMade, IsAccountOf, run_at, route_at, summary_line}
+use Rattle.rept_app.specs.True.{IsExcluded, IsTrue}
 use Rattle.rept_app.specs.declared.status.Status.{Status}
 use Rattle.rept_app.specs.declared.status.Status.TheVariants as ends
 
@@ -21,24 +21,24 @@ IsOpened g o lines =
     (Opens g.words g.files o × (lines ≡ g.reading.input))
     ⊎ ((seed : ℕ) × (steps : ℕ) × (made : Made) × (loading g.words g.files ≡ MadeRun seed steps) × IsMade seed steps made × OpensMade made o × (lines ≡ summary_line))
 
--- What was written is the answers to the lines, to their end or to `quit`, over the report of the path; and each register, byte, range
--- and writer of that report holds in every execution of the path that ends in the crash.
+-- What was written is the answers to the lines, to their end or to `quit`, over the report of the run; and each register, byte, range
+-- and writer of that report holds in every execution of the run that ends in the crash.
 pub record IsAnswered (g : Given) (out : Move Port) : Type 0 where
   pub opening : Opening
   pub lines : List ℕ
   pub opened : IsOpened g opening lines
   pub account : Account
-  pub report : IsAccountOf (path_at opening) account
+  pub report : IsAccountOf (run_at opening) account
   pub text : List ℕ
-  pub answers : Ended (told_of (route_at opening) account) lines text
+  pub answers : Ended (told_on (route_at opening) account) lines text
   pub written : Appends out.before.bytes out.after.bytes text
-  pub holds : IsTrueReport (route_at opening) account.known
+  pub holds : IsTrue (run_at opening) account.known
 
--- the files tell a path, and no execution of it ends in the crash
+-- the files tell a run, and no execution of it ends in the crash
 pub record IsImpossible (g : Given) : Type 0 where
   pub opening : Opening
   pub opened : Opens g.words g.files opening
-  pub none : HasNoExecution (route_at opening)
+  pub none : IsExcluded (run_at opening)
 
 -- status 0, and status 1
 pub record Promise (g : Given) (out : Move Port) (status : Status) : Type 0 where

@@ -1,46 +1,55 @@
 -- What an executable and a core file are read as, or the first reason why they aren't (ELF-32 Object File Format; Linux core notes of RISC-V).
-use Rattle.std.specs.Prelude.{◌≡◌, ℕ, Bool, List, length, slice_get, Some, None, Result, Ok, Err, MatchBool, MatchOption}
+use Rattle.std.specs.Prelude.{◌≡◌, ℕ, Bool, false, List, [], ◌∷◌, length, slice_get, Some, None, Result, Ok, Err, MatchBool, MatchOption}
 use Rattle.rept_elf.specs.Segments.{ElfSegment, segments}
 use Rattle.rept_dump.specs.Dump.{registers_of, threads_of, HasThreads}
 use Rattle.rept_dump.specs.Program.Program.{OneFile}
 use Rattle.rept_dump.specs.Registers.{Says, SaysOfAll}
 use Rattle.rept_dump.specs.declared.dump.Dump.{Dump}
 use Rattle.rept_dump.specs.declared.fault.CoreFault.{CoreFault}
+use Rattle.rept_runs.specs.Told.{AreApart}
 use Rattle.rept_found.specs.Crash.{crash_of}
 use Rattle.rept_app.specs.Forms.{executable_fault, program_fault, core_image_fault, crash_in}
 use Rattle.rept_app.specs.Loading.{CrashBytes}
 use Rattle.rept_app.specs.declared.refusal.Refusal.{Refusal}
 use Rattle.rept_app.specs.declared.refusal.Refusal.TheVariants as refusal
 
--- what the notes of a core file of so many bytes say of its first thread, where each thread has one: its descriptor, or why they don't give that of each
-abbrev pub SaysOfFirst : ℕ → List ElfSegment → Result (List ℕ) CoreFault → Type 0
-SaysOfFirst size ss (Ok note) = (descs : List (List ℕ)) × SaysOfAll size ss (Ok descs) × (slice_get descs 0 ≡ Some note)
-SaysOfFirst size ss (Err fault) = SaysOfAll size ss (Err fault)
+-- what the notes of a core file of so many bytes say where there is one thread: the descriptor of the only register note, or why they don't give it
+abbrev pub SaysOfOne : ℕ → List ElfSegment → Result (List (List ℕ)) CoreFault → Type 0
+SaysOfOne size ss (Ok notes) = (note : List ℕ) × Says size ss (Ok note) × (notes ≡ note ∷ [])
+SaysOfOne size ss (Err fault) = Says size ss (Err fault)
 
--- what the notes of a core file say where there may be many threads, and where there is one
-abbrev pub NotesSay : Bool → List ℕ → Result (List ℕ) CoreFault → Type 0
-NotesSay many core said = MatchBool many (SaysOfFirst (length core) (segments core) said) (Says (length core) (segments core) said)
+-- what the notes of a core file say where there may be many threads, and where there is one: the descriptors of the register notes, one of each thread, or why they don't give them
+abbrev pub NotesSay : Bool → List ℕ → Result (List (List ℕ)) CoreFault → Type 0
+NotesSay many core said = MatchBool many (SaysOfAll (length core) (segments core) said) (SaysOfOne (length core) (segments core) said)
 
--- the dump has the registers of each thread of its core file, and its own are those of the first
-pub record HasAllNotes (dump : Dump) : Type 0 where
-  pub descs : List (List ℕ)
-  pub threads : HasThreads dump descs
-  pub count : threads_of dump ≡ length descs
-  pub first : slice_get descs 0 ≡ Some (registers_of dump)
+-- These are the register notes of a dump, one of each of its threads, no two of one process; its own registers are those of the first.
+pub record AreNotesOf (dump : Dump) (notes : List (List ℕ)) : Type 0 where
+  pub threads : HasThreads dump notes
+  pub count : threads_of dump ≡ length notes
+  pub first : slice_get notes 0 ≡ Some (registers_of dump)
+  pub apart : AreApart notes
 
--- both files are accepted, and the notes say nothing but these registers
+-- the dump has them; and where there may not be many threads there is one
+pub record HasNotes (many : Bool) (dump : Dump) : Type 0 where
+  pub notes : List (List ℕ)
+  pub are : AreNotesOf dump notes
+  pub one : many ≡ false → threads_of dump ≡ 1
+
+-- both files are accepted, the dump has the notes, and they say nothing else
 pub record IsDumpOf (many : Bool) (exe core : List ℕ) (dump : Dump) : Type 0 where
   pub exe_accepted : executable_fault exe ≡ None
   pub core_accepted : core_image_fault core ≡ None
-  pub noted : NotesSay many core (Ok (registers_of dump))
-  pub only : (said : Result (List ℕ) CoreFault) → NotesSay many core said → said ≡ Ok (registers_of dump)
-  pub crash : crash_of dump ≡ crash_in (OneFile exe) core (registers_of dump)
+  pub notes : List (List ℕ)
+  pub are : AreNotesOf dump notes
+  pub noted : NotesSay many core (Ok notes)
+  pub only : (said : Result (List (List ℕ)) CoreFault) → NotesSay many core said → said ≡ Ok notes
+  pub crash : crash_of dump notes ≡ crash_in (OneFile exe) core notes
 
 -- the notes are refused, and say nothing else
 abbrev pub NotesRefuse : Bool → List ℕ → Refusal → Type 0
 NotesRefuse many core r =
     (fault : CoreFault) × NotesSay many core (Err fault)
-    × ((said : Result (List ℕ) CoreFault) → NotesSay many core said → said ≡ Err fault) × (r ≡ refusal.Core fault)
+    × ((said : Result (List (List ℕ)) CoreFault) → NotesSay many core said → said ≡ Err fault) × (r ≡ refusal.Core fault)
 
 -- the executable is refused; or the core file as an image; or its notes
 abbrev pub HasNoDump : Bool → List ℕ → List ℕ → Refusal → Type 0

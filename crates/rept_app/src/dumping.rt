@@ -1,10 +1,10 @@
 //! From the bytes of an executable and a core file to a dump.
 
-ghost use Rattle.std.specs.Prelude.{◌≡◌, length, true, IfOk, IfErr, MatchBool};
+ghost use Rattle.std.specs.Prelude.{◌≡◌, length, IfOk, IfErr, MatchBool};
 ghost use Rattle.rept_elf.specs.Image.{file_of, segments_of};
 ghost use Rattle.rept_dump.specs.Dump.{AreRead, AreReadOfAll, core_of, exe_of};
 ghost use Rattle.rept_dump.specs.Program.Program.{OneFile};
-ghost use Rattle.rept_app.specs.Reading.{HasAllNotes, HasNoDump, IsDumpOf};
+ghost use Rattle.rept_app.specs.Reading.{HasNotes, HasNoDump, IsDumpOf};
 
 use crate::refusal::Refusal;
 use rept_dump::{CoreFault, Dump};
@@ -14,7 +14,7 @@ use rept_elf::{Image, Want};
 /// the refusal: the executable's, that of the core file as an image, and that of its notes.
 pub fn read_dump<'a>(exe: &'a [u8], core: &'a [u8], many: bool) -> Result<Dump<'a>, Refusal>
     ensures dump { IfOk result (IsDumpOf many exe.now core.now) }
-    ensures threads { many ≡ true → IfOk result HasAllNotes }
+    ensures notes { IfOk result (HasNotes many) }
     ensures refused { IfErr result (HasNoDump many exe.now core.now) }
 {
     let exe_image = match Image::read(exe, Want::Exec) {

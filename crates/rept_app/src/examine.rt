@@ -1,30 +1,28 @@
-//! From the bytes of the files to the study of their path.
+//! From the bytes of the files to the study of their run.
 
-ghost use Rattle.std.specs.Prelude.{◌≡◌, ◌⊎◌, ◌<◌, ◌^◌, length, true, false, IfSome};
+ghost use Rattle.std.specs.Prelude.{◌≡◌, ◌⊎◌, ◌<◌, ◌^◌, ℕ, List, length, IfSome};
 ghost use Rattle.rept_ports.specs.Port.{move};
 ghost use Rattle.rept_found.specs.Crash.{crash_of};
 ghost use Rattle.rept_runs.specs.Kind.{is_several};
 ghost use Rattle.rept_app.specs.Delivered.{Delivers};
-ghost use Rattle.rept_app.specs.Examine.{Examines, IsExamined, FilesExclude, FilesHold, Walks, IsWalked, PathExcludes, WalkHolds};
+ghost use Rattle.rept_app.specs.Examine.{Examines, IsExamined, FilesExclude, FilesHold, Walks, IsWalked, TraceExcludes, WalkHolds};
 ghost use Rattle.rept_app.specs.Loading.{crash_bytes};
-ghost use Rattle.rept_app.specs.Reading.{HasAllNotes};
+ghost use Rattle.rept_app.specs.Reading.{AreNotesOf, HasNotes};
 ghost use Rattle.rept_app.specs.Told.{crash_trace};
 
 use crate::dumping::read_dump;
 use crate::load::Manner;
-use crate::path::trace_path;
 use crate::refusal::Refusal;
+use crate::running::trace_run;
 use crate::status::Status;
 use crate::study::study;
 use crate::telling::tell;
 use rept_dump::Dump;
-use rept_path::PathFault;
 use rept_ports::{Sink, Source};
-use rept_runs::{is_several, one_path, paths_are_whole, read_run};
-use rept_trace::TraceFault;
+use rept_runs::is_several;
 use std::alloc::Global;
 
-/// Reads the files, rebuilds the path from a packet on, and studies it in a domain.
+/// Reads the files, rebuilds the run from a packet on, and studies it in a domain.
 pub fn examine<S: Source, K: Sink>(
     alloc: Global,
     exe: &[u8],
@@ -46,7 +44,7 @@ pub fn examine<S: Source, K: Sink>(
     }
 }
 
-/// Rebuilds the path and studies it. A trace of several streams wants the registers of each thread.
+/// Rebuilds the run of the dump's threads and studies it. A trace of several streams wants the registers of each thread.
 pub fn walk<S: Source, K: Sink>(
     alloc: Global,
     dump: &Dump<'_>,
@@ -56,71 +54,14 @@ pub fn walk<S: Source, K: Sink>(
     out: &mut K,
 ) -> Status
     requires few { length trace.now < 2 ^ 32 }
-    requires threads { is_several trace.now ≡ true → HasAllNotes dump.now }
-    ensures text { IfSome (S.port input.old).bytes (λ bytes. Delivers (Walks (crash_trace (crash_of dump.now) trace.now manner) (record { input = bytes; left = (S.port input.new).bytes })) (move (K.port out.old) (K.port out.new)) result) }
-    ensures causes { IsWalked (crash_trace (crash_of dump.now) trace.now manner) (move (S.port input.old) (S.port input.new)) (move (K.port out.old) (K.port out.new)) result }
-    ensures stays { (input.new ≡ input.old) ⊎ WalkHolds (crash_trace (crash_of dump.now) trace.now manner) result }
-    ensures impossible { result ≡ Status.Inconsistent → PathExcludes (crash_trace (crash_of dump.now) trace.now manner) }
+    requires noted { HasNotes (is_several trace.now) dump.now }
+    ensures text { (notes : List (List ℕ)) → AreNotesOf dump.now notes → IfSome (S.port input.old).bytes (λ bytes. Delivers (Walks (crash_trace (crash_of dump.now notes) trace.now manner) (record { input = bytes; left = (S.port input.new).bytes })) (move (K.port out.old) (K.port out.new)) result) }
+    ensures causes { (notes : List (List ℕ)) → AreNotesOf dump.now notes → IsWalked (crash_trace (crash_of dump.now notes) trace.now manner) (move (S.port input.old) (S.port input.new)) (move (K.port out.old) (K.port out.new)) result }
+    ensures stays { (notes : List (List ℕ)) → AreNotesOf dump.now notes → (input.new ≡ input.old) ⊎ WalkHolds (crash_trace (crash_of dump.now notes) trace.now manner) result }
+    ensures impossible { (notes : List (List ℕ)) → AreNotesOf dump.now notes → result ≡ Status.Inconsistent → TraceExcludes (crash_trace (crash_of dump.now notes) trace.now manner) }
 {
-    if is_several(trace) {
-        return walk_streams(alloc, dump, trace, manner, input, out);
-    }
-    walk_stream(alloc, dump, trace, manner, input, out)
-}
-
-/// The same of a trace of one stream.
-fn walk_stream<S: Source, K: Sink>(
-    alloc: Global,
-    dump: &Dump<'_>,
-    trace: &[u8],
-    manner: Manner,
-    input: &mut S,
-    out: &mut K,
-) -> Status
-    requires few { length trace.now < 2 ^ 32 }
-    requires one { is_several trace.now ≡ false }
-    ensures text { IfSome (S.port input.old).bytes (λ bytes. Delivers (Walks (crash_trace (crash_of dump.now) trace.now manner) (record { input = bytes; left = (S.port input.new).bytes })) (move (K.port out.old) (K.port out.new)) result) }
-    ensures causes { IsWalked (crash_trace (crash_of dump.now) trace.now manner) (move (S.port input.old) (S.port input.new)) (move (K.port out.old) (K.port out.new)) result }
-    ensures stays { (input.new ≡ input.old) ⊎ WalkHolds (crash_trace (crash_of dump.now) trace.now manner) result }
-    ensures impossible { result ≡ Status.Inconsistent → PathExcludes (crash_trace (crash_of dump.now) trace.now manner) }
-{
-    let path = match trace_path(alloc, trace, dump, manner.from) {
-        Ok(path) => path,
-        Err(fault) => return tell(alloc, out, &Refusal::Path(fault)),
-    };
-    let skipped = path.skipped;
-    study(alloc, manner.domain, &path.steps, skipped, dump, input, out)
-}
-
-/// The same of a trace of several streams, whose run has to be one path.
-fn walk_streams<S: Source, K: Sink>(
-    alloc: Global,
-    dump: &Dump<'_>,
-    trace: &[u8],
-    manner: Manner,
-    input: &mut S,
-    out: &mut K,
-) -> Status
-    requires few { length trace.now < 2 ^ 32 }
-    requires several { is_several trace.now ≡ true }
-    requires threads { HasAllNotes dump.now }
-    ensures text { IfSome (S.port input.old).bytes (λ bytes. Delivers (Walks (crash_trace (crash_of dump.now) trace.now manner) (record { input = bytes; left = (S.port input.new).bytes })) (move (K.port out.old) (K.port out.new)) result) }
-    ensures causes { IsWalked (crash_trace (crash_of dump.now) trace.now manner) (move (S.port input.old) (S.port input.new)) (move (K.port out.old) (K.port out.new)) result }
-    ensures stays { (input.new ≡ input.old) ⊎ WalkHolds (crash_trace (crash_of dump.now) trace.now manner) result }
-    ensures impossible { result ≡ Status.Inconsistent → PathExcludes (crash_trace (crash_of dump.now) trace.now manner) }
-{
-    paths_are_whole();
-    let shared = match read_run(alloc, trace, dump, manner.from) {
-        Ok(shared) => shared,
-        Err(fault) => return tell(alloc, out, &Refusal::Path(fault)),
-    };
-    let skipped = shared.skipped;
-    match one_path(&shared) {
-        Some(steps) => study(alloc, manner.domain, steps, skipped, dump, input, out),
-        None => tell(
-            alloc,
-            out,
-            &Refusal::Path(PathFault::Packet(TraceFault::BadMagic)),
-        ),
+    match trace_run(alloc, trace, dump, manner.from) {
+        Ok(run) => study(alloc, manner.domain, &run, dump, input, out),
+        Err(fault) => tell(alloc, out, &Refusal::Path(fault)),
     }
 }

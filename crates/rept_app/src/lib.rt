@@ -1,4 +1,4 @@
-//! The top call: words, files, path, analysis and session.
+//! The top call: words, files, run, analysis and session.
 #![tactic(auto)]
 
 mod dumping;
@@ -10,6 +10,7 @@ mod mapped;
 mod path;
 mod path_line;
 mod refusal;
+mod running;
 mod status;
 mod study;
 mod telling;
@@ -19,8 +20,8 @@ mod top;
 pub use dumping::read_dump;
 pub use load::{Asked, CoreFiles, CrashFiles, Manner, load_files};
 pub use mapped::tell_failed;
-pub use path::trace_path;
 pub use refusal::{FileKind, Refusal};
+pub use running::trace_run;
 pub use status::Status;
 pub use telling::{deliver, tell, tell_no_memory};
 pub use top::rept;

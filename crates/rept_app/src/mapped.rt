@@ -1,4 +1,4 @@
-//! From a core file that lists the files of its program to the study of its path.
+//! From a core file that lists the files of its program to the study of its run.
 
 ghost use Rattle.std.specs.Prelude.{◌≡◌, ◌⊎◌, ◌<◌, ◌^◌, List, None, Ok, Result, ℕ, length, IfOk, IfSome};
 ghost use Rattle.rept_elf.specs.Image.{file_of};
@@ -30,7 +30,7 @@ use rept_runs::is_several;
 use rept_word::{OutOfMemory, Text};
 use std::alloc::Global;
 
-/// Reads the core file and its list of mapped files, loads those, rebuilds the path and studies it.
+/// Reads the core file and its list of mapped files, loads those, rebuilds the run and studies it.
 pub fn examine_mapped<H: Shelf, S: Source, K: Sink>(
     alloc: Global,
     shelf: &mut H,

@@ -1,12 +1,11 @@
-//! The path that a trace file tells.
+//! The path that a trace file of one stream tells.
 
-ghost use Rattle.std.specs.Prelude.{◌≡◌, ◌≢◌, ◌⊎◌, ◌<◌, ◌^◌, length, IfOk, IfErr, MatchResult};
+ghost use Rattle.std.specs.Prelude.{◌≡◌, ◌≢◌, ◌⊎◌, ◌<◌, ◌^◌, [], ◌∷◌, length, IfOk, IfErr, MatchResult};
 ghost use Rattle.rept_dump.specs.Dump.{registers_of};
-ghost use Rattle.rept_steps.specs.Linked.{EndBefore};
 ghost use Rattle.rept_path.specs.declared.fault.PathFault.{PathFault};
 ghost use Rattle.rept_path.specs.declared.fault.PathFault.TheVariants.{OutOfMemory};
 ghost use Rattle.rept_path.specs.declared.rebuilding.Path.{Path};
-ghost use Rattle.rept_found.specs.Crash.{crash_of, end_pc};
+ghost use Rattle.rept_found.specs.Crash.{crash_of};
 ghost use Rattle.rept_app.specs.Path.{IsTracePath, HasNoPath};
 
 use rept_dump::Dump;
@@ -22,15 +21,13 @@ pub fn trace_path(
     from: u32,
 ) -> Result<Path, PathFault>
     requires { length trace.now < 2 ^ 32 }
-    ensures path { IfOk result (IsTracePath (crash_of dump.now) trace.now from) }
-    ensures some { IfOk result (λ path. 0 < length path.steps) }
-    ensures ends { IfOk result (λ path. EndBefore path.steps (end_pc (registers_of dump.now))) }
-    ensures refusal { IfErr result (λ e. (e ≡ OutOfMemory) ⊎ HasNoPath (crash_of dump.now) trace.now from e) }
+    ensures path { IfOk result (IsTracePath (crash_of dump.now (registers_of dump.now ∷ [])) trace.now from) }
+    ensures refusal { IfErr result (λ e. (e ≡ OutOfMemory) ⊎ HasNoPath (crash_of dump.now (registers_of dump.now ∷ [])) trace.now from e) }
 
     // There is no other path, and no other refusal. Want of memory is none of the definition's.
-    ensures only_path { (other : Path) → IsTracePath (crash_of dump.now) trace.now from other → MatchResult result (λ path. path ≡ other) (λ e. e ≡ OutOfMemory) }
-    ensures only_refusal { (fault : PathFault) → HasNoPath (crash_of dump.now) trace.now from fault → MatchResult result (λ _. ⊥) (λ e. (e ≡ OutOfMemory) ⊎ (e ≡ fault)) }
-    ensures other { (fault : PathFault) → HasNoPath (crash_of dump.now) trace.now from fault → fault ≢ OutOfMemory }
+    ensures only_path { (other : Path) → IsTracePath (crash_of dump.now (registers_of dump.now ∷ [])) trace.now from other → MatchResult result (λ path. path ≡ other) (λ e. e ≡ OutOfMemory) }
+    ensures only_refusal { (fault : PathFault) → HasNoPath (crash_of dump.now (registers_of dump.now ∷ [])) trace.now from fault → MatchResult result (λ _. ⊥) (λ e. (e ≡ OutOfMemory) ⊎ (e ≡ fault)) }
+    ensures other { (fault : PathFault) → HasNoPath (crash_of dump.now (registers_of dump.now ∷ [])) trace.now from fault → fault ≢ OutOfMemory }
 {
     match Packets::open(trace) {
         Ok(packets) => rebuild(alloc, packets, dump, from),

@@ -2,18 +2,21 @@
 
 ghost use Rattle.std.specs.Prelude.{◌≡◌, ◌++◌, IfOk, OnOk, codes};
 ghost use Rattle.std.specs.Fmt.{decimal};
-ghost use Rattle.rept_app.specs.Lines.{line_of, status_of, status_of_path, file_word, elf_fault_text, core_fault_text, map_fault_text, conflict_text, two_values_text, cell_text, value_text_in};
+ghost use Rattle.rept_session.specs.Texts.{place_text};
+ghost use Rattle.rept_app.specs.Lines.{line_of, status_of, status_of_path, file_word, elf_fault_text, core_fault_text, map_fault_text, contradiction_text, conflict_text, two_values_text, of_thread, cell_text, value_text_in};
 
 use crate::path_line::push_path_fault;
 use crate::status::Status;
 use crate::texts::push_numbered;
 use rept_dump::CoreFault;
 use rept_elf::ElfFault;
+use rept_found::Contradiction;
 use rept_isa::Reg;
 use rept_maps::MapFault;
 use rept_path::PathFault;
 use rept_reason::Cell;
 use rept_report::ConflictKind;
+use rept_session::Place;
 use rept_word::{OutOfMemory, Text};
 use std::alloc::Global;
 
@@ -40,9 +43,9 @@ pub enum Refusal {
     Core(CoreFault),
     /// The core file's list of mapped files is refused.
     Maps(MapFault),
-    /// The trace is refused, or has no path.
+    /// The trace is refused, or tells no run.
     Path(PathFault),
-    Inconsistent(ConflictKind),
+    Inconsistent(Contradiction),
     InputFault,
     OutOfMemory,
     TooMuchInput,
@@ -87,7 +90,7 @@ impl Refusal {
             Refusal::Core(fault) => push_core_fault(&mut text, fault)?,
             Refusal::Maps(fault) => push_map_fault(&mut text, fault)?,
             Refusal::Path(fault) => push_path_fault(&mut text, fault)?,
-            Refusal::Inconsistent(kind) => push_conflict(&mut text, kind)?,
+            Refusal::Inconsistent(conflict) => push_contradiction(&mut text, conflict)?,
             Refusal::InputFault => text.push(b"input-fault")?,
             Refusal::OutOfMemory => text.push(b"out-of-memory")?,
             Refusal::TooMuchInput => text.push(b"too-much-input")?,
@@ -97,7 +100,7 @@ impl Refusal {
     }
 }
 
-/// That a trace has no path has a status of its own, running out of memory while it is rebuilt has not.
+/// That a trace tells no run has a status of its own, running out of memory while it is rebuilt has not.
 fn path_status(fault: &PathFault) -> Status
     ensures { result ≡ status_of_path fault.now }
 {
@@ -165,39 +168,62 @@ fn push_map_fault(text: &mut Text, fault: &MapFault) -> Result<(), OutOfMemory>
     }
 }
 
-fn push_conflict(text: &mut Text, kind: &ConflictKind) -> Result<(), OutOfMemory>
-    ensures { OnOk result (text.new ≡ text.old ++ conflict_text kind.now) }
+/// A conflict with its place, and in a run of several threads ` of` and the thread.
+fn push_contradiction(text: &mut Text, conflict: &Contradiction) -> Result<(), OutOfMemory>
+    ensures { OnOk result (text.new ≡ text.old ++ contradiction_text conflict.now) }
+{
+    push_conflict(text, conflict.at.place, &conflict.kind)?;
+    push_thread(text, conflict.threads, conflict.at.thread)?;
+    Ok(())
+}
+
+fn push_thread(text: &mut Text, threads: u32, thread: u32) -> Result<(), OutOfMemory>
+    ensures { OnOk result (text.new ≡ text.old ++ of_thread threads thread) }
+{
+    if threads > 1 {
+        push_numbered(text, b" of ", u64::from(thread))?;
+    }
+    Ok(())
+}
+
+fn push_conflict(text: &mut Text, place: Place, kind: &ConflictKind) -> Result<(), OutOfMemory>
+    ensures { OnOk result (text.new ≡ text.old ++ conflict_text place kind.now) }
 {
     match kind {
-        ConflictKind::TwoValues { point, cell, v, w } => {
-            push_two_values(text, *point, cell, *v, *w)
-        }
-        ConflictKind::EmptyRange { point, reg } => push_empty_range(text, *point, *reg),
-        ConflictKind::WrongTurn { step } => {
-            push_numbered(text, b"inconsistent wrong-turn ", u64::from(*step))
-        }
+        ConflictKind::TwoValues { cell, v, w, .. } => push_two_values(text, place, cell, *v, *w),
+        ConflictKind::EmptyRange { reg, .. } => push_empty_range(text, place, *reg),
+        ConflictKind::WrongTurn { .. } => push_wrong_turn(text, place),
     }
 }
 
-fn push_empty_range(text: &mut Text, point: u32, reg: Reg) -> Result<(), OutOfMemory>
-    ensures { OnOk result (text.new ≡ text.old ++ (codes "inconsistent empty-range " ++ decimal point ++ codes " x" ++ decimal reg)) }
+fn push_empty_range(text: &mut Text, place: Place, reg: Reg) -> Result<(), OutOfMemory>
+    ensures { OnOk result (text.new ≡ text.old ++ (codes "inconsistent empty-range " ++ place_text place ++ codes " x" ++ decimal reg)) }
 {
-    push_numbered(text, b"inconsistent empty-range ", u64::from(point))?;
+    text.push(b"inconsistent empty-range ")?;
+    push_place(text, place)?;
     push_numbered(text, b" x", u64::from(reg.number()))?;
+    Ok(())
+}
+
+fn push_wrong_turn(text: &mut Text, place: Place) -> Result<(), OutOfMemory>
+    ensures { OnOk result (text.new ≡ text.old ++ (codes "inconsistent wrong-turn " ++ place_text place)) }
+{
+    text.push(b"inconsistent wrong-turn ")?;
+    push_place(text, place)?;
     Ok(())
 }
 
 fn push_two_values(
     text: &mut Text,
-    point: u32,
+    place: Place,
     cell: &Cell,
     v: u32,
     w: u32,
 ) -> Result<(), OutOfMemory>
-    ensures { OnOk result (text.new ≡ text.old ++ two_values_text point cell.now v w) }
+    ensures { OnOk result (text.new ≡ text.old ++ two_values_text place cell.now v w) }
 {
     text.push(b"inconsistent two-values ")?;
-    text.push_decimal(point)?;
+    push_place(text, place)?;
     text.push(b" ")?;
     push_cell(text, cell)?;
     text.push(b" ")?;
@@ -205,6 +231,17 @@ fn push_two_values(
     text.push(b" ")?;
     push_value(text, cell, w)?;
     Ok(())
+}
+
+/// A point of a thread by its number, or what another moment is called.
+fn push_place(text: &mut Text, place: Place) -> Result<(), OutOfMemory>
+    ensures { OnOk result (text.new ≡ text.old ++ place_text place) }
+{
+    match place {
+        Place::Point(p) => text.push_decimal(p),
+        Place::After(j) => push_numbered(text, b"after-", u64::from(j)),
+        Place::End => text.push(b"end"),
+    }
 }
 
 /// A register as `x5`, a byte as its address.

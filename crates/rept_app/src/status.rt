@@ -22,7 +22,7 @@ pub enum Status {
     Executable,
     /// The core file is refused.
     Core,
-    /// The trace is refused, or has no path.
+    /// The trace is refused, or tells no run.
     Trace,
     /// The input can't be read.
     InputFault,

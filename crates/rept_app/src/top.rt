@@ -11,7 +11,8 @@ ghost use Rattle.rept_app.specs.Delivered.{Delivers};
 ghost use Rattle.rept_app.specs.Ends.{EndsSession};
 ghost use Rattle.rept_app.specs.Loading.{NamesNone};
 ghost use Rattle.rept_app.specs.Promise.{Promise};
-ghost use Rattle.rept_app.specs.Told.{AskedHolds, BitsKnowMore, Writes, ComeToReport, ReportHolds, NoExecution, given};
+ghost use Rattle.rept_app.specs.Claims.{AskedHolds, BitsKnowMore, ComeToReport, ReportHolds, NoExecution};
+ghost use Rattle.rept_app.specs.Told.{Writes, given};
 ghost use Rattle.rept_app.specs.Top.{AskedEnds, FaultsEnd, ShelfCauses, TopCauses, LoadsOf, EndsByFiles, NoneFails, Completes};
 ghost use Rattle.rept_words.specs.Words.{meaning_of};
 
@@ -22,7 +23,7 @@ use crate::mapped::examine_mapped;
 use crate::status::Status;
 use crate::telling::tell;
 use rept_amo::{Atomic, conclusions_are_listed};
-use rept_found::reports_are_true;
+use rept_found::{reports_are_true, trips_are_true};
 use rept_known::Both;
 use rept_partial::Range;
 use rept_ports::{Shelf, Sink, Source};
@@ -32,7 +33,7 @@ use std::alloc::Global;
 /// Opens the crash that the words name, and answers the commands of the input; or sums up a made run.
 ///
 /// The words are `open EXE CORE TRACE`, or `bits` in the place of `open`, and maybe the number of the packet to begin from. The executable, the core file and the
-/// instruction trace are loaded from the shelf; the path that the trace tells is rebuilt; what registers and memory held along it is
+/// instruction trace are loaded from the shelf; the run of the threads that the trace tells is rebuilt; what registers and memory held along it is
 /// inferred from what the core file has of them, with values followed as ranges by `open`, and as ranges with known bits by `bits`; and each command is answered on the output. Where the files contradict each other,
 /// or something is refused, one line is written before the status.
 ///
@@ -48,7 +49,7 @@ pub fn rept<H: Shelf, S: Source, K: Sink>(
     out: &mut K,
 ) -> Status
     // Where the files and the input are told: at status 0 what was written is the answers of a session over the report of the files, and each
-    // register, byte, range, known bit and writer of that report holds in every execution of the path that ends in the crash; at status 1 there is none.
+    // register, byte, range, known bit and writer of that report holds in every execution of the run that ends in the crash, whatever the order in which its threads took turns; at status 1 there is none.
     ensures promise { IfSome (H.port shelf.old).files (λ files. IfSome (S.port input.old).bytes (λ left.
         Promise (given (map string_bytes words.now) files (move (H.port shelf.old) (H.port shelf.new)) (record { input = left; left = (S.port input.new).bytes })) (move (K.port out.old) (K.port out.new)) result)) }
 
@@ -86,7 +87,7 @@ pub fn rept<H: Shelf, S: Source, K: Sink>(
     ensures made { AskedEnds (meaning_of (map string_bytes words.now)) result }
     ensures executed { AskedHolds (meaning_of (map string_bytes words.now)) }
 
-    // What is told of values, bytes, ranges and writers holds in every execution of the path that ends in the dump, and reasons rest
+    // What is told of values, bytes, ranges and writers holds in every execution of the run that ends in the dump, and reasons rest
     // on it; a conflict is told only where there is no such execution.
     ensures sound { IfSome (H.port shelf.old).files (λ files. ReportHolds (map string_bytes words.now) files) }
     ensures impossible { IfSome (H.port shelf.old).files (λ files. result ≡ Status.Inconsistent → NoExecution (map string_bytes words.now) files) }
@@ -100,6 +101,8 @@ pub fn rept<H: Shelf, S: Source, K: Sink>(
     conclusions_are_listed();
     reports_are_true::<Range, Atomic>();
     reports_are_true::<Both, Atomic>();
+    trips_are_true::<Range, Atomic>();
+    trips_are_true::<Both, Atomic>();
     finer_sets_know_more::<Both, Range, Atomic>();
     match load_files(alloc, words, shelf) {
         Ok(Asked::Files(files)) => {

@@ -1,4 +1,4 @@
-//! The same crashes through the top call: the line of each refusal, and the answers where the run is one path.
+//! The same crashes through the top call: the line of each refusal, and the answers over the run.
 
 use super::{BOTH, CODE, ONE_HART, TWO_HARTS, core_of, edited};
 use rept_app::{Status, rept};
@@ -55,8 +55,8 @@ const CASES: &[Case] = &[
         BOTH,
         TWO_HARTS,
         &[],
-        "path 11 1\n",
-        Status::Trace,
+        "point 3 of 4 pc 0x0001000c\nsteps 6 calls 0 skipped 0\nregisters 248 of 248\nstores 2 exact 0 inexact\n",
+        Status::Ok,
     ),
     (
         "open e c t",

@@ -1,8 +1,8 @@
-use Rattle.std.proofs.Common.{Ok, Err, sym}
+use Rattle.std.proofs.Common.{Ok, Err}
 use Rattle.rept_elf.specs.Image.{file_of}
-use Rattle.rept_dump.specs.Dump.{registers_of}
 use Rattle.rept_found.specs.Crash.{crash_of}
-use Rattle.rept_app.proofs.ReadingLemmas.{all_by, core_refused, crash_is, exe_refused, notes_refused, said_at, said_by}
+use Rattle.rept_app.proofs.Notes.{has_notes, noted_at, noted_by}
+use Rattle.rept_app.proofs.ReadingLemmas.{core_refused, crash_is, dump_read, exe_refused, notes_refused}
 use Rattle.rept_app.proofs.dumping.read_dump.Goals as goal
 
 pub returns-in-Err-clause-refused : goal.returns-in-Err-clause-refused
@@ -14,18 +14,13 @@ returns-in-Err-read-clause-refused c = core_refused c.args.many c.args.exe.now c
 pub returns-in-Err-join-clause-refused : goal.returns-in-Err-join-clause-refused
 returns-in-Err-join-clause-refused c =
     notes_refused c.args.many c.args.exe.now c.args.core.now c.in-Err-join.fault c.in-Ok.ensures.fault c.in-Ok-read.ensures.fault
-    (said_at c.args.core.now (file_of c.in-Ok-read.image) c.args.many (Err c.in-Err-join.fault) c.in-Ok-read.ensures.image (said_by (file_of c.in-Ok-read.image) c.args.many (Err c.in-Err-join.fault) c.in-Err-join.ensures.notes))
+    (noted_at c.args.core.now (file_of c.in-Ok-read.image) c.args.many (Err c.in-Err-join.fault) c.in-Ok-read.ensures.image (noted_by (file_of c.in-Ok-read.image) c.args.many (Err c.in-Err-join.fault) c.in-Err-join.ensures.notes))
 
-pub returns-in-Ok-join-clause-threads : goal.returns-in-Ok-join-clause-threads
-returns-in-Ok-join-clause-threads c many = all_by (file_of c.in-Ok-read.image) c.args.many c.in-Ok-join.dump many c.in-Ok-join.ensures.notes
+pub returns-in-Ok-join-clause-notes : goal.returns-in-Ok-join-clause-notes
+returns-in-Ok-join-clause-notes c = has_notes c.args.many (file_of c.in-Ok-read.image) c.in-Ok-join.dump (noted_by (file_of c.in-Ok-read.image) c.args.many (Ok c.in-Ok-join.dump) c.in-Ok-join.ensures.notes)
 
 pub returns-in-Ok-join-clause-dump : goal.returns-in-Ok-join-clause-dump
 returns-in-Ok-join-clause-dump c =
-    let says = said_at c.args.core.now (file_of c.in-Ok-read.image) c.args.many (Ok (registers_of c.in-Ok-join.dump)) c.in-Ok-read.ensures.image (said_by (file_of c.in-Ok-read.image) c.args.many (Ok c.in-Ok-join.dump) c.in-Ok-join.ensures.notes) in
-    record {
-      exe_accepted = sym c.in-Ok.ensures.fault;
-      core_accepted = sym c.in-Ok-read.ensures.fault;
-      noted = says.said;
-      only = says.only;
-      crash = crash_is (crash_of c.in-Ok-join.dump) (file_of c.in-Ok.image) c.args.exe.now (file_of c.in-Ok-read.image) c.args.core.now c.in-Ok-join.ensures.exe c.in-Ok.ensures.image c.in-Ok-join.ensures.core c.in-Ok-read.ensures.image;
-    }
+    let read = noted_at c.args.core.now (file_of c.in-Ok-read.image) c.args.many (Ok c.in-Ok-join.dump) c.in-Ok-read.ensures.image (noted_by (file_of c.in-Ok-read.image) c.args.many (Ok c.in-Ok-join.dump) c.in-Ok-join.ensures.notes) in
+    dump_read c.args.many c.args.exe.now c.args.core.now c.in-Ok-join.dump c.in-Ok.ensures.fault c.in-Ok-read.ensures.fault read
+    (crash_is (crash_of c.in-Ok-join.dump read.notes) (file_of c.in-Ok.image) c.args.exe.now (file_of c.in-Ok-read.image) c.args.core.now c.in-Ok-join.ensures.exe c.in-Ok.ensures.image c.in-Ok-join.ensures.core c.in-Ok-read.ensures.image)

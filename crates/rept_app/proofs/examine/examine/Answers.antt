@@ -1,11 +1,10 @@
 use Rattle.std.proofs.Common.{◌≡◌, ◌⊎◌, Bool, Ok, sym, subst, ◌∙◌}
-use Rattle.rept_dump.specs.Dump.{registers_of}
 use Rattle.rept_found.specs.Crash.{Crash}
 use Rattle.rept_ports.specs.Port.{move}
-use Rattle.rept_app.specs.Examine.{Examines, Walks, WalkHolds, IsWalked, PathExcludes}
+use Rattle.rept_app.specs.Examine.{Examines, Walks, WalkHolds, IsWalked, TraceExcludes}
 use Rattle.rept_runs.specs.Kind.{is_several}
 use Rattle.rept_app.specs.Loading.{crash_bytes}
-use Rattle.rept_app.specs.Reading.{HasNoDump, IsDumpOf}
+use Rattle.rept_app.specs.Reading.{HasNotes, HasNoDump, IsDumpOf}
 use Rattle.rept_app.specs.Told.{crash_trace}
 use Rattle.rept_app.specs.declared.status.Status.TheVariants as ends
 use Rattle.rept_app.proofs.DeliveredLemmas.{delivers_as, ends_told, not_yielded, told_ports}
@@ -13,8 +12,8 @@ use Rattle.rept_app.proofs.ToldLemmas.{where_told, at_some, reading_of}
 use Rattle.rept_app.proofs.ExamineLemmas.{as_refused, not_refused, refused_ends, refused_examines, refused_status, notes_end, told_examined, walked_examined, walks_examine, files_exclude, reads_here, walk_holds}
 use Rattle.rept_app.proofs.examine.examine.Goals as goal
 
-pub walk-requires-clause-threads : goal.walk-requires-clause-threads
-walk-requires-clause-threads g c several = c.in-Ok.ensures.threads (c.is_several.ensures ∙ several)
+pub walk-requires-clause-noted : goal.walk-requires-clause-noted
+walk-requires-clause-noted g c = subst (λ (many : Bool). HasNotes many c.in-Ok.dump) c.is_several.ensures c.in-Ok.ensures.notes
 
 pub returns-in-Err-clause-text : goal.returns-in-Err-clause-text
 returns-in-Err-clause-text g c =
@@ -48,27 +47,27 @@ returns-in-Ok-clause-text g c =
     let is = subst (λ (many : Bool). IsDumpOf many c.args.exe.now c.args.core.now c.in-Ok.dump) c.is_several.ensures c.in-Ok.ensures.dump in
     let bytes = crash_bytes c.args.exe.now c.args.core.now c.args.trace.now c.args.manner in
     where_told _ _ (λ left told. delivers_as _ (Examines bytes (reading_of left (g.S.Source.port c.walk.new.input).bytes)) _ _
-    (λ text status h. walks_examine bytes (reading_of left (g.S.Source.port c.walk.new.input).bytes) text status (sym is.exe_accepted) (sym is.core_accepted) (registers_of c.in-Ok.dump) is.noted
+    (λ text status h. walks_examine bytes (reading_of left (g.S.Source.port c.walk.new.input).bytes) text status (sym is.exe_accepted) (sym is.core_accepted) is.notes is.noted
     (subst (λ (s : Crash). Walks (crash_trace s c.args.trace.now c.args.manner) (reading_of left (g.S.Source.port c.walk.new.input).bytes) text status) is.crash h))
-    (at_some (g.S.Source.port c.args.input.now).bytes left _ told c.walk.ensures.text))
+    (at_some (g.S.Source.port c.args.input.now).bytes left _ told (c.walk.ensures.text is.notes is.are)))
 
 pub returns-in-Ok-clause-causes : goal.returns-in-Ok-clause-causes
 returns-in-Ok-clause-causes g c =
     let is = subst (λ (many : Bool). IsDumpOf many c.args.exe.now c.args.core.now c.in-Ok.dump) c.is_several.ensures c.in-Ok.ensures.dump in
     let bytes = crash_bytes c.args.exe.now c.args.core.now c.args.trace.now c.args.manner in
-    let walked = subst (λ (s : Crash). IsWalked (crash_trace s c.args.trace.now c.args.manner) (move (g.S.Source.port c.args.input.now) (g.S.Source.port c.walk.new.input)) (move (g.K.Sink.port c.args.out.now) (g.K.Sink.port c.walk.new.out)) c.walk.result) is.crash c.walk.ensures.causes in
-    walked_examined bytes c.walk.result (registers_of c.in-Ok.dump)
-    (notes_end bytes c.walk.result (sym is.exe_accepted) (sym is.core_accepted) (Ok (registers_of c.in-Ok.dump)) is.only walked.yields) _ _ walked
+    let walked = subst (λ (s : Crash). IsWalked (crash_trace s c.args.trace.now c.args.manner) (move (g.S.Source.port c.args.input.now) (g.S.Source.port c.walk.new.input)) (move (g.K.Sink.port c.args.out.now) (g.K.Sink.port c.walk.new.out)) c.walk.result) is.crash (c.walk.ensures.causes is.notes is.are) in
+    walked_examined bytes c.walk.result is.notes
+    (notes_end bytes c.walk.result (sym is.exe_accepted) (sym is.core_accepted) (Ok is.notes) is.only walked.yields) _ _ walked
 
 pub returns-in-Ok-clause-stays : goal.returns-in-Ok-clause-stays
 returns-in-Ok-clause-stays g c =
     let is = subst (λ (many : Bool). IsDumpOf many c.args.exe.now c.args.core.now c.in-Ok.dump) c.is_several.ensures c.in-Ok.ensures.dump in
     let bytes = crash_bytes c.args.exe.now c.args.core.now c.args.trace.now c.args.manner in
-    walk_holds bytes (registers_of c.in-Ok.dump) c.walk.result (reads_here bytes (registers_of c.in-Ok.dump) (sym is.exe_accepted) (sym is.core_accepted) is.noted)
-    (subst (λ (s : Crash). (c.walk.new.input ≡ c.args.input.now) ⊎ WalkHolds (crash_trace s c.args.trace.now c.args.manner) c.walk.result) is.crash c.walk.ensures.stays)
+    walk_holds bytes is.notes c.walk.result (reads_here bytes is.notes (sym is.exe_accepted) (sym is.core_accepted) is.noted)
+    (subst (λ (s : Crash). (c.walk.new.input ≡ c.args.input.now) ⊎ WalkHolds (crash_trace s c.args.trace.now c.args.manner) c.walk.result) is.crash (c.walk.ensures.stays is.notes is.are))
 
 pub returns-in-Ok-clause-impossible : goal.returns-in-Ok-clause-impossible
 returns-in-Ok-clause-impossible g c none =
     let is = subst (λ (many : Bool). IsDumpOf many c.args.exe.now c.args.core.now c.in-Ok.dump) c.is_several.ensures c.in-Ok.ensures.dump in
     let bytes = crash_bytes c.args.exe.now c.args.core.now c.args.trace.now c.args.manner in
-    files_exclude bytes (registers_of c.in-Ok.dump) is.only (subst (λ (s : Crash). PathExcludes (crash_trace s c.args.trace.now c.args.manner)) is.crash (c.walk.ensures.impossible none))
+    files_exclude bytes is.notes is.only (subst (λ (s : Crash). TraceExcludes (crash_trace s c.args.trace.now c.args.manner)) is.crash (c.walk.ensures.impossible is.notes is.are none))

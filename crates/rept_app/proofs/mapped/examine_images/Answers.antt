@@ -1,30 +1,31 @@
-use Rattle.std.proofs.Common.{◌≡◌, ◌⊎◌, Ok, Err, inr, refl, sym, subst, ◌∙◌}
+use Rattle.std.proofs.Common.{◌≡◌, ◌⊎◌, Bool, Ok, Err, inr, refl, sym, subst, ◌∙◌}
 use Rattle.rept_elf.specs.Image.{file_of}
 use Rattle.rept_maps.specs.Views.{desc_of}
 use Rattle.rept_mapped.specs.Mapped.{mappings}
-use Rattle.rept_dump.specs.Dump.{registers_of}
 use Rattle.rept_found.specs.Crash.{crash_of}
 use Rattle.rept_ports.specs.Port.{move}
-use Rattle.rept_app.specs.Examine.{Examines, IsWalked, PathExcludes, WalkHolds, Walks}
+use Rattle.rept_app.specs.Examine.{Examines, IsWalked, TraceExcludes, WalkHolds, Walks}
 use Rattle.rept_app.specs.Loading.{core_bytes, parts_bytes}
+use Rattle.rept_app.specs.Reading.{HasNotes}
 use Rattle.rept_app.specs.Told.{CrashTrace}
 use Rattle.rept_app.specs.declared.refusal.Refusal.TheVariants as refusal
 use Rattle.rept_app.specs.declared.status.Status.TheVariants as ends
 use Rattle.rept_app.proofs.DeliveredLemmas.{delivers_as, ends_told, not_yielded, told_ports}
 use Rattle.rept_app.proofs.ToldLemmas.{where_told, at_some, reading_of}
 use Rattle.rept_app.proofs.ExamineLemmas.{files_exclude, notes_end, reads_here, refused_ends, refused_examines, told_examined, walk_holds, walked_examined, walks_examine}
-use Rattle.rept_app.proofs.MappedLemmas.{kind_is, not_executable, parts_refused, parts_said, parts_trace}
-use Rattle.rept_app.proofs.ReadingLemmas.{all_by}
+use Rattle.rept_app.proofs.MappedLemmas.{kind_is, not_executable, parts_noted, parts_refused, parts_trace}
+use Rattle.rept_app.proofs.Notes.{has_notes, noted_by}
 use Rattle.rept_app.proofs.mapped.examine_images.Goals as goal
 
-pub walk-requires-clause-threads : goal.walk-requires-clause-threads
-walk-requires-clause-threads g c several = all_by (file_of c.args.core) c.is_several.result c.in-Ok.dump (c.is_several.ensures ∙ several) c.in-Ok.ensures.notes
+pub walk-requires-clause-noted : goal.walk-requires-clause-noted
+walk-requires-clause-noted g c =
+    subst (λ (b : Bool). HasNotes b c.in-Ok.dump) c.is_several.ensures (has_notes c.is_several.result (file_of c.args.core) c.in-Ok.dump (noted_by (file_of c.args.core) c.is_several.result (Ok c.in-Ok.dump) c.in-Ok.ensures.notes))
 
 pub returns-in-Err-clause-text : goal.returns-in-Err-clause-text
 returns-in-Err-clause-text g c =
     let ms = mappings (desc_of c.args.maps) c.args.images.now in
     let b = core_bytes (file_of c.args.core) c.args.files.now.trace.items c.args.files.now.manner in
-    let has = parts_refused ms b c.in-Err.fault c.requires.accepted (parts_said b c.is_several.result (Err c.in-Err.fault) (kind_is c.is_several.result c.as_slice-trace.result.now b.trace c.is_several.ensures c.as_slice-trace.ensures.value) c.in-Err.ensures.notes) in
+    let has = parts_refused ms b c.in-Err.fault c.requires.accepted (parts_noted b c.is_several.result (Err c.in-Err.fault) (kind_is c.is_several.result c.as_slice-trace.result.now b.trace c.is_several.ensures c.as_slice-trace.ensures.value) c.in-Err.ensures.notes) in
     where_told _ _ (λ left told. delivers_as _ (Examines (parts_bytes ms b) (reading_of left (g.S.Source.port c.args.input.now).bytes)) _ _
     (λ text status. refused_examines (parts_bytes ms b) (reading_of left (g.S.Source.port c.args.input.now).bytes) text status (refusal.Core c.in-Err.fault) has) c.tell.ensures)
 
@@ -32,7 +33,7 @@ pub returns-in-Err-clause-causes : goal.returns-in-Err-clause-causes
 returns-in-Err-clause-causes g c =
     let ms = mappings (desc_of c.args.maps) c.args.images.now in
     let b = core_bytes (file_of c.args.core) c.args.files.now.trace.items c.args.files.now.manner in
-    let has = parts_refused ms b c.in-Err.fault c.requires.accepted (parts_said b c.is_several.result (Err c.in-Err.fault) (kind_is c.is_several.result c.as_slice-trace.result.now b.trace c.is_several.ensures c.as_slice-trace.ensures.value) c.in-Err.ensures.notes) in
+    let has = parts_refused ms b c.in-Err.fault c.requires.accepted (parts_noted b c.is_several.result (Err c.in-Err.fault) (kind_is c.is_several.result c.as_slice-trace.result.now b.trace c.is_several.ensures c.as_slice-trace.ensures.value) c.in-Err.ensures.notes) in
     let told = ends_told (refusal.Core c.in-Err.fault) _ c.tell.result c.tell.ensures in
     told_examined (parts_bytes ms b) c.tell.result _ _
     (told_ports (refusal.Core c.in-Err.fault) (g.S.Source.port c.args.input.now) _ c.tell.result (λ (same : ends.Core ≡ ends.InputFault). cc) (λ (same : ends.Core ≡ ends.OutputFault). cc) c.tell.ensures)
@@ -52,39 +53,41 @@ pub returns-in-Ok-clause-text : goal.returns-in-Ok-clause-text
 returns-in-Ok-clause-text g c =
     let ms = mappings (desc_of c.args.maps) c.args.images.now in
     let b = core_bytes (file_of c.args.core) c.args.files.now.trace.items c.args.files.now.manner in
-    let same = parts_trace (crash_of c.in-Ok.dump) ms b c.as_slice-trace.result.now c.in-Ok.ensures.files c.in-Ok.ensures.core c.as_slice-trace.ensures.value in
-    let says = parts_said b c.is_several.result (Ok c.in-Ok.dump) (kind_is c.is_several.result c.as_slice-trace.result.now b.trace c.is_several.ensures c.as_slice-trace.ensures.value) c.in-Ok.ensures.notes in
+    let read = parts_noted b c.is_several.result (Ok c.in-Ok.dump) (kind_is c.is_several.result c.as_slice-trace.result.now b.trace c.is_several.ensures c.as_slice-trace.ensures.value) c.in-Ok.ensures.notes in
+    let same = parts_trace (crash_of c.in-Ok.dump read.notes) ms b c.as_slice-trace.result.now c.in-Ok.ensures.files c.in-Ok.ensures.core c.as_slice-trace.ensures.value in
     where_told _ _ (λ left told. delivers_as _ (Examines (parts_bytes ms b) (reading_of left (g.S.Source.port c.walk.new.input).bytes)) _ _
-    (λ text status h. walks_examine (parts_bytes ms b) (reading_of left (g.S.Source.port c.walk.new.input).bytes) text status refl (sym c.requires.accepted) (registers_of c.in-Ok.dump) says.said
+    (λ text status h. walks_examine (parts_bytes ms b) (reading_of left (g.S.Source.port c.walk.new.input).bytes) text status refl (sym c.requires.accepted) read.notes read.said.said
     (subst (λ (t : CrashTrace). Walks t (reading_of left (g.S.Source.port c.walk.new.input).bytes) text status) same h))
-    (at_some (g.S.Source.port c.args.input.now).bytes left _ told c.walk.ensures.text))
+    (at_some (g.S.Source.port c.args.input.now).bytes left _ told (c.walk.ensures.text read.notes read.are)))
 
 pub returns-in-Ok-clause-causes : goal.returns-in-Ok-clause-causes
 returns-in-Ok-clause-causes g c =
     let ms = mappings (desc_of c.args.maps) c.args.images.now in
     let b = core_bytes (file_of c.args.core) c.args.files.now.trace.items c.args.files.now.manner in
-    let same = parts_trace (crash_of c.in-Ok.dump) ms b c.as_slice-trace.result.now c.in-Ok.ensures.files c.in-Ok.ensures.core c.as_slice-trace.ensures.value in
-    let says = parts_said b c.is_several.result (Ok c.in-Ok.dump) (kind_is c.is_several.result c.as_slice-trace.result.now b.trace c.is_several.ensures c.as_slice-trace.ensures.value) c.in-Ok.ensures.notes in
-    let walked = subst (λ (t : CrashTrace). IsWalked t (move (g.S.Source.port c.args.input.now) (g.S.Source.port c.walk.new.input)) (move (g.K.Sink.port c.args.out.now) (g.K.Sink.port c.walk.new.out)) c.walk.result) same c.walk.ensures.causes in
-    walked_examined (parts_bytes ms b) c.walk.result (registers_of c.in-Ok.dump)
-    (notes_end (parts_bytes ms b) c.walk.result refl (sym c.requires.accepted) (Ok (registers_of c.in-Ok.dump)) says.only walked.yields) _ _ walked
+    let read = parts_noted b c.is_several.result (Ok c.in-Ok.dump) (kind_is c.is_several.result c.as_slice-trace.result.now b.trace c.is_several.ensures c.as_slice-trace.ensures.value) c.in-Ok.ensures.notes in
+    let same = parts_trace (crash_of c.in-Ok.dump read.notes) ms b c.as_slice-trace.result.now c.in-Ok.ensures.files c.in-Ok.ensures.core c.as_slice-trace.ensures.value in
+    let walked = subst (λ (t : CrashTrace). IsWalked t (move (g.S.Source.port c.args.input.now) (g.S.Source.port c.walk.new.input)) (move (g.K.Sink.port c.args.out.now) (g.K.Sink.port c.walk.new.out)) c.walk.result) same (c.walk.ensures.causes read.notes read.are) in
+    walked_examined (parts_bytes ms b) c.walk.result read.notes
+    (notes_end (parts_bytes ms b) c.walk.result refl (sym c.requires.accepted) (Ok read.notes) read.said.only walked.yields) _ _ walked
 
 pub returns-in-Ok-clause-ended : goal.returns-in-Ok-clause-ended
-returns-in-Ok-clause-ended g c e = not_executable c.walk.result c.walk.ensures.causes.ends_so e
+returns-in-Ok-clause-ended g c e =
+    let read = noted_by (file_of c.args.core) c.is_several.result (Ok c.in-Ok.dump) c.in-Ok.ensures.notes in
+    not_executable c.walk.result (c.walk.ensures.causes read.notes read.are).ends_so e
 
 pub returns-in-Ok-clause-stays : goal.returns-in-Ok-clause-stays
 returns-in-Ok-clause-stays g c =
     let ms = mappings (desc_of c.args.maps) c.args.images.now in
     let b = core_bytes (file_of c.args.core) c.args.files.now.trace.items c.args.files.now.manner in
-    let same = parts_trace (crash_of c.in-Ok.dump) ms b c.as_slice-trace.result.now c.in-Ok.ensures.files c.in-Ok.ensures.core c.as_slice-trace.ensures.value in
-    let says = parts_said b c.is_several.result (Ok c.in-Ok.dump) (kind_is c.is_several.result c.as_slice-trace.result.now b.trace c.is_several.ensures c.as_slice-trace.ensures.value) c.in-Ok.ensures.notes in
-    walk_holds (parts_bytes ms b) (registers_of c.in-Ok.dump) c.walk.result (reads_here (parts_bytes ms b) (registers_of c.in-Ok.dump) refl (sym c.requires.accepted) says.said)
-    (subst (λ (t : CrashTrace). (c.walk.new.input ≡ c.args.input.now) ⊎ WalkHolds t c.walk.result) same c.walk.ensures.stays)
+    let read = parts_noted b c.is_several.result (Ok c.in-Ok.dump) (kind_is c.is_several.result c.as_slice-trace.result.now b.trace c.is_several.ensures c.as_slice-trace.ensures.value) c.in-Ok.ensures.notes in
+    let same = parts_trace (crash_of c.in-Ok.dump read.notes) ms b c.as_slice-trace.result.now c.in-Ok.ensures.files c.in-Ok.ensures.core c.as_slice-trace.ensures.value in
+    walk_holds (parts_bytes ms b) read.notes c.walk.result (reads_here (parts_bytes ms b) read.notes refl (sym c.requires.accepted) read.said.said)
+    (subst (λ (t : CrashTrace). (c.walk.new.input ≡ c.args.input.now) ⊎ WalkHolds t c.walk.result) same (c.walk.ensures.stays read.notes read.are))
 
 pub returns-in-Ok-clause-impossible : goal.returns-in-Ok-clause-impossible
 returns-in-Ok-clause-impossible g c none =
     let ms = mappings (desc_of c.args.maps) c.args.images.now in
     let b = core_bytes (file_of c.args.core) c.args.files.now.trace.items c.args.files.now.manner in
-    let same = parts_trace (crash_of c.in-Ok.dump) ms b c.as_slice-trace.result.now c.in-Ok.ensures.files c.in-Ok.ensures.core c.as_slice-trace.ensures.value in
-    let says = parts_said b c.is_several.result (Ok c.in-Ok.dump) (kind_is c.is_several.result c.as_slice-trace.result.now b.trace c.is_several.ensures c.as_slice-trace.ensures.value) c.in-Ok.ensures.notes in
-    files_exclude (parts_bytes ms b) (registers_of c.in-Ok.dump) says.only (subst PathExcludes same (c.walk.ensures.impossible none))
+    let read = parts_noted b c.is_several.result (Ok c.in-Ok.dump) (kind_is c.is_several.result c.as_slice-trace.result.now b.trace c.is_several.ensures c.as_slice-trace.ensures.value) c.in-Ok.ensures.notes in
+    let same = parts_trace (crash_of c.in-Ok.dump read.notes) ms b c.as_slice-trace.result.now c.in-Ok.ensures.files c.in-Ok.ensures.core c.as_slice-trace.ensures.value in
+    files_exclude (parts_bytes ms b) read.notes read.said.only (subst TraceExcludes same (c.walk.ensures.impossible read.notes read.are none))

@@ -10,7 +10,7 @@ returns c =
       c.in_ok-push-3.ensures.ok,
       c.in_ok-push_cell.ensures,
       c.in_ok-push-2.ensures.ok,
-      c.in_ok-push_decimal.ensures.ok,
+      c.in_ok-push_place.ensures,
       c.in_ok-push.ensures.ok,
     )
     (simp append_assoc refl)

@@ -12,14 +12,18 @@ use Rattle.rept_app.specs.declared.load.Asked.TheVariants as asked
 use Rattle.rept_app.proofs.MadeLemmas.{made_holds}
 use Rattle.rept_app.proofs.WordsLemmas.{asks_few}
 use Rattle.rept_app.proofs.MappedTop.{as_before, both_asks, both_at, both_loads, both_mean, both_named, mapped_causes, mapped_ends, mapped_excludes, mapped_holds, mapped_loads, mapped_once, mapped_stays, mapped_usage, mapped_writes}
-use Rattle.rept_app.specs.Told.{Writes, BitsKnowMore, ComeToReport, ReportHolds, NoExecution, given}
+use Rattle.rept_app.specs.Claims.{BitsKnowMore, ComeToReport, ReportHolds, NoExecution}
+use Rattle.rept_app.specs.Domains.{means_of}
+use Rattle.rept_app.specs.Told.{Writes, given}
 use Rattle.rept_app.specs.Top.{EndsByFiles}
 use Rattle.rept_words.specs.Words.{meaning_of}
 use Rattle.rept_app.specs.declared.status.Status.TheVariants as ends
 use Rattle.rept_app.proofs.DeliveredLemmas.{delivers_as, ends_told, told_ports, not_yielded}
 use Rattle.rept_app.proofs.PromiseLemmas.{promised}
+use Rattle.rept_app.proofs.TrueLemmas.{bits_know, reports_hold, true_in_both, true_of}
+use Rattle.rept_words.specs.declared.request.Domain.TheVariants as domain
 use Rattle.rept_app.proofs.ToldLemmas.{where_told, at_some, reading_of}
-use Rattle.rept_app.proofs.TopLemmas.{both, of_both, loaded_at, stops, refused_ends, refused_writes, refused_causes, refused_loads, no_status, input_only, output_only, conflict_only, examined_writes, examined_ends, examined_causes, examined_excludes, true_in_both, bits_know, all_loads, files_hold, holds_where, reports_hold, completed, ok_at, done_at, all_at, made_at, asked_holds, loaded_asks, loads_named, refused_asks, made_asks, made_loads, made_means, made_causes, made_ends, made_writes, no_other, causes_of, once_of}
+use Rattle.rept_app.proofs.TopLemmas.{both, of_both, loaded_at, stops, refused_ends, refused_writes, refused_causes, refused_loads, no_status, input_only, output_only, conflict_only, examined_writes, examined_ends, examined_causes, examined_excludes, all_loads, files_hold, holds_where, completed, ok_at, done_at, all_at, made_at, asked_holds, loaded_asks, loads_named, refused_asks, made_asks, made_loads, made_means, made_causes, made_ends, made_writes, no_other, causes_of, once_of}
 use Rattle.rept_app.proofs.top.rept.Goals as goal
 
 pub returns-in-Ok-Files-clause-causes : goal.returns-in-Ok-Files-clause-causes
@@ -79,7 +83,7 @@ returns-in-Ok-Files-clause-complete g c =
     (returns-in-Ok-Files-clause-text g c)))
 
 pub returns-in-Ok-Files-clause-sound : goal.returns-in-Ok-Files-clause-sound
-returns-in-Ok-Files-clause-sound g c = where_told (g.H.Shelf.port c.args.shelf.now).files (ReportHolds (map string_bytes c.args.words.now)) (λ files told. reports_hold (map string_bytes c.args.words.now) files (true_in_both c.reports_are_true.ensures c.reports_are_true-2.ensures))
+returns-in-Ok-Files-clause-sound g c = where_told (g.H.Shelf.port c.args.shelf.now).files (ReportHolds (map string_bytes c.args.words.now)) (λ files told. reports_hold (map string_bytes c.args.words.now) files (true_in_both (true_of (means_of domain.Ranges) c.trips_are_true.ensures.report c.reports_are_true.ensures.report) (true_of (means_of domain.KnownBits) c.trips_are_true-2.ensures.report c.reports_are_true-2.ensures.report)))
 
 pub returns-in-Ok-Files-clause-impossible : goal.returns-in-Ok-Files-clause-impossible
 returns-in-Ok-Files-clause-impossible g c =
@@ -162,7 +166,7 @@ returns-in-Err-clause-complete g c =
     (returns-in-Err-clause-text g c)))
 
 pub returns-in-Err-clause-sound : goal.returns-in-Err-clause-sound
-returns-in-Err-clause-sound g c = where_told (g.H.Shelf.port c.args.shelf.now).files (ReportHolds (map string_bytes c.args.words.now)) (λ files told. reports_hold (map string_bytes c.args.words.now) files (true_in_both c.reports_are_true.ensures c.reports_are_true-2.ensures))
+returns-in-Err-clause-sound g c = where_told (g.H.Shelf.port c.args.shelf.now).files (ReportHolds (map string_bytes c.args.words.now)) (λ files told. reports_hold (map string_bytes c.args.words.now) files (true_in_both (true_of (means_of domain.Ranges) c.trips_are_true.ensures.report c.reports_are_true.ensures.report) (true_of (means_of domain.KnownBits) c.trips_are_true-2.ensures.report c.reports_are_true-2.ensures.report)))
 
 pub returns-in-Ok-Files-clause-unread : goal.returns-in-Ok-Files-clause-unread
 returns-in-Ok-Files-clause-unread g c = λ none. loads_named (meaning_of (map string_bytes c.args.words.now)) (g.H.Shelf.port c.args.shelf.now) (g.H.Shelf.port c.load_files.new.shelf)
@@ -173,10 +177,10 @@ returns-in-Ok-Files-clause-made g c = loaded_asks (meaning_of (map string_bytes 
     (all_at c.load_files.result c.in-Ok-Files.field-0 c.in-Ok-Files.files (meaning_of (map string_bytes c.args.words.now)) (g.H.Shelf.port c.args.shelf.now) (g.H.Shelf.port c.load_files.new.shelf) c.in-Ok-Files.is c.in-Ok-Files.field-0-is c.load_files.ensures.asked)
 
 pub returns-in-Ok-Files-clause-executed : goal.returns-in-Ok-Files-clause-executed
-returns-in-Ok-Files-clause-executed g c = asked_holds (meaning_of (map string_bytes c.args.words.now)) (λ seed steps. made_holds seed steps c.reports_are_true.ensures)
+returns-in-Ok-Files-clause-executed g c = asked_holds (meaning_of (map string_bytes c.args.words.now)) (λ seed steps. made_holds seed steps (true_of (means_of domain.Ranges) c.trips_are_true.ensures.report c.reports_are_true.ensures.report))
 
 pub returns-in-Err-clause-executed : goal.returns-in-Err-clause-executed
-returns-in-Err-clause-executed g c = asked_holds (meaning_of (map string_bytes c.args.words.now)) (λ seed steps. made_holds seed steps c.reports_are_true.ensures)
+returns-in-Err-clause-executed g c = asked_holds (meaning_of (map string_bytes c.args.words.now)) (λ seed steps. made_holds seed steps (true_of (means_of domain.Ranges) c.trips_are_true.ensures.report c.reports_are_true.ensures.report))
 
 pub returns-in-Err-clause-made : goal.returns-in-Err-clause-made
 returns-in-Err-clause-made g c = refused_asks (meaning_of (map string_bytes c.args.words.now)) (g.H.Shelf.port c.args.shelf.now) (g.H.Shelf.port c.load_files.new.shelf) c.in-Err.refusal c.tell.result c.in-Err.ensures.refused (ends_told c.in-Err.refusal _ c.tell.result c.tell.ensures)
@@ -215,10 +219,10 @@ pub returns-in-Ok-Made-clause-made : goal.returns-in-Ok-Made-clause-made
 returns-in-Ok-Made-clause-made g c = made_asks (meaning_of (map string_bytes c.args.words.now)) c.in-Ok-Made.seed c.in-Ok-Made.steps (made_at c.load_files.result c.in-Ok-Made.field-0 c.in-Ok-Made.seed c.in-Ok-Made.steps (meaning_of (map string_bytes c.args.words.now)) (g.H.Shelf.port c.args.shelf.now) (g.H.Shelf.port c.load_files.new.shelf) c.in-Ok-Made.is c.in-Ok-Made.field-0-is c.load_files.ensures.asked) c.tell_made_run.result c.tell_made_run.ensures.yields
 
 pub returns-in-Ok-Made-clause-executed : goal.returns-in-Ok-Made-clause-executed
-returns-in-Ok-Made-clause-executed g c = asked_holds (meaning_of (map string_bytes c.args.words.now)) (λ seed steps. made_holds seed steps c.reports_are_true.ensures)
+returns-in-Ok-Made-clause-executed g c = asked_holds (meaning_of (map string_bytes c.args.words.now)) (λ seed steps. made_holds seed steps (true_of (means_of domain.Ranges) c.trips_are_true.ensures.report c.reports_are_true.ensures.report))
 
 pub returns-in-Ok-Made-clause-sound : goal.returns-in-Ok-Made-clause-sound
-returns-in-Ok-Made-clause-sound g c = where_told (g.H.Shelf.port c.args.shelf.now).files (ReportHolds (map string_bytes c.args.words.now)) (λ files told. reports_hold (map string_bytes c.args.words.now) files (true_in_both c.reports_are_true.ensures c.reports_are_true-2.ensures))
+returns-in-Ok-Made-clause-sound g c = where_told (g.H.Shelf.port c.args.shelf.now).files (ReportHolds (map string_bytes c.args.words.now)) (λ files told. reports_hold (map string_bytes c.args.words.now) files (true_in_both (true_of (means_of domain.Ranges) c.trips_are_true.ensures.report c.reports_are_true.ensures.report) (true_of (means_of domain.KnownBits) c.trips_are_true-2.ensures.report c.reports_are_true-2.ensures.report)))
 
 pub returns-in-Ok-Made-clause-impossible : goal.returns-in-Ok-Made-clause-impossible
 returns-in-Ok-Made-clause-impossible g c =
@@ -260,7 +264,7 @@ returns-in-Ok-Files-clause-promise g c =
     let source = move (g.S.Source.port c.args.input.now) (g.S.Source.port c.examine.new.input) in
     let sink = move (g.K.Sink.port c.args.out.now) (g.K.Sink.port c.examine.new.out) in
     both shelf.before.files source.before.bytes _ (λ files told left told_left.
-    promised (true_in_both c.reports_are_true.ensures c.reports_are_true-2.ensures) (given words files shelf (reading_of left source.after.bytes)) sink c.examine.result
+    promised (true_in_both (true_of (means_of domain.Ranges) c.trips_are_true.ensures.report c.reports_are_true.ensures.report) (true_of (means_of domain.KnownBits) c.trips_are_true-2.ensures.report c.reports_are_true-2.ensures.report)) (given words files shelf (reading_of left source.after.bytes)) sink c.examine.result
     (of_both shelf.before.files source.before.bytes (λ fs input. Delivers (Writes (given words fs shelf (reading_of input source.after.bytes))) sink c.examine.result) files left told told_left (returns-in-Ok-Files-clause-text g c))
     (at_some shelf.before.files files (λ fs. EndsByFiles words fs c.examine.result) told (returns-in-Ok-Files-clause-files g c))
     (at_some shelf.before.files files (λ fs. c.examine.result ≡ ends.Inconsistent → NoExecution words fs) told (returns-in-Ok-Files-clause-impossible g c)))
@@ -272,7 +276,7 @@ returns-in-Ok-Made-clause-promise g c =
     let source = move (g.S.Source.port c.args.input.now) (g.S.Source.port c.args.input.now) in
     let sink = move (g.K.Sink.port c.args.out.now) (g.K.Sink.port c.tell_made_run.new.out) in
     both shelf.before.files source.before.bytes _ (λ files told left told_left.
-    promised (true_in_both c.reports_are_true.ensures c.reports_are_true-2.ensures) (given words files shelf (reading_of left source.after.bytes)) sink c.tell_made_run.result
+    promised (true_in_both (true_of (means_of domain.Ranges) c.trips_are_true.ensures.report c.reports_are_true.ensures.report) (true_of (means_of domain.KnownBits) c.trips_are_true-2.ensures.report c.reports_are_true-2.ensures.report)) (given words files shelf (reading_of left source.after.bytes)) sink c.tell_made_run.result
     (of_both shelf.before.files source.before.bytes (λ fs input. Delivers (Writes (given words fs shelf (reading_of input source.after.bytes))) sink c.tell_made_run.result) files left told told_left (returns-in-Ok-Made-clause-text g c))
     (at_some shelf.before.files files (λ fs. EndsByFiles words fs c.tell_made_run.result) told (returns-in-Ok-Made-clause-files g c))
     (at_some shelf.before.files files (λ fs. c.tell_made_run.result ≡ ends.Inconsistent → NoExecution words fs) told (returns-in-Ok-Made-clause-impossible g c)))
@@ -284,7 +288,7 @@ returns-in-Err-clause-promise g c =
     let source = move (g.S.Source.port c.args.input.now) (g.S.Source.port c.args.input.now) in
     let sink = move (g.K.Sink.port c.args.out.now) (g.K.Sink.port c.tell.new.out) in
     both shelf.before.files source.before.bytes _ (λ files told left told_left.
-    promised (true_in_both c.reports_are_true.ensures c.reports_are_true-2.ensures) (given words files shelf (reading_of left source.after.bytes)) sink c.tell.result
+    promised (true_in_both (true_of (means_of domain.Ranges) c.trips_are_true.ensures.report c.reports_are_true.ensures.report) (true_of (means_of domain.KnownBits) c.trips_are_true-2.ensures.report c.reports_are_true-2.ensures.report)) (given words files shelf (reading_of left source.after.bytes)) sink c.tell.result
     (of_both shelf.before.files source.before.bytes (λ fs input. Delivers (Writes (given words fs shelf (reading_of input source.after.bytes))) sink c.tell.result) files left told told_left (returns-in-Err-clause-text g c))
     (at_some shelf.before.files files (λ fs. EndsByFiles words fs c.tell.result) told (returns-in-Err-clause-files g c))
     (at_some shelf.before.files files (λ fs. c.tell.result ≡ ends.Inconsistent → NoExecution words fs) told (returns-in-Err-clause-impossible g c)))
@@ -508,7 +512,7 @@ returns-in-Ok-Maps-clause-sound g c =
     let f = c.load_files.ensures.faults in
     let calm = done_at c.load_files.result c.in-Ok-Maps.field-0 c.in-Ok-Maps.is f.calm in
     let loads = both_at c.load_files.result c.in-Ok-Maps.field-0 c.in-Ok-Maps.files (meaning_of words) old mid c.in-Ok-Maps.is c.in-Ok-Maps.field-0-is c.load_files.ensures.asked in
-    where_told old.files (ReportHolds words) (λ files told. reports_hold words files (true_in_both c.reports_are_true.ensures c.reports_are_true-2.ensures))
+    where_told old.files (ReportHolds words) (λ files told. reports_hold words files (true_in_both (true_of (means_of domain.Ranges) c.trips_are_true.ensures.report c.reports_are_true.ensures.report) (true_of (means_of domain.KnownBits) c.trips_are_true-2.ensures.report c.reports_are_true-2.ensures.report)))
 
 pub returns-in-Ok-Maps-clause-executed : goal.returns-in-Ok-Maps-clause-executed
 returns-in-Ok-Maps-clause-executed g c =
@@ -522,7 +526,7 @@ returns-in-Ok-Maps-clause-executed g c =
     let f = c.load_files.ensures.faults in
     let calm = done_at c.load_files.result c.in-Ok-Maps.field-0 c.in-Ok-Maps.is f.calm in
     let loads = both_at c.load_files.result c.in-Ok-Maps.field-0 c.in-Ok-Maps.files (meaning_of words) old mid c.in-Ok-Maps.is c.in-Ok-Maps.field-0-is c.load_files.ensures.asked in
-    asked_holds (meaning_of words) (λ seed steps. made_holds seed steps c.reports_are_true.ensures)
+    asked_holds (meaning_of words) (λ seed steps. made_holds seed steps (true_of (means_of domain.Ranges) c.trips_are_true.ensures.report c.reports_are_true.ensures.report))
 
 pub returns-in-Ok-Maps-clause-bits : goal.returns-in-Ok-Maps-clause-bits
 returns-in-Ok-Maps-clause-bits g c =
@@ -551,7 +555,7 @@ returns-in-Ok-Maps-clause-promise g c =
     let calm = done_at c.load_files.result c.in-Ok-Maps.field-0 c.in-Ok-Maps.is f.calm in
     let loads = both_at c.load_files.result c.in-Ok-Maps.field-0 c.in-Ok-Maps.files (meaning_of words) old mid c.in-Ok-Maps.is c.in-Ok-Maps.field-0-is c.load_files.ensures.asked in
     both old.files source.before.bytes _ (λ files told left told_left.
-    promised (true_in_both c.reports_are_true.ensures c.reports_are_true-2.ensures) (given words files (move old new) (reading_of left source.after.bytes)) sink c.examine_mapped.result
+    promised (true_in_both (true_of (means_of domain.Ranges) c.trips_are_true.ensures.report c.reports_are_true.ensures.report) (true_of (means_of domain.KnownBits) c.trips_are_true-2.ensures.report c.reports_are_true-2.ensures.report)) (given words files (move old new) (reading_of left source.after.bytes)) sink c.examine_mapped.result
     (of_both old.files source.before.bytes (λ fs input. Delivers (Writes (given words fs (move old new) (reading_of input source.after.bytes))) sink c.examine_mapped.result) files left told told_left (returns-in-Ok-Maps-clause-text g c))
     (at_some old.files files (λ fs. EndsByFiles words fs c.examine_mapped.result) told (returns-in-Ok-Maps-clause-files g c))
     (at_some old.files files (λ fs. c.examine_mapped.result ≡ ends.Inconsistent → NoExecution words fs) told (returns-in-Ok-Maps-clause-impossible g c)))
