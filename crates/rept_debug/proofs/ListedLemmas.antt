@@ -1,13 +1,14 @@
 -- From the files that a core file lists to the dialog over their crash.
-use Rattle.std.proofs.Common.{◌≡◌, ◌≤◌, ◌+◌, ℕ, false, List, length, Option, None, Some, IfSome, MatchOption, Result, Ok, Err, OnOk, MatchResult, inl, inr, refl, sym, ap, subst, ◌∙◌, arith}
+use Rattle.std.proofs.Common.{◌≡◌, ◌≤◌, ◌+◌, ℕ, List, Option, None, Some, IfSome, MatchOption, Result, Ok, Err, OnOk, MatchResult, inl, inr, refl, sym, ap, subst, ◌∙◌, arith}
 use Rattle.rept_elf.specs.Segments.{segments}
 use Rattle.rept_elf.specs.declared.fault.ElfFault.{ElfFault}
 use Rattle.rept_maps.specs.declared.fault.MapFault.{MapFault}
 use Rattle.rept_mapped.specs.Mapped.{Mapping}
 use Rattle.rept_dump.specs.Program.Program.{MappedFiles}
-use Rattle.rept_dump.specs.Registers.{Says as NotesSay}
-use Rattle.rept_dump.specs.declared.fault.CoreFault.{CoreFault}
-use Rattle.rept_found.specs.Crash.{Crash}
+use Rattle.rept_dump.specs.Dump.{core_of, exe_of}
+use Rattle.rept_dump.specs.declared.dump.Dump.{Dump}
+use Rattle.rept_found.specs.Crash.{crash_of}
+use Rattle.rept_runs.specs.Kind.{is_several}
 use Rattle.rept_ports.specs.Port.{Move, move}
 use Rattle.rept_ports.specs.Shelves.{Files, Shelved}
 use Rattle.rept_words.specs.Words.{Meaning}
@@ -16,8 +17,8 @@ use Rattle.rept_app.specs.Forms.{core_image_fault}
 use Rattle.rept_app.specs.Lines.{status_of}
 use Rattle.rept_app.specs.Loading.{CoreBytes, LoadsBoth, ShelfMoves, core_loads_to, parts_bytes}
 use Rattle.rept_app.specs.Mapped.{ListSays, MappedCrash, mapped_bytes, mapped_crash, mapped_files}
-use Rattle.rept_app.specs.Reading.{HasNoCrash, NotesRefuse}
-use Rattle.rept_app.specs.Told.{CrashTrace, ReadsAs, crash_trace}
+use Rattle.rept_app.specs.Reading.{NotesSay}
+use Rattle.rept_app.specs.Told.{CrashTrace, Reads, crash_trace}
 use Rattle.rept_app.specs.Top.{FaultsEnd}
 use Rattle.rept_app.specs.declared.refusal.FileKind.TheVariants as file
 use Rattle.rept_app.specs.declared.refusal.Refusal.{Refusal}
@@ -29,23 +30,16 @@ use Rattle.rept_debug.specs.declared.no_talk.NoTalk.TheVariants as no_talk
 use Rattle.rept_debug.specs.declared.talk.Talk.{Talk}
 
 -- of a dump of mapped files: what was held over its trace was held over these
-module _ (ms : List Mapping) (b : CoreBytes) (crash : Crash) (trace : List ℕ) (program : crash.exe ≡ MappedFiles ms) (core : crash.core ≡ segments b.core) (same : trace ≡ b.trace)
-    (accepted : core_image_fault b.core ≡ None) (said : NotesSay (length b.core) (segments b.core) (Ok crash.note)) where
-  read_parts : ReadsAs false (parts_bytes ms b) crash.note
+module _ (ms : List Mapping) (b : CoreBytes) (dump : Dump) (notes : List (List ℕ)) (trace : List ℕ) (program : exe_of dump ≡ MappedFiles ms) (core : core_of dump ≡ segments b.core) (same : trace ≡ b.trace)
+    (accepted : core_image_fault b.core ≡ None) (said : NotesSay (is_several b.trace) b.core (Ok notes)) where
+  read_parts : Reads (parts_bytes ms b) notes
   read_parts = record { program_accepted = refl; core_accepted = accepted; noted = said }
 
-  pub held_parts : (io : Streams) (talk : Talk) → IsHeldTrace (crash_trace crash trace b.manner) io talk → IsHeld (parts_bytes ms b) io talk
-  held_parts io talk h = record { note = crash.note; read = read_parts; held = subst (λ (t : CrashTrace). IsHeldTrace t io talk) (parts_trace crash ms b trace program core same) h }
+  pub held_parts : (io : Streams) (talk : Talk) → IsHeldTrace (crash_trace (crash_of dump notes) trace b.manner) io talk → IsHeld (parts_bytes ms b) io talk
+  held_parts io talk h = record { notes = notes; read = read_parts; held = subst (λ (t : CrashTrace). IsHeldTrace t io talk) (parts_trace (crash_of dump notes) ms b trace program core same) h }
 
-  pub refused_parts : (r : Refusal) → IsRefusedTrace (crash_trace crash trace b.manner) r → IsRefusedCrash (parts_bytes ms b) r
-  refused_parts r h = inr (crash.note, read_parts, subst (λ (t : CrashTrace). IsRefusedTrace t r) (parts_trace crash ms b trace program core same) h)
-
--- a core file whose notes are refused has no crash
-pub notes_refused : (ms : List Mapping) (b : CoreBytes) (f : CoreFault) → core_image_fault b.core ≡ None → NotesSay (length b.core) (segments b.core) (Err f)
-    → ((said : Result (List ℕ) CoreFault) → NotesSay (length b.core) (segments b.core) said → said ≡ Err f) → HasNoCrash false (parts_bytes ms b) (refusal.Core f)
-notes_refused ms b f accepted says only =
-    let P : Option ElfFault → Type 0 = λ o. MatchOption o (NotesRefuse false b.core (refusal.Core f)) (λ g. refusal.Core f ≡ refusal.CoreImage g) in
-    subst P (sym accepted) (f, says, only, refl)
+  pub refused_parts : (r : Refusal) → IsRefusedTrace (crash_trace (crash_of dump notes) trace b.manner) r → IsRefusedCrash (parts_bytes ms b) r
+  refused_parts r h = inr (notes, read_parts, subst (λ (t : CrashTrace). IsRefusedTrace t r) (parts_trace (crash_of dump notes) ms b trace program core same) h)
 
 -- what is refused of a core file
 module _ (m : MappedCrash) (r : Refusal) where

@@ -4,7 +4,11 @@ use Rattle.std.specs.Prelude.{string_bytes}
 use Rattle.rept_ports.specs.Port.{Move, move}
 use Rattle.rept_ports.specs.Shelves.{Files, Shelved}
 use Rattle.rept_ports.specs.declared.arguments.Unreadable.{Unreadable}
-use Rattle.rept_app.proofs.TopLemmas.{ReportsAreTrue, Stops}
+use Rattle.rept_runs.specs.Kind.{is_several}
+use Rattle.rept_app.proofs.Notes.{some_said}
+use Rattle.rept_app.proofs.RunLemmas.{IsWhole, whole_run}
+use Rattle.rept_app.proofs.TopLemmas.{Stops}
+use Rattle.rept_app.proofs.TrueLemmas.{ReportsAreTrue}
 use Rattle.rept_app.specs.Lines.{status_of}
 use Rattle.rept_app.specs.Loading.{CoreBytes, CrashBytes, Loading, core_loads_to, crash_bytes, loading}
 use Rattle.rept_app.specs.Loading.Loading.{Loaded, LoadedCore}
@@ -24,13 +28,17 @@ pub same_bytes : (exe exe' core core' trace trace' : List ℕ) (manner : Manner)
 same_bytes exe exe' core core' trace trace' manner P e k t h =
     subst (λ (x : List ℕ). P (crash_bytes x core trace manner)) e (subst (λ (x : List ℕ). P (crash_bytes exe' x trace manner)) k (subst (λ (x : List ℕ). P (crash_bytes exe' core' x manner)) t h))
 
+-- the run that was held over is one of some threads, each of which has a note
+held_whole : (bytes : CrashBytes) (io : Streams) (talk : Talk) (h : IsHeld bytes io talk) → IsWhole (trace_in bytes h.notes).crash h.held.run
+held_whole bytes io talk h = whole_run (trace_in bytes h.notes).crash bytes.trace talk.from h.held.run (some_said (is_several bytes.trace) bytes.core h.notes h.read.noted) h.held.is
+
 -- what was held over the files is true
 pub debugged : (words : List (List ℕ)) (files : Files) (bytes : CrashBytes) (io : Streams) (talk : Talk) → ReportsAreTrue → IsCrashOf files (loading words files) bytes → IsHeld bytes io talk → IsDebugged words files io talk
 debugged words files bytes io talk true_of loaded h = record {
   bytes = bytes;
   loaded = loaded;
   held = h;
-  holds = true_of bytes.manner.domain (trace_in bytes h.note).crash h.held.path.steps h.held.over.account.known h.held.over.report.report;
+  holds = true_of bytes.manner.domain (trace_in bytes h.notes).crash h.held.run h.held.over.account.known (held_whole bytes io talk h) h.held.over.report.report;
 }
 
 pub debugged_files : (words : List (List ℕ)) (files : Files) (bytes : CrashBytes) (io : Streams) (talk : Talk) → ReportsAreTrue → loading words files ≡ Loaded bytes → IsHeld bytes io talk → IsDebugged words files io talk

@@ -1,16 +1,17 @@
--- The packet from which a path is rebuilt for a debugger. This project's own.
-use Rattle.std.specs.Prelude.{◌≡◌, ◌≢◌, ◌⊎◌, ◌<◌, ◌≤◌, ℕ, suc, List, length}
+-- The packet from which a run is rebuilt for a debugger. This project's own.
+use Rattle.std.specs.Prelude.{◌≡◌, ◌≢◌, ◌⊎◌, ◌<◌, ◌≤◌, ℕ, suc, List, length, Result, IfOk, IfErr}
 use Rattle.rept_found.specs.Crash.{Crash}
 use Rattle.rept_path.specs.declared.fault.PathFault.{PathFault}
-use Rattle.rept_path.specs.declared.fault.PathFault.TheVariants.{NoStart, TooLong}
-use Rattle.rept_path.specs.declared.rebuilding.Path.{Path}
-use Rattle.rept_app.specs.Path.{HasNoPath, IsTracePath}
+use Rattle.rept_path.specs.declared.fault.PathFault.TheVariants.{NoStart, OutOfMemory, TooLong}
+use Rattle.rept_steps.specs.declared.run.Run.{Run}
+use Rattle.rept_app.specs.TraceRun.{HasNoRunOf, IsRunOf}
+use Rattle.rept_debug.specs.declared.begin.Begun.{Begun}
 use Rattle.rept_debug.specs.declared.begin.Kind.{Kind}
 use Rattle.rept_debug.specs.declared.begin.Kind.TheVariants as kind
 
--- from the packet of this number on the path has too many steps
+-- from the packet of this number on the run has too many steps
 abbrev pub IsTooLong : Crash → List ℕ → ℕ → Type 0
-IsTooLong crash trace from = (packet : ℕ) × HasNoPath crash trace from (TooLong packet)
+IsTooLong crash trace from = (packet : ℕ) × HasNoRunOf crash trace from (TooLong packet)
 
 -- what the search for a later packet tells apart in a refusal
 abbrev pub IsKind : PathFault → Kind → Type 0
@@ -18,32 +19,32 @@ IsKind fault (kind.TooLong packet) = fault ≡ TooLong packet
 IsKind fault kind.NoStart = (count : ℕ) × (fault ≡ NoStart count)
 IsKind fault kind.Other = ((packet : ℕ) → fault ≢ TooLong packet) × ((count : ℕ) → fault ≢ NoStart count)
 
--- From the packet of this number on there is no start: no start packet may begin the path, or a packet comes where only one may, as `NoStart` tells; or
+-- From the packet of this number on there is no start: no start packet may begin the run, or a packet comes where only one may, as `NoStart` tells; or
 -- there are not so many packets, since the trace has no more bytes.
 abbrev pub HasNoStart : Crash → List ℕ → ℕ → Type 0
-HasNoStart crash trace from = ((count : ℕ) × HasNoPath crash trace from (NoStart count)) ⊎ (length trace ≤ from)
+HasNoStart crash trace from = ((count : ℕ) × HasNoRunOf crash trace from (NoStart count)) ⊎ (length trace ≤ from)
 
--- from the packet of this number on there is a path, or no start
+-- from the packet of this number on there is a run, or no start
 abbrev pub IsEnd : Crash → List ℕ → ℕ → Type 0
-IsEnd crash trace from = ((path : Path) × IsTracePath crash trace from path) ⊎ HasNoStart crash trace from
+IsEnd crash trace from = ((run : Run) × IsRunOf crash trace from run) ⊎ HasNoStart crash trace from
 
--- the packet that is asked for; or, where that is the first one and the path from there has too many steps, a later one, while the path from the
+-- the packet that is asked for; or, where that is the first one and the run from there has too many steps, a later one, while the run from the
 -- packet before it has too many
 abbrev pub BeginsAt : Crash → List ℕ → ℕ → ℕ → Type 0
 BeginsAt crash trace asked from =
     (from ≡ asked)
     ⊎ ((asked ≡ 0) × IsTooLong crash trace 0 × ((before : ℕ) × (from ≡ suc before) × IsTooLong crash trace before))
 
--- the path from a packet has too many steps, and from the next one on there is no start
+-- the run from a packet has too many steps, and from the next one on there is no start
 pub record IsLongToTheEnd (crash : Crash) (trace : List ℕ) (fault : PathFault) : Type 0 where
   pub from : ℕ
   pub packet : ℕ
   pub is : fault ≡ TooLong packet
-  pub long : HasNoPath crash trace from (TooLong packet)
+  pub long : HasNoRunOf crash trace from (TooLong packet)
   pub next : HasNoStart crash trace (suc from)
 
--- the path from a packet has another fault than that; the packet is between one from which the path has too many steps, and one from which there is
--- a path, or no start
+-- the run from a packet has another fault than that; the packet is between one from which the run has too many steps, and one from which there is
+-- a run, or no start
 pub record IsCut (crash : Crash) (trace : List ℕ) (fault : PathFault) : Type 0 where
   pub low : ℕ
   pub from : ℕ
@@ -52,13 +53,19 @@ pub record IsCut (crash : Crash) (trace : List ℕ) (fault : PathFault) : Type 0
   pub before : from < high
   pub long : IsTooLong crash trace low
   pub end : IsEnd crash trace high
-  pub fails : HasNoPath crash trace from fault
+  pub fails : HasNoRunOf crash trace from fault
   pub not_long : (packet : ℕ) → fault ≢ TooLong packet
   pub no_end : (count : ℕ) → fault ≢ NoStart count
 
--- there is no path from the packet that is asked for, which isn't the first one, or whose fault isn't that of too many steps; or it is the first one,
--- its path has too many, and there is none from a later one
+-- there is no run from the packet that is asked for, which isn't the first one, or whose fault isn't that of too many steps; or it is the first one,
+-- its run has too many, and there is none from a later one
 abbrev pub NeverBegins : Crash → List ℕ → ℕ → PathFault → Type 0
 NeverBegins crash trace asked fault =
-    (HasNoPath crash trace asked fault × ((0 < asked) ⊎ ((packet : ℕ) → fault ≢ TooLong packet)))
+    (HasNoRunOf crash trace asked fault × ((0 < asked) ⊎ ((packet : ℕ) → fault ≢ TooLong packet)))
     ⊎ ((asked ≡ 0) × IsTooLong crash trace 0 × (IsLongToTheEnd crash trace fault ⊎ IsCut crash trace fault))
+
+-- what is begun of a trace, where a packet is asked for: a run of it, from that packet or a later one; or why there is none. Want of memory is none of the definition's.
+pub record AreBegun (crash : Crash) (trace : List ℕ) (asked : ℕ) (result : Result Begun PathFault) : Type 0 where
+  pub run : IfOk result (λ begun. IsRunOf crash trace begun.from begun.run)
+  pub from : IfOk result (λ begun. BeginsAt crash trace asked begun.from)
+  pub refused : IfErr result (λ e. (e ≡ OutOfMemory) ⊎ NeverBegins crash trace asked e)

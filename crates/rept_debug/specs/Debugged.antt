@@ -1,5 +1,5 @@
 -- A dialog over the report of a crash, and why there is none. This project's own.
-use Rattle.std.specs.Prelude.{◌≡◌, ◌⊎◌, ℕ, suc, false, List, [], ◌∷◌, ◌++◌, None, Some, Result, Ok, MatchOption, MatchResult, codes, slice_get, string_bytes}
+use Rattle.std.specs.Prelude.{◌≡◌, ◌⊎◌, ℕ, suc, List, [], ◌∷◌, ◌++◌, None, Some, Result, Ok, MatchOption, MatchResult, codes, slice_get, string_bytes}
 use Rattle.std.specs.Fmt.{decimal}
 use Rattle.std.specs.Io.KnownBytes.{Appends}
 use Rattle.rept_elf.specs.Header.{half_at}
@@ -9,11 +9,12 @@ use Rattle.rept_mapfiles.specs.Kept.{asked_names, loads_after}
 use Rattle.rept_ports.specs.Port.{Port, Move, move}
 use Rattle.rept_ports.specs.Shelves.{Files, Shelved}
 use Rattle.rept_path.specs.declared.fault.PathFault.{PathFault}
-use Rattle.rept_path.specs.declared.rebuilding.Path.{Path}
+use Rattle.rept_steps.specs.declared.run.Run.{Run}
+use Rattle.rept_runs.specs.Kind.{is_several}
 use Rattle.rept_report.specs.Closure.{ClosureHas}
 use Rattle.rept_report.specs.declared.conflict.ConflictKind.{ConflictKind}
-use Rattle.rept_found.specs.Telling.{Account, told_of}
-use Rattle.rept_found.specs.Truth.{HasNoExecution, IsTrueReport}
+use Rattle.rept_found.specs.Crash.{note_at}
+use Rattle.rept_found.specs.Telling.{Account, told_on}
 use Rattle.rept_dialog.specs.Converse.{Parties, Converses, parties_over}
 use Rattle.rept_dialog.specs.declared.conversation.Conversed.{Conversed}
 use Rattle.rept_app.specs.Forms.{core_image_fault}
@@ -21,9 +22,10 @@ use Rattle.rept_app.specs.Lines.{status_of}
 use Rattle.rept_app.specs.Loading.{CrashBytes, CoreBytes, ComesTo, ComesToCore, Loading, core_loads_to, loading, loads_to}
 use Rattle.rept_app.specs.Loading.Loading.{Loaded, LoadedCore, MadeRun, Refused}
 use Rattle.rept_app.specs.Mapped.{IsMappedAs, ListSays, MappedCrash, mapped_bytes, mapped_crash}
-use Rattle.rept_app.specs.Path.{IsTracePath}
 use Rattle.rept_app.specs.Reading.{HasNoCrash}
-use Rattle.rept_app.specs.Told.{CrashPath, CrashTrace, IsAccountOf, IsCrashOf, ReadsAs, path_in, route_of, setting_of, trace_in}
+use Rattle.rept_app.specs.Told.{CrashRun, CrashTrace, IsAccountOf, IsCrashOf, Reads, contradiction_in, route_of, run_in, setting_of, trace_in}
+use Rattle.rept_app.specs.TraceRun.{IsRunOf}
+use Rattle.rept_app.specs.True.{IsExcluded, IsTrue}
 use Rattle.rept_app.specs.declared.refusal.FileKind.{FileKind}
 use Rattle.rept_app.specs.declared.refusal.FileKind.TheVariants as file
 use Rattle.rept_app.specs.declared.refusal.Refusal.{Refusal}
@@ -44,7 +46,7 @@ pub record Streams : Type 0 where
 abbrev pub streams : Move Port → Move Port → Move Port → Streams
 streams input output errors = record { input = input; output = output; errors = errors }
 
--- the line that tells from which packet the path was rebuilt, where that isn't the one that was asked for
+-- the line that tells from which packet the run was rebuilt, where that isn't the one that was asked for
 abbrev pub notice_line : ℕ → List ℕ
 notice_line from = codes "the path begins at packet " ++ decimal from ++ 10 ∷ []
 
@@ -54,7 +56,7 @@ IsWritten from errors =
     (Appends errors.before.bytes errors.after.bytes (notice_line from) × (errors.after.faults ≡ errors.before.faults))
     ⊎ (AppendsPrefix errors.before.bytes errors.after.bytes (notice_line from) × OneFault errors.before.faults errors.after.faults)
 
--- of a dialog that was held: nothing was written, where the path begins at the packet that was asked for; else the line
+-- of a dialog that was held: nothing was written, where the run begins at the packet that was asked for; else the line
 abbrev pub IsNoticed : ℕ → ℕ → Move Port → Type 0
 IsNoticed asked from errors = ((from ≡ asked) × (errors.after ≡ errors.before)) ⊎ IsWritten from errors
 
@@ -62,47 +64,47 @@ IsNoticed asked from errors = ((from ≡ asked) × (errors.after ≡ errors.befo
 abbrev pub Notices : Move Port → Type 0
 Notices errors = (errors.after ≡ errors.before) ⊎ ((from : ℕ) × IsWritten from errors)
 
--- who talks: what a session tells of an account of the path; the signal of the register note (`pr_cursig` of `struct elf_prstatus`, at 12); and
+-- who talks: what a session tells of an account of the run; the signal of the first thread's register note (`pr_cursig` of `struct elf_prstatus`, at 12); and
 -- a debugger that stands at the end
-abbrev pub dialog_over : {W : Type 0} → CrashPath W → Account → Parties
-dialog_over p a = parties_over (told_of (route_of p) a) (half_at p.crash.note 12)
+abbrev pub dialog_over : {W : Type 0} → CrashRun W → Account → Parties
+dialog_over p a = parties_over (told_on (route_of p) a) (half_at (note_at p.crash 0) 12)
 
--- what arrived was answered over an account of the path
-pub record TalksOver {W : Type 0} (p : CrashPath W) (source sink : Move Port) (end : Conversed) : Type 0 where
+-- what arrived was answered over an account of the run
+pub record TalksOver {W : Type 0} (p : CrashRun W) (source sink : Move Port) (end : Conversed) : Type 0 where
   pub account : Account
   pub report : IsAccountOf p account
   pub talks : Converses (dialog_over p account) source sink end
 
--- the closure of the path has a conflict, and no execution of it ends in the crash; or memory ran out
-abbrev pub IsRefusedPath : {W : Type 0} → CrashPath W → Refusal → Type 0
-IsRefusedPath p r =
-    ((kind : ConflictKind) × ClosureHas (setting_of p) kind × HasNoExecution (route_of p) × (r ≡ refusal.Inconsistent kind))
+-- the closure of the run has a conflict, and no execution of it ends in the crash; or memory ran out
+abbrev pub IsRefusedRun : {W : Type 0} → CrashRun W → Refusal → Type 0
+IsRefusedRun p r =
+    ((kind : ConflictKind) × ClosureHas (setting_of p) kind × IsExcluded p × (r ≡ refusal.Inconsistent (contradiction_in p kind)))
     ⊎ (status_of r ≡ ends.OutOfMemory)
 
--- the path of a trace, and what was answered over it
+-- the run of a trace, and what was answered over it
 pub record IsHeldTrace (t : CrashTrace) (io : Streams) (talk : Talk) : Type 0 where
-  pub path : Path
-  pub is : IsTracePath t.crash t.trace talk.from path
+  pub run : Run
+  pub is : IsRunOf t.crash t.trace talk.from run
   pub begins : BeginsAt t.crash t.trace t.manner.from talk.from
   pub noticed : IsNoticed t.manner.from talk.from io.errors
-  pub over : TalksOver (path_in t path) io.input io.output talk.end
+  pub over : TalksOver (run_in t run) io.input io.output talk.end
 
--- the trace has no path; or it has one, and that is refused
+-- the trace tells no run; or it tells one, and that is refused
 abbrev pub IsRefusedTrace : CrashTrace → Refusal → Type 0
 IsRefusedTrace t r =
     ((fault : PathFault) × NeverBegins t.crash t.trace t.manner.from fault × (r ≡ refusal.Path fault))
-    ⊎ ((from : ℕ) × (path : Path) × BeginsAt t.crash t.trace t.manner.from from × IsTracePath t.crash t.trace from path × IsRefusedPath (path_in t path) r)
+    ⊎ ((from : ℕ) × (run : Run) × BeginsAt t.crash t.trace t.manner.from from × IsRunOf t.crash t.trace from run × IsRefusedRun (run_in t run) r)
     ⊎ (status_of r ≡ ends.OutOfMemory)
 
 -- the files are accepted, and their trace was answered
 pub record IsHeld (bytes : CrashBytes) (io : Streams) (talk : Talk) : Type 0 where
-  pub note : List ℕ
-  pub read : ReadsAs false bytes note
-  pub held : IsHeldTrace (trace_in bytes note) io talk
+  pub notes : List (List ℕ)
+  pub read : Reads bytes notes
+  pub held : IsHeldTrace (trace_in bytes notes) io talk
 
 -- the files are refused; or their trace is
 abbrev pub IsRefusedCrash : CrashBytes → Refusal → Type 0
-IsRefusedCrash bytes r = HasNoCrash false bytes r ⊎ ((note : List ℕ) × ReadsAs false bytes note × IsRefusedTrace (trace_in bytes note) r)
+IsRefusedCrash bytes r = HasNoCrash (is_several bytes.trace) bytes r ⊎ ((notes : List (List ℕ)) × Reads bytes notes × IsRefusedTrace (trace_in bytes notes) r)
 
 -- the core file and its list are accepted, and the trace was answered over the crash with the files of that list
 pub record IsHeldMapped (m : MappedCrash) (io : Streams) (talk : Talk) : Type 0 where
@@ -141,12 +143,12 @@ status_of_no_talk (no_talk.Refused r) = status_of r
 status_of_no_talk (no_talk.LoadFault name) = ends.LoadFault
 
 -- the words and the files come to a crash; what arrived was answered over its report; and all that the report tells holds in every execution of
--- the path that ends in the crash
+-- the run that ends in the crash
 pub record IsDebugged (words : List (List ℕ)) (files : Files) (io : Streams) (talk : Talk) : Type 0 where
   pub bytes : CrashBytes
   pub loaded : IsCrashOf files (loading words files) bytes
   pub held : IsHeld bytes io talk
-  pub holds : IsTrueReport (route_of (path_in (trace_in bytes held.note) held.held.path)) held.held.over.account.known
+  pub holds : IsTrue (run_in (trace_in bytes held.notes) held.held.run) held.held.over.account.known
 
 -- why nothing is answered of what was loaded: it is refused; or the words ask for a made run
 abbrev pub IsRefusedLoading : Files → Loading → Refusal → Type 0

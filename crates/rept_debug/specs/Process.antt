@@ -64,7 +64,7 @@ TellsNoTalk (no_talk.LoadFault name) text status = TellsName (string_bytes name)
 abbrev pub IsUntouched : Process → Type 0
 IsUntouched p = (p.input.after ≡ p.input.before) × (p.output.after ≡ p.output.before)
 
--- Of words that are read: the crash was debugged where the files are told, with a notice of where its path begins. Words that aren't are usage, or
+-- Of words that are read: the crash was debugged where the files are told, with a notice of where its run begins. Words that aren't are usage, or
 -- there is no memory for them.
 abbrev pub OpensAs : Process → Result (List (List ℕ)) Unreadable → Talk → Type 0
 OpensAs p (Ok words) talk = IfSome p.shelf.before.files (λ files. IsDebugged (session_words words) files (streams p.input p.output p.errors) talk)

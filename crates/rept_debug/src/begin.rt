@@ -1,46 +1,45 @@
-//! The packet from which a path is rebuilt.
+//! The packet from which a run is rebuilt.
 
-ghost use Rattle.std.specs.Prelude.{◌≡◌, ◌⊎◌, ◌<◌, ◌^◌, length, IfOk, IfErr};
-ghost use Rattle.rept_dump.specs.Dump.{registers_of};
-ghost use Rattle.rept_steps.specs.Linked.{EndBefore};
+ghost use Rattle.std.specs.Prelude.{◌≡◌, ◌<◌, ◌^◌, ℕ, List, length, IfOk};
 ghost use Rattle.rept_path.specs.declared.fault.PathFault.TheVariants as fault;
-ghost use Rattle.rept_found.specs.Crash.{crash_of, end_pc};
-ghost use Rattle.rept_app.specs.Path.{HasNoPath, IsTracePath};
-ghost use Rattle.rept_debug.specs.Begin.{BeginsAt, IsKind, NeverBegins};
+ghost use Rattle.rept_runs.specs.Kind.{is_several};
+ghost use Rattle.rept_found.specs.Crash.{crash_of};
+ghost use Rattle.rept_app.specs.Reading.{AreNotesOf, HasNotes};
+ghost use Rattle.rept_app.specs.TraceRun.{FitsDump, HasNoRunOf};
+ghost use Rattle.rept_debug.specs.Begin.{AreBegun, IsKind};
 
-use rept_app::trace_path;
+use rept_app::trace_run;
 use rept_dump::Dump;
-use rept_path::{Path, PathFault};
+use rept_path::PathFault;
+use rept_steps::Run;
 use std::alloc::Global;
 
-/// A path, and the packet from which it was rebuilt.
+/// A run, and the packet from which it was rebuilt.
 #[derive(Drop)]
 pub struct Begun {
     /// the number of the packet
     pub from: u32,
-    /// the path
-    pub path: Path,
+    /// the run
+    pub run: Run,
 }
 
-/// The path of a trace from the packet of this number on. From packet 0 on, where that path has more than 65,536 steps, the path from a
-/// later packet that has not, while the path from the packet before that one has: nobody should find it by trial. It is refused where the path
-/// from a packet has more steps and from the next one on there is no start (`NoStart`), and where one of the paths that are tried between two
+/// The run of a trace from the packet of this number on. From packet 0 on, where that run has more than 65,536 steps, the run from a
+/// later packet that has not, while the run from the packet before that one has: nobody should find it by trial. It is refused where the run
+/// from a packet has more steps and from the next one on there is no start (`NoStart`), and where one of the runs that are tried between two
 /// such packets has another fault.
-pub fn begin_path(
+pub fn begin_run(
     alloc: Global,
     trace: &[u8],
     dump: &Dump<'_>,
     from: u32,
 ) -> Result<Begun, PathFault>
-    requires { length trace.now < 2 ^ 32 }
-    ensures path { IfOk result (λ begun. IsTracePath (crash_of dump.now) trace.now begun.from begun.path) }
-    ensures from { IfOk result (λ begun. BeginsAt (crash_of dump.now) trace.now from begun.from) }
-    ensures some { IfOk result (λ begun. 0 < length begun.path.steps) }
-    ensures ends { IfOk result (λ begun. EndBefore begun.path.steps (end_pc (registers_of dump.now))) }
-    ensures refused { IfErr result (λ e. (e ≡ fault.OutOfMemory) ⊎ NeverBegins (crash_of dump.now) trace.now from e) }
+    requires small { length trace.now < 2 ^ 32 }
+    requires noted { HasNotes (is_several trace.now) dump.now }
+    ensures begun { (notes : List (List ℕ)) → AreNotesOf dump.now notes → AreBegun (crash_of dump.now notes) trace.now from result }
+    ensures fits { IfOk result (λ begun. FitsDump dump.now begun.run) }
 {
-    let fault = match trace_path(alloc, trace, dump, from) {
-        Ok(path) => return Ok(Begun { from, path }),
+    let fault = match trace_run(alloc, trace, dump, from) {
+        Ok(run) => return Ok(Begun { from, run }),
         Err(fault) => fault,
     };
     match kind_of(fault) {
@@ -48,7 +47,7 @@ pub fn begin_path(
             if from > 0 {
                 return Err(fault);
             }
-            later_path(alloc, trace, dump, packet)
+            later_run(alloc, trace, dump, packet)
         }
         Kind::NoStart => Err(fault),
         Kind::Other => Err(fault),
@@ -76,16 +75,14 @@ fn kind_of(fault: PathFault) -> Kind
     }
 }
 
-/// The path from a later packet than the first one, from which it is too long, sought by halves: from `low` on it is too long, and from `high` on
-/// there is a path or no start. `packet` is the one at which the path from the first one passes the limit.
-fn later_path(alloc: Global, trace: &[u8], dump: &Dump<'_>, packet: u32) -> Result<Begun, PathFault>
+/// The run from a later packet than the first one, from which it is too long, sought by halves: from `low` on it is too long, and from `high` on
+/// there is a run or no start. `packet` is the one at which the run from the first one passes the limit.
+fn later_run(alloc: Global, trace: &[u8], dump: &Dump<'_>, packet: u32) -> Result<Begun, PathFault>
     requires small { length trace.now < 2 ^ 32 }
-    requires long { HasNoPath (crash_of dump.now) trace.now 0 (fault.TooLong packet) }
-    ensures path { IfOk result (λ begun. IsTracePath (crash_of dump.now) trace.now begun.from begun.path) }
-    ensures from { IfOk result (λ begun. BeginsAt (crash_of dump.now) trace.now 0 begun.from) }
-    ensures some { IfOk result (λ begun. 0 < length begun.path.steps) }
-    ensures ends { IfOk result (λ begun. EndBefore begun.path.steps (end_pc (registers_of dump.now))) }
-    ensures refused { IfErr result (λ e. (e ≡ fault.OutOfMemory) ⊎ NeverBegins (crash_of dump.now) trace.now 0 e) }
+    requires noted { HasNotes (is_several trace.now) dump.now }
+    requires long { (notes : List (List ℕ)) → AreNotesOf dump.now notes → HasNoRunOf (crash_of dump.now notes) trace.now 0 (fault.TooLong packet) }
+    ensures begun { (notes : List (List ℕ)) → AreNotesOf dump.now notes → AreBegun (crash_of dump.now notes) trace.now 0 result }
+    ensures fits { IfOk result (λ begun. FitsDump dump.now begun.run) }
 {
     let mut low = 0;
     let mut high = (trace.len() as u32).max(1);
@@ -93,10 +90,10 @@ fn later_path(alloc: Global, trace: &[u8], dump: &Dump<'_>, packet: u32) -> Resu
     let mut found = None;
     while high - low > 1 {
         let middle = low + (high - low) / 2;
-        match trace_path(alloc, trace, dump, middle) {
-            Ok(path) => {
+        match trace_run(alloc, trace, dump, middle) {
+            Ok(run) => {
                 high = middle;
-                found = Some(path);
+                found = Some(run);
             }
             Err(fault) => match kind_of(fault) {
                 Kind::TooLong(packet) => {
@@ -112,7 +109,7 @@ fn later_path(alloc: Global, trace: &[u8], dump: &Dump<'_>, packet: u32) -> Resu
         }
     }
     match found {
-        Some(path) => Ok(Begun { from: high, path }),
+        Some(run) => Ok(Begun { from: high, run }),
         None => Err(PathFault::TooLong(too_long)),
     }
 }

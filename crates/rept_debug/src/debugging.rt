@@ -12,14 +12,15 @@ use crate::no_talk::NoTalk;
 use crate::talk::{Talk, debug_trace};
 use rept_amo::Atomic;
 use rept_app::{Asked, CrashFiles, Refusal, load_files, read_dump};
-use rept_found::reports_are_true;
+use rept_found::{reports_are_true, trips_are_true};
 use rept_known::Both;
 use rept_partial::Range;
 use rept_ports::{Shelf, Sink, Source};
+use rept_runs::is_several;
 use std::alloc::Global;
 
 /// Opens the crash that the words name, as a session does, and answers a debugger over its report: `open EXE CORE TRACE` (or `bits`), or `maps CORE TRACE`, and maybe
-/// the number of a packet, of a trace of one stream. From the first packet, where that path has too many steps, it begins from a later one. The refusals are those of a session,
+/// the number of a packet. From the first packet, where that run has too many steps, it begins from a later one. The refusals are those of a session,
 /// in its order, and words that ask for a made run are refused as usage. At a refusal nothing was read or written.
 pub fn debug<H: Shelf, S: Source, K: Sink, E: Sink>(
     alloc: Global,
@@ -29,7 +30,7 @@ pub fn debug<H: Shelf, S: Source, K: Sink, E: Sink>(
     out: &mut K,
     errors: &mut E,
 ) -> Result<Talk, NoTalk>
-    // What arrived was answered over the report of the files, and all that the report tells holds in every execution of the path that ends in the crash.
+    // What arrived was answered over the report of the files, and all that the report tells holds in every execution of all threads that ends in the crash.
     ensures debugged { IfOk result (λ talk. IfSome (H.port shelf.old).files (λ files. IsDebugged (map string_bytes words.now) files (streams (move (S.port input.old) (S.port input.new)) (move (K.port out.old) (K.port out.new)) (move (E.port errors.old) (E.port errors.new))) talk)) }
 
     // Why not, where the files are told; the ports are as they were.
@@ -44,6 +45,8 @@ pub fn debug<H: Shelf, S: Source, K: Sink, E: Sink>(
 {
     reports_are_true::<Range, Atomic>();
     reports_are_true::<Both, Atomic>();
+    trips_are_true::<Range, Atomic>();
+    trips_are_true::<Both, Atomic>();
     match load_files(alloc, words, shelf) {
         Ok(Asked::Files(files)) => match debug_files(alloc, &files, input, out, errors) {
             Ok(talk) => Ok(talk),
@@ -69,17 +72,14 @@ fn debug_files<S: Source, K: Sink, E: Sink>(
     ensures unread { IfErr result (λ _. (input.new ≡ input.old) × (out.new ≡ out.old)) }
     ensures noticed { IfErr result (λ _. Notices (move (E.port errors.old) (E.port errors.new))) }
 {
-    let dump = match read_dump(files.exe.as_slice(), files.core.as_slice(), false) {
+    let trace = files.trace.as_slice();
+    let dump = match read_dump(
+        files.exe.as_slice(),
+        files.core.as_slice(),
+        is_several(trace),
+    ) {
         Ok(dump) => dump,
         Err(refusal) => return Err(refusal),
     };
-    debug_trace(
-        alloc,
-        files.trace.as_slice(),
-        &dump,
-        files.manner,
-        input,
-        out,
-        errors,
-    )
+    debug_trace(alloc, trace, &dump, files.manner, input, out, errors)
 }

@@ -1,4 +1,4 @@
-//! A crash that is opened for a debugger: the files, the path and the report of a session, and a dialog in its place.
+//! A crash that is opened for a debugger: the files, the run and the report of a session, and a dialog in its place.
 #![tactic(auto)]
 
 mod begin;
@@ -10,7 +10,7 @@ mod process;
 mod talk;
 mod telling;
 
-pub use begin::{Begun, begin_path};
+pub use begin::{Begun, begin_run};
 pub use debugging::debug;
 pub use no_talk::NoTalk;
 pub use process::{answer, run};

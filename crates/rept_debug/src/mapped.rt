@@ -19,6 +19,7 @@ use rept_elf::{Image, Want};
 use rept_mapfiles::{LoadStop, asked_names, images_of, load_names};
 use rept_maps::{Images, Maps};
 use rept_ports::{Shelf, Sink, Source};
+use rept_runs::is_several;
 use std::alloc::Global;
 
 /// Reads the core file and its list of mapped files, loads those, and answers a debugger over the report of the crash.
@@ -111,16 +112,9 @@ fn debug_images<S: Source, K: Sink, E: Sink>(
     ensures unread { IfErr result (λ _. (input.new ≡ input.old) × (out.new ≡ out.old)) }
     ensures noticed { IfErr result (λ _. Notices (move (E.port errors.old) (E.port errors.new))) }
 {
-    match Dump::mapped(maps, images, core, false) {
-        Ok(dump) => debug_trace(
-            alloc,
-            files.trace.as_slice(),
-            &dump,
-            files.manner,
-            input,
-            out,
-            errors,
-        ),
+    let trace = files.trace.as_slice();
+    match Dump::mapped(maps, images, core, is_several(trace)) {
+        Ok(dump) => debug_trace(alloc, trace, &dump, files.manner, input, out, errors),
         Err(fault) => Err(Refusal::Core(fault)),
     }
 }

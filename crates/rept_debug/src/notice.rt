@@ -1,4 +1,4 @@
-//! The line that tells from which packet a path was rebuilt.
+//! The line that tells from which packet a run was rebuilt.
 
 ghost use Rattle.std.specs.Prelude.{◌≡◌, OnErr, OnOk, IfOk};
 ghost use Rattle.rept_ports.specs.Port.{move};
@@ -29,7 +29,7 @@ fn notice<E: Sink>(alloc: Global, errors: &mut E, from: u32) -> Result<(), OutOf
     Ok(())
 }
 
-/// The same, unless the path begins at the packet that was asked for.
+/// The same, unless the run begins at the packet that was asked for.
 pub fn noticed<E: Sink>(
     alloc: Global,
     errors: &mut E,

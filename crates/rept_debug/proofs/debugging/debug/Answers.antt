@@ -2,8 +2,11 @@ use Rattle.std.proofs.Common.{◌≡◌, IfSome, map, string_bytes, ◌∙◌}
 use Rattle.std.proofs.lemmas.Result.{IfErr-weaker, IfOk-weaker}
 use Rattle.rept_ports.specs.Port.{move}
 use Rattle.rept_words.specs.Words.{meaning_of}
+use Rattle.rept_words.specs.declared.request.Domain.TheVariants as domain
 use Rattle.rept_app.proofs.ToldLemmas.{at_some, where_told}
-use Rattle.rept_app.proofs.TopLemmas.{ok_at, stops, true_in_both}
+use Rattle.rept_app.proofs.TopLemmas.{ok_at, stops}
+use Rattle.rept_app.proofs.TrueLemmas.{true_in_both, true_of}
+use Rattle.rept_app.specs.Domains.{means_of}
 use Rattle.rept_app.specs.Loading.{IsAsked, asked_for, core_bytes, crash_bytes, loading}
 use Rattle.rept_app.specs.Loading.Loading.{Loaded, LoadedCore}
 use Rattle.rept_app.specs.Mapped.{mapped_crash}
@@ -26,7 +29,7 @@ returns-in-Ok-clause-debugged g c =
     let loaded : loading words files ≡ Loaded b =
     at_some shelf files (λ fs. loading words fs ≡ Loaded b) told
     (ok_at c.load_files.result c.in-Ok-Files.field-0 (asked.Files f) (λ a. IfSome shelf (λ fs. loading words fs ≡ asked_for a)) c.in-Ok-Files.is c.in-Ok-Files.field-0-is c.load_files.ensures.loaded) in
-    debugged_files words files b io c.in-Ok.talk (true_in_both c.reports_are_true.ensures c.reports_are_true-2.ensures) loaded c.in-Ok.ensures.held)
+    debugged_files words files b io c.in-Ok.talk (true_in_both (true_of (means_of domain.Ranges) c.trips_are_true.ensures.report c.reports_are_true.ensures.report) (true_of (means_of domain.KnownBits) c.trips_are_true-2.ensures.report c.reports_are_true-2.ensures.report)) loaded c.in-Ok.ensures.held)
 
 pub returns-in-Ok-Files-clause-refused : goal.returns-in-Ok-Files-clause-refused
 returns-in-Ok-Files-clause-refused g c =
@@ -55,7 +58,7 @@ returns-in-Ok-Maps-clause-debugged g c =
     let loaded : loading words files ≡ LoadedCore b =
     at_some old.files files (λ fs. loading words fs ≡ LoadedCore b) told
     (ok_at c.load_files.result c.in-Ok-Maps.field-0 (asked.Maps f) (λ a. IfSome old.files (λ fs. loading words fs ≡ asked_for a)) c.in-Ok-Maps.is c.in-Ok-Maps.field-0-is c.load_files.ensures.loaded) in
-    debugged_mapped words files b io talk (true_in_both c.reports_are_true.ensures c.reports_are_true-2.ensures) loaded
+    debugged_mapped words files b io talk (true_in_both (true_of (means_of domain.Ranges) c.trips_are_true.ensures.report c.reports_are_true.ensures.report) (true_of (means_of domain.KnownBits) c.trips_are_true-2.ensures.report c.reports_are_true-2.ensures.report)) loaded
     (at_some between.files files (λ fs. IsHeldMapped (mapped_crash fs b) io talk) (c.load_files.ensures.faults.files ∙ told) held)))
     c.debug_mapped.ensures.held
 

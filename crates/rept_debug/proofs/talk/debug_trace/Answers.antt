@@ -1,0 +1,24 @@
+use Rattle.rept_found.specs.Crash.{crash_of}
+use Rattle.rept_ports.specs.Port.{move}
+use Rattle.rept_app.specs.Told.{crash_trace}
+use Rattle.rept_debug.specs.Debugged.{streams}
+use Rattle.rept_debug.proofs.TalkLemmas.{no_room, not_begun, run_held, run_refused}
+use Rattle.rept_debug.proofs.talk.debug_trace.Goals as goal
+
+pub returns-in-Err-clause-refused : goal.returns-in-Err-clause-refused
+returns-in-Err-clause-refused g c = λ notes are. not_begun (crash_trace (crash_of c.args.dump.now notes) c.args.trace.now c.args.manner) c.in-Err.fault (c.in-Err.ensures.begun notes are).refused
+
+pub returns-in-Err-noticed-clause-refused : goal.returns-in-Err-noticed-clause-refused
+returns-in-Err-noticed-clause-refused g c = λ notes are. no_room (crash_trace (crash_of c.args.dump.now notes) c.args.trace.now c.args.manner)
+
+pub returns-in-Ok-hold-clause-held : goal.returns-in-Ok-hold-clause-held
+returns-in-Ok-hold-clause-held g c = λ notes are.
+    let begun = c.in-Ok.ensures.begun notes are in
+    run_held (crash_trace (crash_of c.args.dump.now notes) c.args.trace.now c.args.manner)
+    (streams (move (g.S.Source.port c.args.input.now) (g.S.Source.port c.hold.new.input)) (move (g.K.Sink.port c.args.out.now) (g.K.Sink.port c.hold.new.out)) (move (g.E.Sink.port c.args.errors.now) (g.E.Sink.port c.noticed.new.errors)))
+    (record { from = c.in-Ok.begun.from; end = c.in-Ok-hold.end }) c.in-Ok.begun.run begun.run begun.from c.in-Ok-noticed.ensures.noticed (c.in-Ok-hold.ensures.held notes are)
+
+pub returns-in-Err-hold-clause-refused : goal.returns-in-Err-hold-clause-refused
+returns-in-Err-hold-clause-refused g c = λ notes are.
+    let begun = c.in-Ok.ensures.begun notes are in
+    run_refused (crash_trace (crash_of c.args.dump.now notes) c.args.trace.now c.args.manner) c.in-Ok.begun.from c.in-Ok.begun.run c.in-Err-hold.refusal begun.run begun.from (c.in-Err-hold.ensures.refused notes are)
