@@ -2,8 +2,6 @@
 
 ghost use Rattle.std.specs.Prelude.{◌<◌, ◌^◌, length};
 
-mod streams;
-
 use rept_dump::CoreFault;
 use rept_path::PathFault;
 use rept_runs::{CrashFiles, RunFault, is_several, one_path, open_run};
