@@ -3,7 +3,7 @@ use Rattle.rept_debug.proofs.Sought.{at_first, begun_first, begun_here, fails_he
 use Rattle.rept_debug.proofs.begin.begin_run.Goals as goal
 
 pub returns-in-Ok-clause-begun : goal.returns-in-Ok-clause-begun
-returns-in-Ok-clause-begun c = λ notes are. begun_here (crash_of c.args.dump.now notes) c.args.trace.now c.args.from c.in-Ok.run (c.in-Ok.ensures.read notes are).run
+returns-in-Ok-clause-begun c = λ notes are. begun_here (crash_of c.args.dump.now notes) c.args.trace.now c.args.from c.in-Ok.run' (c.in-Ok.ensures.read notes are).run
 
 pub returns-then-from-gt0-clause-begun : goal.returns-then-from-gt0-clause-begun
 returns-then-from-gt0-clause-begun c = λ notes are.

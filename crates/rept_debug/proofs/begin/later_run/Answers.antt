@@ -57,8 +57,8 @@ pub returns-in-Some-clause-begun : goal.returns-in-Some-clause-begun
 returns-in-Some-clause-begun c = λ notes are.
     let i = c.loop-high.invariant in
     let sought = subst (λ (o : Option Run). MatchOption o (HasNoStart (crash_of c.args.dump.now notes) c.args.trace.now c.loop-high.high) (IsSought (crash_of c.args.dump.now notes) c.args.trace.now c.loop-high.low c.loop-high.high)) c.in-Some.is (i.sought notes are) in
-    begun_after (crash_of c.args.dump.now notes) c.args.trace.now 0 c.loop-high.high c.in-Some.run sought.is
-    (next_to (crash_of c.args.dump.now notes) c.args.trace.now c.args.packet c.loop-high.low c.loop-high.high c.loop-high.too_long c.in-Some.run (c.requires.long notes are) (i.long notes are) c.loop-high-test.false sought)
+    begun_after (crash_of c.args.dump.now notes) c.args.trace.now 0 c.loop-high.high c.in-Some.run' sought.is
+    (next_to (crash_of c.args.dump.now notes) c.args.trace.now c.args.packet c.loop-high.low c.loop-high.high c.loop-high.too_long c.in-Some.run' (c.requires.long notes are) (i.long notes are) c.loop-high-test.false sought)
 
 pub returns-in-Some-clause-fits : goal.returns-in-Some-clause-fits
 returns-in-Some-clause-fits c = subst (λ (o : Option Run). IfSome o (FitsDump c.args.dump.now)) c.in-Some.is c.loop-high.invariant.fits

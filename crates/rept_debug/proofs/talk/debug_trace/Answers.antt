@@ -18,7 +18,7 @@ returns-in-Ok-hold-clause-held g c = λ notes are.
     (streams (move (g.S.Source.port c.args.input.now) (g.S.Source.port c.hold.new.input)) (move (g.K.Sink.port c.args.out.now) (g.K.Sink.port c.hold.new.out)) (move (g.E.Sink.port c.args.errors.now) (g.E.Sink.port c.noticed.new.errors)))
     (record { from = c.in-Ok.begun.from; end = c.in-Ok-hold.end }) c.in-Ok.begun.run begun.run begun.from c.in-Ok-noticed.ensures.noticed (c.in-Ok-hold.ensures.held notes are)
 
-pub returns-in-Err-hold-clause-refused : goal.returns-in-Err-hold-clause-refused
-returns-in-Err-hold-clause-refused g c = λ notes are.
+pub returns-clause-refused : goal.returns-clause-refused
+returns-clause-refused g c = λ notes are.
     let begun = c.in-Ok.ensures.begun notes are in
     run_refused (crash_trace (crash_of c.args.dump.now notes) c.args.trace.now c.args.manner) c.in-Ok.begun.from c.in-Ok.begun.run c.in-Err-hold.refusal begun.run begun.from (c.in-Err-hold.ensures.refused notes are)
