@@ -1,8 +1,9 @@
-use Rattle.std.proofs.Common.{Err, ap, subst, sym, ◌∙◌}
+use Rattle.std.proofs.Common.{◌≡◌, Err, ap, subst, sym, ◌∙◌}
 use Rattle.rept_amo.specs.Atomic.{atomic_rules}
 use Rattle.rept_moments.specs.Courses.{IsCourseOf}
 use Rattle.rept_moments.specs.declared.course.Course as courses
 use Rattle.rept_steps.specs.Runs.{course_of}
+use Rattle.rept_found.specs.Contradictions.{contradiction_on}
 use Rattle.rept_found.specs.Crash.{crash_of, means}
 use Rattle.rept_app.proofs.StudyLemmas.{conflict_here, course_ends, excluded_here, found_here, sound_ends}
 use Rattle.rept_app.specs.Told.{crash_run}
@@ -34,5 +35,6 @@ returns-in-Err-Conflict-clause-refused g c = λ notes are.
     let is = c.in-Err-Conflict.is ∙ ap Err c.in-Err-Conflict.field-0-is in
     let has = conflict_here m c.args.dump.now run c.args.ends.now c.requires.fits c.requires.ended notes are c.in-Ok.prepared c.in-Ok.ensures.prepared kind (c.search.ensures.conflict kind is) in
     let none = excluded_here m c.args.dump.now run c.args.ends.now c.requires.fits c.requires.ended notes are c.in-Ok.prepared c.in-Ok.ensures.prepared kind (c.search.ensures.conflict kind is) (c.search.ensures.impossible kind is) c.reports_are_true.ensures.impossible in
-    let named = c.name_conflict-conflict.ensures (course_of run) (subst (λ (x : courses.Course). IsCourseOf (course_of run) x) (sym (c.course.ensures.value ∙ c.ways.ensures)) c.requires.course) in
+    let at_field = c.name_conflict-conflict.ensures (course_of run) (subst (λ (x : courses.Course). IsCourseOf (course_of run) x) (sym (c.course.ensures.value ∙ c.ways.ensures)) c.requires.course) in
+    let named : c.name_conflict-conflict.result ≡ contradiction_on (course_of run) kind = rw c.in-Err-Conflict.field-0-is at at_field in
     refused_conflict (crash_run m (crash_of c.args.dump.now notes) run) kind (refusal.Inconsistent c.name_conflict-conflict.result) has none (ap refusal.Inconsistent named)
