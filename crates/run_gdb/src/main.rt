@@ -1,4 +1,4 @@
-//! Two dialogs with a debugger in turn, for a stored run: over an executable, and over the files that a core file lists as mapped.
+//! Three dialogs with a debugger in turn, for a stored run: over an executable, over the files that a core file lists as mapped, and over two threads.
 #![tactic(auto)]
 
 use rept_debug::answer;
@@ -36,9 +36,18 @@ fn main(rt: HostRuntime) -> ExitCode {
         &mut errors,
     );
     let second = words_of(rt.alloc(), &["maps", "core", "trace"]);
-    answer(
+    let _ = answer(
         rt.alloc(),
         second,
+        &mut shelf,
+        &mut source,
+        &mut sink,
+        &mut errors,
+    );
+    let third = words_of(rt.alloc(), &["two_exe", "two_core", "two_trace"]);
+    answer(
+        rt.alloc(),
+        third,
         &mut shelf,
         &mut source,
         &mut sink,
