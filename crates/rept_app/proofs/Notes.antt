@@ -1,11 +1,11 @@
 -- The register notes that are read of a core file: they are of few threads, no two of one process.
-use Rattle.std.proofs.Common.{◌≡◌, ◌⊎◌, ℕ, ◌<◌, nat_lt, cond, Bool, true, false, List, [], ◌∷◌, length, map, Option, Some, None, Result, Ok, Err, inl, inr, refl, sym, ap, ◌∙◌, subst, arith}
-use Rattle.std.specs.Prelude.{MatchBool, slice_get}
+use Rattle.std.proofs.Common.{◌≡◌, ℕ, ◌<◌, nat_lt, cond, Bool, true, false, List, [], ◌∷◌, length, map, Option, Some, None, Result, Ok, Err, inl, inr, refl, sym, ap, ◌∙◌, subst, arith}
+use Rattle.std.specs.Prelude.{MatchBool}
 use Rattle.std.specs.List.{filter}
 use Rattle.std.proofs.lemmas.Bool.{cases_lt, lt-ltb, le-ltb, true≢false}
 use Rattle.rept_elf.specs.Segments.{ElfSegment, segments}
 use Rattle.rept_notes.specs.Notes.{Note}
-use Rattle.rept_dump.specs.Dump.{registers_of, threads_of, AreRead, AreReadOfAll, IsOfOne}
+use Rattle.rept_dump.specs.Dump.{registers_of, threads_of, AreRead, AreReadOfAll}
 use Rattle.rept_dump.specs.Registers.{is_status, all_registers, by_size, by_count, by_twin, first_short, first_twin, descs_of, pid_of, most_threads, Says, SaysOfAll}
 use Rattle.rept_dump.specs.declared.dump.Dump.{Dump}
 use Rattle.rept_dump.specs.declared.fault.CoreFault.{CoreFault}

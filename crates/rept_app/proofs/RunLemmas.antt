@@ -1,5 +1,5 @@
 -- The run of a trace of one stream or of several, by what was read of it.
-use Rattle.std.proofs.Common.{◌≡◌, ◌≢◌, ◌⊎◌, ℕ, ◌+◌, ◌<◌, ◌≤◌, Bool, true, false, List, [], ◌∷◌, length, map, slice_get, Some, Result, Ok, Err, IfOk, IfErr, MatchResult, inl, inr, refl, sym, ap, ◌∙◌, subst, arith}
+use Rattle.std.proofs.Common.{◌≡◌, ◌≢◌, ◌⊎◌, ℕ, ◌<◌, ◌≤◌, Bool, true, false, List, [], ◌∷◌, length, slice_get, Some, Result, Ok, Err, IfOk, IfErr, MatchResult, inl, inr, refl, sym, ap, ◌∙◌, subst, arith}
 use Rattle.std.specs.Prelude.{MatchBool}
 use Rattle.std.proofs.lemmas.List.{length-map}
 use Rattle.rept_dump.specs.Dump.{registers_of, threads_of}
@@ -18,9 +18,9 @@ use Rattle.rept_trip.proofs.Paths.{is_sound}
 use Rattle.rept_runs.specs.Kind.{is_several}
 use Rattle.rept_runs.specs.Told.{Traced, IsTracedRun, HasNoTracedRun, files_in}
 use Rattle.rept_runs.proofs.Few.{thread_each}
-use Rattle.rept_found.specs.Crash.{Crash, crash_of}
+use Rattle.rept_found.specs.Crash.{Crash}
 use Rattle.rept_app.specs.Path.{TraceFile, file_bytes, IsTracePath, HasNoPath}
-use Rattle.rept_app.specs.Reading.{AreNotesOf, HasNotes}
+use Rattle.rept_app.specs.Reading.{AreNotesOf}
 use Rattle.rept_app.specs.TraceRun.{FitsDump, HasNoRunOf, HasNoSharedRun, IsRunAlone, IsRunOf, IsRunRead, IsSharedRun, traced_in}
 
 -- want of memory, or another refusal

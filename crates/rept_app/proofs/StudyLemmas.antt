@@ -1,6 +1,5 @@
 -- From the report of the analysis to what is written of it.
-use Rattle.std.proofs.Common.{◌≡◌, ◌⊎◌, ℕ, ◌≤◌, List, length, Some, inl, inr, refl, sym, ◌∙◌, subst, arith}
-use Rattle.rept_dump.specs.Dump.{threads_of}
+use Rattle.std.proofs.Common.{◌≡◌, ◌⊎◌, ℕ, ◌≤◌, List, length, inl, inr, refl, sym, subst, arith}
 use Rattle.rept_dump.specs.declared.dump.Dump.{Dump}
 use Rattle.rept_isa.specs.declared.row.StepRow.{StepRow}
 use Rattle.rept_steps.specs.Course.{Course, IsSound}
@@ -16,7 +15,6 @@ use Rattle.rept_report.specs.Closure.{ClosureHas, IsConsistent}
 use Rattle.rept_report.specs.OneThread.{along}
 use Rattle.rept_report.specs.Setting.{Setting}
 use Rattle.rept_report.specs.declared.conflict.ConflictKind.{ConflictKind}
-use Rattle.rept_runs.specs.Kind.{path_rows}
 use Rattle.rept_analysis.specs.Kept.{answers}
 use Rattle.rept_trip.specs.Executed.{HasNoHistory}
 use Rattle.rept_trip.specs.Trip.{Trip, setting_on}

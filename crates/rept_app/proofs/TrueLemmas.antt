@@ -1,5 +1,5 @@
 -- What is told of the report of a run is true, and known bits tell more of it.
-use Rattle.std.proofs.Common.{◌≡◌, ℕ, ◌<◌, Bool, List, length, Some, sym, ◌∙◌, subst}
+use Rattle.std.proofs.Common.{ℕ, ◌<◌, Bool, List, length, sym, ◌∙◌, subst}
 use Rattle.rept_ports.specs.Shelves.{Files}
 use Rattle.rept_isa.specs.declared.row.StepRow.{StepRow}
 use Rattle.rept_steps.specs.Course.{Course, IsSound}

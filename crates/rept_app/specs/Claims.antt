@@ -1,5 +1,5 @@
 -- What holds of the report of the files that words name, where a conflict is told, and of a made run. This project's own.
-use Rattle.std.specs.Prelude.{◌≡◌, ℕ, List, Option, None, Some}
+use Rattle.std.specs.Prelude.{ℕ, List, Option, None, Some}
 use Rattle.rept_ports.specs.Shelves.{Files}
 use Rattle.rept_reason.specs.Facts.{Knowledge}
 use Rattle.rept_report.specs.Knowing.{Extends}

@@ -8,7 +8,6 @@ use Rattle.rept_steps.specs.declared.run.Run.{Run}
 use Rattle.rept_runs.specs.Kind.{is_several}
 use Rattle.rept_ports.specs.Port.{Move, move}
 use Rattle.rept_ports.specs.Shelves.{Files, Shelved}
-use Rattle.rept_reason.specs.Facts.{Knowledge}
 use Rattle.rept_report.specs.Closure.{ClosureHas, IsReport}
 use Rattle.rept_report.specs.Setting.{Setting}
 use Rattle.rept_report.specs.declared.conflict.ConflictKind.{ConflictKind}
@@ -21,8 +20,8 @@ use Rattle.rept_found.specs.declared.contradiction.Contradiction.{Contradiction}
 use Rattle.rept_serve.specs.Serving.{Reading}
 use Rattle.rept_make.specs.Made.{IsMade}
 use Rattle.rept_make.specs.declared.made.Made.{Made}
-use Rattle.rept_words.specs.Words.{Meaning, meaning_of}
-use Rattle.rept_words.specs.Words.Meaning.{Open, Maps, Made as MadeWords}
+use Rattle.rept_words.specs.Words.{meaning_of}
+use Rattle.rept_words.specs.Words.Meaning.{Made as MadeWords}
 use Rattle.rept_words.specs.declared.request.Domain.{Domain}
 use Rattle.rept_words.specs.declared.request.Domain.TheVariants as domain
 use Rattle.rept_app.specs.Delivered.{Says}

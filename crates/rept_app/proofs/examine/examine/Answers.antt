@@ -1,4 +1,4 @@
-use Rattle.std.proofs.Common.{◌≡◌, ◌⊎◌, Bool, Ok, sym, subst, ◌∙◌}
+use Rattle.std.proofs.Common.{◌≡◌, ◌⊎◌, Bool, Ok, sym, subst}
 use Rattle.rept_found.specs.Crash.{Crash}
 use Rattle.rept_ports.specs.Port.{move}
 use Rattle.rept_app.specs.Examine.{Examines, Walks, WalkHolds, IsWalked, TraceExcludes}

@@ -2,7 +2,7 @@ use Rattle.rept_found.specs.Crash.{crash_of}
 use Rattle.rept_app.specs.Examine.{Walks}
 use Rattle.rept_app.specs.Told.{crash_trace}
 use Rattle.rept_app.specs.declared.refusal.Refusal.TheVariants as refusal
-use Rattle.rept_app.proofs.DeliveredLemmas.{delivers_as, ends_told, not_yielded, told_ports}
+use Rattle.rept_app.proofs.DeliveredLemmas.{delivers_as, ends_told, told_ports}
 use Rattle.rept_app.proofs.ToldLemmas.{where_told, at_some, reading_of}
 use Rattle.rept_app.proofs.ExamineLemmas.{refused_told, not_input, not_output, told_walked, refused_yields, studied_walked, refused_walks, studies_walk, trace_excludes, study_holds}
 use Rattle.rept_app.proofs.examine.walk.Goals as goal

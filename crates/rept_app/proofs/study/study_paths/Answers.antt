@@ -1,9 +1,7 @@
 use Rattle.std.proofs.Common.{◌≡◌, Err, inr, ap, sym, ◌∙◌, subst}
 use Rattle.rept_moments.specs.Courses.{IsCourseOf}
 use Rattle.rept_moments.specs.declared.course.Course as courses
-use Rattle.rept_analysis.specs.declared.stop.Stop.TheVariants as stop
 use Rattle.rept_steps.specs.Runs.{course_of}
-use Rattle.rept_found.specs.Contradictions.{contradiction_on}
 use Rattle.rept_found.specs.Crash.{crash_of, means}
 use Rattle.rept_amo.specs.Atomic.{atomic_rules}
 use Rattle.rept_app.specs.Study.{Studies}
