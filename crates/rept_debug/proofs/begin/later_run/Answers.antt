@@ -1,4 +1,4 @@
-use Rattle.std.proofs.Common.{◌<◌, ◌≤◌, ◌+◌, ◌-◌, ◌/◌, Option, IfSome, arith, subst}
+use Rattle.std.proofs.Common.{◌+◌, ◌-◌, ◌/◌, Option, IfSome, arith, subst}
 use Rattle.std.specs.Prelude.{MatchOption}
 use Rattle.rept_found.specs.Crash.{crash_of}
 use Rattle.rept_steps.specs.declared.run.Run.{Run}

@@ -1,4 +1,4 @@
-use Rattle.std.proofs.Common.{◌<◌, ◌≤◌, ◌-◌, ◌^◌, ℕ, List, IfSome}
+use Rattle.std.proofs.Common.{◌<◌, ◌-◌, ◌^◌, ℕ, List, IfSome}
 use Rattle.std.specs.Prelude.{MatchOption}
 use Rattle.rept_path.specs.declared.fault.PathFault.TheVariants as fault
 use Rattle.rept_found.specs.Crash.{crash_of}
