@@ -17,7 +17,7 @@ use Rattle.rept_reason.specs.declared.fact.Cell.TheVariants.{Register, Byte}
 use Rattle.rept_report.specs.declared.conflict.ConflictKind.{ConflictKind}
 use Rattle.rept_report.specs.declared.conflict.ConflictKind.TheVariants.{TwoValues, EmptyRange, WrongTurn}
 use Rattle.rept_found.specs.declared.contradiction.Contradiction.{Contradiction}
-use Rattle.rept_session.specs.Texts.{place_text}
+use Rattle.rept_session.specs.Texts.{place_text, thread_named}
 use Rattle.rept_session.specs.declared.place.Place.{Place}
 use Rattle.rept_app.specs.declared.refusal.FileKind.{FileKind}
 use Rattle.rept_app.specs.declared.refusal.FileKind.TheVariants as file
@@ -135,12 +135,8 @@ conflict_text place (TwoValues point cell v w) = two_values_text place cell v w
 conflict_text place (EmptyRange point reg) = codes "inconsistent empty-range " ++ place_text place ++ codes " x" ++ decimal reg
 conflict_text place (WrongTurn step) = codes "inconsistent wrong-turn " ++ place_text place
 
--- ` of T`, where there are several threads
-abbrev pub of_thread : ℕ → ℕ → List ℕ
-of_thread threads thread = if nat_lt 1 threads then codes " of " ++ decimal thread else []
-
 abbrev pub contradiction_text : Contradiction → List ℕ
-contradiction_text c = conflict_text c.at.place c.kind ++ of_thread c.threads c.at.thread
+contradiction_text c = conflict_text c.at.place c.kind ++ thread_named c.threads c.at.thread
 
 abbrev pub words_of : Refusal → List ℕ
 words_of refusal.Usage = codes "usage: rept open|bits EXE CORE TRACE [FROM] | rept self SEED STEPS | rept maps CORE TRACE [FROM]"

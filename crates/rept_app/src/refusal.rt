@@ -3,7 +3,7 @@
 ghost use Rattle.std.specs.Prelude.{◌≡◌, ◌++◌, IfOk, OnOk, codes};
 ghost use Rattle.std.specs.Fmt.{decimal};
 ghost use Rattle.rept_session.specs.Texts.{place_text};
-ghost use Rattle.rept_app.specs.Lines.{line_of, status_of, status_of_path, file_word, elf_fault_text, core_fault_text, map_fault_text, contradiction_text, conflict_text, two_values_text, of_thread, cell_text, value_text_in};
+ghost use Rattle.rept_app.specs.Lines.{line_of, status_of, status_of_path, file_word, elf_fault_text, core_fault_text, map_fault_text, contradiction_text, conflict_text, two_values_text, cell_text, value_text_in};
 
 use crate::path_line::push_path_fault;
 use crate::status::Status;
@@ -16,7 +16,7 @@ use rept_maps::MapFault;
 use rept_path::PathFault;
 use rept_reason::Cell;
 use rept_report::ConflictKind;
-use rept_session::Place;
+use rept_session::{Place, push_place, push_thread_named};
 use rept_word::{OutOfMemory, Text};
 use std::alloc::Global;
 
@@ -173,16 +173,7 @@ fn push_contradiction(text: &mut Text, conflict: &Contradiction) -> Result<(), O
     ensures { OnOk result (text.new ≡ text.old ++ contradiction_text conflict.now) }
 {
     push_conflict(text, conflict.at.place, &conflict.kind)?;
-    push_thread(text, conflict.threads, conflict.at.thread)?;
-    Ok(())
-}
-
-fn push_thread(text: &mut Text, threads: u32, thread: u32) -> Result<(), OutOfMemory>
-    ensures { OnOk result (text.new ≡ text.old ++ of_thread threads thread) }
-{
-    if threads > 1 {
-        push_numbered(text, b" of ", u64::from(thread))?;
-    }
+    push_thread_named(text, conflict.threads, conflict.at.thread)?;
     Ok(())
 }
 
@@ -231,17 +222,6 @@ fn push_two_values(
     text.push(b" ")?;
     push_value(text, cell, w)?;
     Ok(())
-}
-
-/// A point of a thread by its number, or what another moment is called.
-fn push_place(text: &mut Text, place: Place) -> Result<(), OutOfMemory>
-    ensures { OnOk result (text.new ≡ text.old ++ place_text place) }
-{
-    match place {
-        Place::Point(p) => text.push_decimal(p),
-        Place::After(j) => push_numbered(text, b"after-", u64::from(j)),
-        Place::End => text.push(b"end"),
-    }
 }
 
 /// A register as `x5`, a byte as its address.

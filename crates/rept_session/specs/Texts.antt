@@ -40,8 +40,11 @@ abbrev pub thread_lines : Shown → ThreadPoint → List ℕ
 thread_lines s c = codes "thread " ++ decimal c.thread ++ codes " pid " ++ decimal (s.process c.thread) ++ 10 ∷ [] ++ point_line s c
 
 -- ` of T` in a run of several threads; nothing in a run of one
+abbrev pub thread_named : ℕ → ℕ → List ℕ
+thread_named threads thread = if nat_lt 1 threads then codes " of " ++ decimal thread else []
+
 abbrev pub of_thread : Shown → ℕ → List ℕ
-of_thread s thread = if nat_lt 1 s.threads then codes " of " ++ decimal thread else []
+of_thread s thread = thread_named s.threads thread
 
 -- `xN HEX` or `xN unknown`
 abbrev pub value_text : Option ℕ → List ℕ

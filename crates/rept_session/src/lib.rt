@@ -19,5 +19,6 @@ pub use answers::{answer, answer_line, last_of, refusal_text};
 pub use command::{BadCommand, Command};
 pub use findings::Findings;
 pub use parser::parse;
+pub use pieces::{push_place, push_thread_named};
 pub use place::{Place, ThreadPlace, ThreadPoint};
 pub use reply::Answer;

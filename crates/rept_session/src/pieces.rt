@@ -3,7 +3,7 @@
 ghost use Rattle.std.specs.Prelude.{◌≡◌, ◌++◌, OnOk, Some, codes};
 ghost use Rattle.std.specs.Fmt.{decimal};
 ghost use Rattle.rept_isa.specs.Texts.{register_text};
-ghost use Rattle.rept_session.specs.Texts.{byte_text, cell_text, looked_line, note_text, of_thread, place_of, place_text, premise_line, range_text, step_line, step_text, value_line, value_text, writer_text};
+ghost use Rattle.rept_session.specs.Texts.{byte_text, cell_text, looked_line, note_text, of_thread, place_of, place_text, premise_line, range_text, step_line, step_text, value_line, value_text, writer_text, thread_named};
 ghost use Rattle.rept_word.specs.Hex.{hex_byte, hex_word};
 
 use crate::findings::Findings;
@@ -97,7 +97,14 @@ pub fn push_known_byte(text: &mut Text, byte: Option<u8>) -> Result<(), OutOfMem
 fn push_thread<F: Findings>(text: &mut Text, findings: &F, thread: u32) -> Result<(), OutOfMemory>
     ensures { OnOk result (text.new ≡ text.old ++ of_thread (F.shown findings.now) thread) }
 {
-    if findings.threads() > 1 {
+    push_thread_named(text, findings.threads(), thread)
+}
+
+/// ` of` and the thread, in a run of several threads; of one thread nothing.
+pub fn push_thread_named(text: &mut Text, threads: u32, thread: u32) -> Result<(), OutOfMemory>
+    ensures { OnOk result (text.new ≡ text.old ++ thread_named threads thread) }
+{
+    if threads > 1 {
         push_numbered(text, b" of ", thread)
     } else {
         Ok(())
@@ -192,7 +199,7 @@ fn place_of<F: Findings>(findings: &F, cell: Cell, number: u32) -> ThreadPlace
     }
 }
 
-/// A place.
+/// A point of a thread by its number, or what another moment is called.
 pub fn push_place(text: &mut Text, place: Place) -> Result<(), OutOfMemory>
     ensures { OnOk result (text.new ≡ text.old ++ place_text place) }
 {

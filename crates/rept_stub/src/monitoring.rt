@@ -9,7 +9,7 @@ ghost use Rattle.rept_session.specs.Texts.{of_thread, step_text, writer_line};
 use crate::moves::{before, named_row, point_at, writer_at};
 use rept_number::number_in;
 use rept_report::Writer;
-use rept_session::{Findings, ThreadPoint};
+use rept_session::{Findings, ThreadPoint, push_thread_named};
 use rept_word::{OutOfMemory, Text};
 use std::alloc::Global;
 
@@ -114,12 +114,7 @@ fn push_row<F: Findings>(
 fn push_thread<F: Findings>(text: &mut Text, findings: &F, thread: u32) -> Result<(), OutOfMemory>
     ensures { OnOk result (text.new ≡ text.old ++ of_thread (F.shown findings.now) thread) }
 {
-    if findings.threads() <= 1 {
-        return Ok(());
-    }
-    text.push(b" of ")?;
-    text.push_decimal(thread)?;
-    Ok(())
+    push_thread_named(text, findings.threads(), thread)
 }
 
 /// The point before a row, where that is the thread's own and before this point.
