@@ -2,7 +2,7 @@
 use Rattle.std.proofs.Common.{◌≡◌, ℕ, ◌+◌, ◌-◌, ◌<◌, ◌≤◌, ◌^◌, ◌⊎◌, true, false, Option, Some, None, inl, inr, refl, sym, ap, subst, ◌∙◌, arith}
 use Rattle.std.proofs.lemmas.Bool.{cases_lt, cases_order}
 use Rattle.rept_versions.specs.declared.facts.Stretch.{Stretch}
-use Rattle.rept_versions.specs.Facts.{Told, Nexts}
+use Rattle.rept_versions.specs.Facts.{KnownValues, Nexts}
 use Rattle.rept_reason.specs.declared.fact.Cell.TheVariants.{Byte}
 use Rattle.rept_report.specs.declared.paths.Strip.{Strip}
 use Rattle.rept_report.specs.Moments.{Moments}
@@ -94,7 +94,7 @@ none_found None never = refl
 none_found (Some y) never = absurd (never y refl)
 
 -- a stretch that wasn't found
-pub nexts_none : (f : Told) (a p : ℕ) (x : Option Stretch) → ((y : Stretch) → x ≡ Some y → ⊥) → Nexts f a p x → Nexts f a p None
+pub nexts_none : (f : KnownValues) (a p : ℕ) (x : Option Stretch) → ((y : Stretch) → x ≡ Some y → ⊥) → Nexts f a p x → Nexts f a p None
 nexts_none f a p None never h = h
 nexts_none f a p (Some y) never h = absurd (never y refl)
 

@@ -14,7 +14,7 @@ use Rattle.rept_report.specs.Spots.{spot}
 use Rattle.rept_report.specs.Views.{may_write, registers_at, touched_by}
 use Rattle.rept_report.specs.Writers.{is_certain, IsWriter}
 use Rattle.rept_analysis.specs.declared.sought.Sought.{Sought}
-use Rattle.rept_report.specs.Latest.{IsBefore, IsLatest}
+use Rattle.rept_report.specs.Latest.{IsEarlierRow, IsLatest}
 use Rattle.rept_analysis.specs.Latest.{IsBegun, IsSought, IsPossibleWriter}
 
 module _ (moments : Moments) (Is : ℕ → Type 0) where
@@ -48,19 +48,19 @@ module _ (moments : Moments) (Is : ℕ → Type 0) where
 
   -- each of them below a number lies before this one, but for it
   abbrev pub AreBefore : ℕ → ℕ → Type 0
-  AreBefore best n = (k : ℕ) → k < n → Is k → k ≢ best → IsBefore moments k best
+  AreBefore best n = (k : ℕ) → k < n → Is k → k ≢ best → IsEarlierRow moments k best
 
   pub none_before : (best : ℕ) → AreBefore best 0
   none_before best k below one other = absurd (omega (arith, below))
 
-  pub more_before : (best n : ℕ) → AreBefore best n → (Is n → n ≢ best → IsBefore moments n best) → AreBefore best (n + 1)
+  pub more_before : (best n : ℕ) → AreBefore best n → (Is n → n ≢ best → IsEarlierRow moments n best) → AreBefore best (n + 1)
   more_before best n h next k below one other =
       elim (cases_eq k n) [
-        | inl same ↦ subst (λ (i : ℕ). IsBefore moments i best) (sym same) (next (subst Is same one) (λ e. other (same ∙ e)))
+        | inl same ↦ subst (λ (i : ℕ). IsEarlierRow moments i best) (sym same) (next (subst Is same one) (λ e. other (same ∙ e)))
         | inr less ↦ h k (omega (arith, below, less)) one other
       ]
 
-  pub rival_latest : (i best : ℕ) → Is i → i ≢ best → (IsBefore moments i best → ⊥) → IsLatest moments Is best → ⊥
+  pub rival_latest : (i best : ℕ) → Is i → i ≢ best → (IsEarlierRow moments i best → ⊥) → IsLatest moments Is best → ⊥
   rival_latest i best one other apart latest = apart (latest.after i one other)
 
   pub latest_from : (best top : ℕ) → Is best → ((k : ℕ) → top < k → Is k → ⊥) → AreBefore best (top + 1) → cond moments.is_dark (moments.dark_before best) true ≡ true → IsLatest moments Is best

@@ -22,7 +22,7 @@ use Rattle.rept_report.specs.Setting.{HasLaws}
 use Rattle.rept_report.specs.Views.{moment_of}
 use Rattle.rept_report.proofs.Told.{same_some, none_some}
 use Rattle.rept_report.proofs.ViewLaws.{known_more}
-use Rattle.rept_versions.specs.Facts.{Told}
+use Rattle.rept_versions.specs.Facts.{KnownValues}
 use Rattle.rept_log.specs.Known.{Known, knows, known_change, AddsByte, HasNoRoom, TracksMore}
 use Rattle.rept_analysis.specs.Sums.{one_if, count_true, sum_to}
 use Rattle.rept_analysis.specs.Room.{places_of, places_at, bytes_at, marked, unread, IsDrawable, IsDrawnAt, IsSlotLearnt, OwnByte, own_at, IsOwnByte, IsByteTracked, HasRoom}
@@ -108,7 +108,7 @@ unread_track : (last : ℕ) (old new : Known) (a : ℕ) → TracksMore old new a
 unread_track last old new a h =
     let push = sum_by_push (λ b. one_if (is_none (old.store.fact last b))) old.store.tracked a in
     let most = one_most (is_none (old.store.fact last a)) in
-    subst (λ (t : Told). sum_by (λ b. one_if (is_none (t last b))) new.store.tracked ≤ unread last old + 1) (sym h.fact) (subst (λ (xs : List ℕ). sum_by (λ b. one_if (is_none (old.store.fact last b))) xs ≤ unread last old + 1) (sym h.tracked) (subst (λ n. n ≤ unread last old + 1) (sym push) (omega (arith, most))))
+    subst (λ (t : KnownValues). sum_by (λ b. one_if (is_none (t last b))) new.store.tracked ≤ unread last old + 1) (sym h.fact) (subst (λ (xs : List ℕ). sum_by (λ b. one_if (is_none (old.store.fact last b))) xs ≤ unread last old + 1) (sym h.tracked) (subst (λ n. n ≤ unread last old + 1) (sym push) (omega (arith, most))))
 
 unread_some : (last : ℕ) (k : Known) (a : ℕ) → Contains k.store.tracked a → k.store.fact last a ≡ None → 0 < unread last k
 unread_some last k a at none =

@@ -19,7 +19,7 @@ use Rattle.rept_reason.specs.declared.fact.Fact.{Fact}
 use Rattle.rept_versions.specs.declared.facts.Carried.{Carried}
 use Rattle.rept_versions.specs.declared.facts.Carried.TheVariants.{Same, More, Stop}
 use Rattle.rept_versions.specs.declared.facts.Stretch.{Stretch}
-use Rattle.rept_versions.specs.Facts.{Told, Store, change, Between, Spreads, Carries as StoreCarries, Nexts}
+use Rattle.rept_versions.specs.Facts.{KnownValues, Store, change, Between, Spreads, CarriesOr as StoreCarries, Nexts}
 use Rattle.rept_log.proofs.Stores.{stays_same}
 use Rattle.rept_log.specs.Known.{Known, knows, known_change, AddsByte, SameLog}
 use Rattle.rept_analysis.specs.State.{State, IsRoomy, all_known, Path, along}
@@ -111,7 +111,7 @@ module _ {W : Type 0} (s : State W) (laws : HasLaws (along s.path)) (kept : IsKe
       not_here false e = e
 
   same_fact : (k : Known) (p : ℕ) → k.store.fact p a ≡ Some v → with_fact k p ≡ k
-  same_fact k p known = ap (λ (f : Told). record { last = k.last; log = k.log; store = record { fact = f; tracked = k.store.tracked; spare = k.store.spare; places = k.store.places }; left = k.left }) (fun_ext (λ (q : ℕ). fun_ext (λ (b : ℕ). at q b)))
+  same_fact k p known = ap (λ (f : KnownValues). record { last = k.last; log = k.log; store = record { fact = f; tracked = k.store.tracked; spare = k.store.spare; places = k.store.places }; left = k.left }) (fun_ext (λ (q : ℕ). fun_ext (λ (b : ℕ). at q b)))
     where
       at : (q b : ℕ) → (with_fact k p).store.fact q b ≡ k.store.fact q b
       at q b =

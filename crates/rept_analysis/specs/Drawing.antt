@@ -3,7 +3,7 @@ use Rattle.std.specs.Prelude.{◌≡◌, ◌≢◌, ℕ, zero, suc, ◌+◌, ◌
 use Rattle.std.specs.Option.{IsSome}
 use Rattle.rept_isa.specs.declared.row.StepRow.{StepRow}
 use Rattle.rept_isa.specs.Operands.{written_by}
-use Rattle.rept_versions.specs.Facts.{Between, Course}
+use Rattle.rept_versions.specs.Facts.{Between, Carry}
 use Rattle.rept_alias.specs.declared.addresses.CallAccess.{CallAccess}
 use Rattle.rept_alias.specs.Accesses.{call_hits}
 use Rattle.rept_machine.specs.Arithmetic.{beside}
@@ -321,7 +321,7 @@ abbrev pub IsSparedBetween : {W : Type 0} → ℕ → ℕ → ℕ → State W �
 IsSparedBetween from to a s = (m : ℕ) → ((from ≤ m) × (m < to)) ⊎ ((to ≤ m) × (m < from)) → IsBridged (passage a m (m + 1)) s
 
 -- the byte has the value at each point of a course
-abbrev pub IsSpreadTo : {W : Type 0} → Course → State W → Type 0
+abbrev pub IsSpreadTo : {W : Type 0} → Carry → State W → Type 0
 IsSpreadTo course s = (q : ℕ) → Between course.from course.to q → Knows q (Byte course.address) course.value s
 
 -- the byte is carried from each number from one to before another to the one after it

@@ -2,7 +2,7 @@
 use Rattle.std.specs.Prelude.{◌≡◌, ◌+◌, ℕ, Bool, true, List, length, Option}
 use Rattle.rept_isa.specs.declared.row.StepRow.{StepRow}
 use Rattle.rept_elf.specs.Segments.{ElfSegment}
-use Rattle.rept_dump.specs.Memory.{byte_at}
+use Rattle.rept_dump.specs.Memory.{crash_byte}
 use Rattle.rept_dump.specs.Program.{Program, contents}
 use Rattle.rept_partial.specs.Sets.{Sets}
 use Rattle.rept_span.specs.Moves.{Moves}
@@ -80,7 +80,7 @@ given_of read a = record {
   legs = (read.timeline a.paths).legs;
   moments = (read.timeline a.paths).moments;
   last = read.last a.last;
-  dump = byte_at (contents a.exe) a.core;
+  dump = crash_byte (contents a.exe) a.core;
   image_end = (contents a.exe).end;
 }
 

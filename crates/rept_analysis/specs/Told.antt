@@ -8,7 +8,7 @@ use Rattle.rept_log.specs.declared.answer.Answer.TheVariants.{Old, New, Clash}
 use Rattle.rept_analysis.specs.State.{State, IsRoomy}
 use Rattle.rept_versions.specs.declared.facts.Carried.{Carried}
 use Rattle.rept_versions.specs.declared.facts.Carried.TheVariants.{Same, More, Stop}
-use Rattle.rept_versions.specs.Facts.{Course}
+use Rattle.rept_versions.specs.Facts.{Carry}
 use Rattle.rept_report.specs.Why.{fact_of}
 use Rattle.rept_analysis.specs.Drawing.{Knows, IsTracked, Grows, HasNews, IsClash, IsSpreadTo}
 use Rattle.rept_analysis.specs.Begun.{IsLogWith}
@@ -39,7 +39,7 @@ Tracks old new a (Ok false) = (new ≡ old) × IsTracked a old
 Tracks old new a (Err e) = (new ≡ old) × (IsRoomy new → ⊥)
 
 -- what carrying a byte's value from a point to another one does, by the answer
-abbrev pub Sends : {W : Type 0} → State W → State W → Course → Result Carried AllocError → Type 0
+abbrev pub Sends : {W : Type 0} → State W → State W → Carry → Result Carried AllocError → Type 0
 Sends old new course (Ok Same) = (new ≡ old) × IsSpreadTo course old
 Sends old new course (Ok More) = Grows old new × HasNews old new × (new.work ≡ old.work)
 Sends old new course (Ok (Stop p known found)) = Grows old new × IsClash new (fact_of p (Byte course.address) course.value) found × (known ≡ course.value)

@@ -9,7 +9,7 @@ ghost use Rattle.rept_dump.specs.Dump.{exe_of, core_of};
 ghost use Rattle.rept_reason.specs.declared.fact.Cell.TheVariants.{Register};
 ghost use Rattle.rept_reason.specs.Facts.{told, flat, register_known};
 ghost use Rattle.rept_span.specs.Filled.{entry_at};
-ghost use Rattle.rept_dump.specs.Memory.{byte_at};
+ghost use Rattle.rept_dump.specs.Memory.{crash_byte};
 ghost use Rattle.rept_dump.specs.Program.{contents};
 ghost use Rattle.rept_report.specs.declared.conflict.ConflictKind.{ConflictKind};
 ghost use Rattle.rept_report.specs.Conflicts.{IsQuiet};
@@ -281,14 +281,14 @@ impl<'a, P: Paths + Drop, L: LastValues + Drop, B: ByteFacts, W: Transfer, R: Ro
 
     /// The byte of the dump at an address.
     fn dump_byte(&self, a: u32) -> Option<u8>
-        ensures { result ≡ byte_at (contents self.now.exe) self.now.core a }
+        ensures { result ≡ crash_byte (contents self.now.exe) self.now.core a }
     {
         self.dump.byte(a)
     }
 
     /// The byte of the dump at an address, after which those near it are found at once.
     fn last_byte(&mut self, a: u32) -> Option<u8>
-        ensures byte { result ≡ byte_at (contents self.old.exe) self.old.core a }
+        ensures byte { result ≡ crash_byte (contents self.old.exe) self.old.core a }
         ensures same { self.new ≡ self.old }
     {
         self.dump = self.dump.near_byte(a);

@@ -6,7 +6,7 @@ use Rattle.std.specs.Io.KnownBytes.{Appends}
 use Rattle.rept_ports.specs.Causes.{OneFault, AppendsPrefix}
 use Rattle.rept_ports.specs.Port.{Port, Move, move}
 use Rattle.rept_ports.proofs.CallerLemmas.{Appends-trans, fault_after}
-use Rattle.rept_app.specs.Delivered.{Delivers, Tells}
+use Rattle.rept_app.specs.Delivered.{Delivers, SaysOrNoMemory}
 use Rattle.rept_app.specs.Ends.{Yields, FaultEnds, PortsEnd}
 use Rattle.rept_app.specs.Lines.{status_of}
 use Rattle.rept_app.specs.declared.refusal.Refusal.{Refusal}
@@ -46,7 +46,7 @@ fails_after Whole old mid new front next rest all status calm fault h p e goes =
     inr (refl, fault_after old.faults mid.faults new.faults calm fault, (all, status, goes, rw e (prefix_after old.bytes mid.bytes new.bytes front (next ++ rest) h (prefix_of_longer mid.bytes new.bytes next rest p))))
 
 -- how a call ends that tells a refusal: with its status, or cut short
-pub ends_told : (r : Refusal) (out : Move Port) (result : Status) → Delivers (Tells r) out result → Yields (status_of r) result
+pub ends_told : (r : Refusal) (out : Move Port) (result : Status) → Delivers (SaysOrNoMemory r) out result → Yields (status_of r) result
 ends_told r out result (inl (text, inl says, appended, calm)) = inl says.ending
 ends_told r out result (inl (text, inr says, appended, calm)) = inr (inr says.ending)
 ends_told r out result (inr (failed, fault, whole)) = inr (inl failed)
@@ -58,7 +58,7 @@ not_yielded expected other status a b c (inr (inl h)) e = b (sym e ∙ h)
 not_yielded expected other status a b c (inr (inr h)) e = c (sym e ∙ h)
 
 -- a call that tells a refusal reads nothing, and a fault of the output ends it
-pub told_ports : (r : Refusal) (source : Port) (out : Move Port) (result : Status) → (status_of r ≡ ends.InputFault → ⊥) → (status_of r ≡ ends.OutputFault → ⊥) → Delivers (Tells r) out result → PortsEnd (move source source) out result
+pub told_ports : (r : Refusal) (source : Port) (out : Move Port) (result : Status) → (status_of r ≡ ends.InputFault → ⊥) → (status_of r ≡ ends.OutputFault → ⊥) → Delivers (SaysOrNoMemory r) out result → PortsEnd (move source source) out result
 told_ports r source out result no_input no_output d = record {
   input = λ e. absurd (not_yielded (status_of r) ends.InputFault result no_input (λ (same : ends.InputFault ≡ ends.OutputFault). cc) (λ (same : ends.InputFault ≡ ends.OutOfMemory). cc) (ends_told r out result d) e);
   input_ends = inl refl;
@@ -66,12 +66,12 @@ told_ports r source out result no_input no_output d = record {
   output_ends = count d;
 }
   where
-    failed : Delivers (Tells r) out result → result ≡ ends.OutputFault → OneFault out.before.faults out.after.faults
+    failed : Delivers (SaysOrNoMemory r) out result → result ≡ ends.OutputFault → OneFault out.before.faults out.after.faults
     failed (inl (text, inl says, appended, calm)) e = absurd (no_output (sym says.ending ∙ e))
     failed (inl (text, inr says, appended, calm)) e = let bad : ends.OutOfMemory ≡ ends.OutputFault = sym says.ending ∙ e in let no : ⊥ = cc in absurd no
     failed (inr (so, fault, whole)) e = fault
 
-    count : Delivers (Tells r) out result → FaultEnds out.before.faults out.after.faults (result ≡ ends.OutputFault)
+    count : Delivers (SaysOrNoMemory r) out result → FaultEnds out.before.faults out.after.faults (result ≡ ends.OutputFault)
     count (inl h) = inl h.3
     count (inr h) = inr (h.1, h.0)
 

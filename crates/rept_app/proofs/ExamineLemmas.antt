@@ -8,7 +8,7 @@ use Rattle.rept_steps.specs.declared.run.Run.{Run}
 use Rattle.rept_runs.specs.Kind.{is_several}
 use Rattle.rept_ports.specs.Port.{Port, Move}
 use Rattle.rept_serve.specs.Serving.{Reading}
-use Rattle.rept_app.specs.Delivered.{Says, Tells}
+use Rattle.rept_app.specs.Delivered.{Says, SaysOrNoMemory}
 use Rattle.rept_app.specs.Ends.{Stopped, Yields, PortsEnd}
 use Rattle.rept_app.specs.Examine.{Walks, Examines, RunYields, WalkYields, NoteYields, FilesEnd, FilesHold, IsRunStatus, IsWalkStatus, IsWalked, IsExamined, TraceExcludes, FilesExclude, WalkHolds}
 use Rattle.rept_app.specs.Forms.{executable_fault, program_fault, core_image_fault}
@@ -16,7 +16,7 @@ use Rattle.rept_app.specs.Lines.{status_of}
 use Rattle.rept_app.specs.Reading.{HasNoCrash, HasNoDump, NotesRefuse}
 use Rattle.rept_app.specs.Study.{Studies, IsStudied, StudyHolds}
 use Rattle.rept_app.specs.Loading.{CrashBytes}
-use Rattle.rept_app.specs.Told.{CoreSays, CrashTrace, trace_in, run_in, Examined, NotesTold, Reads}
+use Rattle.rept_app.specs.Told.{CoreSays, CrashTrace, trace_in, run_in, Examined, NotesTold, ReadsNotes}
 use Rattle.rept_app.specs.TraceRun.{IsRunOf, HasNoRunOf}
 use Rattle.rept_app.specs.True.{IsExcluded}
 use Rattle.rept_app.specs.declared.refusal.Refusal.{Refusal}
@@ -172,7 +172,7 @@ module _ (t : CrashTrace) (reading : Reading) (text : List ℕ) (status : Status
       plain : Says (refusal.Path fault.OutOfMemory) text status → Says refusal.OutOfMemory text status
       plain s = record { line = s.line; ending = s.ending }
 
-  pub refused_walks : (f : PathFault) → (f ≡ fault.OutOfMemory) ⊎ HasNoRunOf t.crash t.trace t.manner.from f → Tells (refusal.Path f) text status → Walks t reading text status
+  pub refused_walks : (f : PathFault) → (f ≡ fault.OutOfMemory) ⊎ HasNoRunOf t.crash t.trace t.manner.from f → SaysOrNoMemory (refusal.Path f) text status → Walks t reading text status
   refused_walks f (inl e) (inl h) = inr (inl (as_memory f e h))
   refused_walks f (inr has) (inl h) = inl (inl (f, has, h))
   refused_walks f why (inr h) = inr (inl h)
@@ -192,10 +192,10 @@ study_holds t run status is (inl p) = inl p
 study_holds t run status is (inr (consistent, so)) = inr ((run, is, consistent), so)
 
 -- the files are accepted, and these are the notes
-pub reads_here : (bytes : CrashBytes) (notes : List (List ℕ)) → None ≡ program_fault bytes.program → None ≡ core_image_fault bytes.core → CoreSays bytes (Ok notes) → Reads bytes notes
+pub reads_here : (bytes : CrashBytes) (notes : List (List ℕ)) → None ≡ program_fault bytes.program → None ≡ core_image_fault bytes.core → CoreSays bytes (Ok notes) → ReadsNotes bytes notes
 reads_here bytes notes e k says = record { program_accepted = sym e; core_accepted = sym k; noted = says }
 
-pub walk_holds : {P : Type 0} (bytes : CrashBytes) (notes : List (List ℕ)) (status : Status) → Reads bytes notes → P ⊎ WalkHolds (trace_in bytes notes) status → P ⊎ FilesHold bytes status
+pub walk_holds : {P : Type 0} (bytes : CrashBytes) (notes : List (List ℕ)) (status : Status) → ReadsNotes bytes notes → P ⊎ WalkHolds (trace_in bytes notes) status → P ⊎ FilesHold bytes status
 walk_holds bytes notes status read (inl p) = inl p
 walk_holds bytes notes status read (inr ((run, is, consistent), so)) = inr ((notes, run, read, is, consistent), so)
 
@@ -257,7 +257,7 @@ module _ (bytes : CrashBytes) (reading : Reading) (text : List ℕ) (status : St
   TextCore o = MatchOption o (NotesTold bytes reading.input text status) (λ fault. Says (refusal.CoreImage fault) text status)
 
   -- what is told of a refusal of the files
-  pub refused_examines : (r : Refusal) → HasNoCrash (is_several bytes.trace) bytes r → Tells r text status → Examines bytes reading text status
+  pub refused_examines : (r : Refusal) → HasNoCrash (is_several bytes.trace) bytes r → SaysOrNoMemory r text status → Examines bytes reading text status
   refused_examines r why (inr h) = inr (inl h)
   refused_examines r why (inl h) = inl (at (program_fault bytes.program) (core_image_fault bytes.core) why)
     where

@@ -3,7 +3,7 @@ use Rattle.std.proofs.Common.{◌≡◌, ◌⊎◌, ℕ, List, ◌++◌, inl, in
 use Rattle.rept_ports.specs.Causes.{OneFault}
 use Rattle.rept_ports.specs.Port.{Port, Move, move}
 use Rattle.rept_ports.proofs.CallerLemmas.{fault_after}
-use Rattle.rept_session.specs.Shown.{Told}
+use Rattle.rept_session.specs.Shown.{SessionTold}
 use Rattle.rept_serve.specs.Serving.{Reading, Serves, CountsAt, IsCaused as IsServed}
 use Rattle.rept_serve.specs.declared.serving.Served.{Served}
 use Rattle.rept_serve.specs.declared.serving.Served.TheVariants as served
@@ -40,7 +40,7 @@ calm_out source sink result never c = calm_at sink.before.faults sink.after.faul
 pub calm_in : (source sink : Move Port) (result : Served) → (result ≡ served.ReadFault → ⊥) → IsServed source sink result → source.after.faults ≡ source.before.faults
 calm_in source sink result never c = calm_at source.before.faults source.after.faults served.ReadFault result never c.input
 
-module _ (t : Told) (reading : Reading) (old mid : Port) where
+module _ (t : SessionTold) (reading : Reading) (old mid : Port) where
   pub ended : Serves t reading (move old mid) served.Ended → mid.faults ≡ old.faults → Delivers (IsHeldSession t reading) (move old mid) ends.Ok
   ended (inl (text, w, a)) calm = inl (text, inl w, a, calm)
   ended (inr (e, rest)) calm = let no : ⊥ = cc in absurd no

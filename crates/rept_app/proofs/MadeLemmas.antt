@@ -25,13 +25,13 @@ use Rattle.rept_report.specs.Closure.{ClosureHas, IsConsistent}
 use Rattle.rept_report.specs.OneThread.{along}
 use Rattle.rept_report.specs.declared.conflict.ConflictKind.{ConflictKind}
 use Rattle.rept_found.specs.Crash.{Crash, last_value, last_values, path_of, setting}
-use Rattle.rept_found.specs.Truth.{Executes, HasNoExecution}
+use Rattle.rept_found.specs.Truth.{ExecutesPath, HasNoExecutionOfPath}
 use Rattle.rept_make.specs.Files.{bytes_of_words}
 use Rattle.rept_make.specs.Laid.{laid}
 use Rattle.rept_make.specs.Made.{IsMade}
 use Rattle.rept_make.specs.declared.made.Made.{Made}
 use Rattle.rept_words.specs.declared.request.Domain.TheVariants as domain
-use Rattle.rept_app.specs.Delivered.{Delivers, Says, Tells}
+use Rattle.rept_app.specs.Delivered.{Delivers, Says, SaysOrNoMemory}
 use Rattle.rept_app.specs.Domains.{means_of}
 use Rattle.rept_app.specs.Ends.{Yields, EndsSession, PortsEnd}
 use Rattle.rept_app.specs.Examine.{Examines, WalkYields, NoteYields, FilesEnd}
@@ -42,7 +42,7 @@ use Rattle.rept_app.specs.Claims.{MadeHolds}
 use Rattle.rept_app.specs.Path.{IsTracePath}
 use Rattle.rept_app.specs.Reading.{NotesSay}
 use Rattle.rept_app.specs.Loading.{CrashBytes}
-use Rattle.rept_app.specs.Told.{CoreSays, CrashTrace, trace_in, NotesTold, Walked, Reads, Opening, OpensMade, made_bytes, run_at, summary_line}
+use Rattle.rept_app.specs.Told.{CoreSays, CrashTrace, trace_in, NotesTold, Walked, ReadsNotes, Opening, OpensMade, made_bytes, run_at, summary_line}
 use Rattle.rept_app.specs.TraceRun.{IsRunOf}
 use Rattle.rept_app.specs.True.{IsExecuted}
 use Rattle.rept_app.specs.declared.refusal.Refusal.TheVariants as refusal
@@ -91,7 +91,7 @@ module _ (seed steps : ℕ) (made : Made) (m : IsMade seed steps made) where
   says_made : CoreSays (made_bytes made) (Ok (m.status ∷ []))
   says_made = subst (λ (b : Bool). NotesSay b made.core (Ok (m.status ∷ []))) (sym one_made) (m.status, m.notes, refl)
 
-  reads_made : Reads (made_bytes made) (m.status ∷ [])
+  reads_made : ReadsNotes (made_bytes made) (m.status ∷ [])
   reads_made = record { program_accepted = m.exe_read; core_accepted = m.core_read; noted = says_made }
 
   traced_made : IsTracePath crash_made made.trace 0 (path_along m.rows)
@@ -107,7 +107,7 @@ module _ (seed steps : ℕ) (made : Made) (m : IsMade seed steps made) where
   abbrev states_made : ℕ → State
   states_made = λ i. laid (bytes_of_words m.words) (m.run i)
 
-  runs_made : Executes (path_of (means_of domain.Ranges) crash_made m.rows) states_made
+  runs_made : ExecutesPath (path_of (means_of domain.Ranges) crash_made m.rows) states_made
   runs_made = m.execution (last_values m.status) (last_size m.status) (λ r above below. last_at m.status r above below)
 
   abbrev opening_made : Opening
@@ -120,7 +120,7 @@ module _ (seed steps : ℕ) (made : Made) (m : IsMade seed steps made) where
   executed_made = (m.rows, refl, states_made, runs_made)
 
   -- so the closure has no conflict
-  consistent_made : ((kind : ConflictKind) → ClosureHas (along (path_of (means_of domain.Ranges) crash_made m.rows)) kind → HasNoExecution (path_of (means_of domain.Ranges) crash_made m.rows)) → IsConsistent (setting (means_of domain.Ranges) crash_made (course_of run_made))
+  consistent_made : ((kind : ConflictKind) → ClosureHas (along (path_of (means_of domain.Ranges) crash_made m.rows)) kind → HasNoExecutionOfPath (path_of (means_of domain.Ranges) crash_made m.rows)) → IsConsistent (setting (means_of domain.Ranges) crash_made (course_of run_made))
   consistent_made none kind has = none kind has states_made runs_made
 
   abbrev AfterCore : Status → Option ElfFault → Type 0
@@ -129,7 +129,7 @@ module _ (seed steps : ℕ) (made : Made) (m : IsMade seed steps made) where
   abbrev AfterExe : Status → Option ElfFault → Type 0
   AfterExe status o = MatchOption o (AfterCore status (core_image_fault made.core)) (λ _. Yields ends.Executable status)
 
-  pub session_made : ((kind : ConflictKind) → ClosureHas (along (path_of (means_of domain.Ranges) crash_made m.rows)) kind → HasNoExecution (path_of (means_of domain.Ranges) crash_made m.rows)) → (status : Status) → FilesEnd (made_bytes made) status → EndsSession status
+  pub session_made : ((kind : ConflictKind) → ClosureHas (along (path_of (means_of domain.Ranges) crash_made m.rows)) kind → HasNoExecutionOfPath (path_of (means_of domain.Ranges) crash_made m.rows)) → (status : Status) → FilesEnd (made_bytes made) status → EndsSession status
   session_made none status h =
       let notes : (said : Result (List (List ℕ)) CoreFault) → CoreSays (made_bytes made) said → NoteYields (made_bytes made) said status =
       subst (AfterCore status) m.core_read (subst (AfterExe status) m.exe_read h) in
@@ -219,8 +219,8 @@ at_bytes P {exe} {exe'} {core} {core'} {trace} {trace'} {input} {input'} e k t i
 
 -- where there was no memory for the files
 module _ (out : Move Port) (result : Status) (d : Delivers (Says refusal.OutOfMemory) out result) where
-  as_told : Delivers (Tells refusal.OutOfMemory) out result
-  as_told = delivers_as (Says refusal.OutOfMemory) (Tells refusal.OutOfMemory) out result (λ text status h. inl h) d
+  as_told : Delivers (SaysOrNoMemory refusal.OutOfMemory) out result
+  as_told = delivers_as (Says refusal.OutOfMemory) (SaysOrNoMemory refusal.OutOfMemory) out result (λ text status h. inl h) d
 
   pub memory_sums : (seed steps : ℕ) → Delivers (Sums seed steps) out result
   memory_sums seed steps = delivers_as (Says refusal.OutOfMemory) (Sums seed steps) out result (λ text status h. inr (inl h)) d

@@ -13,7 +13,7 @@ use Rattle.rept_app.specs.Examine.{Examines, FilesEnd, FilesExclude, FilesHold, 
 use Rattle.rept_app.specs.Forms.{core_image_fault}
 use Rattle.rept_app.specs.Loading.{CoreBytes, parts_bytes}
 use Rattle.rept_app.specs.Mapped.{ListSays, NamesLoaded, mapped_crash, mapped_files}
-use Rattle.rept_app.specs.MappedEnds.{ExaminesMapped, IsExaminedMapped, MappedCall, MappedEnd, MappedExcludes, MappedHolds, TellsName, mapped_call, moves}
+use Rattle.rept_app.specs.MappedEnds.{ExaminesMapped, IsExaminedMapped, MappedCall, MappedEnd, MappedExcludes, MappedHolds, TellsName, mapped_call, port_moves}
 use Rattle.rept_app.specs.declared.refusal.Refusal.TheVariants as refusal
 use Rattle.rept_app.specs.declared.status.Status.{Status}
 use Rattle.rept_app.specs.declared.status.Status.TheVariants as ends
@@ -33,7 +33,7 @@ module _ (c : CoreBytes) (old new : Shelved) (source : Port) (out : Move Port) (
       delivers_as (Says refusal.OutOfMemory) (ExaminesMapped (mapped_call (mapped_crash told c) (move old.loads new.loads) (record { input = input; left = left }))) out status (λ text s says. inr (inl says)) d)
 
   pub memory_causes : new.files ≡ old.files → old.faults ≤ new.faults → IfSome old.files (λ _. new.faults ≤ old.faults + 1) → (Stopped status → NamesLoaded c.core (move old.loads new.loads) status)
-      → IsExaminedMapped c (moves (move old new) (move source source) out) status
+      → IsExaminedMapped c (port_moves (move old new) (move source source) out) status
   memory_causes files later once loads =
       let s = memory_stopped out status d in
       record {
@@ -69,7 +69,7 @@ module _ (c : CoreBytes) (old new : Shelved) (source : Port) (out : Move Port) (
         delivers_as (TellsName name) (ExaminesMapped call) out status (λ text s h. name_written call text s accepted desc listed place name named loads h) d)
 
     pub name_causes : place < length (asked_names desc) → new.files ≡ old.files → old.faults ≤ new.faults → IfSome old.files (λ _. new.faults ≤ old.faults + 1) → Rose old.faults new.faults
-        → IsExaminedMapped c (moves (move old new) (move source source) out) status
+        → IsExaminedMapped c (port_moves (move old new) (move source source) out) status
     name_causes within files later once rose =
         let so = name_told name out status d in
         record {
@@ -103,7 +103,7 @@ module _ (c : CoreBytes) (old new : Shelved) (source out : Move Port) (status : 
         inl (list_ends (mapped_crash files c) accepted (Ok desc) only status (subst (λ (parts : List Mapping). FilesEnd (parts_bytes parts c) status) (program_at files told) h)))
 
     pub files_causes : (status ≡ ends.Executable → ⊥) → new.files ≡ old.files → old.faults ≤ new.faults → IfSome old.files (λ _. new.faults ≡ old.faults) → new.loads ≡ loads_after (length (asked_names desc)) old.loads
-        → IsExamined (parts_bytes ms c) source out status → IsExaminedMapped c (moves (move old new) source out) status
+        → IsExamined (parts_bytes ms c) source out status → IsExaminedMapped c (port_moves (move old new) source out) status
     files_causes never files later calm loads is = record {
       ports = is.ports;
       shelf = calm_move old new status files later calm (never_loading status is.ends_so);

@@ -21,7 +21,7 @@ use Rattle.rept_ports.specs.Causes.{Rose, OneFault}
 use Rattle.rept_ports.specs.Port.{Port, Move, move}
 use Rattle.rept_ports.specs.Shelves.{Files, Shelved}
 use Rattle.rept_runs.specs.Kind.{is_several}
-use Rattle.rept_app.specs.Delivered.{Delivers, Says, Tells}
+use Rattle.rept_app.specs.Delivered.{Delivers, Says, SaysOrNoMemory}
 use Rattle.rept_app.specs.Ends.{FaultEnds, PortsEnd, Stopped, Yields}
 use Rattle.rept_app.specs.Examine.{Examines, FilesExclude, FilesHold, IsWalkStatus}
 use Rattle.rept_app.specs.Forms.{core_image_fault, crash_in}
@@ -211,11 +211,11 @@ module _ (c : MappedCall) (text : List ℕ) (status : Status) where
       ((said : Result (List ℕ) MapFault) × ListSays c.crash.bytes.core said × MatchResult said (λ desc. Examined (mapped_bytes c.crash desc) c.reading.input text status) (λ fault. Says (refusal.Maps fault) text status))
       (λ fault. Says (refusal.CoreImage fault) text status)
 
-  pub image_written : (f : ElfFault) → Some f ≡ core_image_fault c.crash.bytes.core → Tells (refusal.CoreImage f) text status → ExaminesMapped c text status
+  pub image_written : (f : ElfFault) → Some f ≡ core_image_fault c.crash.bytes.core → SaysOrNoMemory (refusal.CoreImage f) text status → ExaminesMapped c text status
   image_written f e (inl says) = inl (subst Whole e says)
   image_written f e (inr says) = inr (inl says)
 
-  pub list_written : (f : MapFault) → core_image_fault c.crash.bytes.core ≡ None → ListSays c.crash.bytes.core (Err f) → Tells (refusal.Maps f) text status → ExaminesMapped c text status
+  pub list_written : (f : MapFault) → core_image_fault c.crash.bytes.core ≡ None → ListSays c.crash.bytes.core (Err f) → SaysOrNoMemory (refusal.Maps f) text status → ExaminesMapped c text status
   list_written f accepted listed (inl says) = inl (subst Whole (sym accepted) (Err f, listed, says))
   list_written f accepted listed (inr says) = inr (inl says)
 

@@ -9,9 +9,9 @@ use Rattle.rept_app.specs.Examine.{IsWalkStatus}
 use Rattle.rept_app.specs.Loading.{CoreBytes, CrashBytes, Loading, loading, LoadsBoth, NamesNone, IsAsked, core_loads_to}
 use Rattle.rept_app.specs.Loading.Loading.{LoadedCore}
 use Rattle.rept_app.specs.Mapped.{IsMappedAs, NameFails, NamesLoaded, mapped_crash}
-use Rattle.rept_app.specs.MappedEnds.{ExaminesMapped, IsExaminedMapped, MappedEnd, MappedExcludes, MappedHolds, mapped_call, moves}
+use Rattle.rept_app.specs.MappedEnds.{ExaminesMapped, IsExaminedMapped, MappedEnd, MappedExcludes, MappedHolds, mapped_call, port_moves}
 use Rattle.rept_app.specs.Claims.{ComeToReport, NoExecution}
-use Rattle.rept_app.specs.Told.{Given, given, IsCrashOf, ToldOf, Writes}
+use Rattle.rept_app.specs.Told.{CallInput, call_input, IsCrashOf, ToldOf, CallWrites}
 use Rattle.rept_app.specs.Top.{AskedEnds, EndsAt, EndsByFiles, FaultsEnd, LacksFile, LoadEnds, LoadsOf, ShelfCauses, TopCauses}
 use Rattle.rept_words.specs.Words.{Meaning}
 use Rattle.rept_words.specs.Words.Meaning.{Open, Maps, Made}
@@ -81,7 +81,7 @@ no_walk_usage (inr (inr (inr (inr (inr (inl h)))))) = cc
 no_walk_usage (inr (inr (inr (inr (inr (inr h)))))) = cc
 
 -- the ports
-module _ (old mid new : Shelved) (c : CoreBytes) (source sink : Move Port) (status : Status) (files : mid.files ≡ old.files) (calm : mid.faults ≡ old.faults) (is : IsExaminedMapped c (moves (move mid new) source sink) status) where
+module _ (old mid new : Shelved) (c : CoreBytes) (source sink : Move Port) (status : Status) (files : mid.files ≡ old.files) (calm : mid.faults ≡ old.faults) (is : IsExaminedMapped c (port_moves (move mid new) source sink) status) where
   rose : Rose mid.faults new.faults → Rose old.faults new.faults
   rose h = subst (λ n. Rose n new.faults) calm h
 
@@ -162,10 +162,10 @@ module _ (words : List (List ℕ)) (files : Files) (c : CoreBytes) (at : loading
   mapped_excludes none o opens = none o.bytes (subst (λ (l : Loading). IsCrashOf files l o.bytes) at opens.loaded) o.notes opens.read o.run opens.told
 
   module _ (shelf : Move Shelved) (asked_before : ℕ) (reading : Reading) (text : List ℕ) (status : Status) (loads : asked_before ≡ core_loads_to file.Trace shelf.before.loads) where
-    abbrev Here : Given
-    Here = given words files shelf reading
+    abbrev Here : CallInput
+    Here = call_input words files shelf reading
 
-    pub mapped_writes : ExaminesMapped (mapped_call (mapped_crash files c) (move asked_before shelf.after.loads) reading) text status → Writes Here text status
+    pub mapped_writes : ExaminesMapped (mapped_call (mapped_crash files c) (move asked_before shelf.after.loads) reading) text status → CallWrites Here text status
     mapped_writes (inl told) = inl (subst (λ (l : Loading). ToldOf Here l text status) (sym at) told)
     mapped_writes (inr (inl says)) = inr (inr (inl says))
     mapped_writes (inr (inr (inl fails))) = inr (inl (inr (inr (c, at, subst (λ n. NameFails (mapped_crash files c) (move n shelf.after.loads) text status) loads fails))))

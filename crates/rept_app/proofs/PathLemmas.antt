@@ -9,7 +9,7 @@ use Rattle.rept_path.specs.declared.fault.PathFault.{PathFault}
 use Rattle.rept_path.specs.declared.fault.PathFault.TheVariants.{OutOfMemory}
 use Rattle.rept_path.specs.declared.rebuilding.Path.{Path}
 use Rattle.rept_found.specs.Crash.{Crash}
-use Rattle.rept_app.specs.Path.{TraceFile, file_bytes, run_of, IsTracePath, HasNoPath}
+use Rattle.rept_app.specs.Path.{TraceFile, file_bytes, raw_run_of, IsTracePath, HasNoPath}
 
 -- a file that begins with the header is one file
 module _ (crash : Crash) (trace : List ℕ) (from : ℕ) (file : TraceFile) (parts : trace ≡ file_bytes file) where
@@ -28,12 +28,12 @@ module _ (crash : Crash) (trace : List ℕ) (from : ℕ) (file : TraceFile) (par
           let bytes : other.bytes ≡ file.bytes = cc in
           same_file other file (same_halves other.halves file.halves halves) bytes
 
-  pub traced_after : (path : Path) → IsTracePath crash trace from path → IsTraced (run_of crash file from) path.skipped path.steps
-  traced_after path (other, e, h) = subst (λ (f : TraceFile). IsTraced (run_of crash f from) path.skipped path.steps) (same_rest other e) h
+  pub traced_after : (path : Path) → IsTracePath crash trace from path → IsTraced (raw_run_of crash file from) path.skipped path.steps
+  traced_after path (other, e, h) = subst (λ (f : TraceFile). IsTraced (raw_run_of crash f from) path.skipped path.steps) (same_rest other e) h
 
-  pub untraced_after : ((refused : TraceFault) → IsHeaderFault one_stream trace refused → ⊥) → (f : PathFault) → HasNoPath crash trace from f → IsUntraced (run_of crash file from) 0 f
+  pub untraced_after : ((refused : TraceFault) → IsHeaderFault one_stream trace refused → ⊥) → (f : PathFault) → HasNoPath crash trace from f → IsUntraced (raw_run_of crash file from) 0 f
   untraced_after fine f (inl (refused, h, e)) = absurd (fine refused h)
-  untraced_after fine f (inr (other, e, h)) = subst (λ (x : TraceFile). IsUntraced (run_of crash x from) 0 f) (same_rest other e) h
+  untraced_after fine f (inr (other, e, h)) = subst (λ (x : TraceFile). IsUntraced (raw_run_of crash x from) 0 f) (same_rest other e) h
 
 -- a path by its parts
 pub same_path : (r : Result Path PathFault) (other : Path) → MatchResult r (λ path. (path.skipped ≡ other.skipped) × (path.steps ≡ other.steps)) (λ e. e ≡ OutOfMemory) → MatchResult r (λ path. path ≡ other) (λ e. e ≡ OutOfMemory)

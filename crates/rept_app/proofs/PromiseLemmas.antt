@@ -16,7 +16,7 @@ use Rattle.rept_app.specs.Loading.Loading.{Refused, Loaded, LoadedCore, MadeRun}
 use Rattle.rept_app.specs.Mapped.{mapped_crash, mapped_bytes, ListSays}
 use Rattle.rept_app.specs.Claims.{NoExecution}
 use Rattle.rept_app.specs.Promise.{IsOpened, IsAnswered, IsImpossible, Promise}
-use Rattle.rept_app.specs.Told.{Given, Opening, Reads, Analysed, Walked, NotesTold, Examined, Told, ToldOf, IsCrashOf, Writes, crash_at, domain_at, run_at, trace_in, made_bytes, summary_line}
+use Rattle.rept_app.specs.Told.{CallInput, Opening, ReadsNotes, Analysed, Walked, NotesTold, Examined, CallTold, ToldOf, IsCrashOf, CallWrites, crash_at, domain_at, run_at, trace_in, made_bytes, summary_line}
 use Rattle.rept_app.specs.TraceRun.{IsRunOf}
 use Rattle.rept_app.specs.Top.{EndsAt, EndsByFiles}
 use Rattle.rept_app.specs.declared.refusal.FileKind.{FileKind}
@@ -109,7 +109,7 @@ no_conflict files (Some (Open d names from)) = all_files files names (manner_of 
 pub record Analyses (bytes : CrashBytes) (lines text : List ℕ) (status : Status) : Type 0 where
   pub opening : Opening
   pub same : opening.bytes ≡ bytes
-  pub read : Reads opening.bytes opening.notes
+  pub read : ReadsNotes opening.bytes opening.notes
   pub told : IsRunOf (crash_at opening) opening.bytes.trace opening.bytes.manner.from opening.run
   pub analysed : Analysed (run_at opening) lines text status
 
@@ -132,7 +132,7 @@ module _ (lines text : List ℕ) (status : Status) (promised : (status ≡ ends.
   no_core e = never ends.Core (λ (k : ends.Core ≡ ends.Ok). cc) (λ (k : ends.Core ≡ ends.Inconsistent). cc) e
 
   module _ (bytes : CrashBytes) where
-    walked : (notes : List (List ℕ)) → Reads bytes notes → Walked (trace_in bytes notes) lines text status → Analyses bytes lines text status
+    walked : (notes : List (List ℕ)) → ReadsNotes bytes notes → Walked (trace_in bytes notes) lines text status → Analyses bytes lines text status
     walked notes read (inl (f, has, says)) = no_path f says.ending
     walked notes read (inr (run, is, analysed)) = record { opening = record { bytes = bytes; notes = notes; run = run }; same = refl; read = read; told = is; analysed = analysed }
 
@@ -154,10 +154,10 @@ module _ (lines text : List ℕ) (status : Status) (promised : (status ≡ ends.
     examined h = exe_read (program_fault bytes.program) refl h
 
 -- What was written is that of a run which is analysed: that of the files of the words, or of a made crash.
-abbrev pub IsOf : Given → List ℕ → Status → Type 0
+abbrev pub IsOf : CallInput → List ℕ → Status → Type 0
 IsOf g text status = (o : Opening) × (lines : List ℕ) × IsOpened g o lines × Analysed (run_at o) lines text status
 
-module _ (g : Given) (text : List ℕ) (status : Status) (promised : (status ≡ ends.Ok) ⊎ (status ≡ ends.Inconsistent)) where
+module _ (g : CallInput) (text : List ℕ) (status : Status) (promised : (status ≡ ends.Ok) ⊎ (status ≡ ends.Inconsistent)) where
   refused : (r : Refusal) → loading g.words g.files ≡ Refused r → status ≡ status_of r → IsOf g text status
   refused r e ending = by_status promised
     where
@@ -200,7 +200,7 @@ module _ (g : Given) (text : List ℕ) (status : Status) (promised : (status ≡
       let a = examined summary_line text status promised (made_bytes made) h in
       (a.opening, summary_line, inr (seed, steps, made, e, is, record { bytes = a.same; read = a.read; told = a.told }, refl), a.analysed)
 
-  pub told_of_run : Told g text status → IsOf g text status
+  pub told_of_run : CallTold g text status → IsOf g text status
   told_of_run h = by_loading (loading g.words g.files) refl h
 
 -- a call that was cut short ends with neither status
@@ -210,21 +210,21 @@ no_memory_ok text says = let bad : ends.Ok ≡ ends.OutOfMemory = says.ending in
 no_memory_conflict : {P : Type 0} (text : List ℕ) → Says refusal.OutOfMemory text ends.Inconsistent → P
 no_memory_conflict text says = let bad : ends.Inconsistent ≡ ends.OutOfMemory = says.ending in let no : ⊥ = cc in absurd no
 
-whole_ok : (g : Given) (text : List ℕ) → Writes g text ends.Ok → IsOf g text ends.Ok
+whole_ok : (g : CallInput) (text : List ℕ) → CallWrites g text ends.Ok → IsOf g text ends.Ok
 whole_ok g text (inl told) = told_of_run g text ends.Ok (inl refl) told
 whole_ok g text (inr (inl failed)) = let bad : ends.Ok ≡ ends.LoadFault = load_ending g text ends.Ok failed in let no : ⊥ = cc in absurd no
 whole_ok g text (inr (inr (inl says))) = no_memory_ok text says
 whole_ok g text (inr (inr (inr (inl (o, a, opens, is, cut))))) = absurd cut
 whole_ok g text (inr (inr (inr (inr (seed, steps, asked, (made, m, o, opens, a, is, left, cut)))))) = absurd cut
 
-whole_conflict : (g : Given) (text : List ℕ) → Writes g text ends.Inconsistent → IsOf g text ends.Inconsistent
+whole_conflict : (g : CallInput) (text : List ℕ) → CallWrites g text ends.Inconsistent → IsOf g text ends.Inconsistent
 whole_conflict g text (inl told) = told_of_run g text ends.Inconsistent (inr refl) told
 whole_conflict g text (inr (inl failed)) = let bad : ends.Inconsistent ≡ ends.LoadFault = load_ending g text ends.Inconsistent failed in let no : ⊥ = cc in absurd no
 whole_conflict g text (inr (inr (inl says))) = no_memory_conflict text says
 whole_conflict g text (inr (inr (inr (inl (o, a, opens, is, cut))))) = absurd cut
 whole_conflict g text (inr (inr (inr (inr (seed, steps, asked, (made, m, o, opens, a, is, left, cut)))))) = absurd cut
 
-module _ (true_of : ReportsAreTrue) (g : Given) (out : Move Port) where
+module _ (true_of : ReportsAreTrue) (g : CallInput) (out : Move Port) where
   whole_of : (o : Opening) (lines : List ℕ) → IsOpened g o lines → IsWhole (crash_at o) o.run
   whole_of o lines (inl (opens, same)) = opened_whole o opens.read opens.told
   whole_of o lines (inr (seed, steps, made, asked, is, opens, same)) = opened_whole o opens.read opens.told
@@ -247,16 +247,16 @@ module _ (true_of : ReportsAreTrue) (g : Given) (out : Move Port) where
   impossible_by files none text (o, lines, inl (opens, same), analysed) = record { opening = o; opened = opens; none = none o opens }
   impossible_by files none text (o, lines, inr (seed, steps, made, asked, is, opens, same), analysed) = absurd (made_ends_well (loading g.words g.files) seed steps asked files)
 
-  ok_delivered : Delivers (Writes g) out ends.Ok → IsAnswered g out
+  ok_delivered : Delivers (CallWrites g) out ends.Ok → IsAnswered g out
   ok_delivered (inl (text, goes, written, calm)) = answered_by text written (whole_ok g text goes)
   ok_delivered (inr (e, fault, rest)) = let bad : ends.Ok ≡ ends.OutputFault = e in let no : ⊥ = cc in absurd no
 
-  conflict_delivered : EndsByFiles g.words g.files ends.Inconsistent → NoExecution g.words g.files → Delivers (Writes g) out ends.Inconsistent → IsImpossible g
+  conflict_delivered : EndsByFiles g.words g.files ends.Inconsistent → NoExecution g.words g.files → Delivers (CallWrites g) out ends.Inconsistent → IsImpossible g
   conflict_delivered files none (inl (text, goes, written, calm)) = impossible_by files none text (whole_conflict g text goes)
   conflict_delivered files none (inr (e, fault, rest)) = let bad : ends.Inconsistent ≡ ends.OutputFault = e in let no : ⊥ = cc in absurd no
 
-  pub promised : (status : Status) → Delivers (Writes g) out status → EndsByFiles g.words g.files status → (status ≡ ends.Inconsistent → NoExecution g.words g.files) → Promise g out status
+  pub promised : (status : Status) → Delivers (CallWrites g) out status → EndsByFiles g.words g.files status → (status ≡ ends.Inconsistent → NoExecution g.words g.files) → Promise g out status
   promised status delivers files none = record {
-    answered = λ e. ok_delivered (subst (Delivers (Writes g) out) e delivers);
-    impossible = λ e. conflict_delivered (subst (EndsByFiles g.words g.files) e files) (none e) (subst (Delivers (Writes g) out) e delivers);
+    answered = λ e. ok_delivered (subst (Delivers (CallWrites g) out) e delivers);
+    impossible = λ e. conflict_delivered (subst (EndsByFiles g.words g.files) e files) (none e) (subst (Delivers (CallWrites g) out) e delivers);
   }

@@ -22,13 +22,13 @@ use Rattle.rept_found.specs.Contradictions.{contradiction_on}
 use Rattle.rept_found.specs.Crash.{Crash, Means, Scene, crash_of, path_of, scene_of, setting, route}
 use Rattle.rept_found.specs.Ends.{AreNoted, Ends}
 use Rattle.rept_found.specs.Telling.{Account, told_on}
-use Rattle.rept_found.specs.Truth.{HasNoExecution}
+use Rattle.rept_found.specs.Truth.{HasNoExecutionOfPath}
 use Rattle.rept_found.specs.View.{View, IsFoundIn, IsPreparedFor, scene_in, state_in, trip_in}
 use Rattle.rept_found.specs.declared.contradiction.Contradiction.{Contradiction}
 use Rattle.rept_found.proofs.Alone.{alone_setting}
 use Rattle.rept_found.proofs.Settings.{found_there}
 use Rattle.rept_serve.specs.Serving.{Reading}
-use Rattle.rept_app.specs.Delivered.{Tells}
+use Rattle.rept_app.specs.Delivered.{SaysOrNoMemory}
 use Rattle.rept_app.specs.Ends.{Stopped, Yields, EndsSession, IsCaused, PortsEnd}
 use Rattle.rept_app.specs.Held.{IsHeldSession}
 use Rattle.rept_app.specs.Reading.{AreNotesOf}
@@ -44,14 +44,14 @@ use Rattle.rept_app.specs.declared.status.Status.TheVariants as ends
 use Rattle.rept_app.proofs.RunLemmas.{IsWhole, some_first}
 
 module _ {W : Type 0} (m : Means W) (crash : Crash) (run : Run) (reading : Reading) where
-  pub no_memory_studies : (text : List ℕ) (status : Status) → Tells refusal.OutOfMemory text status → Studies (crash_run m crash run) reading text status
+  pub no_memory_studies : (text : List ℕ) (status : Status) → SaysOrNoMemory refusal.OutOfMemory text status → Studies (crash_run m crash run) reading text status
   no_memory_studies text status (inl h) = inr (inr h)
   no_memory_studies text status (inr h) = inr (inr h)
 
-  pub conflict_studies : (kind : ConflictKind) (c : Contradiction) → c ≡ contradiction_on (course_of run) kind → ClosureHas (setting m crash (course_of run)) kind → (text : List ℕ) (status : Status) → Tells (refusal.Inconsistent c) text status → Studies (crash_run m crash run) reading text status
-  conflict_studies kind c same has text status told = by (subst (λ (x : Contradiction). Tells (refusal.Inconsistent x) text status) same told)
+  pub conflict_studies : (kind : ConflictKind) (c : Contradiction) → c ≡ contradiction_on (course_of run) kind → ClosureHas (setting m crash (course_of run)) kind → (text : List ℕ) (status : Status) → SaysOrNoMemory (refusal.Inconsistent c) text status → Studies (crash_run m crash run) reading text status
+  conflict_studies kind c same has text status told = by (subst (λ (x : Contradiction). SaysOrNoMemory (refusal.Inconsistent x) text status) same told)
     where
-      by : Tells (refusal.Inconsistent (contradiction_in (crash_run m crash run) kind)) text status → Studies (crash_run m crash run) reading text status
+      by : SaysOrNoMemory (refusal.Inconsistent (contradiction_in (crash_run m crash run) kind)) text status → Studies (crash_run m crash run) reading text status
       by (inl h) = inl (kind, has, h)
       by (inr h) = inr (inr h)
 
@@ -142,7 +142,7 @@ conflict_there {W} m t scene p kind at has = subst (λ (x : Trip W). ClosureHas 
 
 -- no execution of all threads, nor of the path that the run may be
 pub excluded_run : {W : Type 0} (m : Means W) (crash : Crash) (run : Run) (kind : ConflictKind) → IsWhole crash run → ClosureHas (setting m crash (course_of run)) kind → HasNoHistory (route m crash (course_of run))
-    → ((crash : Crash) (rows : List StepRow) (kind : ConflictKind) → ClosureHas (along (path_of m crash rows)) kind → HasNoExecution (path_of m crash rows)) → IsExcluded (crash_run m crash run)
+    → ((crash : Crash) (rows : List StepRow) (kind : ConflictKind) → ClosureHas (along (path_of m crash rows)) kind → HasNoExecutionOfPath (path_of m crash rows)) → IsExcluded (crash_run m crash run)
 excluded_run {W} m crash run kind whole has none excludes = record {
   threads = none;
   alone = λ rows one. excludes crash rows kind (subst (λ (S : Setting W). ClosureHas S kind) (alone_setting m rows crash (course_of run) one whole.noted) has);
@@ -164,6 +164,6 @@ module _ {W R : Type 0} (m : Means W) (dump : Dump) (run : Run) (ends_of : Ends)
   conflict_here kind has = conflict_there m (route m Crashed (course_of run)) (scene_of Crashed) p kind here has
 
   pub excluded_here : (kind : ConflictKind) → ClosureHas (setting_on (trip_in m p)) kind → HasNoHistory (trip_in m p)
-      → ((crash : Crash) (rows : List StepRow) (kind : ConflictKind) → ClosureHas (along (path_of m crash rows)) kind → HasNoExecution (path_of m crash rows)) → IsExcluded (crash_run m Crashed run)
+      → ((crash : Crash) (rows : List StepRow) (kind : ConflictKind) → ClosureHas (along (path_of m crash rows)) kind → HasNoExecutionOfPath (path_of m crash rows)) → IsExcluded (crash_run m Crashed run)
   excluded_here kind has none excludes =
       excluded_run m Crashed run kind (whole_fits dump run notes fits are) (conflict_here kind has) (subst (λ (t : Trip W). HasNoHistory t) here.trip none) excludes

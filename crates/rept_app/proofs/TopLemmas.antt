@@ -5,10 +5,10 @@ use Rattle.rept_ports.specs.Causes.{Rose, OneFault}
 use Rattle.rept_ports.specs.Port.{Port, Move, move}
 use Rattle.rept_ports.specs.Shelves.{Files, Shelved, IsOver}
 use Rattle.rept_steps.specs.declared.run.Run.{Run}
-use Rattle.rept_session.specs.Shown.{Told as SessionTold}
+use Rattle.rept_session.specs.Shown.{SessionTold}
 use Rattle.rept_found.specs.Telling.{told_on}
 use Rattle.rept_serve.specs.Serving.{Reading}
-use Rattle.rept_app.specs.Delivered.{Delivers, Says, Tells}
+use Rattle.rept_app.specs.Delivered.{Delivers, Says, SaysOrNoMemory}
 use Rattle.rept_app.specs.Ends.{Stopped, Yields, EndsSession, FaultEnds, PortsEnd}
 use Rattle.rept_app.specs.Held.{CutOff}
 use Rattle.rept_app.specs.Examine.{Examines, IsExamined, IsWalkStatus, FilesExclude, FilesHold}
@@ -18,7 +18,7 @@ use Rattle.rept_app.specs.Loading.Loading.{Refused, Loaded, LoadedCore, MadeRun}
 use Rattle.rept_app.specs.Mapped.{mapped_crash}
 use Rattle.rept_app.specs.MadeRun.{Sums}
 use Rattle.rept_app.specs.Claims.{ComeToReport, MadeHolds, AskedHolds, NoExecution}
-use Rattle.rept_app.specs.Told.{Given, given, ToldOf, IsCrashOf, summary_line, Opening, Writes, route_at}
+use Rattle.rept_app.specs.Told.{CallInput, call_input, ToldOf, IsCrashOf, summary_line, Opening, CallWrites, route_at}
 use Rattle.rept_app.specs.Top.{TopCauses, ShelfCauses, LacksFile, LoadEnds, LoadsOf, EndsAt, EndsByFiles, AskedEnds, NoneFails, Completes}
 use Rattle.rept_words.specs.Words.{CoreNames, Names, Meaning, meaning_of}
 use Rattle.rept_words.specs.Words.Meaning.{Open, Maps, Made}
@@ -234,8 +234,8 @@ module _ (words : List (List ℕ)) (files : Files) where
   made_ends seed steps status at so = subst (Ends status) (sym at) so
 
   module _ (shelf : Move Shelved) (source : Move Port) (input text : List ℕ) (status : Status) where
-    abbrev Here : Given
-    Here = given words files shelf (record { input = input; left = source.after.bytes })
+    abbrev Here : CallInput
+    Here = call_input words files shelf (record { input = input; left = source.after.bytes })
 
     abbrev Whole : Loading → Type 0
     Whole l = ToldOf Here l text status
@@ -243,20 +243,20 @@ module _ (words : List (List ℕ)) (files : Files) where
     says_so : (r s : Refusal) → r ≡ s → Says r text status → Says s text status
     says_so r s e h = subst (λ (x : Refusal). Says x text status) e h
 
-    pub refused_writes : (r : Refusal) → Stops shelf.before shelf.after r → Tells r text status → Writes Here text status
+    pub refused_writes : (r : Refusal) → Stops shelf.before shelf.after r → SaysOrNoMemory r text status → CallWrites Here text status
     refused_writes r h (inr s) = inr (inr (inl s))
     refused_writes r (inl (kind, e, inl (comes, loads))) (inl s) = inr (inl (inl (kind, comes, loads, says_so r (refusal.LoadFault kind) e s)))
     refused_writes r (inl (kind, e, inr (comes, loads))) (inl s) = inr (inl (inr (inl (kind, comes, loads, says_so r (refusal.LoadFault kind) e s))))
     refused_writes r (inr (inl e)) (inl s) = inr (inr (inl (says_so r refusal.OutOfMemory e s)))
     refused_writes r (inr (inr h)) (inl s) = inl (subst Whole (sym h) s)
 
-    pub examined_writes : (bytes : CrashBytes) → loading words files ≡ Loaded bytes → Examines bytes (record { input = input; left = source.after.bytes }) text status → Writes Here text status
+    pub examined_writes : (bytes : CrashBytes) → loading words files ≡ Loaded bytes → Examines bytes (record { input = input; left = source.after.bytes }) text status → CallWrites Here text status
     examined_writes bytes at (inl h) = inl (subst Whole (sym at) h)
     examined_writes bytes at (inr (inl h)) = inr (inr (inl h))
     examined_writes bytes at (inr (inr (notes, read, (run, a, is, account, cut)))) =
         inr (inr (inr (inl (opening bytes notes run, a, record { loaded = subst (λ (l : Loading). IsCrashOf files l bytes) (sym at) refl; read = read; told = is }, account, cut))))
 
-    pub made_writes : (seed steps : ℕ) → loading words files ≡ MadeRun seed steps → meaning_of words ≡ Some (Made seed steps) → Sums seed steps text status → Writes Here text status
+    pub made_writes : (seed steps : ℕ) → loading words files ≡ MadeRun seed steps → meaning_of words ≡ Some (Made seed steps) → Sums seed steps text status → CallWrites Here text status
     made_writes seed steps at named (inl h) = inl (subst Whole (sym at) h)
     made_writes seed steps at named (inr (inl says)) = inr (inr (inl says))
     made_writes seed steps at named (inr (inr cut)) = inr (inr (inr (inr (seed, steps, named, cut))))
@@ -291,7 +291,7 @@ cut_ends t reading text ends.OutputFault h = absurd h
 cut_ends t reading text ends.TooMuchInput h = absurd h
 
 -- what is written where no count rose
-pub completed : (g : Given) (shelf : Move Shelved) (source sink : Move Port) (status : Status) → TopCauses shelf source sink status → Delivers (Writes g) sink status → NoneFails shelf source sink → Completes g sink status
+pub completed : (g : CallInput) (shelf : Move Shelved) (source sink : Move Port) (status : Status) → TopCauses shelf source sink status → Delivers (CallWrites g) sink status → NoneFails shelf source sink → Completes g sink status
 completed g shelf source sink status c (inr h) calm_ports = absurd (calm_ports.written h.1.rose)
 completed g shelf source sink status c (inl (text, inl h, appended, calm)) calm_ports = inr (text, h, appended)
 completed g shelf source sink status c (inl (text, inr (inl failed), appended, calm)) calm_ports = absurd (calm_ports.loaded (c.load (load_ending g text status failed)))

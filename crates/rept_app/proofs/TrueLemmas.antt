@@ -7,7 +7,7 @@ use Rattle.rept_steps.specs.Runs.{course_of}
 use Rattle.rept_steps.specs.declared.run.Run.{Run}
 use Rattle.rept_order.specs.History.{Ending}
 use Rattle.rept_reason.specs.Facts.{Knowledge}
-use Rattle.rept_report.specs.Beside.{beside}
+use Rattle.rept_report.specs.Beside.{by_other_sets}
 use Rattle.rept_report.specs.Closure.{IsReport}
 use Rattle.rept_report.specs.Implied.{HasEnded, known_at_end}
 use Rattle.rept_report.specs.Knowing.{Extends}
@@ -33,7 +33,7 @@ use Rattle.rept_words.specs.declared.request.Domain.{Domain}
 use Rattle.rept_words.specs.declared.request.Domain.TheVariants as domain
 use Rattle.rept_app.specs.Claims.{BitsKnowMore, ReportHolds}
 use Rattle.rept_app.specs.Domains.{means_of}
-use Rattle.rept_app.specs.Told.{Opening, Reads, crash_at, crash_run, domain_at}
+use Rattle.rept_app.specs.Told.{Opening, ReadsNotes, crash_at, crash_run, domain_at}
 use Rattle.rept_app.specs.TraceRun.{IsRunOf}
 use Rattle.rept_app.specs.True.{IsTrue}
 use Rattle.rept_app.proofs.Notes.{some_said}
@@ -62,7 +62,7 @@ true_in_both ranges bits domain.Ranges = ranges
 true_in_both ranges bits domain.KnownBits = bits
 
 -- what files come to is such a run
-pub opened_whole : (o : Opening) → Reads o.bytes o.notes → IsRunOf (crash_at o) o.bytes.trace o.bytes.manner.from o.run → IsWhole (crash_at o) o.run
+pub opened_whole : (o : Opening) → ReadsNotes o.bytes o.notes → IsRunOf (crash_at o) o.bytes.trace o.bytes.manner.from o.run → IsWhole (crash_at o) o.run
 opened_whole o read told = whole_run (crash_at o) o.bytes.trace o.bytes.manner.from o.run (some_said (is_several o.bytes.trace) o.bytes.core o.notes read.noted) told
 
 -- so what is told of that of the files is true
@@ -73,7 +73,7 @@ reports_hold words files true_of o known opens report = true_of (domain_at o) (c
 abbrev pub FinerLaw : Type 0
 FinerLaw =
     (S : Setting Both) (es : List Entry) (tracked : ℕ → Bool) (K : Knowledge) → Uses S both_sets both_moves atomic_rules → IsFiner (kind both_sets both_moves) (kind range_sets range_moves) → HasEnded S es tracked
-    → IsReport (beside S range_sets range_moves) K → Extends K (known_at_end S es tracked)
+    → IsReport (by_other_sets S range_sets range_moves) K → Extends K (known_at_end S es tracked)
 
 pub bits_know : (words : List (List ℕ)) (files : Files) → FinerLaw → BitsKnowMore words files
 bits_know words files law o by_ranges by_bits opens r b p c v e =

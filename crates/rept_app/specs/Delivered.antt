@@ -22,5 +22,5 @@ pub record Says (r : Refusal) (text : List ℕ) (status : Status) : Type 0 where
   pub ending : status ≡ status_of r
 
 -- the same, or memory ran out
-abbrev pub Tells : Refusal → List ℕ → Status → Type 0
-Tells r text status = Says r text status ⊎ Says refusal.OutOfMemory text status
+abbrev pub SaysOrNoMemory : Refusal → List ℕ → Status → Type 0
+SaysOrNoMemory r text status = Says r text status ⊎ Says refusal.OutOfMemory text status

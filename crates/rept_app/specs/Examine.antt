@@ -13,7 +13,7 @@ use Rattle.rept_app.specs.Ends.{Yields, EndsSession, PortsEnd}
 use Rattle.rept_app.specs.Forms.{program_fault, core_image_fault, crash_in}
 use Rattle.rept_app.specs.Held.{CutOff}
 use Rattle.rept_app.specs.Loading.{CrashBytes}
-use Rattle.rept_app.specs.Told.{CrashRun, CoreSays, route_of, setting_of, CrashTrace, trace_in, run_in, Walked, Examined, Reads, IsAccountOf}
+use Rattle.rept_app.specs.Told.{CrashRun, CoreSays, route_of, setting_of, CrashTrace, trace_in, run_in, Walked, Examined, ReadsNotes, IsAccountOf}
 use Rattle.rept_app.specs.TraceRun.{IsRunOf, HasNoRunOf}
 use Rattle.rept_app.specs.True.{IsExcluded}
 use Rattle.rept_app.specs.declared.refusal.Refusal.TheVariants as refusal
@@ -32,7 +32,7 @@ Walks t reading text status = Walked t reading.input text status ⊎ Says refusa
 abbrev pub Examines : CrashBytes → Reading → List ℕ → Status → Type 0
 Examines bytes reading text status =
     Examined bytes reading.input text status ⊎ Says refusal.OutOfMemory text status
-    ⊎ ((notes : List (List ℕ)) × Reads bytes notes × WalkCut (trace_in bytes notes) reading text status)
+    ⊎ ((notes : List (List ℕ)) × ReadsNotes bytes notes × WalkCut (trace_in bytes notes) reading text status)
 
 -- how the analysis of a run ends the call
 pub record RunYields {W : Type 0} (p : CrashRun W) (status : Status) : Type 0 where
@@ -83,7 +83,7 @@ WalkHolds t status = ((run : Run) × IsRunOf t.crash t.trace t.manner.from run �
 -- the same of the files
 abbrev pub FilesHold : CrashBytes → Status → Type 0
 FilesHold bytes status =
-    ((notes : List (List ℕ)) × (run : Run) × Reads bytes notes × IsRunOf (crash_in bytes.program bytes.core notes) bytes.trace bytes.manner.from run × IsConsistent (setting_of (run_in (trace_in bytes notes) run)))
+    ((notes : List (List ℕ)) × (run : Run) × ReadsNotes bytes notes × IsRunOf (crash_in bytes.program bytes.core notes) bytes.trace bytes.manner.from run × IsConsistent (setting_of (run_in (trace_in bytes notes) run)))
     × EndsSession status
 
 -- no execution of the run ends in the crash
@@ -91,4 +91,4 @@ abbrev pub TraceExcludes : CrashTrace → Type 0
 TraceExcludes t = (run : Run) → IsRunOf t.crash t.trace t.manner.from run → IsExcluded (run_in t run)
 
 abbrev pub FilesExclude : CrashBytes → Type 0
-FilesExclude bytes = (notes : List (List ℕ)) → Reads bytes notes → TraceExcludes (trace_in bytes notes)
+FilesExclude bytes = (notes : List (List ℕ)) → ReadsNotes bytes notes → TraceExcludes (trace_in bytes notes)

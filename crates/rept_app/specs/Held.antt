@@ -1,7 +1,7 @@
 -- What a call writes that holds a session, and with which status: the answers, and after them the line of what ended it.
 use Rattle.std.specs.Prelude.{◌≡◌, ◌⊎◌, List, ◌++◌, ℕ}
-use Rattle.rept_session.specs.Shown.{Told}
-use Rattle.rept_serve.specs.Serving.{Reading, Ended, Failed, Overran, FirstAnswers}
+use Rattle.rept_session.specs.Shown.{SessionTold}
+use Rattle.rept_serve.specs.Serving.{Reading, InputEnded, Failed, Overran, FirstAnswers}
 use Rattle.rept_app.specs.Lines.{line_of}
 use Rattle.rept_app.specs.declared.refusal.Refusal.{Refusal}
 use Rattle.rept_app.specs.declared.refusal.Refusal.TheVariants as refusal
@@ -13,17 +13,17 @@ abbrev pub WithLine : Refusal → (List ℕ → Type 0) → List ℕ → Type 0
 WithLine r Answers text = (answered : List ℕ) × Answers answered × (text ≡ answered ++ line_of r)
 
 -- the answers to an input, or to as much of it as is taken
-abbrev pub Replies : Told → List ℕ → List ℕ → Status → Type 0
-Replies t input text ends.Ok = Ended t input text
+abbrev pub Replies : SessionTold → List ℕ → List ℕ → Status → Type 0
+Replies t input text ends.Ok = InputEnded t input text
 Replies t input text ends.TooMuchInput = WithLine refusal.TooMuchInput (Overran t input) text
 Replies t input text other = ⊥
 
 -- the input failed, or memory ran out
-abbrev pub CutOff : Told → Reading → List ℕ → Status → Type 0
+abbrev pub CutOff : SessionTold → Reading → List ℕ → Status → Type 0
 CutOff t reading text ends.InputFault = WithLine refusal.InputFault (Failed t reading) text
 CutOff t reading text ends.OutOfMemory = WithLine refusal.OutOfMemory (FirstAnswers t reading.input) text
 CutOff t reading text other = ⊥
 
 -- what a session leaves on the output, and its status: its answers, or what is written where the input fails or memory runs out
-abbrev pub IsHeldSession : Told → Reading → List ℕ → Status → Type 0
+abbrev pub IsHeldSession : SessionTold → Reading → List ℕ → Status → Type 0
 IsHeldSession t reading text status = Replies t reading.input text status ⊎ CutOff t reading text status

@@ -10,7 +10,7 @@ use Rattle.rept_app.specs.Examine.{FilesEnd, FilesExclude, FilesHold, IsWalkStat
 use Rattle.rept_app.specs.Forms.{core_image_fault}
 use Rattle.rept_app.specs.Loading.{CrashBytes, CoreBytes}
 use Rattle.rept_app.specs.Mapped.{MappedCrash, mapped_crash, mapped_bytes, IsMappedAs, ListSays, NameFails, NamesLoaded, NamesMove, name_line}
-use Rattle.rept_app.specs.Told.{MappedTold, Reads, trace_in}
+use Rattle.rept_app.specs.Told.{MappedTold, ReadsNotes, trace_in}
 use Rattle.rept_app.specs.declared.refusal.Refusal.TheVariants as refusal
 use Rattle.rept_app.specs.declared.status.Status.{Status}
 use Rattle.rept_app.specs.declared.status.Status.TheVariants as ends
@@ -28,7 +28,7 @@ mapped_call crash loads reading = record { crash = crash; loads = loads; reading
 abbrev pub ExaminesMapped : MappedCall → List ℕ → Status → Type 0
 ExaminesMapped c text status =
     MappedTold c.crash c.reading.input text status ⊎ Says refusal.OutOfMemory text status ⊎ NameFails c.crash c.loads text status
-    ⊎ ((bytes : CrashBytes) × (notes : List (List ℕ)) × IsMappedAs c.crash bytes × Reads bytes notes × WalkCut (trace_in bytes notes) c.reading text status)
+    ⊎ ((bytes : CrashBytes) × (notes : List (List ℕ)) × IsMappedAs c.crash bytes × ReadsNotes bytes notes × WalkCut (trace_in bytes notes) c.reading text status)
 
 -- how what the core file's list says ends the call
 abbrev pub ListEnds : MappedCrash → Result (List ℕ) MapFault → Status → Type 0
@@ -39,16 +39,16 @@ abbrev pub MappedEnd : MappedCrash → Status → Type 0
 MappedEnd m status = MatchOption (core_image_fault m.bytes.core) ((said : Result (List ℕ) MapFault) → ListSays m.bytes.core said → ListEnds m said status) (λ _. Yields ends.Core status)
 
 -- What a call does to its three ports.
-pub record Moves : Type 0 where
+pub record PortMoves : Type 0 where
   pub shelf : Move Shelved
   pub source : Move Port
   pub sink : Move Port
 
-abbrev pub moves : Move Shelved → Move Port → Move Port → Moves
-moves shelf source sink = record { shelf = shelf; source = source; sink = sink }
+abbrev pub port_moves : Move Shelved → Move Port → Move Port → PortMoves
+port_moves shelf source sink = record { shelf = shelf; source = source; sink = sink }
 
 -- Each fault has its cause, and each status comes where the core file and the files that it lists say so: where these are told, they decide on it, unless a load fails.
-pub record IsExaminedMapped (bytes : CoreBytes) (m : Moves) (status : Status) : Type 0 where
+pub record IsExaminedMapped (bytes : CoreBytes) (m : PortMoves) (status : Status) : Type 0 where
   pub ports : PortsEnd m.source m.sink status
   pub shelf : NamesMove m.shelf status
   pub loads : NamesLoaded bytes.core (move m.shelf.before.loads m.shelf.after.loads) status

@@ -4,43 +4,43 @@ use Rattle.std.specs.Prelude.{◌≡◌, ◌⊎◌, ℕ, List}
 use Rattle.std.specs.Io.KnownBytes.{Appends}
 use Rattle.rept_ports.specs.Port.{Port, Move}
 use Rattle.rept_found.specs.Telling.{Account, told_on}
-use Rattle.rept_serve.specs.Serving.{Ended}
+use Rattle.rept_serve.specs.Serving.{InputEnded}
 use Rattle.rept_make.specs.Made.{IsMade}
 use Rattle.rept_make.specs.declared.made.Made.{Made}
 use Rattle.rept_app.specs.Loading.{loading}
 use Rattle.rept_app.specs.Loading.Loading.{MadeRun}
-use Rattle.rept_app.specs.Told.{Given, Opening, Opens, OpensMade, IsAccountOf, run_at, route_at, summary_line}
+use Rattle.rept_app.specs.Told.{CallInput, Opening, Opens, OpensMade, IsAccountOf, run_at, route_at, summary_line}
 use Rattle.rept_app.specs.True.{IsExcluded, IsTrue}
 use Rattle.rept_app.specs.declared.status.Status.{Status}
 use Rattle.rept_app.specs.declared.status.Status.TheVariants as ends
 
 -- the crash that is opened, and the lines that are answered of it: the files that the words name, and the input; or the files of the
 -- made crash that they ask for, and the line `summary`
-abbrev pub IsOpened : Given → Opening → List ℕ → Type 0
+abbrev pub IsOpened : CallInput → Opening → List ℕ → Type 0
 IsOpened g o lines =
     (Opens g.words g.files o × (lines ≡ g.reading.input))
     ⊎ ((seed : ℕ) × (steps : ℕ) × (made : Made) × (loading g.words g.files ≡ MadeRun seed steps) × IsMade seed steps made × OpensMade made o × (lines ≡ summary_line))
 
 -- What was written is the answers to the lines, to their end or to `quit`, over the report of the run; and each register, byte, range
 -- and writer of that report holds in every execution of the run that ends in the crash.
-pub record IsAnswered (g : Given) (out : Move Port) : Type 0 where
+pub record IsAnswered (g : CallInput) (out : Move Port) : Type 0 where
   pub opening : Opening
   pub lines : List ℕ
   pub opened : IsOpened g opening lines
   pub account : Account
   pub report : IsAccountOf (run_at opening) account
   pub text : List ℕ
-  pub answers : Ended (told_on (route_at opening) account) lines text
+  pub answers : InputEnded (told_on (route_at opening) account) lines text
   pub written : Appends out.before.bytes out.after.bytes text
   pub holds : IsTrue (run_at opening) account.known
 
 -- the files tell a run, and no execution of it ends in the crash
-pub record IsImpossible (g : Given) : Type 0 where
+pub record IsImpossible (g : CallInput) : Type 0 where
   pub opening : Opening
   pub opened : Opens g.words g.files opening
   pub none : IsExcluded (run_at opening)
 
 -- status 0, and status 1
-pub record Promise (g : Given) (out : Move Port) (status : Status) : Type 0 where
+pub record Promise (g : CallInput) (out : Move Port) (status : Status) : Type 0 where
   pub answered : status ≡ ends.Ok → IsAnswered g out
   pub impossible : status ≡ ends.Inconsistent → IsImpossible g

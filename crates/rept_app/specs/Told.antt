@@ -139,8 +139,8 @@ pub record ReadsAs (many : Bool) (bytes : CrashBytes) (notes : List (List ℕ)) 
   pub noted : NotesSay many bytes.core (Ok notes)
 
 -- as the trace asks for it
-abbrev pub Reads : CrashBytes → List (List ℕ) → Type 0
-Reads bytes notes = ReadsAs (is_several bytes.trace) bytes notes
+abbrev pub ReadsNotes : CrashBytes → List (List ℕ) → Type 0
+ReadsNotes bytes notes = ReadsAs (is_several bytes.trace) bytes notes
 
 -- the bytes of a crash, the descriptors of the register notes, and a run
 pub record Opening : Type 0 where
@@ -174,13 +174,13 @@ IsCrashOf files (MadeRun seed steps) bytes = ⊥
 -- the words and the files come to it: the files are accepted, this is what the notes hold, and the trace tells this run
 pub record Opens (words : List (List ℕ)) (files : Files) (o : Opening) : Type 0 where
   pub loaded : IsCrashOf files (loading words files) o.bytes
-  pub read : Reads o.bytes o.notes
+  pub read : ReadsNotes o.bytes o.notes
   pub told : IsRunOf (crash_at o) o.bytes.trace o.bytes.manner.from o.run
 
 -- the files of a made crash come to it
 pub record OpensMade (made : Made) (o : Opening) : Type 0 where
   pub bytes : o.bytes ≡ made_bytes made
-  pub read : Reads o.bytes o.notes
+  pub read : ReadsNotes o.bytes o.notes
   pub told : IsRunOf (crash_at o) o.bytes.trace o.bytes.manner.from o.run
 
 -- the session over the report of a made run was cut short
@@ -191,14 +191,14 @@ SumCut seed steps text status =
 
 -- What a call was given, where its ports tell it: its words, the files, how many loads the shelf was asked for before the call and
 -- after it, and the bytes of the input with those that are left of it.
-pub record Given : Type 0 where
+pub record CallInput : Type 0 where
   pub words : List (List ℕ)
   pub files : Files
   pub loads : Move ℕ
   pub reading : Reading
 
-abbrev pub given : List (List ℕ) → Files → Move Shelved → Reading → Given
-given words files shelf reading = record {
+abbrev pub call_input : List (List ℕ) → Files → Move Shelved → Reading → CallInput
+call_input words files shelf reading = record {
   words = words;
   files = files;
   loads = move shelf.before.loads shelf.after.loads;
@@ -206,7 +206,7 @@ given words files shelf reading = record {
 }
 
 -- what is written of what was loaded
-abbrev pub ToldOf : Given → Loading → List ℕ → Status → Type 0
+abbrev pub ToldOf : CallInput → Loading → List ℕ → Status → Type 0
 ToldOf g (Refused r) text status = Says r text status
 ToldOf g (Loaded bytes) text status = Examined bytes g.reading.input text status
 ToldOf g (LoadedCore bytes) text status = MappedTold (mapped_crash g.files bytes) g.reading.input text status
@@ -214,19 +214,19 @@ ToldOf g (MadeRun seed steps) text status = Summed seed steps text status
 
 -- Words, files and input that are all there: the text that is written, and the status. The cases stand in the order in which
 -- they are looked at: the words, the files, the executable, the core file, its list of mapped files where the words ask for it, the trace and its path, the analysis, the input.
-abbrev pub Told : Given → List ℕ → Status → Type 0
-Told g text status = ToldOf g (loading g.words g.files) text status
+abbrev pub CallTold : CallInput → List ℕ → Status → Type 0
+CallTold g text status = ToldOf g (loading g.words g.files) text status
 
 -- A load failed, which is that of the file that the line names: one of three, one of two, or one of those that the core file lists. Those of the command line that come before it
 -- are there and within their limits.
-abbrev pub LoadFailed : Given → List ℕ → Status → Type 0
+abbrev pub LoadFailed : CallInput → List ℕ → Status → Type 0
 LoadFailed g text status =
     ((kind : FileKind) × ComesTo g.words g.files kind × (g.loads.after ≡ loads_to kind g.loads.before) × Says (refusal.LoadFault kind) text status)
     ⊎ ((kind : FileKind) × ComesToCore g.words g.files kind × (g.loads.after ≡ core_loads_to kind g.loads.before) × Says (refusal.LoadFault kind) text status)
     ⊎ ((core : CoreBytes) × (loading g.words g.files ≡ LoadedCore core) × NameFails (mapped_crash g.files core) (move (core_loads_to file.Trace g.loads.before) g.loads.after) text status)
 
 -- A call that was cut short: a load failed; memory ran out; or, where all came to a report, the session was cut short; or that over a made run was.
-abbrev pub Interrupted : Given → List ℕ → Status → Type 0
+abbrev pub Interrupted : CallInput → List ℕ → Status → Type 0
 Interrupted g text status =
     LoadFailed g text status
     ⊎ Says refusal.OutOfMemory text status
@@ -234,5 +234,5 @@ Interrupted g text status =
     ⊎ ((seed : ℕ) × (steps : ℕ) × (meaning_of g.words ≡ Some (MadeWords seed steps)) × SumCut seed steps text status)
 
 -- what is written where the output doesn't fail
-abbrev pub Writes : Given → List ℕ → Status → Type 0
-Writes g text status = Told g text status ⊎ Interrupted g text status
+abbrev pub CallWrites : CallInput → List ℕ → Status → Type 0
+CallWrites g text status = CallTold g text status ⊎ Interrupted g text status

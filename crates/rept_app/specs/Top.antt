@@ -11,7 +11,7 @@ use Rattle.rept_app.specs.Loading.{Loading, loading, Fits, FitBefore, CoreFitBef
 use Rattle.rept_app.specs.Loading.Loading.{Refused, Loaded, LoadedCore, MadeRun}
 use Rattle.rept_app.specs.Mapped.{mapped_crash, NamesLoaded}
 use Rattle.rept_app.specs.MappedEnds.{MappedEnd}
-use Rattle.rept_app.specs.Told.{Given, Told}
+use Rattle.rept_app.specs.Told.{CallInput, CallTold}
 use Rattle.rept_words.specs.Words.{CoreNames, Names, Meaning}
 use Rattle.rept_words.specs.Words.Meaning.{Open, Maps, Made}
 use Rattle.rept_app.specs.declared.refusal.FileKind.{FileKind}
@@ -101,8 +101,8 @@ pub record NoneFails (shelf : Move Shelved) (source sink : Move Port) : Type 0 w
   pub written : Rose sink.before.faults sink.after.faults → ⊥
 
 -- all of the text is written, or memory ran out
-abbrev pub Completes : Given → Move Port → Status → Type 0
-Completes g sink status = (status ≡ ends.OutOfMemory) ⊎ ((text : List ℕ) × Told g text status × Appends sink.before.bytes sink.after.bytes text)
+abbrev pub Completes : CallInput → Move Port → Status → Type 0
+Completes g sink status = (status ≡ ends.OutOfMemory) ⊎ ((text : List ℕ) × CallTold g text status × Appends sink.before.bytes sink.after.bytes text)
 
 -- how words that ask for a made run end the call: well, whatever the ports are, unless the output fails or memory runs out
 abbrev pub AskedEnds : Option Meaning → Status → Type 0

@@ -13,7 +13,7 @@ ghost use Rattle.rept_app.specs.Examine.{Examines, FilesExclude, FilesHold, IsEx
 ghost use Rattle.rept_app.specs.Forms.{core_image_fault};
 ghost use Rattle.rept_app.specs.Loading.{core_bytes, parts_bytes};
 ghost use Rattle.rept_app.specs.Mapped.{ListSays, mapped_crash, name_line};
-ghost use Rattle.rept_app.specs.MappedEnds.{ExaminesMapped, IsExaminedMapped, MappedExcludes, MappedHolds, TellsName, mapped_call, moves};
+ghost use Rattle.rept_app.specs.MappedEnds.{ExaminesMapped, IsExaminedMapped, MappedExcludes, MappedHolds, TellsName, mapped_call, port_moves};
 
 use crate::examine::walk;
 use crate::load::CoreFiles;
@@ -41,7 +41,7 @@ pub fn examine_mapped<H: Shelf, S: Source, K: Sink>(
     requires { length files.now.trace.items < 2 ^ 32 }
     ensures text { let bytes = core_bytes files.now.core.items files.now.trace.items files.now.manner in IfSome (H.port shelf.old).files (λ told. IfSome (S.port input.old).bytes (λ left.
         Delivers (ExaminesMapped (mapped_call (mapped_crash told bytes) (move (H.port shelf.old).loads (H.port shelf.new).loads) (record { input = left; left = (S.port input.new).bytes }))) (move (K.port out.old) (K.port out.new)) result)) }
-    ensures causes { IsExaminedMapped (core_bytes files.now.core.items files.now.trace.items files.now.manner) (moves (move (H.port shelf.old) (H.port shelf.new)) (move (S.port input.old) (S.port input.new)) (move (K.port out.old) (K.port out.new))) result }
+    ensures causes { IsExaminedMapped (core_bytes files.now.core.items files.now.trace.items files.now.manner) (port_moves (move (H.port shelf.old) (H.port shelf.new)) (move (S.port input.old) (S.port input.new)) (move (K.port out.old) (K.port out.new))) result }
     ensures stays { let bytes = core_bytes files.now.core.items files.now.trace.items files.now.manner in (input.new ≡ input.old) ⊎ (EndsSession result × IfSome (H.port shelf.old).files (λ told. MappedHolds (mapped_crash told bytes) result)) }
     ensures impossible { let bytes = core_bytes files.now.core.items files.now.trace.items files.now.manner in result ≡ Status.Inconsistent → IfSome (H.port shelf.old).files (λ told. MappedExcludes (mapped_crash told bytes)) }
 {
@@ -71,7 +71,7 @@ fn study_mapped<H: Shelf, S: Source, K: Sink>(
     requires only { (said : Result (List ℕ) MapFault) → ListSays (file_of core) said → said ≡ Ok (desc_of maps) }
     ensures text { let bytes = core_bytes (file_of core.entry) files.now.trace.items files.now.manner in IfSome (H.port shelf.old).files (λ told. IfSome (S.port input.old).bytes (λ left.
         Delivers (ExaminesMapped (mapped_call (mapped_crash told bytes) (move (H.port shelf.old).loads (H.port shelf.new).loads) (record { input = left; left = (S.port input.new).bytes }))) (move (K.port out.old) (K.port out.new)) result)) }
-    ensures causes { IsExaminedMapped (core_bytes (file_of core.entry) files.now.trace.items files.now.manner) (moves (move (H.port shelf.old) (H.port shelf.new)) (move (S.port input.old) (S.port input.new)) (move (K.port out.old) (K.port out.new))) result }
+    ensures causes { IsExaminedMapped (core_bytes (file_of core.entry) files.now.trace.items files.now.manner) (port_moves (move (H.port shelf.old) (H.port shelf.new)) (move (S.port input.old) (S.port input.new)) (move (K.port out.old) (K.port out.new))) result }
     ensures stays { let bytes = core_bytes (file_of core.entry) files.now.trace.items files.now.manner in (input.new ≡ input.old) ⊎ (EndsSession result × IfSome (H.port shelf.old).files (λ told. MappedHolds (mapped_crash told bytes) result)) }
     ensures impossible { let bytes = core_bytes (file_of core.entry) files.now.trace.items files.now.manner in result ≡ Status.Inconsistent → IfSome (H.port shelf.old).files (λ told. MappedExcludes (mapped_crash told bytes)) }
 {

@@ -2,7 +2,7 @@
 
 ghost use Rattle.std.specs.Prelude.{◌≡◌};
 ghost use Rattle.rept_ports.specs.Port.{move};
-ghost use Rattle.rept_app.specs.Delivered.{Delivers, Says, Tells};
+ghost use Rattle.rept_app.specs.Delivered.{Delivers, Says, SaysOrNoMemory};
 
 use crate::refusal::Refusal;
 use crate::status::Status;
@@ -12,7 +12,7 @@ use std::alloc::Global;
 /// Writes the line of a refusal and answers its status; where memory runs out, the line and status of that; where the output
 /// fails, its status.
 pub fn tell<K: Sink>(alloc: Global, out: &mut K, refusal: &Refusal) -> Status
-    ensures { Delivers (Tells refusal.now) (move (K.port out.old) (K.port out.new)) result }
+    ensures { Delivers (SaysOrNoMemory refusal.now) (move (K.port out.old) (K.port out.new)) result }
 {
     match refusal.line(alloc) {
         Ok(line) => deliver(out, line.bytes(), refusal.status()),

@@ -12,7 +12,7 @@ ghost use Rattle.rept_app.specs.Ends.{EndsSession};
 ghost use Rattle.rept_app.specs.Loading.{NamesNone};
 ghost use Rattle.rept_app.specs.Promise.{Promise};
 ghost use Rattle.rept_app.specs.Claims.{AskedHolds, BitsKnowMore, ComeToReport, ReportHolds, NoExecution};
-ghost use Rattle.rept_app.specs.Told.{Writes, given};
+ghost use Rattle.rept_app.specs.Told.{CallWrites, call_input};
 ghost use Rattle.rept_app.specs.Top.{AskedEnds, FaultsEnd, ShelfCauses, TopCauses, LoadsOf, EndsByFiles, NoneFails, Completes};
 ghost use Rattle.rept_words.specs.Words.{meaning_of};
 
@@ -51,7 +51,7 @@ pub fn rept<H: Shelf, S: Source, K: Sink>(
     // Where the files and the input are told: at status 0 what was written is the answers of a session over the report of the files, and each
     // register, byte, range, known bit and writer of that report holds in every execution of the run that ends in the crash, whatever the order in which its threads took turns; at status 1 there is none.
     ensures promise { IfSome (H.port shelf.old).files (λ files. IfSome (S.port input.old).bytes (λ left.
-        Promise (given (map string_bytes words.now) files (move (H.port shelf.old) (H.port shelf.new)) (record { input = left; left = (S.port input.new).bytes })) (move (K.port out.old) (K.port out.new)) result)) }
+        Promise (call_input (map string_bytes words.now) files (move (H.port shelf.old) (H.port shelf.new)) (record { input = left; left = (S.port input.new).bytes })) (move (K.port out.old) (K.port out.new)) result)) }
 
     // Each fault has its cause, for ports that tell their bytes and for ports that don't, and one of the input or the output ends the call. The files stay.
     ensures causes { TopCauses (move (H.port shelf.old) (H.port shelf.new)) (move (S.port input.old) (S.port input.new)) (move (K.port out.old) (K.port out.new)) result }
@@ -75,11 +75,11 @@ pub fn rept<H: Shelf, S: Source, K: Sink>(
 
     // What is written, where files and input tell their bytes.
     ensures text { IfSome (H.port shelf.old).files (λ files. IfSome (S.port input.old).bytes (λ left.
-        Delivers (Writes (given (map string_bytes words.now) files (move (H.port shelf.old) (H.port shelf.new)) (record { input = left; left = (S.port input.new).bytes }))) (move (K.port out.old) (K.port out.new)) result)) }
+        Delivers (CallWrites (call_input (map string_bytes words.now) files (move (H.port shelf.old) (H.port shelf.new)) (record { input = left; left = (S.port input.new).bytes }))) (move (K.port out.old) (K.port out.new)) result)) }
 
     // Where no count rose, all of it is written, or memory ran out.
     ensures complete { IfSome (H.port shelf.old).files (λ files. IfSome (S.port input.old).bytes (λ left.
-        NoneFails (move (H.port shelf.old) (H.port shelf.new)) (move (S.port input.old) (S.port input.new)) (move (K.port out.old) (K.port out.new)) → Completes (given (map string_bytes words.now) files (move (H.port shelf.old) (H.port shelf.new)) (record { input = left; left = (S.port input.new).bytes })) (move (K.port out.old) (K.port out.new)) result)) }
+        NoneFails (move (H.port shelf.old) (H.port shelf.new)) (move (S.port input.old) (S.port input.new)) (move (K.port out.old) (K.port out.new)) → Completes (call_input (map string_bytes words.now) files (move (H.port shelf.old) (H.port shelf.new)) (record { input = left; left = (S.port input.new).bytes })) (move (K.port out.old) (K.port out.new)) result)) }
 
     // A made run: nothing is loaded or read, and the status is `Ok` unless the output fails or memory runs out. An execution of its
     // path ends in the dump, and what is told holds in it.

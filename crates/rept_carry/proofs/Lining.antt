@@ -9,7 +9,7 @@ use Rattle.rept_report.specs.Timeline.{IsJoined, IsLine}
 use Rattle.rept_report.proofs.Line.{next_is, is_next}
 use Rattle.rept_moments.specs.Seen.{IsNextFrom}
 use Rattle.rept_moments.proofs.Places.{get_end, get_before}
-use Rattle.rept_carry.specs.Lines.{IsRun, AreLinesBelow, whole}
+use Rattle.rept_carry.specs.Lines.{IsLineFrom, AreLinesBelow, whole}
 
 some_same : {x y : Line} → Some x ≡ Some y → x ≡ y
 some_same e = cc
@@ -59,13 +59,13 @@ module _ (M : Moments) where
   pub not_joined : (m next : ℕ) → M.next m next ≡ true → (next ≡ m + 1 → ⊥) → IsJoined M m → ⊥
   not_joined m next e other its = other (its.only next e)
 
-  pub first_line : (last : ℕ) → IsRun M 0 last → IsLine M 0 (whole last)
+  pub first_line : (last : ℕ) → IsLineFrom M 0 last → IsLine M 0 (whole last)
   first_line last run = record { from = omega arith; to = run.up; inside = run.inside; joined = run.joined; begins = λ k same its. absurd (omega arith); ends = run.ends }
 
   pub line_same : (m : ℕ) (x : Line) → m < x.last → IsLine M m x → IsLine M (m + 1) x
   line_same m x less its = record { from = let low = its.from in omega arith; to = omega arith; inside = its.inside; joined = its.joined; begins = its.begins; ends = its.ends }
 
-  pub line_more : (m last : ℕ) (x : Line) → x.last ≤ m → IsLine M m x → IsRun M (m + 1) last → IsLine M (m + 1) (record { first = m + 1; last = last })
+  pub line_more : (m last : ℕ) (x : Line) → x.last ≤ m → IsLine M m x → IsLineFrom M (m + 1) last → IsLine M (m + 1) (record { first = m + 1; last = last })
   line_more m last x over its run =
       let same : x.last ≡ m = let to = its.to in omega arith in
       record {

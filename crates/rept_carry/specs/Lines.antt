@@ -7,7 +7,7 @@ use Rattle.rept_carry.specs.declared.lines.Lines.{Lines}
 use Rattle.rept_carry.specs.declared.lines.Lines as lines
 
 -- each number from the first on is joined to the one after it, but the last isn't
-pub record IsRun (M : Moments) (first last : ℕ) : Type 0 where
+pub record IsLineFrom (M : Moments) (first last : ℕ) : Type 0 where
   pub up : first ≤ last
   pub inside : last ≤ M.end
   pub joined : (k : ℕ) → first ≤ k → k < last → IsJoined M k

@@ -4,7 +4,7 @@ ghost use Rattle.std.specs.Prelude.{◌≡◌, ◌≤◌, ◌<◌, ◌+◌, ℕ,
 ghost use Rattle.rept_report.specs.Moments.{Moments, AreMoments};
 ghost use Rattle.rept_report.specs.Timeline.{IsJoined, IsLine};
 ghost use Rattle.rept_moments.specs.Courses.{seen_in, is_one};
-ghost use Rattle.rept_carry.specs.Lines.{IsRun, AreLinesBelow, AreLines, IsIn};
+ghost use Rattle.rept_carry.specs.Lines.{IsLineFrom, AreLinesBelow, AreLines, IsIn};
 
 use rept_moments::Course;
 use rept_report::paths::Line;
@@ -69,7 +69,7 @@ fn is_joined(course: &Course<'_>, number: u32) -> bool
 fn last_from(course: &Course<'_>, first: u32) -> u32
     requires inside { first ≤ (seen_in course.now).moments.end }
     requires laws { AreMoments (seen_in course.now).legs (seen_in course.now).moments }
-    ensures { IsRun (seen_in course.now).moments first result }
+    ensures { IsLineFrom (seen_in course.now).moments first result }
 {
     let end = course.end();
     let mut last = first;

@@ -21,7 +21,7 @@ use Rattle.rept_machine.proofs.StepLaws.{written_by_registers}
 use Rattle.rept_order.proofs.Points.{writes_store}
 use Rattle.rept_order.specs.Writing.{WritesBy}
 use Rattle.rept_order.specs.Interleaved as interleaved
-use Rattle.rept_order.specs.Interleaved.{IsRun, leg_of, WritesIn}
+use Rattle.rept_order.specs.Interleaved.{IsCourseRun, leg_of, WritesIn}
 use Rattle.rept_order.proofs.Falling.{falls_from}
 use Rattle.rept_order.proofs.Legs.{number_point, point_number, thread_inside}
 use Rattle.rept_partial.specs.Sets.{Sets}
@@ -59,7 +59,7 @@ point_inside (thread ∷ threads) g below =
       | inr early ↦ rw (le-ltb (length thread.steps) g early) (omega arith, early)
     ]
 
-module _ {W : Type 0} (sets : Sets W) (moves : Moves W) (rules : Rules) (C : Course) (D : Ending) (N : Names) (run : interleaved.Run) (sound : IsSound C) (names : AreNames C N) (threads : 0 < length C.threads) (x : IsRun C D run) where
+module _ {W : Type 0} (sets : Sets W) (moves : Moves W) (rules : Rules) (C : Course) (D : Ending) (N : Names) (run : interleaved.CourseRun) (sound : IsSound C) (names : AreNames C N) (threads : 0 < length C.threads) (x : IsCourseRun C D run) where
   abbrev S : Setting W
   S = setting_of sets moves rules C D N
 

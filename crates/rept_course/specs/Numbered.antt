@@ -68,5 +68,5 @@ setting_of sets moves rules C D N = record {
 }
 
 -- a run by points and names
-abbrev pub run_seen : Names → interleaved.Run → Run
+abbrev pub run_seen : Names → interleaved.CourseRun → Run
 run_seen N run = record { register = run.register; memory = λ n. run.memory (N.last n) }

@@ -4,7 +4,7 @@ ghost use Rattle.std.specs.Prelude.{◌≡◌, ◌<◌, ◌↔◌, ◌&&◌, not
 ghost use Rattle.rept_steps.specs.Course.{Course, Row, IsRow, IsSound};
 ghost use Rattle.rept_order.specs.Moments.{Moment, IsMoment, Act, WhollyBefore, WhollyAfter, Stretch, stretch, stores, IsQuietStep};
 ghost use Rattle.rept_order.specs.History.{History, Ending, IsExecution};
-ghost use Rattle.rept_order.specs.Interleaved.{IsRun, Run, run_of};
+ghost use Rattle.rept_order.specs.Interleaved.{CourseRun, IsCourseRun, run_of_history};
 ghost use Rattle.rept_reason.specs.Facts.{Knowledge};
 ghost use Rattle.rept_span.specs.Ranges.{AreLegs};
 ghost use Rattle.rept_report.specs.Moments.{AreMoments};
@@ -30,8 +30,8 @@ pub fn names_are_moments<W: Transfer, R: RowRules>()
 /// Each execution of a course that has a thread is a run of its setting, by registers at points and the memory at names; and so is
 /// each run as the course's definitions have it.
 pub fn executions_are_seen<W: Transfer, R: RowRules>()
-    ensures runs { (C : Course) (D : Ending) (N : Names) (run : Run) → IsSound C → AreNames C N → 0 < length C.threads → IsRun C D run → Runs (setting_of W.sets W.moves R.rules C D N) (run_seen N run) }
-    ensures executions { (C : Course) (D : Ending) (N : Names) (h : History) → IsSound C → AreNames C N → 0 < length C.threads → IsExecution C D h → Runs (setting_of W.sets W.moves R.rules C D N) (run_seen N (run_of C h)) }
+    ensures runs { (C : Course) (D : Ending) (N : Names) (run : CourseRun) → IsSound C → AreNames C N → 0 < length C.threads → IsCourseRun C D run → Runs (setting_of W.sets W.moves R.rules C D N) (run_seen N run) }
+    ensures executions { (C : Course) (D : Ending) (N : Names) (h : History) → IsSound C → AreNames C N → 0 < length C.threads → IsExecution C D h → Runs (setting_of W.sets W.moves R.rules C D N) (run_seen N (run_of_history C h)) }
 {}
 
 /// Each sound course has names for its moments: by any list of them, and so by that of all, thread by thread.

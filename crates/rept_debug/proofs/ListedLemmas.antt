@@ -18,7 +18,7 @@ use Rattle.rept_app.specs.Lines.{status_of}
 use Rattle.rept_app.specs.Loading.{CoreBytes, LoadsBoth, ShelfMoves, core_loads_to, parts_bytes}
 use Rattle.rept_app.specs.Mapped.{ListSays, MappedCrash, mapped_bytes, mapped_crash, mapped_files}
 use Rattle.rept_app.specs.Reading.{NotesSay}
-use Rattle.rept_app.specs.Told.{CrashTrace, Reads, crash_trace}
+use Rattle.rept_app.specs.Told.{CrashTrace, ReadsNotes, crash_trace}
 use Rattle.rept_app.specs.Top.{FaultsEnd}
 use Rattle.rept_app.specs.declared.refusal.FileKind.TheVariants as file
 use Rattle.rept_app.specs.declared.refusal.Refusal.{Refusal}
@@ -32,7 +32,7 @@ use Rattle.rept_debug.specs.declared.talk.Talk.{Talk}
 -- of a dump of mapped files: what was held over its trace was held over these
 module _ (ms : List Mapping) (b : CoreBytes) (dump : Dump) (notes : List (List ℕ)) (trace : List ℕ) (program : exe_of dump ≡ MappedFiles ms) (core : core_of dump ≡ segments b.core) (same : trace ≡ b.trace)
     (accepted : core_image_fault b.core ≡ None) (said : NotesSay (is_several b.trace) b.core (Ok notes)) where
-  read_parts : Reads (parts_bytes ms b) notes
+  read_parts : ReadsNotes (parts_bytes ms b) notes
   read_parts = record { program_accepted = refl; core_accepted = accepted; noted = said }
 
   pub held_parts : (io : Streams) (talk : Talk) → IsHeldTrace (crash_trace (crash_of dump notes) trace b.manner) io talk → IsHeld (parts_bytes ms b) io talk

@@ -45,7 +45,7 @@ pub record IsLongToTheEnd (crash : Crash) (trace : List ℕ) (fault : PathFault)
 
 -- the run from a packet has another fault than that; the packet is between one from which the run has too many steps, and one from which there is
 -- a run, or no start
-pub record IsCut (crash : Crash) (trace : List ℕ) (fault : PathFault) : Type 0 where
+pub record IsBetween (crash : Crash) (trace : List ℕ) (fault : PathFault) : Type 0 where
   pub low : ℕ
   pub from : ℕ
   pub high : ℕ
@@ -62,7 +62,7 @@ pub record IsCut (crash : Crash) (trace : List ℕ) (fault : PathFault) : Type 0
 abbrev pub NeverBegins : Crash → List ℕ → ℕ → PathFault → Type 0
 NeverBegins crash trace asked fault =
     (HasNoRunOf crash trace asked fault × ((0 < asked) ⊎ ((packet : ℕ) → fault ≢ TooLong packet)))
-    ⊎ ((asked ≡ 0) × IsTooLong crash trace 0 × (IsLongToTheEnd crash trace fault ⊎ IsCut crash trace fault))
+    ⊎ ((asked ≡ 0) × IsTooLong crash trace 0 × (IsLongToTheEnd crash trace fault ⊎ IsBetween crash trace fault))
 
 -- what is begun of a trace, where a packet is asked for: a run of it, from that packet or a later one; or why there is none. Want of memory is none of the definition's.
 pub record AreBegun (crash : Crash) (trace : List ℕ) (asked : ℕ) (result : Result Begun PathFault) : Type 0 where

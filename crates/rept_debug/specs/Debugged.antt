@@ -23,7 +23,7 @@ use Rattle.rept_app.specs.Loading.{CrashBytes, CoreBytes, ComesTo, ComesToCore, 
 use Rattle.rept_app.specs.Loading.Loading.{Loaded, LoadedCore, MadeRun, Refused}
 use Rattle.rept_app.specs.Mapped.{IsMappedAs, ListSays, MappedCrash, mapped_bytes, mapped_crash}
 use Rattle.rept_app.specs.Reading.{HasNoCrash}
-use Rattle.rept_app.specs.Told.{CrashRun, CrashTrace, IsAccountOf, IsCrashOf, Reads, contradiction_in, route_of, run_in, setting_of, trace_in}
+use Rattle.rept_app.specs.Told.{CrashRun, CrashTrace, IsAccountOf, IsCrashOf, ReadsNotes, contradiction_in, route_of, run_in, setting_of, trace_in}
 use Rattle.rept_app.specs.TraceRun.{IsRunOf}
 use Rattle.rept_app.specs.True.{IsExcluded, IsTrue}
 use Rattle.rept_app.specs.declared.refusal.FileKind.{FileKind}
@@ -99,12 +99,12 @@ IsRefusedTrace t r =
 -- the files are accepted, and their trace was answered
 pub record IsHeld (bytes : CrashBytes) (io : Streams) (talk : Talk) : Type 0 where
   pub notes : List (List ℕ)
-  pub read : Reads bytes notes
+  pub read : ReadsNotes bytes notes
   pub held : IsHeldTrace (trace_in bytes notes) io talk
 
 -- the files are refused; or their trace is
 abbrev pub IsRefusedCrash : CrashBytes → Refusal → Type 0
-IsRefusedCrash bytes r = HasNoCrash (is_several bytes.trace) bytes r ⊎ ((notes : List (List ℕ)) × Reads bytes notes × IsRefusedTrace (trace_in bytes notes) r)
+IsRefusedCrash bytes r = HasNoCrash (is_several bytes.trace) bytes r ⊎ ((notes : List (List ℕ)) × ReadsNotes bytes notes × IsRefusedTrace (trace_in bytes notes) r)
 
 -- the core file and its list are accepted, and the trace was answered over the crash with the files of that list
 pub record IsHeldMapped (m : MappedCrash) (io : Streams) (talk : Talk) : Type 0 where

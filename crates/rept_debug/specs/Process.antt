@@ -8,7 +8,7 @@ use Rattle.rept_ports.specs.declared.arguments.Unreadable.TheVariants.{NotText, 
 use Rattle.rept_remote.specs.declared.arrival.Ending.TheVariants as ending
 use Rattle.rept_dialog.specs.declared.conversation.Conversed.{Conversed}
 use Rattle.rept_dialog.specs.declared.conversation.Conversed.TheVariants as conversed
-use Rattle.rept_app.specs.Delivered.{Delivers, Tells}
+use Rattle.rept_app.specs.Delivered.{Delivers, SaysOrNoMemory}
 use Rattle.rept_app.specs.MappedEnds.{TellsName}
 use Rattle.rept_app.specs.Status.{number_of_status}
 use Rattle.rept_app.specs.declared.refusal.Refusal.{Refusal}
@@ -53,7 +53,7 @@ status_of_end conversed.OutOfMemory = ends.OutOfMemory
 -- the line of a refusal: that of a session, or, of words, this program's own
 abbrev pub TellsRefusal : Refusal → List ℕ → Status → Type 0
 TellsRefusal refusal.Usage text status = text ≡ codes "usage: rept_gdb EXE CORE TRACE [FROM] | rept_gdb maps CORE TRACE [FROM]" ++ 10 ∷ []
-TellsRefusal r text status = Tells r text status
+TellsRefusal r text status = SaysOrNoMemory r text status
 
 -- why no dialog is held
 abbrev pub TellsNoTalk : NoTalk → List ℕ → Status → Type 0

@@ -10,7 +10,7 @@ use Rattle.rept_remote.specs.Frames.{Arrived, Arrives, IsPart, arrived}
 use Rattle.rept_remote.specs.Reading.{Comes, Passed, Reader, Reads, most_input, taking}
 use Rattle.rept_remote.specs.declared.arrival.Arrival.{Arrival}
 use Rattle.rept_remote.specs.declared.arrival.Ending.{Ending}
-use Rattle.rept_dialog.specs.Converse.{Progress, Parties, Ended, Broke}
+use Rattle.rept_dialog.specs.Converse.{Progress, Parties, TalkEnded, Broke}
 use Rattle.rept_dialog.specs.Converse as dialogs
 use Rattle.rept_dialog.specs.Dialog.{IsTurn}
 use Rattle.rept_dialog.specs.Dialog.Talks.{begun, turn}

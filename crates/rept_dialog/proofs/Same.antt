@@ -9,7 +9,7 @@ use Rattle.rept_request.specs.declared.request.Request.{Request}
 use Rattle.rept_request.specs.declared.request.Request.TheVariants as request
 use Rattle.rept_session.specs.Session.{said_at}
 use Rattle.rept_session.specs.SessionLaws.{reply_same}
-use Rattle.rept_session.specs.Shown.{SameReasons, Shown, told}
+use Rattle.rept_session.specs.Shown.{SameReasons, Shown, session_told}
 use Rattle.rept_session.specs.declared.place.ThreadPoint.{ThreadPoint}
 use Rattle.rept_stub.specs.Answers.{IsAnswer, IsAnswerTo, IsChanged, IsLineAnswered, IsMonitored, IsStill, Still, spots_after}
 use Rattle.rept_stub.specs.Monitoring.{asked_of}
@@ -22,32 +22,32 @@ use Rattle.rept_dialog.specs.Dialog.{IsTurn}
 use Rattle.rept_dialog.specs.declared.turn.Dialog.{Dialog}
 
 module _ (s : Shown) (skipped : ℕ) (old new : Fact → Because → Type 0) (same : SameReasons old new) where
-  line_same : (signal : ℕ) (c : ThreadPoint) (line said : List ℕ) (a : Asked) → IsLineAnswered (told s skipped new) signal c line a said → IsLineAnswered (told s skipped old) signal c line a said
+  line_same : (signal : ℕ) (c : ThreadPoint) (line said : List ℕ) (a : Asked) → IsLineAnswered (session_told s skipped new) signal c line a said → IsLineAnswered (session_told s skipped old) signal c line a said
   line_same signal c line said asked.Signal h = h
   line_same signal c line said asked.Help h = h
   line_same signal c line said (asked.Writers address) h = h
   line_same signal c line said asked.Session h = reply_same s skipped old new same c (said_at s c line) said h
 
-  monitored : (signal : ℕ) (c : ThreadPoint) (line : Option (List ℕ)) (text : List ℕ) → IsMonitored (told s skipped new) signal c line text → IsMonitored (told s skipped old) signal c line text
+  monitored : (signal : ℕ) (c : ThreadPoint) (line : Option (List ℕ)) (text : List ℕ) → IsMonitored (session_told s skipped new) signal c line text → IsMonitored (session_told s skipped old) signal c line text
   monitored signal c None text h = h
   monitored signal c (Some line) text h = (h.0, line_same signal c line h.0 (asked_of line) h.1, h.2)
 
-  still_same : (still : Still) (r : Request) (text : List ℕ) → IsStill (told s skipped new) still r text → IsStill (told s skipped old) still r text
+  still_same : (still : Still) (r : Request) (text : List ℕ) → IsStill (session_told s skipped new) still r text → IsStill (session_told s skipped old) still r text
   still_same still request.Monitor text h = monitored still.signal (here still.stand) _ text h
   still_same still r text h = h
 
-  changed_same : (still : Still) (r : Request) (spots : Option Spots) (text : List ℕ) → IsChanged (told s skipped new) still r spots text → IsChanged (told s skipped old) still r spots text
+  changed_same : (still : Still) (r : Request) (spots : Option Spots) (text : List ℕ) → IsChanged (session_told s skipped new) still r spots text → IsChanged (session_told s skipped old) still r spots text
   changed_same still r (Some spots) text h = h
   changed_same still r None text h = still_same still r text h
 
-  answer_same : (still : Still) (r : Request) (text : List ℕ) → IsAnswerTo (told s skipped new) still r text → IsAnswerTo (told s skipped old) still r text
+  answer_same : (still : Still) (r : Request) (text : List ℕ) → IsAnswerTo (session_told s skipped new) still r text → IsAnswerTo (session_told s skipped old) still r text
   answer_same still (request.Move way name) text h = h
   answer_same still r text h = changed_same still r (spots_after still.stand.spots r) text h
 
-  answered : (signal : ℕ) (stand : Stand) (bytes text : List ℕ) → IsAnswer (told s skipped new) signal stand bytes text → IsAnswer (told s skipped old) signal stand bytes text
+  answered : (signal : ℕ) (stand : Stand) (bytes text : List ℕ) → IsAnswer (session_told s skipped new) signal stand bytes text → IsAnswer (session_told s skipped old) signal stand bytes text
   answered signal stand bytes text h = answer_same (record { signal = signal; stand = stand; packet = bytes }) (request_of bytes) text h
 
-  pub turn_same : (signal : ℕ) (d : Dialog) (what : Arrived) (text : List ℕ) (next : Dialog) → IsTurn (told s skipped new) signal d what text next → IsTurn (told s skipped old) signal d what text next
+  pub turn_same : (signal : ℕ) (d : Dialog) (what : Arrived) (text : List ℕ) (next : Dialog) → IsTurn (session_told s skipped new) signal d what text next → IsTurn (session_told s skipped old) signal d what text next
   turn_same signal d (packet bytes) text next h = (h.0, answered signal d.stand bytes h.0 h.1, h.2, h.3)
   turn_same signal d broken text next h = h
   turn_same signal d large text next h = h
@@ -55,8 +55,8 @@ module _ (s : Shown) (skipped : ℕ) (old new : Fact → Because → Type 0) (sa
   turn_same signal d interrupt text next h = h
 
 -- the same of findings that stayed as they were
-pub turn_stays : (s s' : Shown) (skipped : ℕ) (old new : Fact → Because → Type 0) → s' ≡ s → SameReasons old new → (signal : ℕ) (d : Dialog) (what : Arrived) (text : List ℕ) (next : Dialog) → IsTurn (told s' skipped new) signal d what text next → IsTurn (told s skipped old) signal d what text next
-turn_stays s s' skipped old new e same signal d what text next h = turn_same s skipped old new same signal d what text next (subst (λ shown. IsTurn (told shown skipped new) signal d what text next) e h)
+pub turn_stays : (s s' : Shown) (skipped : ℕ) (old new : Fact → Because → Type 0) → s' ≡ s → SameReasons old new → (signal : ℕ) (d : Dialog) (what : Arrived) (text : List ℕ) (next : Dialog) → IsTurn (session_told s' skipped new) signal d what text next → IsTurn (session_told s skipped old) signal d what text next
+turn_stays s s' skipped old new e same signal d what text next h = turn_same s skipped old new same signal d what text next (subst (λ shown. IsTurn (session_told shown skipped new) signal d what text next) e h)
 
 pub reasons_stay : (a b c : Fact → Because → Type 0) → SameReasons a b → SameReasons b c → SameReasons a c
 reasons_stay a b c h k fact why = (λ x. (k fact why).0 ((h fact why).0 x), λ x. (h fact why).1 ((k fact why).1 x))

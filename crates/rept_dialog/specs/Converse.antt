@@ -6,7 +6,7 @@ use Rattle.rept_ports.specs.Port.{Port, Move, move}
 use Rattle.rept_remote.specs.Frames.{Arrived, Arrives}
 use Rattle.rept_remote.specs.Reading.{Stops, taking}
 use Rattle.rept_remote.specs.declared.arrival.Ending.{Ending}
-use Rattle.rept_session.specs.Shown.{Told}
+use Rattle.rept_session.specs.Shown.{SessionTold}
 use Rattle.rept_dialog.specs.Dialog.{IsTurn, Talks, start_at}
 use Rattle.rept_dialog.specs.declared.turn.Dialog.{Dialog}
 use Rattle.rept_dialog.specs.declared.conversation.Conversed.{Conversed}
@@ -14,12 +14,12 @@ use Rattle.rept_dialog.specs.declared.conversation.Conversed.TheVariants as conv
 
 -- who talks: what is told, the signal that ended the process, and the dialog as it began
 pub record Parties : Type 1 where
-  pub told : Told
+  pub told : SessionTold
   pub signal : ℕ
   pub start : Dialog
 
 -- a dialog that begins over what is told
-abbrev pub parties_over : Told → ℕ → Parties
+abbrev pub parties_over : SessionTold → ℕ → Parties
 parties_over t signal = record { told = t; signal = signal; start = start_at t.shown }
 
 -- the bytes that were taken of an input and those that were written to an output, neither of which failed, are those of the arrivals so far and of
@@ -45,7 +45,7 @@ pub record Arrival (parties : Parties) (source sink : Move Port) : Type 0 where
   pub calm : source.after.faults ≡ middle.faults
 
 -- the input ended or failed, or too much of it came, between arrivals or within one
-pub record Ended (parties : Parties) (source sink : Move Port) (why : Ending) : Type 0 where
+pub record TalkEnded (parties : Parties) (source sink : Move Port) (why : Ending) : Type 0 where
   pub read : List ℕ
   pub now : Dialog
   pub got : List ℕ
@@ -78,6 +78,6 @@ Stopped parties source sink = Arrival parties source sink ⊎ ((source.after ≡
 
 abbrev pub Converses : Parties → Move Port → Move Port → Conversed → Type 0
 Converses parties source sink conversed.Left = Left parties source sink
-Converses parties source sink (conversed.Ended why) = Ended parties source sink why
+Converses parties source sink (conversed.Ended why) = TalkEnded parties source sink why
 Converses parties source sink conversed.OutputFault = Broke parties source sink
 Converses parties source sink conversed.OutOfMemory = Stopped parties source sink

@@ -7,7 +7,7 @@ use Rattle.rept_remote.specs.Frames.Arrived.{packet, broken, large, again, inter
 use Rattle.rept_request.specs.Requests.{request_of}
 use Rattle.rept_request.specs.declared.request.Request.{Request}
 use Rattle.rept_request.specs.declared.request.Request.TheVariants as request
-use Rattle.rept_session.specs.Shown.{Shown, Told}
+use Rattle.rept_session.specs.Shown.{SessionTold, Shown}
 use Rattle.rept_stub.specs.Answers.{IsAnswer, stand_after}
 use Rattle.rept_stub.specs.Replies.{error}
 use Rattle.rept_stub.specs.Standing.{start_of}
@@ -36,7 +36,7 @@ abbrev pub sign : Dialog → List ℕ → List ℕ
 sign d text = if d.acknowledges then text else []
 
 -- the dialog after a packet with this reply
-abbrev pub after_packet : Told → Dialog → List ℕ → List ℕ → Dialog
+abbrev pub after_packet : SessionTold → Dialog → List ℕ → List ℕ → Dialog
 after_packet t d bytes reply = record {
   stand = stand_after t.shown d.stand bytes;
   acknowledges = acknowledges_after d.acknowledges (request_of bytes);
@@ -46,7 +46,7 @@ after_packet t d bytes reply = record {
 
 -- What is written at an arrival, and the dialog after it. A packet is acknowledged and, but for `k`, answered; one that is broken is refused; the last reply is
 -- written again where it is wished for.
-abbrev pub IsTurn : Told → ℕ → Dialog → Arrived → List ℕ → Dialog → Type 0
+abbrev pub IsTurn : SessionTold → ℕ → Dialog → Arrived → List ℕ → Dialog → Type 0
 IsTurn t signal d (packet bytes) text new = (reply : List ℕ) × IsAnswer t signal d.stand bytes reply × (text ≡ sign d (codes "+") ++ written_to (request_of bytes) reply) × (new ≡ after_packet t d bytes reply)
 IsTurn t signal d broken text new = (text ≡ sign d (codes "-")) × (new ≡ d)
 IsTurn t signal d large text new = (text ≡ sign d (codes "+") ++ packet_of error) × (new ≡ record d { last = packet_of error })
@@ -54,7 +54,7 @@ IsTurn t signal d again text new = (text ≡ d.last) × (new ≡ d)
 IsTurn t signal d interrupt text new = (text ≡ []) × (new ≡ d)
 
 -- what was read and written since a dialog began, and where it is then
-pub data Talks (t : Told) (signal : ℕ) (start : Dialog) : List ℕ → List ℕ → Dialog → Type 0 where
+pub data Talks (t : SessionTold) (signal : ℕ) (start : Dialog) : List ℕ → List ℕ → Dialog → Type 0 where
   begun : Talks t signal start [] [] start
   turn : (read written : List ℕ) (d : Dialog) (got text : List ℕ) (what : Arrived) (new : Dialog)
       → Talks t signal start read written d → Arrives got what → IsTurn t signal d what text new → Talks t signal start (read ++ got) (written ++ text) new

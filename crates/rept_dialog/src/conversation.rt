@@ -2,7 +2,7 @@
 
 ghost use Rattle.std.specs.Prelude.{◌≡◌};
 ghost use Rattle.rept_ports.specs.Port.{move};
-ghost use Rattle.rept_session.specs.Shown.{SameReasons, told};
+ghost use Rattle.rept_session.specs.Shown.{SameReasons, session_told};
 ghost use Rattle.rept_stub.specs.Standing.{IsStanding};
 ghost use Rattle.rept_dialog.specs.Converse.{Converses, parties_over};
 ghost use Rattle.rept_dialog.specs.Dialog.{start_at};
@@ -36,7 +36,7 @@ pub fn converse<F: Findings, S: Source, K: Sink>(
     input: &mut S,
     out: &mut K,
 ) -> Conversed
-    ensures talk { Converses (parties_over (told (F.shown findings.old) setting.skipped (F.reasons findings.old)) setting.signal) (move (S.port input.old) (S.port input.new)) (move (K.port out.old) (K.port out.new)) result }
+    ensures talk { Converses (parties_over (session_told (F.shown findings.old) setting.skipped (F.reasons findings.old)) setting.signal) (move (S.port input.old) (S.port input.new)) (move (K.port out.old) (K.port out.new)) result }
     ensures same { F.shown findings.new ≡ F.shown findings.old }
     ensures same_reasons { SameReasons (F.reasons findings.old) (F.reasons findings.new) }
 {
@@ -57,7 +57,7 @@ fn converse_on<F: Findings, S: Source, K: Sink>(
 ) -> Conversed
     requires start { start ≡ start_at (F.shown findings.old) }
     requires within { IsStanding (F.shown findings.old) start.stand }
-    ensures talk { Converses (parties_over (told (F.shown findings.old) setting.skipped (F.reasons findings.old)) setting.signal) (move (S.port input.old) (S.port input.new)) (move (K.port out.old) (K.port out.new)) result }
+    ensures talk { Converses (parties_over (session_told (F.shown findings.old) setting.skipped (F.reasons findings.old)) setting.signal) (move (S.port input.old) (S.port input.new)) (move (K.port out.old) (K.port out.new)) result }
     ensures same { F.shown findings.new ≡ F.shown findings.old }
     ensures same_reasons { SameReasons (F.reasons findings.old) (F.reasons findings.new) }
 {

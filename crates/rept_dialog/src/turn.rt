@@ -4,7 +4,7 @@ ghost use Rattle.std.specs.Prelude.{◌≡◌, ◌++◌, [], codes, IfOk, OnOk, 
 ghost use Rattle.rept_remote.specs.Escapes.{packet_of};
 ghost use Rattle.rept_remote.specs.Frames.{arrived};
 ghost use Rattle.rept_remote.specs.Frames.Arrived.{packet};
-ghost use Rattle.rept_session.specs.Shown.{SameReasons, told};
+ghost use Rattle.rept_session.specs.Shown.{SameReasons, session_told};
 ghost use Rattle.rept_stub.specs.Standing.{IsStanding};
 ghost use Rattle.rept_dialog.specs.Dialog.{IsTurn, acknowledges_after, is_last, sign, start_at, written_to};
 
@@ -52,7 +52,7 @@ pub fn take_turn<F: Findings>(
     carried: &[u8],
 ) -> Result<Text, OutOfMemory>
     requires { IsStanding (F.shown findings.old) dialog.old.stand }
-    ensures turn { IfOk result (λ text. IsTurn (told (F.shown findings.old) setting.skipped (F.reasons findings.old)) setting.signal dialog.old (arrived arrival carried.now) text dialog.new) }
+    ensures turn { IfOk result (λ text. IsTurn (session_told (F.shown findings.old) setting.skipped (F.reasons findings.old)) setting.signal dialog.old (arrived arrival carried.now) text dialog.new) }
     ensures within { IsStanding (F.shown findings.old) dialog.new.stand }
     ensures same { F.shown findings.new ≡ F.shown findings.old }
     ensures same_reasons { SameReasons (F.reasons findings.old) (F.reasons findings.new) }
@@ -75,7 +75,7 @@ fn answer<F: Findings>(
     carried: &[u8],
 ) -> Result<Text, OutOfMemory>
     requires { IsStanding (F.shown findings.old) dialog.old.stand }
-    ensures turn { IfOk result (λ text. IsTurn (told (F.shown findings.old) setting.skipped (F.reasons findings.old)) setting.signal dialog.old (packet carried.now) text dialog.new) }
+    ensures turn { IfOk result (λ text. IsTurn (session_told (F.shown findings.old) setting.skipped (F.reasons findings.old)) setting.signal dialog.old (packet carried.now) text dialog.new) }
     ensures within { IsStanding (F.shown findings.old) dialog.new.stand }
     ensures same { F.shown findings.new ≡ F.shown findings.old }
     ensures same_reasons { SameReasons (F.reasons findings.old) (F.reasons findings.new) }

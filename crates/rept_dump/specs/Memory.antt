@@ -51,8 +51,8 @@ saved_at core a = option_map (λ s. slice_index (bytes_from a s) 0) (find (holds
 
 -- the byte that memory had at an address when it crashed: the one that the core file saved, else the one that the program could not
 -- write. Else it is not known.
-abbrev pub byte_at : Contents → List ElfSegment → ℕ → Option ℕ
-byte_at program core a = option_or (saved_at core a) (program.kept a)
+abbrev pub crash_byte : Contents → List ElfSegment → ℕ → Option ℕ
+crash_byte program core a = option_or (saved_at core a) (program.kept a)
 
 -- the segments among which is looked
 abbrev pub allows : Allowed → ElfSegment → Bool

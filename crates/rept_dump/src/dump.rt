@@ -4,7 +4,7 @@ ghost use Rattle.std.specs.Prelude.{◌≡◌, ◌≤◌, ◌<◌, ℕ, List, Re
 ghost use Rattle.std.specs.Option.{option_map};
 ghost use Rattle.rept_elf.specs.Symbols.{symbol_of};
 ghost use Rattle.rept_elf.specs.Image.{file_of, segments_of};
-ghost use Rattle.rept_dump.specs.Memory.{byte_at};
+ghost use Rattle.rept_dump.specs.Memory.{crash_byte};
 ghost use Rattle.rept_dump.specs.Registers.{Says, status_size};
 ghost use Rattle.rept_dump.specs.Stretch.{AnswersAlike, sought_saved};
 ghost use Rattle.rept_dump.specs.Threads.{AreThreads};
@@ -164,7 +164,7 @@ impl<'a> Dump<'a> {
     /// core file whose bytes in the file have it, else from the first of the executable without `PF_W` whose bytes in the
     /// file have it. None exactly where there is neither.
     pub fn byte(&self, a: u32) -> Option<u8>
-        ensures { result ≡ byte_at (contents (exe_of self.now)) (core_of self.now) a }
+        ensures { result ≡ crash_byte (contents (exe_of self.now)) (core_of self.now) a }
     {
         match self.saved_near(a).segment {
             Some(segment) => byte_in(&segment, Allowed::All, a),

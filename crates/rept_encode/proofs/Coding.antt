@@ -9,14 +9,14 @@ use Rattle.rept_trace.specs.declared.packet.Packet.TheVariants.{Map}
 use Rattle.rept_path.specs.declared.aim.Aim.TheVariants as aims
 use Rattle.rept_path.specs.Code.{look, flow_of, sum, jumps_far, is_branch, branches_at}
 use Rattle.rept_path.specs.Packets.{low_bits, bits, bits_of, reported, waits_after, waiting, begins}
-use Rattle.rept_path.specs.Moves.{Lead, Place, after, along, bits_fit, course_by}
+use Rattle.rept_path.specs.Moves.{Lead, Place, after, along, bits_fit, heading_by}
 use Rattle.rept_path.specs.Legs.{PhaseLeg}
 use Rattle.rept_path.specs.Route.{alone, Phase, lead_of, with_bits, phases_of, Arrival, mark_after, by_waiting, RunningLeg, WaitingLeg, met_by, Leg, place, marked, admits}
 use Rattle.rept_path.specs.Rows.{CarriesCode}
 use Rattle.rept_path.proofs.MoveLemmas.{branch_of}
 use Rattle.rept_encode.specs.Bits.{passed, branch_row, count, bit_list}
 use Rattle.rept_encode.specs.Walkable.{calls, IsStepped}
-use Rattle.rept_encode.specs.State.{Moved, Moves, Stands, Coded, report_packet}
+use Rattle.rept_encode.specs.State.{Moved, AreMoved, Stands, Coded, report_packet}
 use Rattle.rept_encode.proofs.Turns.{length_bits, get_bit, counted, moved_more, moves_more}
 use Rattle.rept_encode.proofs.Walks.{Clear, phase_leg, clear_jump, clear_report, clear_map, clear_call, fits_there, stop_there, stop_jump, stop_last, fit_report, fit_map, not_inferred}
 
@@ -65,7 +65,7 @@ module _ (code : Code) (packets : List Packet) (wait : List Bool) (kept : List S
           legs = c.legs;
           stands = c.stands;
           seen = ap (λ (xs : List StepRow). here ∷ xs) c.seen;
-          moves = subst (λ (xs : List Bool). Moves code xs (place code packets c.legs) (here ∷ kept)) (sym e) (moves_more code all (bit_list next) (place code packets c.legs) kept c.moves, moved_more code all (bit_list next) q here step_moved, near);
+          moves = subst (λ (xs : List Bool). AreMoved code xs (place code packets c.legs) (here ∷ kept)) (sym e) (moves_more code all (bit_list next) (place code packets c.legs) kept c.moves, moved_more code all (bit_list next) q here step_moved, near);
           at = s.linked;
           size = rw (e, branches_next) (length-append all (bit_list next) ∙ ap (λ (n : ℕ). length all + n) (length_bits next));
           bit = λ t. rw e (get_bit next all (after code q here).branches t branches_next);
@@ -98,7 +98,7 @@ module _ (code : Code) (packet : Packet) (packets : List Packet) (legs : List (L
       let b = x.begun in
       rw (r, b) refl
 
-  pub by_packet : (next : StepRow) (rows : List StepRow) → PhaseLeg code (course_by (lead_of (with_bits code packet (met_by code (alone 0) packets legs)) phase) phase.aim) (place code packets legs) leg → rows ≡ leg ++ (place code packets legs).rows → (along code (place code packets legs) leg).at ≡ next.at
+  pub by_packet : (next : StepRow) (rows : List StepRow) → PhaseLeg code (heading_by (lead_of (with_bits code packet (met_by code (alone 0) packets legs)) phase) phase.aim) (place code packets legs) leg → rows ≡ leg ++ (place code packets legs).rows → (along code (place code packets legs) leg).at ≡ next.at
       → length (bits code packets ++ bits_of code packet) ≡ (along code (place code packets legs) leg).branches + count next → (branch_row next ≡ true → slice_get (bits code packets ++ bits_of code packet) (along code (place code packets legs) leg).branches ≡ Some (passed next)) → Coded code (packet ∷ packets) [] [] next rows
   unfolding waiting marked
   by_packet next rows taken seen at size bit =
@@ -157,7 +157,7 @@ module _ (code : Code) (packets : List Packet) (n map : ℕ) (row : StepRow) (ke
       let x = report_sends code n map (reported packets) (record { difference = difference; notify = true; updiscon = false; irreport = false }) refl in
       let b = report_bits code n map (record { difference = difference; notify = true; updiscon = false; irreport = false }) in
       let how : Lead = record { packet = 0 + length packets; target = Some here.at; bits = bits_there; room = 65536 } in
-      let taken : PhaseLeg code (course_by how (aims.Report here.at true false)) from (row ∷ kept) = phase_leg code how (aims.Report here.at true false) from row kept refl c.moves.0 clear c.moves.1 (λ t. absurd (let near = c.moves.2 in cc)) (stop_there code bits_there here.at (along code from (row ∷ kept)) c.at here_fits) (fit_report code bits_there here.at true false (along code from (row ∷ kept)) here_fits) in
+      let taken : PhaseLeg code (heading_by how (aims.Report here.at true false)) from (row ∷ kept) = phase_leg code how (aims.Report here.at true false) from row kept refl c.moves.0 clear c.moves.1 (λ t. absurd (let near = c.moves.2 in cc)) (stop_there code bits_there here.at (along code from (row ∷ kept)) c.at here_fits) (fit_report code bits_there here.at true false (along code from (row ∷ kept)) here_fits) in
       by_packet code (report_packet n map (record { difference = difference; notify = true; updiscon = false; irreport = false })) packets c.legs (row ∷ kept) _ c.stands x here rows (rw (to, b) taken) c.seen c.at (rw b c.size) (λ t. rw b (c.bit t))
 
   -- a branch keeps its bit
@@ -184,8 +184,8 @@ module _ (code : Code) (packets : List Packet) (n map : ℕ) (row : StepRow) (ke
       let there : is_branch code row.next ≡ true = rw at (branch_of code here.at here.instr placed ∙ branch) in
       let how : Lead = record { packet = 0 + length packets; target = None; bits = bits_there; room = 65536 } in
       let left = left_over branch in
-      let taken : PhaseLeg code (course_by how aims.LastBit) from (row ∷ kept) = phase_leg code how aims.LastBit from row kept refl c.moves.0 (clear_map code bits_there from kept c.moves.0 left) c.moves.1 (λ t. absurd (let near = c.moves.2 in cc)) (stop_last code bits_there (along code from (row ∷ kept)) there here_fits) (fit_map code bits_there (along code from (row ∷ kept))) in
-      by_packet code (Map map) packets c.legs (row ∷ kept) _ c.stands (map_sends code map (reported packets)) here rows (subst (λ (xs : List Bool). PhaseLeg code (course_by (record { packet = 0 + length packets; target = None; bits = bits code packets ++ xs; room = 65536 }) aims.LastBit) from (row ∷ kept)) (sym b) taken) c.seen c.at (rw b c.size) (λ t. rw b (c.bit t))
+      let taken : PhaseLeg code (heading_by how aims.LastBit) from (row ∷ kept) = phase_leg code how aims.LastBit from row kept refl c.moves.0 (clear_map code bits_there from kept c.moves.0 left) c.moves.1 (λ t. absurd (let near = c.moves.2 in cc)) (stop_last code bits_there (along code from (row ∷ kept)) there here_fits) (fit_map code bits_there (along code from (row ∷ kept))) in
+      by_packet code (Map map) packets c.legs (row ∷ kept) _ c.stands (map_sends code map (reported packets)) here rows (subst (λ (xs : List Bool). PhaseLeg code (heading_by (record { packet = 0 + length packets; target = None; bits = bits code packets ++ xs; room = 65536 }) aims.LastBit) from (row ∷ kept)) (sym b) taken) c.seen c.at (rw b c.size) (λ t. rw b (c.bit t))
 
 -- A report of the address to which an uninferable jump led.
 module _ (code : Code) (packets : List Packet) (wait : List Bool) (kept : List StepRow) (here next : StepRow) (rows : List StepRow) (c : Coded code packets wait kept here rows) (s : Stepping code here next) (plain : calls (flow_of here.instr) ≡ false) (room : length rows < 65536) (n map : ℕ) (wanted : low_bits n map ≡ wait ++ bit_list next) where
@@ -210,7 +210,7 @@ module _ (code : Code) (packets : List Packet) (wait : List Bool) (kept : List S
       let at : here.next ≡ next.at = s.linked in
       let there : branches_at code here.next ≡ count next = rw at k in
       let fit : bits_fit code all_there (along code from_there (here ∷ kept)) ≡ true = fits_there code all_there (along code from_there (here ∷ kept)) (size ∙ ap (λ (m : ℕ). (along code from_there (here ∷ kept)).branches + m) (sym there)) in
-      let kept_moves : Moves code all_there from_there kept = rw all_is (moves_more code (bits code packets ++ wait) (bit_list next) from_there kept c.moves) in
+      let kept_moves : AreMoved code all_there from_there kept = rw all_is (moves_more code (bits code packets ++ wait) (bit_list next) from_there kept c.moves) in
       let last : Moved code all_there (along code from_there kept) here = rw all_is (moved_more code (bits code packets ++ wait) (bit_list next) (along code from_there kept) here (step_moved code packets wait kept here rows c next s plain room)) in
-      let taken : PhaseLeg code (course_by how (aims.Report next.at false true)) from_there (here ∷ kept) = phase_leg code how (aims.Report next.at false true) from_there here kept refl kept_moves (clear_jump code all_there next.at from_there kept kept_moves) last (λ t. ap (λ (a : ℕ). Some a) (sym at)) (stop_jump code all_there next.at false true from_there here kept far) (fit_report code all_there next.at false true (along code from_there (here ∷ kept)) fit) in
+      let taken : PhaseLeg code (heading_by how (aims.Report next.at false true)) from_there (here ∷ kept) = phase_leg code how (aims.Report next.at false true) from_there here kept refl kept_moves (clear_jump code all_there next.at from_there kept kept_moves) last (λ t. ap (λ (a : ℕ). Some a) (sym at)) (stop_jump code all_there next.at false true from_there here kept far) (fit_report code all_there next.at false true (along code from_there (here ∷ kept)) fit) in
       by_packet code (report_packet n map (record { difference = difference; notify = false; updiscon = true; irreport = false })) packets c.legs (here ∷ kept) _ c.stands x next (here ∷ rows) (rw (to, b) taken) (ap (λ (xs : List StepRow). here ∷ xs) c.seen) at (rw b size) (λ t. rw b (rw all_is (get_bit next (bits code packets ++ wait) (along code from_there (here ∷ kept)).branches t branches)))

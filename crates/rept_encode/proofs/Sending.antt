@@ -27,8 +27,8 @@ use Rattle.rept_encode.specs.declared.sender.Sender.{Sender}
 use Rattle.rept_encode.specs.Bits.{branch_row, bit_list}
 use Rattle.rept_encode.specs.Walkable.{alignment_by, calls, AreStraight, IsStepped}
 use Rattle.rept_encode.specs.Written.{Appends, AreWritten}
-use Rattle.rept_encode.specs.Encoded.{Tells, TellsAfter, LeadsOver, coded, start_at, IsReport, AreReports}
-use Rattle.rept_encode.specs.State.{Coded, report_packet, Begun, said, waiting_bits, IsText, Run, run_of, Carries, LeadTo, IsNear, Sent, Stood, tail_bytes, AreSendable, IsBegun, IsReported, IsSent, IsRestarted, IsWaiting, IsMapped}
+use Rattle.rept_encode.specs.Encoded.{TellsRows, TellsAfter, LeadsOver, coded, start_at, IsReporting, AreReporting}
+use Rattle.rept_encode.specs.State.{Coded, report_packet, Begun, said, waiting_bits, IsText, SentRows, sent_rows, HasRows, LeadTo, IsNear, Sent, Stood, tail_bytes, AreSendable, IsBegun, IsReported, IsSent, IsRestarted, IsWaiting, IsMapped}
 use Rattle.rept_encode.proofs.Coding.{Stepping, onward, report_reported, by_report, by_branch, by_call, by_map, by_jump}
 use Rattle.rept_encode.proofs.Ends.{starts_at, by_start, begun_on, reverse-cons, leads_on, path_of}
 use Rattle.rept_encode.proofs.Maps.{no_low, length_low}
@@ -73,7 +73,7 @@ call_straight Stop h = refl
 fewer : (rows : List StepRow) (i n : ℕ) → i ≤ n → AreStraight rows n → AreStraight rows i
 fewer rows i n le all j row lt get = all j row (omega arith) get
 
-pub reports_on : (packets : List Packet) (packet : Packet) → AreReports packets → IsReport packet → AreReports (packets ++ packet ∷ [])
+pub reports_on : (packets : List Packet) (packet : Packet) → AreReporting packets → IsReporting packet → AreReporting (packets ++ packet ∷ [])
 reports_on [] packet all one = (one, tt)
 reports_on (p ∷ packets) packet all one = (all.0, reports_on packets packet all.1 one)
 
@@ -92,7 +92,7 @@ written_held widths bytes [] w = record { zeros = 0; layout = w }
 written_held widths bytes (p ∷ packets) w = (record { widths = widths; bytes = w.1 }, (w.0, (w.3, record { zeros = 0; layout = w.2 }), w.4, refl), written_held widths w.1 packets w.5)
 
 -- the text with one packet more
-pub text_on : (run : Run) (i n : ℕ) (text new : List ℕ) (packets : List Packet) (packet : Packet) → IsText run i text packets → Appends run.halves text new packet → (AreStraight run.rows n → AreStraight run.rows i × IsReport packet) → IsText run n new (packet ∷ packets)
+pub text_on : (run : SentRows) (i n : ℕ) (text new : List ℕ) (packets : List Packet) (packet : Packet) → IsText run i text packets → Appends run.halves text new packet → (AreStraight run.rows n → AreStraight run.rows i × IsReporting packet) → IsText run n new (packet ∷ packets)
 text_on run i n text new packets packet t a tells =
     record {
       first = t.first;
@@ -104,7 +104,7 @@ text_on run i n text new packets packet t a tells =
     }
 
 -- the same text, some rows later or earlier
-text_same : (run : Run) (i n : ℕ) (text : List ℕ) (packets : List Packet) → IsText run i text packets → (AreStraight run.rows n → AreStraight run.rows i) → IsText run n text packets
+text_same : (run : SentRows) (i n : ℕ) (text : List ℕ) (packets : List Packet) → IsText run i text packets → (AreStraight run.rows n → AreStraight run.rows i) → IsText run n text packets
 text_same run i n text packets t back = record { first = t.first; begins = t.begins; more = t.more; order = t.order; written = t.written; told = λ all. t.told (back all) }
 
 pub longer : (halves : Bool) (text new : List ℕ) (packet : Packet) → Appends halves text new packet → length new ≤ length text + 11
@@ -117,7 +117,7 @@ report_keeps : (count map : ℕ) (report : Report) → loses (report_packet coun
 report_keeps zero map report = refl
 report_keeps (suc count) map report = refl
 
-report_told : (count map : ℕ) (report : Report) → IsReport (report_packet count map report)
+report_told : (count map : ℕ) (report : Report) → IsReporting (report_packet count map report)
 report_told zero map report = tt
 report_told (suc count) map report = tt
 
@@ -125,7 +125,7 @@ nothing_waits : (b : Bits) → b.count ≡ 0 → waiting_bits b ≡ []
 nothing_waits b h = rw h (no_low b.map)
 
 -- A walk that stands has sent all.
-pub stood_sent : (run : Run) (n : ℕ) (s : Sender) → Stood run n s (30 + 22 * n) → Sent run n s
+pub stood_sent : (run : SentRows) (n : ℕ) (s : Sender) → Stood run n s (30 + 22 * n) → Sent run n s
 stood_sent run n s t =
     let w : waiting_bits s.bits ≡ [] = nothing_waits s.bits t.count in
     let lead : LeadTo run t.packets s.bits [] n = λ code here carry get. rw w (t.lead code here carry get) in
@@ -163,7 +163,7 @@ unfolding reported
 map_reported map packets = refl
 
 -- A report was added, after which the walk stands.
-reported_stood : (run : Run) (i n most : ℕ) (old new : Sender) (b : Bits) (row : StepRow) (notify : Bool) (packets : List Packet) → IsText run i old.text packets → (AreStraight run.rows n → AreStraight run.rows i) → length old.text + 11 ≤ most → Begun (reverse packets) → reported packets ≡ old.reported → row.at % alignment_by run.halves ≡ 0 → slice_get run.rows n ≡ Some row → (r : IsReported run.halves old b new row.at notify n) → ((code : Code) → Carries run code → sum (reported packets) r.difference ≡ row.at → Coded code (report_packet b.count b.map (said r.difference notify) ∷ packets) [] [] row (reverse (take n run.rows))) → Stood run n new most
+reported_stood : (run : SentRows) (i n most : ℕ) (old new : Sender) (b : Bits) (row : StepRow) (notify : Bool) (packets : List Packet) → IsText run i old.text packets → (AreStraight run.rows n → AreStraight run.rows i) → length old.text + 11 ≤ most → Begun (reverse packets) → reported packets ≡ old.reported → row.at % alignment_by run.halves ≡ 0 → slice_get run.rows n ≡ Some row → (r : IsReported run.halves old b new row.at notify n) → ((code : Code) → HasRows run code → sum (reported packets) r.difference ≡ row.at → Coded code (report_packet b.count b.map (said r.difference notify) ∷ packets) [] [] row (reverse (take n run.rows))) → Stood run n new most
 reported_stood run i n most old new b row notify packets text back few begun last even get r lead =
     let to : sum (reported packets) r.difference ≡ row.at = rw last r.there in
     let more = longer run.halves old.text new.text (report_packet b.count b.map (said r.difference notify)) r.text in
@@ -184,14 +184,14 @@ reported_stood run i n most old new b row notify packets text back few begun las
           subst (λ (x : StepRow). Coded code (report_packet b.count b.map (said r.difference notify) ∷ packets) [] [] x (reverse (take n run.rows))) same (lead code carry to);
     }
 
-module _ (run : Run) (given : AreSendable run) (i : ℕ) (here next : StepRow) (get : slice_get run.rows i ≡ Some here) (then : slice_get run.rows (i + 1) ≡ Some next) where
+module _ (run : SentRows) (given : AreSendable run) (i : ℕ) (here next : StepRow) (get : slice_get run.rows i ≡ Some here) (then : slice_get run.rows (i + 1) ≡ Some next) where
   step_here : IsStepped run.halves here
   step_here = all_at (IsStepped run.halves) run.rows i here get given.walkable.steps
 
   step_next : IsStepped run.halves next
   step_next = all_at (IsStepped run.halves) run.rows (i + 1) next then given.walkable.steps
 
-  stepping : (code : Code) → Carries run code → Stepping code here next
+  stepping : (code : Code) → HasRows run code → Stepping code here next
   stepping code carry = record { placed = all_at (CarriesCode code) run.rows i here get carry.placed; there = all_at (CarriesCode code) run.rows (i + 1) next then carry.placed; linked = linked_at run.rows i here next given.linked get then; step = subst (λ (halves : Bool). IsStepped halves here) (sym carry.kind) step_here }
 
   seen_more : reverse (take (i + 1) run.rows) ≡ here ∷ reverse (take i run.rows)
@@ -210,7 +210,7 @@ module _ (run : Run) (given : AreSendable run) (i : ℕ) (here next : StepRow) (
       stood_sent run (i + 1) new (reported_stood run i (i + 1) (30 + 22 * (i + 1)) old new x.b next false s.packets s.text before (omega arith) s.begun s.last step_next.aligned then x.report (λ code carry to. rw seen_more (by_jump code s.packets (waiting_bits old.bits) s.kept here next (reverse (take i run.rows)) (s.lead code here carry get) (stepping code carry) (far_plain (flow_of here.instr) far) room_here x.b.count x.b.map x.list far x.report.difference to)))
 
   -- a row that is kept
-  kept_on : (old : Sender) (s : Sent run i old) → calls (flow_of here.instr) ≡ false → jumps_far (flow_of here.instr) ≡ false → (n map : ℕ) → low_bits n map ≡ waiting_bits old.bits ++ bit_list next → (code : Code) → Carries run code → Coded code s.packets (low_bits n map) (here ∷ s.kept) next (here ∷ reverse (take i run.rows))
+  kept_on : (old : Sender) (s : Sent run i old) → calls (flow_of here.instr) ≡ false → jumps_far (flow_of here.instr) ≡ false → (n map : ℕ) → low_bits n map ≡ waiting_bits old.bits ++ bit_list next → (code : Code) → HasRows run code → Coded code s.packets (low_bits n map) (here ∷ s.kept) next (here ∷ reverse (take i run.rows))
   kept_on old s plain near n map list code carry =
       subst (λ (xs : List Bool). Coded code s.packets xs (here ∷ s.kept) next (here ∷ reverse (take i run.rows))) (sym list) (onward code s.packets (waiting_bits old.bits) s.kept here (reverse (take i run.rows)) (s.lead code here carry get) next (stepping code carry) plain room_here near)
 
@@ -370,7 +370,7 @@ module _ (run : Run) (given : AreSendable run) (i : ℕ) (here next : StepRow) (
         }
 
 -- The first row.
-pub begun_stood : (run : Run) (s : Sender) (first : StepRow) → slice_get run.rows 0 ≡ Some first → first.at % alignment_by run.halves ≡ 0 → IsBegun s first → Stood run 0 s 30
+pub begun_stood : (run : SentRows) (s : Sender) (first : StepRow) → slice_get run.rows 0 ≡ Some first → first.at % alignment_by run.halves ≡ 0 → IsBegun s first → Stood run 0 s 30
 begun_stood run s first get even x =
     let stands = x.stands in
     let reported_is = stands.reported in
@@ -395,14 +395,14 @@ begun_stood run s first get even x =
     }
 
 -- Rows from the base on are no calls.
-calm_back : (run : Run) (i : ℕ) (s : Sender) → AreSendable run → Sent run i s → AreStraight run.rows s.base → AreStraight run.rows i
+calm_back : (run : SentRows) (i : ℕ) (s : Sender) → AreSendable run → Sent run i s → AreStraight run.rows s.base → AreStraight run.rows i
 calm_back run i s given t all j row lt get = elim (cases_lt j s.base) [
   | inl early ↦ all j row early get
   | inr late ↦ let step = all_at (IsStepped run.halves) run.rows j row get given.walkable.steps in let c = t.calm j row late lt get in step.call ∙ c.0
 ]
 
 -- The last branch is reported, if the walk hasn't come to it.
-pub sent_base : (run : Run) (i : ℕ) (old new : Sender) (row : StepRow) → AreSendable run → Sent run i old → old.walked < old.base → slice_get run.rows old.base ≡ Some row → IsReported run.halves old old.bits new row.at true old.base → Stood run old.base new (41 + 22 * i)
+pub sent_base : (run : SentRows) (i : ℕ) (old new : Sender) (row : StepRow) → AreSendable run → Sent run i old → old.walked < old.base → slice_get run.rows old.base ≡ Some row → IsReported run.halves old old.bits new row.at true old.base → Stood run old.base new (41 + 22 * i)
 sent_base run i old new row given s after get x =
     let step = all_at (IsStepped run.halves) run.rows old.base row get given.walkable.steps in
     let few = s.few in
@@ -413,7 +413,7 @@ sent_base run i old new row given s after get x =
     held (k ∷ kept) some code c placed branch to = by_branch code s.packets old.bits.count old.bits.map k kept row (reverse (take old.base run.rows)) c placed branch x.difference to
 
 -- The walk may have come to the base already.
-pub sent_there : (run : Run) (i : ℕ) (s : Sender) → AreSendable run → Sent run i s → s.base ≤ s.walked → Stood run s.base s (41 + 22 * i)
+pub sent_there : (run : SentRows) (i : ℕ) (s : Sender) → AreSendable run → Sent run i s → s.base ≤ s.walked → Stood run s.base s (41 + 22 * i)
 sent_there run i s given t there =
     let none : s.bits.count ≡ 0 = t.none there in
     let few = t.few in
@@ -439,7 +439,7 @@ sent_there run i s given t there =
     empty (k ∷ kept) none code here c = absurd (omega arith)
 
 -- The walk stands at the last row.
-pub stood_tells : (run : Run) (n most : ℕ) (s : Sender) (last : StepRow) → AreSendable run → Stood run n s most → slice_get run.rows n ≡ Some last → n + 1 ≡ length run.rows → TellsAfter run.halves s.text run.rows
+pub stood_tells : (run : SentRows) (n most : ℕ) (s : Sender) (last : StepRow) → AreSendable run → Stood run n s most → slice_get run.rows n ≡ Some last → n + 1 ≡ length run.rows → TellsAfter run.halves s.text run.rows
 stood_tells run n most s last given t get size = record {
   first = t.text.first;
   begins = t.text.begins;
@@ -449,7 +449,7 @@ stood_tells run n most s last given t get size = record {
   told = λ all. t.text.told (fewer run.rows n (length run.rows - 1) (omega arith) all);
   leads = λ contents carry.
       let code : Code = coded run.halves contents in
-      let carries : Carries run (coded run.halves contents) = record { kind = refl; placed = carry } in
+      let carries : HasRows run (coded run.halves contents) = record { kind = refl; placed = carry } in
       let c = t.lead code last carries get in
       let step = all_at (IsStepped run.halves) run.rows n last get given.walkable.steps in
       let p = leads_on code t.packets last (reverse (take n run.rows)) c (all_at (CarriesCode code) run.rows n last get carry) step in
@@ -459,7 +459,7 @@ stood_tells run n most s last given t get size = record {
 }
 
 -- A header, the start packet at the first row, and then the other packets.
-pub whole_tells : (halves : Bool) (rows : List StepRow) (first : StepRow) (front body trace : List ℕ) → length rows ≤ 65536 → slice_get rows 0 ≡ Some first → Appends halves (header halves) front (start_at first) → TellsAfter halves body rows → trace ≡ front ++ body → Tells halves trace rows
+pub whole_tells : (halves : Bool) (rows : List StepRow) (first : StepRow) (front body trace : List ℕ) → length rows ≤ 65536 → slice_get rows 0 ≡ Some first → Appends halves (header halves) front (start_at first) → TellsAfter halves body rows → trace ≡ front ++ body → TellsRows halves trace rows
 whole_tells halves rows first front body trace few get a t is =
     let same : first ≡ t.first = (let e : ◌≡◌ {A = Option StepRow} (Some first) (Some t.first) = sym get ∙ t.begins in cc) in
     let rest : Hold (plain halves body) t.packets = written_held (untimed halves) body t.packets t.written in
@@ -479,24 +479,24 @@ whole_tells halves rows first front body trace few get a t is =
 pub get_at : (rows : List StepRow) (i : ℕ) (row : StepRow) → row ≡ get_or rows i row → i < length rows → slice_get rows i ≡ Some row
 get_at rows i row is lt = slice_get-get_or rows i row lt ∙ ap (λ (x : StepRow). Some x) (sym is)
 
-pub calls_is : (run : Run) (i : ℕ) (row : StepRow) (b : Bool) → AreSendable run → slice_get run.rows i ≡ Some row → row.call ≡ b → calls (flow_of row.instr) ≡ b
+pub calls_is : (run : SentRows) (i : ℕ) (row : StepRow) (b : Bool) → AreSendable run → slice_get run.rows i ≡ Some row → row.call ≡ b → calls (flow_of row.instr) ≡ b
 calls_is run i row b given get h = let s = all_at (IsStepped run.halves) run.rows i row get given.walkable.steps in sym s.call ∙ h
 
-pub stood_more : (run : Run) (n few most : ℕ) (s : Sender) → Stood run n s few → few ≤ most → Stood run n s most
+pub stood_more : (run : SentRows) (n few most : ℕ) (s : Sender) → Stood run n s few → few ≤ most → Stood run n s most
 stood_more run n few most s t le = record { packets = t.packets; text = t.text; few = (let f = t.few in omega arith); begun = t.begun; last = t.last; even = t.even; count = t.count; map = t.map; walked = t.walked; base = t.base; lead = t.lead }
 
-pub aligned_at : (run : Run) (i : ℕ) (row : StepRow) → AreSendable run → slice_get run.rows i ≡ Some row → row.at % alignment_by run.halves ≡ 0
+pub aligned_at : (run : SentRows) (i : ℕ) (row : StepRow) → AreSendable run → slice_get run.rows i ≡ Some row → row.at % alignment_by run.halves ≡ 0
 aligned_at run i row given get = let s = all_at (IsStepped run.halves) run.rows i row get given.walkable.steps in s.aligned
 
-pub single_on : (run : Run) (i : ℕ) (next : StepRow) → AreSendable run → i + 1 < length run.rows → next ≡ get_or run.rows (i + 1) next → IsNear run.rows i → (old new : Sender) → Stood run i old (tail_bytes run.rows i) → IsSent run.halves old new next true (i + 1) → Stood run (i + 1) new (tail_bytes run.rows (i + 1))
+pub single_on : (run : SentRows) (i : ℕ) (next : StepRow) → AreSendable run → i + 1 < length run.rows → next ≡ get_or run.rows (i + 1) next → IsNear run.rows i → (old new : Sender) → Stood run i old (tail_bytes run.rows i) → IsSent run.halves old new next true (i + 1) → Stood run (i + 1) new (tail_bytes run.rows (i + 1))
 single_on run i next given lt is near old new s x =
     let here : StepRow = get_or run.rows i next in
     let get : slice_get run.rows i ≡ Some (get_or run.rows i next) = slice_get-get_or run.rows i next (omega arith) in
     let n = near (get_or run.rows i next) get in
     stood_more run (i + 1) (tail_bytes run.rows i + 11) (tail_bytes run.rows (i + 1)) new (sent_single run given i (get_or run.rows i next) next get (get_at run.rows (i + 1) next is lt) (tail_bytes run.rows i) old new s n.0 n.1 x) (omega arith)
 
-pub stood_all : (halves : Bool) (rows : List StepRow) (n most : ℕ) (s : Sender) → AreSendable (run_of halves rows) → Stood (run_of halves rows) n s most → n + 1 ≡ length rows → TellsAfter halves s.text rows
+pub stood_all : (halves : Bool) (rows : List StepRow) (n most : ℕ) (s : Sender) → AreSendable (sent_rows halves rows) → Stood (sent_rows halves rows) n s most → n + 1 ≡ length rows → TellsAfter halves s.text rows
 stood_all halves rows n most s given t size = go rows given t size where
-  go : (rows : List StepRow) → AreSendable (run_of halves rows) → Stood (run_of halves rows) n s most → n + 1 ≡ length rows → TellsAfter halves s.text rows
+  go : (rows : List StepRow) → AreSendable (sent_rows halves rows) → Stood (sent_rows halves rows) n s most → n + 1 ≡ length rows → TellsAfter halves s.text rows
   go [] given t size = absurd (omega arith)
-  go (r ∷ rows) given t size = stood_tells (run_of halves (r ∷ rows)) n most s (get_or (r ∷ rows) n r) given t (slice_get-get_or (r ∷ rows) n r (omega arith)) size
+  go (r ∷ rows) given t size = stood_tells (sent_rows halves (r ∷ rows)) n most s (get_or (r ∷ rows) n r) given t (slice_get-get_or (r ∷ rows) n r (omega arith)) size

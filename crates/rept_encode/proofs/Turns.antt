@@ -15,7 +15,7 @@ use Rattle.rept_path.specs.Moves.{Lead, Place, Site, along, site, successor, by_
 use Rattle.rept_path.proofs.MoveLemmas.{branch_of}
 use Rattle.rept_encode.specs.Bits.{passed_by, passed, branch_row, count, bit_list}
 use Rattle.rept_encode.specs.Walkable.{MayLead, calls}
-use Rattle.rept_encode.specs.State.{Moved, Moves}
+use Rattle.rept_encode.specs.State.{AreMoved, Moved}
 
 length_bit : (b x : Bool) → length (cond b (x ∷ []) []) ≡ cond b 1 0
 length_bit true x = refl
@@ -98,6 +98,6 @@ move_is code how p row limit m t =
       short = m.short ∙ ap (is_short code) (sym m.at);
     }
 
-pub moves_more : (code : Code) (all more : List Bool) (past : Place) (leg : List StepRow) → Moves code all past leg → Moves code (all ++ more) past leg
+pub moves_more : (code : Code) (all more : List Bool) (past : Place) (leg : List StepRow) → AreMoved code all past leg → AreMoved code (all ++ more) past leg
 moves_more code all more past [] m = tt
 moves_more code all more past (row ∷ leg) m = (moves_more code all more past leg m.0, moved_more code all more (along code past leg) row m.1, m.2)

@@ -29,7 +29,7 @@ coded halves contents = record { contents = contents; halves = halves }
 
 -- The header says whether code may be compressed. In each such code that has the rows' instructions at their addresses, the path of the
 -- trace from its first packet on to where the rows end is these rows, and no packet is skipped.
-pub record Tells (halves : Bool) (trace : List ℕ) (rows : List StepRow) : Type 0 where
+pub record TellsRows (halves : Bool) (trace : List ℕ) (rows : List StepRow) : Type 0 where
   pub rest : List ℕ
   pub layout : trace ≡ header halves ++ rest
   pub path : (contents : Contents) (pc : ℕ) → CarryCode (coded halves contents) rows → EndBefore rows pc → IsTraced (record { code = coded halves contents; stream = plain halves rest; from = 0; pc = pc }) 0 rows
@@ -39,18 +39,18 @@ abbrev pub start_at : StepRow → Packet
 start_at row = Start (start_bit row) 0 row.at 0 0
 
 -- The packet tells branches or an address, and neither starts the trace nor ends it.
-abbrev pub IsReport : Packet → Type 0
-IsReport (Start branch privilege a time context) = ⊥
-IsReport (Context privilege time context) = ⊥
-IsReport (Support enabled status) = ⊥
-IsReport (Address report) = Unit {0}
-IsReport (Map map) = Unit {0}
-IsReport (MapAddress count map report) = Unit {0}
+abbrev pub IsReporting : Packet → Type 0
+IsReporting (Start branch privilege a time context) = ⊥
+IsReporting (Context privilege time context) = ⊥
+IsReporting (Support enabled status) = ⊥
+IsReporting (Address report) = Unit {0}
+IsReporting (Map map) = Unit {0}
+IsReporting (MapAddress count map report) = Unit {0}
 
 -- Each of them does.
-abbrev pub AreReports : List Packet → Type 0
-AreReports [] = Unit {0}
-AreReports (packet ∷ packets) = IsReport packet × AreReports packets
+abbrev pub AreReporting : List Packet → Type 0
+AreReporting [] = Unit {0}
+AreReporting (packet ∷ packets) = IsReporting packet × AreReporting packets
 
 -- The packets, newest first, lead to the last of the rows, after all rows before it; and from where they leave the walk a gap leads over the last row to where it goes,
 -- whatever the number of the next packet is.
@@ -69,7 +69,7 @@ pub record TellsAfter (halves : Bool) (bytes : List ℕ) (rows : List StepRow) :
   pub packets : List Packet
   pub written : AreWritten (untimed halves) bytes packets
   pub whole : list_any loses packets ≡ false
-  pub told : AreStraight rows (length rows - 1) → AreReports packets
+  pub told : AreStraight rows (length rows - 1) → AreReporting packets
   pub leads : (contents : Contents) → CarryCode (coded halves contents) rows → LeadsOver (coded halves contents) (reverse (start_at first ∷ packets)) rows
 
 -- why rows aren't written

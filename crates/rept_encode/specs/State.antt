@@ -20,7 +20,7 @@ use Rattle.rept_encode.specs.declared.bits.Bits.{Bits}
 use Rattle.rept_encode.specs.declared.sender.Sender.{Sender}
 use Rattle.rept_encode.specs.Bits.{passed, branch_row, count, bit_list}
 use Rattle.rept_encode.specs.Walkable.{alignment_by, calls, AreStraight, IsStepped, IsWalkable, IsJumpEnd}
-use Rattle.rept_encode.specs.Encoded.{start_at, AreReports}
+use Rattle.rept_encode.specs.Encoded.{start_at, AreReporting}
 use Rattle.rept_encode.specs.Written.{Appends, AreWritten}
 
 -- The row is the step from a place, where so many bits are known.
@@ -36,9 +36,9 @@ pub record Moved (code : Code) (all : List Bool) (p : Place) (row : StepRow) : T
   pub room : length p.rows < 65536
 
 -- Each row is the step from the place after those before it, and none is an uninferable jump. Newest first.
-abbrev pub Moves : Code → List Bool → Place → List StepRow → Type 0
-Moves code all past [] = Unit {0}
-Moves code all past (row ∷ leg) = Moves code all past leg × Moved code all (along code past leg) row × (jumps_far (flow_of row.instr) ≡ false)
+abbrev pub AreMoved : Code → List Bool → Place → List StepRow → Type 0
+AreMoved code all past [] = Unit {0}
+AreMoved code all past (row ∷ leg) = AreMoved code all past leg × Moved code all (along code past leg) row × (jumps_far (flow_of row.instr) ≡ false)
 
 -- The packets, newest first, have this route, after which the trace runs and no stop is inferred.
 pub record Stands (code : Code) (packets : List Packet) (legs : List (List StepRow)) : Type 0 where
@@ -53,7 +53,7 @@ pub record Coded (code : Code) (packets : List Packet) (wait : List Bool) (kept 
   pub legs : List (List StepRow)
   pub stands : Stands code packets legs
   pub seen : rows ≡ kept ++ (place code packets legs).rows
-  pub moves : Moves code (bits code packets ++ wait) (place code packets legs) kept
+  pub moves : AreMoved code (bits code packets ++ wait) (place code packets legs) kept
   pub at : (along code (place code packets legs) kept).at ≡ here.at
   pub size : length (bits code packets ++ wait) ≡ (along code (place code packets legs) kept).branches + count here
   pub bit : branch_row here ≡ true → slice_get (bits code packets ++ wait) (along code (place code packets legs) kept).branches ≡ Some (passed here)
@@ -81,35 +81,35 @@ abbrev pub waiting_bits : Bits → List Bool
 waiting_bits b = low_bits b.count b.map
 
 -- rows, and whether their code may be compressed
-pub record Run : Type 0 where
+pub record SentRows : Type 0 where
   pub halves : Bool
   pub rows : List StepRow
 
-abbrev pub run_of : Bool → List StepRow → Run
-run_of halves rows = record { halves = halves; rows = rows }
+abbrev pub sent_rows : Bool → List StepRow → SentRows
+sent_rows halves rows = record { halves = halves; rows = rows }
 
 -- The text is the packets, newest first, but for the first one, the start packet at the first row. Where no row before this number is a call, each of them
 -- tells branches or an address.
-pub record IsText (run : Run) (i : ℕ) (text : List ℕ) (packets : List Packet) : Type 0 where
+pub record IsText (run : SentRows) (i : ℕ) (text : List ℕ) (packets : List Packet) : Type 0 where
   pub first : StepRow
   pub begins : slice_get run.rows 0 ≡ Some first
   pub more : List Packet
   pub order : reverse packets ≡ start_at first ∷ more
   pub written : AreWritten (untimed run.halves) text more
-  pub told : AreStraight run.rows i → AreReports more
+  pub told : AreStraight run.rows i → AreReporting more
 
 -- The code may be compressed as that of the rows, and has their instructions.
-pub record Carries (run : Run) (code : Code) : Type 0 where
+pub record HasRows (run : SentRows) (code : Code) : Type 0 where
   pub kind : code.halves ≡ run.halves
   pub placed : CarryCode code run.rows
 
 -- The packets lead to row i, and from so many rows before it, in each code that has the rows' instructions.
-abbrev pub LeadTo : Run → List Packet → Bits → List StepRow → ℕ → Type 0
-LeadTo run packets b kept i = (code : Code) (here : StepRow) → Carries run code → slice_get run.rows i ≡ Some here → Coded code packets (waiting_bits b) kept here (reverse (take i run.rows))
+abbrev pub LeadTo : SentRows → List Packet → Bits → List StepRow → ℕ → Type 0
+LeadTo run packets b kept i = (code : Code) (here : StepRow) → HasRows run code → slice_get run.rows i ≡ Some here → Coded code packets (waiting_bits b) kept here (reverse (take i run.rows))
 
 -- What was sent where row i comes next. The walk that reads it stands at row `walked`. Row `base` is the last one up to row i that is a
 -- branch, or that at which the walk stands; from there on no row is a call or an uninferable jump.
-pub record Sent (run : Run) (i : ℕ) (s : Sender) : Type 0 where
+pub record Sent (run : SentRows) (i : ℕ) (s : Sender) : Type 0 where
   pub packets : List Packet
   pub text : IsText run i s.text packets
   pub few : length s.text ≤ 30 + 22 * i
@@ -184,7 +184,7 @@ pub record IsStanding (old new : Sender) (a n : ℕ) : Type 0 where
   pub stands : StandsAt new a n
 
 -- The same where the walk stands at row n, no bits wait and the text has at most so many bytes.
-pub record Stood (run : Run) (n : ℕ) (s : Sender) (most : ℕ) : Type 0 where
+pub record Stood (run : SentRows) (n : ℕ) (s : Sender) (most : ℕ) : Type 0 where
   pub packets : List Packet
   pub text : IsText run n s.text packets
   pub few : length s.text ≤ most
@@ -195,10 +195,10 @@ pub record Stood (run : Run) (n : ℕ) (s : Sender) (most : ℕ) : Type 0 where
   pub map : s.bits.map ≡ 0
   pub walked : s.walked ≡ n
   pub base : s.base ≡ n
-  pub lead : (code : Code) (here : StepRow) → Carries run code → slice_get run.rows n ≡ Some here → Coded code packets [] [] here (reverse (take n run.rows))
+  pub lead : (code : Code) (here : StepRow) → HasRows run code → slice_get run.rows n ≡ Some here → Coded code packets [] [] here (reverse (take n run.rows))
 
 -- Rows that are sent: steps that are linked, of which no call directly follows an uninferable jump.
-pub record AreSendable (run : Run) : Type 0 where
+pub record AreSendable (run : SentRows) : Type 0 where
   pub walkable : IsWalkable run.halves run.rows
   pub linked : AreLinked run.rows
   pub few : length run.rows ≤ 65536

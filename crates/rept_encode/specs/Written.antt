@@ -59,8 +59,8 @@ abbrev pub fill_after : ℕ → ℕ
 fill_after before = if nat_le 128 before then 255 else 0
 
 -- The last byte of the payload isn't made of copies of the bit before it.
-abbrev pub IsCut : List ℕ → Type 0
-IsCut payload = (i : ℕ) → i + 2 ≡ length payload → slice_index payload (i + 1) ≢ fill_after (slice_index payload i)
+abbrev pub IsCutShort : List ℕ → Type 0
+IsCutShort payload = (i : ℕ) → i + 2 ≡ length payload → slice_index payload (i + 1) ≢ fill_after (slice_index payload i)
 
 -- A packet's length and its payload, which is cut short, were added.
 pub record Appends (halves : Bool) (old new : List ℕ) (packet : Packet) : Type 0 where
@@ -69,7 +69,7 @@ pub record Appends (halves : Bool) (old new : List ℕ) (packet : Packet) : Type
   pub some : 0 < length payload
   pub few : length payload ≤ 10
   pub spells : IsPacket (untimed halves) payload packet
-  pub cut : IsCut payload
+  pub cut : IsCutShort payload
 
 -- The bytes are these packets, each its length and its payload, sent in fields of these widths, and nothing else.
 abbrev pub AreWritten : Parameters → List ℕ → List Packet → Type 0

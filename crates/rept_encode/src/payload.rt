@@ -5,7 +5,7 @@ ghost use Rattle.rept_trace.specs.declared.packet.Packet.{Packet};
 ghost use Rattle.rept_trace.specs.declared.parameters.Parameters.{Parameters};
 ghost use Rattle.rept_trace.specs.Fits.{FieldsFit};
 ghost use Rattle.rept_trace.specs.Grammar.{untimed, map_width, qual_number, IsPacket};
-ghost use Rattle.rept_encode.specs.Written.{bit, copies, high, sent, past_address, report_number, number_of, fill_after, IsSilent, IsCut, Appends};
+ghost use Rattle.rept_encode.specs.Written.{bit, copies, high, sent, past_address, report_number, number_of, fill_after, IsSilent, IsCutShort, Appends};
 
 use rept_trace::{Packet, Qual, Report};
 use rept_word::{OutOfMemory, Text};
@@ -137,7 +137,7 @@ pub fn cut(payload: &[u8]) -> &[u8]
     ensures some { 0 < length result.now }
     ensures few { length result.now ≤ length payload.now }
     ensures spells { (widths : Parameters) (packet : Packet) → IsPacket widths payload.now packet → IsPacket widths result.now packet }
-    ensures cut { IsCut result.now }
+    ensures cut { IsCutShort result.now }
 {
     let mut size = payload.len();
     while size > 1 && payload[size - 1] == filler(payload[size - 2]) {

@@ -3,8 +3,8 @@
 ghost use Rattle.std.specs.Prelude.{◌≡◌, ◌+◌, ◌-◌, ◌*◌, ◌<◌, ◌^◌, ℕ, length, ◌&&◌, OnOk, IfOk, IfSome, IfNone, IfErr, Err};
 ghost use Rattle.rept_path.specs.Code.{flow_of, jumps_far};
 ghost use Rattle.rept_encode.specs.Walkable.{IsWalkable, IsJumpEnd, IsFirstJumpEnd};
-ghost use Rattle.rept_encode.specs.Encoded.{Tells, TellsAfter, IsRefusal};
-ghost use Rattle.rept_encode.specs.State.{AreSendable, IsNear, Sent, Stood, run_of, tail_bytes};
+ghost use Rattle.rept_encode.specs.Encoded.{TellsRows, TellsAfter, IsRefusal};
+ghost use Rattle.rept_encode.specs.State.{AreSendable, IsNear, Sent, Stood, sent_rows, tail_bytes};
 
 use crate::fault::EncodeFault;
 use crate::sender::{Sender, begin, header, push_start};
@@ -37,9 +37,9 @@ fn first_jump_end(rows: &[StepRow]) -> Option<usize>
 /// Sends what leads from a row to the one after it.
 fn pass(sender: &mut Sender, halves: bool, rows: &[StepRow], i: usize) -> Result<(), OutOfMemory>
     requires within { i + 1 < length rows.now }
-    requires given { AreSendable (run_of halves rows.now) }
-    requires sent { Sent (run_of halves rows.now) i sender.old }
-    ensures { OnOk result (Sent (run_of halves rows.now) (i + 1) sender.new) }
+    requires given { AreSendable (sent_rows halves rows.now) }
+    requires sent { Sent (sent_rows halves rows.now) i sender.old }
+    ensures { OnOk result (Sent (sent_rows halves rows.now) (i + 1) sender.new) }
 {
     let here = &rows[i];
     let next = &rows[i + 1];
@@ -58,10 +58,10 @@ fn pass(sender: &mut Sender, halves: bool, rows: &[StepRow], i: usize) -> Result
 /// Sends a row alone, from the one before it.
 fn single(sender: &mut Sender, halves: bool, rows: &[StepRow], i: usize) -> Result<(), OutOfMemory>
     requires within { i + 1 < length rows.now }
-    requires given { AreSendable (run_of halves rows.now) }
+    requires given { AreSendable (sent_rows halves rows.now) }
     requires near { IsNear rows.now i }
-    requires stood { Stood (run_of halves rows.now) i sender.old (tail_bytes rows.now i) }
-    ensures { OnOk result (Stood (run_of halves rows.now) (i + 1) sender.new (tail_bytes rows.now (i + 1))) }
+    requires stood { Stood (sent_rows halves rows.now) i sender.old (tail_bytes rows.now i) }
+    ensures { OnOk result (Stood (sent_rows halves rows.now) (i + 1) sender.new (tail_bytes rows.now (i + 1))) }
 {
     sender.send(halves, &rows[i + 1], true, i + 1)?;
     Ok(())
@@ -75,9 +75,9 @@ fn send_base(
     last: usize,
 ) -> Result<(), OutOfMemory>
     requires last { last + 1 ≡ length rows.now }
-    requires given { AreSendable (run_of halves rows.now) }
-    requires sent { Sent (run_of halves rows.now) last sender.old }
-    ensures { OnOk result (Stood (run_of halves rows.now) sender.old.base sender.new (tail_bytes rows.now sender.old.base)) }
+    requires given { AreSendable (sent_rows halves rows.now) }
+    requires sent { Sent (sent_rows halves rows.now) last sender.old }
+    ensures { OnOk result (Stood (sent_rows halves rows.now) sender.old.base sender.new (tail_bytes rows.now sender.old.base)) }
 {
     let base = sender.base;
     if base <= sender.walked {
@@ -95,9 +95,9 @@ fn finish(
     last: usize,
 ) -> Result<(), OutOfMemory>
     requires last { last + 1 ≡ length rows.now }
-    requires given { AreSendable (run_of halves rows.now) }
-    requires sent { Sent (run_of halves rows.now) last sender.old }
-    ensures { OnOk result (Stood (run_of halves rows.now) last sender.new (tail_bytes rows.now last)) }
+    requires given { AreSendable (sent_rows halves rows.now) }
+    requires sent { Sent (sent_rows halves rows.now) last sender.old }
+    ensures { OnOk result (Stood (sent_rows halves rows.now) last sender.new (tail_bytes rows.now last)) }
 {
     let base = sender.base;
     send_base(sender, halves, rows, last)?;
@@ -109,7 +109,7 @@ fn finish(
 
 /// The packets after the start packet at the first row.
 fn send_all(alloc: Global, halves: bool, rows: &[StepRow]) -> Result<Text, OutOfMemory>
-    requires given { AreSendable (run_of halves rows.now) }
+    requires given { AreSendable (sent_rows halves rows.now) }
     ensures tells { IfOk result (λ bytes. TellsAfter halves bytes rows.now) }
     ensures few { IfOk result (λ bytes. length bytes < 2 ^ 31) }
 {
@@ -124,8 +124,8 @@ fn send_all(alloc: Global, halves: bool, rows: &[StepRow]) -> Result<Text, OutOf
 
 /// A trace of the rows.
 fn write_all(alloc: Global, halves: bool, rows: &[StepRow]) -> Result<Text, OutOfMemory>
-    requires given { AreSendable (run_of halves rows.now) }
-    ensures tells { IfOk result (λ trace. Tells halves trace rows.now) }
+    requires given { AreSendable (sent_rows halves rows.now) }
+    ensures tells { IfOk result (λ trace. TellsRows halves trace rows.now) }
     ensures few { IfOk result (λ trace. length trace < 2 ^ 32) }
 {
     let mut trace = header(alloc, halves)?;
@@ -142,7 +142,7 @@ fn write_all(alloc: Global, halves: bool, rows: &[StepRow]) -> Result<Text, OutO
 /// a time, where nothing else need be told; payloads are cut short (Efficient Trace for RISC-V 2.0).
 pub fn encode(alloc: Global, halves: bool, steps: &Steps) -> Result<Text, EncodeFault>
     requires { IsWalkable halves steps.now }
-    ensures tells { IfOk result (λ trace. Tells halves trace steps.now) }
+    ensures tells { IfOk result (λ trace. TellsRows halves trace steps.now) }
     ensures few { IfOk result (λ trace. length trace < 2 ^ 32) }
     ensures refusal { IfErr result (λ fault. IsRefusal steps.now fault) }
     ensures jump_ends { (i : ℕ) → IsFirstJumpEnd steps.now i → result ≡ Err (EncodeFault.JumpEnds i) }

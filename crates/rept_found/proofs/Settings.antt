@@ -6,7 +6,7 @@ use Rattle.std.proofs.lemmas.Bool.Decides.{nat_tests}
 use Rattle.std.proofs.lemmas.Option.{slice_get_cases}
 use Rattle.rept_elf.specs.Header.{word_at}
 use Rattle.rept_elf.specs.Segments.{ElfSegment}
-use Rattle.rept_dump.specs.Memory.{byte_at}
+use Rattle.rept_dump.specs.Memory.{crash_byte}
 use Rattle.rept_dump.specs.Program.{Program, contents}
 use Rattle.rept_dump.specs.Status.{IsStatus}
 use Rattle.rept_dump.specs.declared.status.Status.{Status}
@@ -31,7 +31,7 @@ use Rattle.rept_analysis.specs.Kept.{answers}
 use Rattle.rept_analysis.specs.Logged.{IsLogOf}
 use Rattle.rept_trip.specs.Alone.{registers_alone, trip_of}
 use Rattle.rept_trip.specs.Trip.{Trip, thread_on, given_on, setting_on}
-use Rattle.rept_found.specs.Crash.{Crash, Means, Ended, Scene, ended, last_value, last_values, path_of as crash_path, route, trip_by, values_of}
+use Rattle.rept_found.specs.Crash.{Crash, Means, ThreadEnd, Scene, ended, last_value, last_values, path_of as crash_path, route, trip_by, values_of}
 use Rattle.rept_found.specs.Ends.{Ends, registers_of_one, registers_in, last_values_in, AreEnds, AreNoted, AreWhole}
 use Rattle.rept_found.specs.View.{View, read_in, ended_as, IsFoundIn, IsOfRun, IsPreparedFor, scene_in, state_in, trip_in}
 use Rattle.rept_found.specs.declared.over.RunRows.{RunRows}
@@ -78,16 +78,16 @@ ended_are (note ∷ notes) (status ∷ statuses) noted same =
     let rest = ended_are notes statuses (rest_noted note notes status statuses noted) (omega (arith, same)) in
     ap (λ (n : ℕ). record { end_pc = n; process = status.pid } ∷ map ended_as statuses) its.pc
     ∙ ap (λ (n : ℕ). record { end_pc = word_at note 72; process = n } ∷ map ended_as statuses) its.pid
-    ∙ ap (λ (xs : List Ended). ended note ∷ xs) rest
+    ∙ ap (λ (xs : List ThreadEnd). ended note ∷ xs) rest
 
 -- a run that ends so, and the scene of it
 pub trip_is : {W R : Type 0} (m : Means W) (v : View W R) (notes : List (List ℕ)) → AreWhole v.ends.statuses → AreNoted notes v.ends.statuses → length v.ends.statuses ≡ length notes → trip_in m v ≡ route m (record { exe = v.program; core = v.core; notes = notes }) v.ends.course
 trip_is m v notes whole noted same =
-    ap (λ (f : ℕ → List ℕ). trip_by m v.ends.course (record { registers = f; dump = byte_at (contents v.program) v.core; image_end = (contents v.program).end }))
+    ap (λ (f : ℕ → List ℕ). trip_by m v.ends.course (record { registers = f; dump = crash_byte (contents v.program) v.core; image_end = (contents v.program).end }))
     (fun_ext (λ t. registers_are notes v.ends.statuses whole noted same t))
 
 pub scene_is : {W R : Type 0} (v : View W R) (notes : List (List ℕ)) → AreNoted notes v.ends.statuses → length v.ends.statuses ≡ length notes → scene_in v ≡ record { threads = map ended notes; program = v.program }
-scene_is v notes noted same = ap (λ (xs : List Ended). record { threads = xs; program = v.program }) (ended_are notes v.ends.statuses noted same)
+scene_is v notes noted same = ap (λ (xs : List ThreadEnd). record { threads = xs; program = v.program }) (ended_are notes v.ends.statuses noted same)
 
 -- the rows and moments of a course of the code are those of its run
 pub seen_same : (C : Course) (c : courses.Course) → IsCourseOf C c → seen_in c ≡ seen C
@@ -95,10 +95,10 @@ seen_same C (courses.TheVariants.One steps) its = ap (seen_by C) (sym its)
 seen_same C (courses.TheVariants.Many many) its = ap (λ (D : Course). seen_by D None) its.0 ∙ ap (seen_by C) (sym its.1)
 
 abbrev given_with : Seen → (ℕ → List ℕ) → Program → List ElfSegment → Given
-given_with x last program core = record { legs = x.legs; moments = x.moments; last = last; dump = byte_at (contents program) core; image_end = (contents program).end }
+given_with x last program core = record { legs = x.legs; moments = x.moments; last = last; dump = crash_byte (contents program) core; image_end = (contents program).end }
 
 -- an analysis of these paths, ends and files
-pub given_is : {B W R : Type 0} (a : Whole RunRows RunEnds B W R) (paths : RunPaths) (ends : Ends) (program : Program) (core : List ElfSegment) → a.paths.paths.now ≡ paths → a.last.ends.now ≡ ends → (a.exe ≡ program) × (a.core ≡ core) → IsCourseOf ends.course paths.ways → given_of read_in a ≡ given_on ends.course (record { registers = registers_in ends; dump = byte_at (contents program) core; image_end = (contents program).end })
+pub given_is : {B W R : Type 0} (a : Whole RunRows RunEnds B W R) (paths : RunPaths) (ends : Ends) (program : Program) (core : List ElfSegment) → a.paths.paths.now ≡ paths → a.last.ends.now ≡ ends → (a.exe ≡ program) × (a.core ≡ core) → IsCourseOf ends.course paths.ways → given_of read_in a ≡ given_on ends.course (record { registers = registers_in ends; dump = crash_byte (contents program) core; image_end = (contents program).end })
 given_is a paths ends program core p l (e, k) its =
     ap (λ (x : RunPaths). given_with (seen_in x.ways) (last_values_in a.last.ends.now) a.exe a.core) p
     ∙ ap (λ (x : Ends). given_with (seen_in paths.ways) (last_values_in x) a.exe a.core) l
@@ -163,7 +163,7 @@ conflict_of {W} S T kind e h = subst (λ (U : Setting W). ClosureHas U kind) e h
 pub single_trip : {W : Type 0} (m : Means W) (crash : Crash) (note : List ℕ) (rows : List StepRow) (skipped : ℕ) → crash.notes ≡ note ∷ [] → route m crash (course_of (run_of_one rows skipped)) ≡ trip_of (crash_path m crash rows)
 single_trip {W} m crash note rows skipped only =
     subst (λ (notes : List (List ℕ)). route m (record { exe = crash.exe; core = crash.core; notes = notes }) (course_of (run_of_one rows skipped)) ≡ trip_of (crash_path m (record { exe = crash.exe; core = crash.core; notes = notes }) rows)) (sym only)
-    (ap (λ (f : ℕ → List ℕ). trip_by m (course_of (run_of_one rows 0)) (record { registers = f; dump = byte_at (contents crash.exe) crash.core; image_end = (contents crash.exe).end })) (fun_ext each))
+    (ap (λ (f : ℕ → List ℕ). trip_by m (course_of (run_of_one rows 0)) (record { registers = f; dump = crash_byte (contents crash.exe) crash.core; image_end = (contents crash.exe).end })) (fun_ext each))
   where
     each : (t : ℕ) → values_of (slice_get (note ∷ []) t) ≡ registers_alone (last_values note) t
     each zero = refl

@@ -16,7 +16,7 @@ use Rattle.rept_report.specs.Spots.{spot}
 use Rattle.rept_report.specs.Views.{may_write, is_sure}
 use Rattle.rept_report.specs.Writers.{IsCandidate, IsWriter}
 use Rattle.rept_report.proofs.WriterLaws.{one_writer}
-use Rattle.rept_report.specs.OneThread.{Path, along}
+use Rattle.rept_report.specs.OneThread.{ThreadPath, along}
 use Rattle.rept_moments.proofs.Apart.{legs_seen}
 use Rattle.rept_analysis.specs.Counts.{rows_below}
 use Rattle.rept_analysis.proofs.Counting.{count_full}
@@ -27,7 +27,7 @@ use Rattle.rept_trip.specs.Last.{writer_found}
 use Rattle.rept_trip.proofs.Last.{found_fits}
 use Rattle.rept_trip.proofs.Single.{point_here, last_low, last_high, moment_alone}
 use Rattle.rept_dump.specs.Program.{Program}
-use Rattle.rept_found.specs.Crash.{Ended, Scene, ended_at}
+use Rattle.rept_found.specs.Crash.{Scene, ThreadEnd, ended_at}
 use Rattle.rept_found.specs.Single.{writer_at, last_writer, IsOneThread}
 use Rattle.rept_found.specs.Telling.{shown_of}
 
@@ -70,12 +70,12 @@ module _ (rows : List StepRow) where
       ]
 
 -- how the one thread ended
-pub first_ended : (e : Ended) (program : Program) (t : ℕ) → t < 1 → ended_at (record { threads = e ∷ []; program = program }) t ≡ e
+pub first_ended : (e : ThreadEnd) (program : Program) (t : ℕ) → t < 1 → ended_at (record { threads = e ∷ []; program = program }) t ≡ e
 first_ended e program zero below = refl
 first_ended e program (suc t) below = absurd (omega arith)
 
 -- the greatest step before a point that may write a byte is the last candidate
-module _ {W : Type 0} (P : Path W) (K : Knowledge) (p a : ℕ) where
+module _ {W : Type 0} (P : ThreadPath W) (K : Knowledge) (p a : ℕ) where
   abbrev S : Setting W
   S = along P
 
@@ -120,7 +120,7 @@ module _ {W : Type 0} (P : Path W) (K : Knowledge) (p a : ℕ) where
   pub found_is : writer_found S K (spot p a) ≡ last_writer S K p a
   found_is = one_writer S K p a (writer_found S K (spot p a)) (last_writer S K p a) (found_fits S K (spot p a) (legs_seen (trip_of P).course)) last_writer_is
 
-pub one_thread_shown : {W : Type 0} (P : Path W) (K : Knowledge) (scene : Scene) → IsOneThread P K (shown_of P K scene)
+pub one_thread_shown : {W : Type 0} (P : ThreadPath W) (K : Knowledge) (scene : Scene) → IsOneThread P K (shown_of P K scene)
 one_thread_shown P K scene = record {
   threads = refl;
   rows = refl;

@@ -33,7 +33,7 @@ use Rattle.rept_report.specs.Soundness.{IsSound as IsSoundReport, HasNoExecution
 use Rattle.rept_report.specs.Why.{Because, IsReason, IsGiven, RangeAlwaysHolds as RangeHoldsInRuns}
 use Rattle.rept_report.specs.Implied.{HasEnded, known_at_end}
 use Rattle.rept_report.specs.Log.{Entry, logged_of}
-use Rattle.rept_report.specs.OneThread.{Path, along}
+use Rattle.rept_report.specs.OneThread.{ThreadPath, along}
 use Rattle.rept_trip.specs.Trip.{Trip, setting_on}
 use Rattle.rept_trip.specs.Alone.{trip_of}
 use Rattle.rept_trip.specs.Executed.{IsHistoryOf, HasNoHistory, moment_named, run_on, writer_on}
@@ -57,7 +57,7 @@ uses_trip m C D sound = record { its_sets = refl; its_moves = refl; its_rules = 
 pub no_history : {W : Type 0} (t : Trip W) → IsSound t.course → 0 < length t.course.threads → HasNoRun (setting_on t) → HasNoHistory t
 no_history t sound some none h x = none (run_on t.course h) (history_runs t h sound some x)
 
-pub no_history_alone : {W : Type 0} (P : Path W) → HasNoRun (along P) → HasNoHistory (trip_of P)
+pub no_history_alone : {W : Type 0} (P : ThreadPath W) → HasNoRun (along P) → HasNoHistory (trip_of P)
 no_history_alone P none = no_history (trip_of P) (is_sound P.given.rows) (omega arith) none
 
 module _ {W : Type 0} (m : Means W) (sets : AreLawfulSets m.sets) (moves : AreMoves m.sets m.moves) (C : Course) (D : Ending) (K : Knowledge) (sound : IsSound C) (some : 0 < length C.threads) where
@@ -102,8 +102,8 @@ module _ {W : Type 0} (m : Means W) (sets : AreLawfulSets m.sets) (moves : AreMo
       reached_named : (k a : ℕ) → k ≤ Here.moments.end → WriterReaches C (record { moment = last_on C k; address = a }) (writer_on C (writer_found Here K (spot k a))) → WriterReaches C (record { moment = moment_named C (place_on C k); address = a }) (writer_on C (writer_found Here K (spot k a)))
       reached_named k a few holds = subst (λ (y : Moment). WriterReaches C (record { moment = y; address = a }) (writer_on C (writer_found Here K (spot k a)))) (sym (place_named C sound k few)) holds
 
-      writer_so_named : (k a : ℕ) → k ≤ Here.moments.end → order.WriterHolds C D h (record { moment = last_on C k; address = a }) (writer_on C (writer_found Here K (spot k a))) → order.WriterHolds C D h (record { moment = moment_named C (place_on C k); address = a }) (writer_on C (writer_found Here K (spot k a)))
-      writer_so_named k a few holds = subst (λ (y : Moment). order.WriterHolds C D h (record { moment = y; address = a }) (writer_on C (writer_found Here K (spot k a)))) (sym (place_named C sound k few)) holds
+      writer_so_named : (k a : ℕ) → k ≤ Here.moments.end → order.WriterHoldsInHistory C D h (record { moment = last_on C k; address = a }) (writer_on C (writer_found Here K (spot k a))) → order.WriterHoldsInHistory C D h (record { moment = moment_named C (place_on C k); address = a }) (writer_on C (writer_found Here K (spot k a)))
+      writer_so_named k a few holds = subst (λ (y : Moment). order.WriterHoldsInHistory C D h (record { moment = y; address = a }) (writer_on C (writer_found Here K (spot k a)))) (sym (place_named C sound k few)) holds
 
   -- what the laws of reasons say of an order in which the report was learnt
   because_true : (es : List Entry) (tracked : ℕ → Bool) (why : Because) → ((p : ℕ) (c : Cell) → known_at_end Here es tracked p c ≡ K p c) → All (IsGiven (known_at_end Here es tracked)) why.premises → All (RangeHoldsInRuns Here) why.ranges → IsTrueBecause There K why

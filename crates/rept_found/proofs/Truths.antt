@@ -16,7 +16,7 @@ use Rattle.rept_span.specs.Moves.{AreMoves}
 use Rattle.rept_span.specs.Ranges.{range}
 use Rattle.rept_report.specs.Setting.{Setting, Uses, way_of}
 use Rattle.rept_report.specs.Runs.{Runs, StepWrites as RowWrites, is_call}
-use Rattle.rept_report.specs.OneThread.{run_of}
+use Rattle.rept_report.specs.OneThread.{run_of_states}
 use Rattle.rept_report.specs.Spots.{spot}
 use Rattle.rept_report.specs.declared.writer.Writer.{Writer}
 use Rattle.rept_report.specs.declared.writer.Writer as writers
@@ -28,12 +28,12 @@ use Rattle.rept_report.specs.Why.{Because, IsReason, IsGiven, RangeAlwaysHolds a
 use Rattle.rept_report.specs.Implied.{HasEnded, known_at_end}
 use Rattle.rept_report.specs.Log.{Entry, logged_of}
 use Rattle.rept_report.proofs.OneThread.{rows_within, are_points, execution_runs, none_later, writes_told}
-use Rattle.rept_report.specs.OneThread.{Path, along}
+use Rattle.rept_report.specs.OneThread.{ThreadPath, along}
 use Rattle.rept_found.specs.Crash.{Crash, Means, path_of, Scene}
 use Rattle.rept_trip.specs.Alone.{trip_of}
 use Rattle.rept_trip.specs.Last.{writer_found}
 use Rattle.rept_found.specs.Telling.{noted, shown_of}
-use Rattle.rept_found.specs.Truth.{Executes, HasNoExecution, StepWrites, WriterHolds, RangeAlwaysHolds, IsTrueOf, IsTrueReason, IsTrueReport}
+use Rattle.rept_found.specs.Truth.{ExecutesPath, HasNoExecutionOfPath, StepOfPathWrites, WriterHoldsOnPath, RangeAlwaysHolds, IsTrueOf, IsTrueReason, IsTrueReport}
 use Rattle.rept_found.proofs.Tellings.{writer_fits}
 
 some_is : {x v : ℕ} → Some x ≡ Some v → x ≡ v
@@ -61,53 +61,53 @@ noted_true m moves None v n in_set e = absurd (nothing e)
 noted_true m moves (Some set) v n in_set e = moves.noted set n e v (in_set set refl)
 
 -- An execution of the path is a run, so what holds in every run holds in it.
-module _ {W : Type 0} (P : Path W) where
-  runs : (states : ℕ → State) → Executes P states → Runs (along P) (run_of states)
+module _ {W : Type 0} (P : ThreadPath W) where
+  runs : (states : ℕ → State) → ExecutesPath P states → Runs (along P) (run_of_states states)
   runs states x = execution_runs P.sets P.moves P.rules P.given states x
 
   -- where there is no run, there is no execution
-  pub no_execution : HasNoRun (along P) → HasNoExecution P
-  no_execution none states x = none (run_of states) (runs states x)
+  pub no_execution : HasNoRun (along P) → HasNoExecutionOfPath P
+  no_execution none states x = none (run_of_states states) (runs states x)
 
   -- what a step writes, it writes in the run
-  step_row : (states : ℕ → State) (j a : ℕ) → StepWrites P states j a → RowWrites (along P) (run_of states) j a
+  step_row : (states : ℕ → State) (j a : ℕ) → StepOfPathWrites P states j a → RowWrites (along P) (run_of_states states) j a
   step_row states j a h = record {
     row = h.row;
     is_row = h.is_row;
     writes = writes_told P.sets P.moves P.rules P.given h.row.instr P.given.image_end (states j).register (states (j + 1)).register (states j).memory (states (j + 1)).memory (states j).memory (states (cond (is_call h.row.instr) j (j + 1))).memory a h.writes;
   }
 
-  row_step : (states : ℕ → State) (j a : ℕ) → RowWrites (along P) (run_of states) j a → StepWrites P states j a
+  row_step : (states : ℕ → State) (j a : ℕ) → RowWrites (along P) (run_of_states states) j a → StepOfPathWrites P states j a
   row_step states j a h = record {
     row = h.row;
     is_row = h.is_row;
     writes = writes_told P.sets P.moves P.rules P.given h.row.instr P.given.image_end (states j).register (states (j + 1)).register (states j).memory (states (cond (is_call h.row.instr) j (j + 1))).memory (states j).memory (states (j + 1)).memory a h.writes;
   }
 
-  writer_true : (K : Knowledge) (states : ℕ → State) (p a : ℕ) (w : Writer) → IsWriter (along P) K (spot p a) w → WriterHoldsIn (along P) (run_of states) (spot p a) w → WriterHolds P states (spot p a) w
-  writer_true K states p a (writers.TheVariants.Writes j) is h = (leb-false p j is.0.one.reaches, row_step states j a h.0, λ k above low w. none_later P.sets P.moves P.rules P.given (run_of states) p a j h.2 k above low (step_row states k a w))
-  writer_true K states p a (writers.TheVariants.MayWrite j) is h = (leb-false p j is.0.one.reaches, λ k above low w. none_later P.sets P.moves P.rules P.given (run_of states) p a j h k above low (step_row states k a w))
+  writer_true : (K : Knowledge) (states : ℕ → State) (p a : ℕ) (w : Writer) → IsWriter (along P) K (spot p a) w → WriterHoldsIn (along P) (run_of_states states) (spot p a) w → WriterHoldsOnPath P states (spot p a) w
+  writer_true K states p a (writers.TheVariants.Writes j) is h = (leb-false p j is.0.one.reaches, row_step states j a h.0, λ k above low w. none_later P.sets P.moves P.rules P.given (run_of_states states) p a j h.2 k above low (step_row states k a w))
+  writer_true K states p a (writers.TheVariants.MayWrite j) is h = (leb-false p j is.0.one.reaches, λ k above low w. none_later P.sets P.moves P.rules P.given (run_of_states states) p a j h k above low (step_row states k a w))
   writer_true K states p a writers.TheVariants.Several is h = tt
   writer_true K states p a writers.TheVariants.None is h = λ k low w. let high = leb-true p k (h.1 k (step_row states k a w)) in omega (arith, low, high)
 
   -- so do ranges
   ranges_true : (xs : List Looked) → All (RangeHoldsInRuns (along P)) xs → All (RangeAlwaysHolds P) xs
-  ranges_true xs h = All-weaker (RangeHoldsInRuns (along P)) (RangeAlwaysHolds P) (λ x holds states e. holds (run_of states) (runs states e)) xs h
+  ranges_true xs h = All-weaker (RangeHoldsInRuns (along P)) (RangeAlwaysHolds P) (λ x holds states e. holds (run_of_states states) (runs states e)) xs h
 
 module _ {W : Type 0} (m : Means W) (sets : AreLawfulSets m.sets) (moves : AreMoves m.sets m.moves) (crash : Crash) (rows : List StepRow) (K : Knowledge) where
   abbrev Here : Setting W
   Here = along (path_of m crash rows)
 
-  abbrev There : Path W
+  abbrev There : ThreadPath W
   There = path_of m crash rows
 
-  answers_true : IsSound Here K → (end : Scene) (run : ℕ → State) → Executes There run → IsTrueOf There (shown_of There K end) run
+  answers_true : IsSound Here K → (end : Scene) (run : ℕ → State) → ExecutesPath There run → IsTrueOf There (shown_of There K end) run
   answers_true sound end run x = record {
-    registers = λ p r v early e. register_true K (run p) p r v (x.states p early).zero (λ known. sound.facts p (Register r) v known (run_of run) (runs There run x)) e;
-    ranges = λ p r early. left_true m sets (range (way_of Here) K p r) ((run p).register r) ((x.states p early).words r) (λ set is. sound.ranges p r set early is (run_of run) (runs There run x));
-    notes = λ p r n early e. noted_true m moves (range (way_of Here) K p r) ((run p).register r) n (λ set is. sound.ranges p r set early is (run_of run) (runs There run x)) e;
-    bytes = λ p a v e. sound.facts p (Byte a) v e (run_of run) (runs There run x);
-    writers = λ p a early small. writer_true There K run p a (writer_found Here K (spot p a)) (writer_fits (trip_of There) K p a) (sound.writers p a (writer_found Here K (spot p a)) early small (writer_fits (trip_of There) K p a) (run_of run) (runs There run x));
+    registers = λ p r v early e. register_true K (run p) p r v (x.states p early).zero (λ known. sound.facts p (Register r) v known (run_of_states run) (runs There run x)) e;
+    ranges = λ p r early. left_true m sets (range (way_of Here) K p r) ((run p).register r) ((x.states p early).words r) (λ set is. sound.ranges p r set early is (run_of_states run) (runs There run x));
+    notes = λ p r n early e. noted_true m moves (range (way_of Here) K p r) ((run p).register r) n (λ set is. sound.ranges p r set early is (run_of_states run) (runs There run x)) e;
+    bytes = λ p a v e. sound.facts p (Byte a) v e (run_of_states run) (runs There run x);
+    writers = λ p a early small. writer_true There K run p a (writer_found Here K (spot p a)) (writer_fits (trip_of There) K p a) (sound.writers p a (writer_found Here K (spot p a)) early small (writer_fits (trip_of There) K p a) (run_of_states run) (runs There run x));
   }
 
   -- what the laws of reasons say of an order in which the report was learnt

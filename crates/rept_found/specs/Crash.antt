@@ -4,7 +4,7 @@ use Rattle.std.specs.List.{range_with_len}
 use Rattle.rept_elf.specs.Header.{word_at}
 use Rattle.rept_elf.specs.Segments.{ElfSegment}
 use Rattle.rept_dump.specs.Dump.{exe_of, core_of}
-use Rattle.rept_dump.specs.Memory.{byte_at}
+use Rattle.rept_dump.specs.Memory.{crash_byte}
 use Rattle.rept_dump.specs.Program.{Program, contents}
 use Rattle.rept_dump.specs.declared.dump.Dump.{Dump}
 use Rattle.rept_isa.specs.declared.row.StepRow.{StepRow}
@@ -12,7 +12,7 @@ use Rattle.rept_partial.specs.Sets.{Sets}
 use Rattle.rept_report.specs.Setting.{Setting}
 use Rattle.rept_span.specs.Moves.{Moves}
 use Rattle.rept_view.specs.Rules.{Rules}
-use Rattle.rept_report.specs.OneThread.{Path}
+use Rattle.rept_report.specs.OneThread.{ThreadPath}
 use Rattle.rept_steps.specs.Course.{Course}
 use Rattle.rept_order.specs.History.{Ending}
 use Rattle.rept_trip.specs.Trip.{Trip, setting_on}
@@ -40,21 +40,21 @@ abbrev pub process : List ℕ → ℕ
 process note = word_at note 24
 
 -- the address after the last step of a thread, and its process
-pub record Ended : Type 0 where
+pub record ThreadEnd : Type 0 where
   pub end_pc : ℕ
   pub process : ℕ
 
 -- what a session tells of a crash besides what follows: how each thread ended, and the functions that the program's files name
 pub record Scene : Type 0 where
-  pub threads : List Ended
+  pub threads : List ThreadEnd
   pub program : Program
 
 -- the end of a thread; past the last one there is none
-abbrev pub ended_at : Scene → ℕ → Ended
+abbrev pub ended_at : Scene → ℕ → ThreadEnd
 ended_at scene t = unwrap_or (slice_get scene.threads t) (record { end_pc = 0; process = 0 })
 
 -- by its note
-abbrev pub ended : List ℕ → Ended
+abbrev pub ended : List ℕ → ThreadEnd
 ended note = record { end_pc = end_pc note; process = process note }
 
 abbrev pub scene_of : Crash → Scene
@@ -90,7 +90,7 @@ values_of (Some note) = last_values note
 abbrev pub ending_of : Crash → Ending
 ending_of crash = record {
   registers = λ t. values_of (slice_get crash.notes t);
-  dump = byte_at (contents crash.exe) crash.core;
+  dump = crash_byte (contents crash.exe) crash.core;
   image_end = (contents crash.exe).end;
 }
 
@@ -103,10 +103,10 @@ abbrev pub setting : {W : Type 0} → Means W → Crash → Course → Setting W
 setting m crash course = setting_on (route m crash course)
 
 -- a path of one thread, with the first note's registers
-abbrev pub path_of : {W : Type 0} → Means W → Crash → List StepRow → Path W
+abbrev pub path_of : {W : Type 0} → Means W → Crash → List StepRow → ThreadPath W
 path_of m crash rows = record {
   sets = m.sets;
   moves = m.moves;
   rules = m.rules;
-  given = record { rows = rows; last = last_values (note_at crash 0); dump = byte_at (contents crash.exe) crash.core; image_end = (contents crash.exe).end };
+  given = record { rows = rows; last = last_values (note_at crash 0); dump = crash_byte (contents crash.exe) crash.core; image_end = (contents crash.exe).end };
 }

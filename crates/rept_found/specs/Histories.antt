@@ -5,7 +5,7 @@ use Rattle.rept_order.specs.History.{History}
 use Rattle.rept_order.specs.Moments.{WhollyAfter}
 use Rattle.rept_order.specs.Moments.Act.{row}
 use Rattle.rept_order.specs.Points.{registers_at, memory_at}
-use Rattle.rept_order.specs.Writers.{Spot, Writer, WriterHolds}
+use Rattle.rept_order.specs.Writers.{Spot, Writer, WriterHoldsInHistory}
 use Rattle.rept_order.specs.Writers.Writer.{writes, may_write, several, none}
 use Rattle.rept_reason.specs.declared.fact.Fact.{Fact}
 use Rattle.rept_reason.specs.declared.reason.Looked.{Looked}
@@ -50,7 +50,7 @@ pub record IsTrueIn {W : Type 0} (t : Trip W) (s : Shown) (h : History) : Type 0
   pub ranges : (p r : ℕ) → p < s.points → ((s.range p r).lo ≤ value_at t h (s.point p) r) × (value_at t h (s.point p) r ≤ (s.range p r).hi)
   pub notes : (p r : ℕ) (n : ℕ × ℕ) → p < s.points → s.note p r ≡ Some n → bit_and (value_at t h (s.point p) r) n.0 ≡ n.1
   pub bytes : (m a v : ℕ) → m < s.moments → s.byte m a ≡ Some v → byte_in t s h m a ≡ v
-  pub writers : (m a : ℕ) → m < s.moments → a < 2 ^ 32 → WriterHolds t.course t.ending h (spot_in t s m a) (writer_on t.course (s.writer m a))
+  pub writers : (m a : ℕ) → m < s.moments → a < 2 ^ 32 → WriterHoldsInHistory t.course t.ending h (spot_in t s m a) (writer_on t.course (s.writer m a))
   pub reached : (m a : ℕ) → m < s.moments → WriterReaches t.course (spot_in t s m a) (writer_on t.course (s.writer m a))
 
 -- the register's value lies in the range in every execution

@@ -5,7 +5,7 @@ use Rattle.rept_report.specs.declared.writer.Writer.{Writer}
 use Rattle.rept_report.specs.declared.writer.Writer as writers
 use Rattle.rept_report.specs.Setting.{Setting}
 use Rattle.rept_report.specs.Views.{may_write, is_sure}
-use Rattle.rept_report.specs.OneThread.{Path, along}
+use Rattle.rept_report.specs.OneThread.{ThreadPath, along}
 use Rattle.rept_session.specs.Shown.{Shown}
 use Rattle.rept_session.specs.declared.place.Place.TheVariants as places
 
@@ -20,7 +20,7 @@ last_writer S K (suc j) a = if may_write S K j a then writer_at S K j else last_
 
 -- There is one thread with the steps of the path. Its points are the numbers from 0 on and the moments too, and a byte was last written by the greatest step before the point that may
 -- write it.
-pub record IsOneThread {W : Type 0} (P : Path W) (K : Knowledge) (s : Shown) : Type 0 where
+pub record IsOneThread {W : Type 0} (P : ThreadPath W) (K : Knowledge) (s : Shown) : Type 0 where
   pub threads : s.threads ≡ 1
   pub rows : s.rows 0 ≡ P.given.rows
   pub first : s.first 0 ≡ 0

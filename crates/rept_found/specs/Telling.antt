@@ -13,10 +13,10 @@ use Rattle.rept_report.specs.Setting.{Setting, way_of}
 use Rattle.rept_report.specs.Spots.{spot}
 use Rattle.rept_report.specs.Views.{bounds}
 use Rattle.rept_report.specs.Why.{IsReason}
-use Rattle.rept_report.specs.OneThread.{Path}
+use Rattle.rept_report.specs.OneThread.{ThreadPath}
 use Rattle.rept_moments.specs.Seen.{seen, moment_in}
 use Rattle.rept_analysis.specs.Counts.{rows_below, calls_below, stores_below, known_below}
-use Rattle.rept_session.specs.Shown.{Shown, Told, told}
+use Rattle.rept_session.specs.Shown.{SessionTold, Shown, session_told}
 use Rattle.rept_places.specs.Places.{point_on, place_on}
 use Rattle.rept_dump.specs.Program.{contents}
 use Rattle.rept_trip.specs.Trip.{Trip, setting_on}
@@ -63,7 +63,7 @@ shown_on t K scene = record {
 }
 
 -- of a path: that of its one thread, all of which is told
-abbrev pub shown_of : {W : Type 0} → Path W → Knowledge → Scene → Shown
+abbrev pub shown_of : {W : Type 0} → ThreadPath W → Knowledge → Scene → Shown
 shown_of P K scene = shown_on (trip_of P) K scene
 
 -- a report, the order in which it was learnt, and what a session tells besides: of the crash, and how many packets were left out
@@ -74,9 +74,9 @@ pub record Account : Type 0 where
   pub skipped : ℕ
 
 -- what a session tells of a trip, with reasons by that order
-abbrev pub told_on : {W : Type 0} → Trip W → Account → Told
-told_on t a = told (shown_on t a.known a.scene) a.skipped (IsReason (setting_on t) a.log)
+abbrev pub told_on : {W : Type 0} → Trip W → Account → SessionTold
+told_on t a = session_told (shown_on t a.known a.scene) a.skipped (IsReason (setting_on t) a.log)
 
 -- and of a path
-abbrev pub told_of : {W : Type 0} → Path W → Account → Told
+abbrev pub told_of : {W : Type 0} → ThreadPath W → Account → SessionTold
 told_of P a = told_on (trip_of P) a

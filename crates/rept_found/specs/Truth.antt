@@ -12,57 +12,57 @@ use Rattle.rept_report.specs.declared.writer.Writer as writers
 use Rattle.rept_report.specs.Spots.{Spot, spot}
 use Rattle.rept_report.specs.Why.{Because, IsReason, IsGiven}
 use Rattle.rept_analysis.specs.Logged.{IsLogOf}
-use Rattle.rept_report.specs.OneThread.{Path, along}
+use Rattle.rept_report.specs.OneThread.{ThreadPath, along}
 use Rattle.rept_session.specs.Shown.{Shown}
 use Rattle.rept_found.specs.Crash.{Scene}
 use Rattle.rept_found.specs.Telling.{shown_of}
 
 -- an execution of the path that ends in the dump
-abbrev pub Executes : {W : Type 0} → Path W → (ℕ → State) → Type 0
-Executes P run = Execution P.given.image_end P.given.rows P.given.last P.given.dump run
+abbrev pub ExecutesPath : {W : Type 0} → ThreadPath W → (ℕ → State) → Type 0
+ExecutesPath P run = Execution P.given.image_end P.given.rows P.given.last P.given.dump run
 
 -- no execution of the path ends in the dump
-abbrev pub HasNoExecution : {W : Type 0} → Path W → Type 0
-HasNoExecution P = (run : ℕ → State) → Executes P run → ⊥
+abbrev pub HasNoExecutionOfPath : {W : Type 0} → ThreadPath W → Type 0
+HasNoExecutionOfPath P = (run : ℕ → State) → ExecutesPath P run → ⊥
 
 -- step j of an execution writes the byte
-pub record StepWrites {W : Type 0} (P : Path W) (run : ℕ → State) (j a : ℕ) : Type 0 where
+pub record StepOfPathWrites {W : Type 0} (P : ThreadPath W) (run : ℕ → State) (j a : ℕ) : Type 0 where
   pub row : StepRow
   pub is_row : slice_get P.given.rows j ≡ Some row
   pub writes : Writes P.given.image_end row (run j) (run (j + 1)) a
 
 -- no step after step j and before the point writes the byte
-abbrev pub NoneAfter : {W : Type 0} → Path W → (ℕ → State) → Spot → ℕ → Type 0
-NoneAfter P run x j = (k : ℕ) → j < k → k < x.point → StepWrites P run k x.address → ⊥
+abbrev pub NoneAfter : {W : Type 0} → ThreadPath W → (ℕ → State) → Spot → ℕ → Type 0
+NoneAfter P run x j = (k : ℕ) → j < k → k < x.point → StepOfPathWrites P run k x.address → ⊥
 
 -- Of an execution: step j, which is before the point, writes the byte, and no later step before the point does; or no step after step j, which is before the point, and before the point
 -- does; or no step before the point does. Of several nothing is said, nor are they told of one path.
-abbrev pub WriterHolds : {W : Type 0} → Path W → (ℕ → State) → Spot → Writer → Type 0
-WriterHolds P run x (writers.TheVariants.Writes j) = (j < x.point) × StepWrites P run j x.address × NoneAfter P run x j
-WriterHolds P run x (writers.TheVariants.MayWrite j) = (j < x.point) × NoneAfter P run x j
-WriterHolds P run x writers.TheVariants.Several = ⊤
-WriterHolds P run x writers.TheVariants.None = (k : ℕ) → k < x.point → StepWrites P run k x.address → ⊥
+abbrev pub WriterHoldsOnPath : {W : Type 0} → ThreadPath W → (ℕ → State) → Spot → Writer → Type 0
+WriterHoldsOnPath P run x (writers.TheVariants.Writes j) = (j < x.point) × StepOfPathWrites P run j x.address × NoneAfter P run x j
+WriterHoldsOnPath P run x (writers.TheVariants.MayWrite j) = (j < x.point) × NoneAfter P run x j
+WriterHoldsOnPath P run x writers.TheVariants.Several = ⊤
+WriterHoldsOnPath P run x writers.TheVariants.None = (k : ℕ) → k < x.point → StepOfPathWrites P run k x.address → ⊥
 
 -- Of one execution: each value of a register and each byte that is told is the one that it has, each register lies between the
 -- bounds that are told and has the bits that are noted, and what is told of the step that last wrote a byte is so: that step came before the point, wrote it and no later one did; it came before and no later
 -- one did; or none did.
-pub record IsTrueOf {W : Type 0} (P : Path W) (s : Shown) (run : ℕ → State) : Type 0 where
+pub record IsTrueOf {W : Type 0} (P : ThreadPath W) (s : Shown) (run : ℕ → State) : Type 0 where
   pub registers : (p r v : ℕ) → p ≤ length P.given.rows → s.register p r ≡ Some v → (run p).register r ≡ v
   pub ranges : (p r : ℕ) → p ≤ length P.given.rows → ((s.range p r).lo ≤ (run p).register r) × ((run p).register r ≤ (s.range p r).hi)
   pub notes : (p r : ℕ) (n : ℕ × ℕ) → p ≤ length P.given.rows → s.note p r ≡ Some n → bit_and ((run p).register r) n.0 ≡ n.1
   pub bytes : (p a v : ℕ) → s.byte p a ≡ Some v → (run p).memory a ≡ v
-  pub writers : (p a : ℕ) → p ≤ length P.given.rows → a < 2 ^ 32 → WriterHolds P run (spot p a) (s.writer p a)
+  pub writers : (p a : ℕ) → p ≤ length P.given.rows → a < 2 ^ 32 → WriterHoldsOnPath P run (spot p a) (s.writer p a)
 
 -- the register's value lies in the range in every execution
-abbrev pub RangeAlwaysHolds : {W : Type 0} → Path W → Looked → Type 0
-RangeAlwaysHolds P x = (run : ℕ → State) → Executes P run → (x.range.lo ≤ (run x.point).register x.reg) × ((run x.point).register x.reg ≤ x.range.hi)
+abbrev pub RangeAlwaysHolds : {W : Type 0} → ThreadPath W → Looked → Type 0
+RangeAlwaysHolds P x = (run : ℕ → State) → ExecutesPath P run → (x.range.lo ≤ (run x.point).register x.reg) × ((run x.point).register x.reg ≤ x.range.hi)
 
 -- Of a reason: the facts that it rests on are of the report, and the ranges that it lists hold in every execution.
-pub record IsTrueReason {W : Type 0} (P : Path W) (K : Knowledge) (why : Because) : Type 0 where
+pub record IsTrueReason {W : Type 0} (P : ThreadPath W) (K : Knowledge) (why : Because) : Type 0 where
   pub premises : All (IsGiven K) why.premises
   pub ranges : All (RangeAlwaysHolds P) why.ranges
 
 -- all that a session tells of a report, whatever the order in which it was learnt
-pub record IsTrueReport {W : Type 0} (P : Path W) (K : Knowledge) : Type 0 where
-  pub answers : (scene : Scene) (run : ℕ → State) → Executes P run → IsTrueOf P (shown_of P K scene) run
+pub record IsTrueReport {W : Type 0} (P : ThreadPath W) (K : Knowledge) : Type 0 where
+  pub answers : (scene : Scene) (run : ℕ → State) → ExecutesPath P run → IsTrueOf P (shown_of P K scene) run
   pub reasons : (log : List Fact) (fact : Fact) (why : Because) → IsLogOf (along P) K log → IsReason (along P) log fact why → IsTrueReason P K why

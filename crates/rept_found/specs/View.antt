@@ -1,7 +1,7 @@
 -- An analysis that is prepared, or has ended, as contracts see it. This project's own.
 use Rattle.std.specs.Prelude.{◌≡◌, ◌<◌, List, length, map}
 use Rattle.rept_elf.specs.Segments.{ElfSegment}
-use Rattle.rept_dump.specs.Memory.{byte_at}
+use Rattle.rept_dump.specs.Memory.{crash_byte}
 use Rattle.rept_dump.specs.Program.{Program, contents}
 use Rattle.rept_dump.specs.declared.status.Status.{Status}
 use Rattle.rept_steps.specs.Course.{IsSound}
@@ -13,7 +13,7 @@ use Rattle.rept_analysis.specs.State.{State, Whole, Reader, reader, given_of, st
 use Rattle.rept_analysis.specs.Kept.{answers}
 use Rattle.rept_analysis.specs.Logged.{IsLogOf}
 use Rattle.rept_trip.specs.Trip.{Trip, given_on, setting_on}
-use Rattle.rept_found.specs.Crash.{Means, Ended, Scene, trip_by}
+use Rattle.rept_found.specs.Crash.{Means, ThreadEnd, Scene, trip_by}
 use Rattle.rept_found.specs.Ends.{Ends, registers_in, last_values_in}
 use Rattle.rept_found.specs.declared.over.RunRows.{RunRows}
 use Rattle.rept_found.specs.declared.over.RunEnds.{RunEnds}
@@ -33,7 +33,7 @@ read_in = reader (λ rows. time_of rows.paths.now.ways) (λ ends. last_values_in
 abbrev pub ending_in : {W R : Type 0} → View W R → Ending
 ending_in v = record {
   registers = registers_in v.ends;
-  dump = byte_at (contents v.program) v.core;
+  dump = crash_byte (contents v.program) v.core;
   image_end = (contents v.program).end;
 }
 
@@ -41,7 +41,7 @@ ending_in v = record {
 abbrev pub trip_in : {W R : Type 0} → Means W → View W R → Trip W
 trip_in m v = trip_by m v.ends.course (ending_in v)
 
-abbrev pub ended_as : Status → Ended
+abbrev pub ended_as : Status → ThreadEnd
 ended_as status = record { end_pc = status.pc; process = status.pid }
 
 -- what a session tells of the crash besides

@@ -8,7 +8,7 @@ ghost use Rattle.rept_moments.specs.Seen.{alone_by};
 ghost use Rattle.rept_reason.specs.Facts.{Knowledge};
 ghost use Rattle.rept_report.specs.declared.conflict.ConflictKind.{ConflictKind};
 ghost use Rattle.rept_report.specs.Closure.{ClosureHas, IsReport};
-ghost use Rattle.rept_report.specs.OneThread.{Path, along};
+ghost use Rattle.rept_report.specs.OneThread.{ThreadPath, along};
 ghost use Rattle.rept_steps.specs.Runs.{course_of, run_of_one};
 ghost use Rattle.rept_session.specs.LastWriters.{AreLastWriters};
 ghost use Rattle.rept_trip.specs.Alone.{trip_of};
@@ -18,7 +18,7 @@ ghost use Rattle.rept_found.specs.Crash.{Crash, Scene, means, path_of, route, se
 ghost use Rattle.rept_found.specs.Histories.{IsTrueTrip};
 ghost use Rattle.rept_found.specs.Single.{IsOneThread};
 ghost use Rattle.rept_found.specs.Telling.{shown_of, shown_on};
-ghost use Rattle.rept_found.specs.Truth.{HasNoExecution, IsTrueReport};
+ghost use Rattle.rept_found.specs.Truth.{HasNoExecutionOfPath, IsTrueReport};
 
 use rept_report::{facts_have_reasons, reports_are_sound};
 use rept_span::Transfer;
@@ -28,7 +28,7 @@ use rept_view::RowRules;
 /// The run of one thread is the trip of its path, so that the same is found and shown of it.
 pub fn reports_are_true<W: Transfer, R: RowRules>()
     ensures report { (crash : Crash) (rows : List StepRow) (K : Knowledge) → IsReport (along (path_of (means W.sets W.moves R.rules) crash rows)) K → IsTrueReport (path_of (means W.sets W.moves R.rules) crash rows) K }
-    ensures impossible { (crash : Crash) (rows : List StepRow) (kind : ConflictKind) → ClosureHas (along (path_of (means W.sets W.moves R.rules) crash rows)) kind → HasNoExecution (path_of (means W.sets W.moves R.rules) crash rows) }
+    ensures impossible { (crash : Crash) (rows : List StepRow) (kind : ConflictKind) → ClosureHas (along (path_of (means W.sets W.moves R.rules) crash rows)) kind → HasNoExecutionOfPath (path_of (means W.sets W.moves R.rules) crash rows) }
     ensures trip { (crash : Crash) (note : List ℕ) (rows : List StepRow) (skipped : ℕ) → crash.notes ≡ note ∷ [] → route (means W.sets W.moves R.rules) crash (course_of (run_of_one rows skipped)) ≡ trip_of (path_of (means W.sets W.moves R.rules) crash rows) }
 {
     reports_are_sound::<W, R>();
@@ -48,7 +48,7 @@ pub fn trips_are_true<W: Transfer, R: RowRules>()
 
 /// What is shown of a path is what its one thread's own words say: its points and moments are one.
 pub fn paths_are_one_thread<W: Transfer>()
-    ensures { (P : Path W) (K : Knowledge) (scene : Scene) → IsOneThread P K (shown_of P K scene) }
+    ensures { (P : ThreadPath W) (K : Knowledge) (scene : Scene) → IsOneThread P K (shown_of P K scene) }
 {}
 
 /// A run that is one path, of one thread in one slice, all of which is told, has the setting of that path, and the same is shown of it, in whichever slice of time it ran.

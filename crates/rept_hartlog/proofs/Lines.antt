@@ -3,7 +3,7 @@ use Rattle.std.proofs.Common.{◌≡◌, ℕ, zero, suc, ◌+◌, ◌-◌, ◌<�
 use Rattle.std.specs.Option.{IfNone}
 use Rattle.std.proofs.Math.Seq.{take-length}
 use Rattle.std.proofs.lemmas.List.{length-drop}
-use Rattle.rept_simlog.specs.Log.{IsLine}
+use Rattle.rept_simlog.specs.Log.{IsFirstLine}
 use Rattle.rept_hartlog.specs.declared.log.Entry.{Entry}
 use Rattle.rept_hartlog.specs.Log.{IsFirstSpace, IsWord, Gives, AreNumbers, AreEntriesThen, AreLinesFrom, AreLines}
 
@@ -40,10 +40,10 @@ pub none_second : (line hart rest : List ℕ) (entry : Entry) → IsWord line ha
 none_second line hart rest entry one none g = none g.thread g.address (subst (λ (r : List ℕ). IsWord r g.thread g.address) (rest_once line g.hart g.rest hart rest g.first one) g.second)
 
 -- one entry more
-pub entries_push : (before : ℕ) (bytes rest line after : List ℕ) (entries : List Entry) (entry : Entry) → AreEntriesThen before bytes entries rest → 0 < length rest → IsLine rest line after → entry.line ≡ before + length entries + 1 → Gives line entry → AreEntriesThen before bytes (entries ++ entry ∷ []) after
+pub entries_push : (before : ℕ) (bytes rest line after : List ℕ) (entries : List Entry) (entry : Entry) → AreEntriesThen before bytes entries rest → 0 < length rest → IsFirstLine rest line after → entry.line ≡ before + length entries + 1 → Gives line entry → AreEntriesThen before bytes (entries ++ entry ∷ []) after
 entries_push before bytes rest line after [] entry h some cut place gives =
     let e : rest ≡ bytes = sym h in
-    (line, after, subst (λ (b : List ℕ). 0 < length b) e some, subst (λ (b : List ℕ). IsLine b line after) e cut, (place ∙ omega arith), gives, refl)
+    (line, after, subst (λ (b : List ℕ). 0 < length b) e some, subst (λ (b : List ℕ). IsFirstLine b line after) e cut, (place ∙ omega arith), gives, refl)
 entries_push before bytes rest line after (x ∷ entries) entry h some cut place gives =
     (h.0, h.1, h.2, h.3, h.4, h.5, entries_push (before + 1) h.1 rest line after entries entry h.6 some cut (place ∙ omega arith) gives)
 

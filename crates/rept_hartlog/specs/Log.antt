@@ -1,7 +1,7 @@
 -- A log of the addresses that several harts executed, in the order of execution: a line gives a hart, a thread and an address, with one space between each two. A newline ends a line
 -- (POSIX.1-2017, 3.206); the last one may lack it. It is this project's own.
 use Rattle.std.specs.Prelude.{◌≡◌, ◌≢◌, ℕ, ◌+◌, ◌-◌, ◌<◌, ◌≤◌, ◌^◌, List, [], ◌∷◌, length, take, drop, slice_index}
-use Rattle.rept_simlog.specs.Log.{IsNumber, IsLine}
+use Rattle.rept_simlog.specs.Log.{IsNumber, IsFirstLine}
 use Rattle.rept_hartlog.specs.declared.log.Entry.{Entry}
 
 -- The first space stands after so many bytes.
@@ -43,7 +43,7 @@ pub record NamesHarts (log : List ℕ) : Type 0 where
 -- The bytes are the lines of these entries, of which the first has the number after `before`, and then the rest.
 abbrev pub AreEntriesThen : ℕ → List ℕ → List Entry → List ℕ → Type 0
 AreEntriesThen before bytes [] rest = bytes ≡ rest
-AreEntriesThen before bytes (entry ∷ entries) rest = (line : List ℕ) × (after : List ℕ) × (0 < length bytes) × IsLine bytes line after × (entry.line ≡ before + 1) × Gives line entry × AreEntriesThen (before + 1) after entries rest
+AreEntriesThen before bytes (entry ∷ entries) rest = (line : List ℕ) × (after : List ℕ) × (0 < length bytes) × IsFirstLine bytes line after × (entry.line ≡ before + 1) × Gives line entry × AreEntriesThen (before + 1) after entries rest
 
 -- The log is the lines of these entries.
 abbrev pub AreEntries : List ℕ → List Entry → Type 0
@@ -57,7 +57,7 @@ pub record IsNoNumbers (log : List ℕ) (number : ℕ) : Type 0 where
   pub some : 0 < length rest
   pub line : List ℕ
   pub after : List ℕ
-  pub cut : IsLine rest line after
+  pub cut : IsFirstLine rest line after
   pub none : (entry : Entry) → Gives line entry → ⊥
   pub place : number ≡ length entries + 1
 

@@ -20,7 +20,7 @@ use Rattle.rept_report.specs.Moments.{Moments}
 use Rattle.rept_report.specs.Views.{instant_of}
 use Rattle.rept_report.specs.Why.{fact_of, or_zero, premise_of}
 use Rattle.rept_log.specs.declared.row_bytes.RowByte.{RowByte}
-use Rattle.rept_log.specs.RowBytes.{on_side, byte_among, row_byte, bytes_from, base_seen, bytes_at, row_bytes, with_bytes, with_bytes_lawful}
+use Rattle.rept_log.specs.RowBytes.{on_side, byte_among, row_byte, bytes_from, base_seen, bytes_from_base, row_bytes, with_bytes, with_bytes_lawful}
 
 -- what agrees on the elements of a list
 map_same : (f g : Need → Fact) (ns : List Need) → ((n : Need) → Contains ns n → f n ≡ g n) → map f ns ≡ map g ns
@@ -83,7 +83,7 @@ module _ (rules : Rules) (row : StepRow) (s : Seen) where
       let four = h.below_four in
       let seen_base : base_seen (first_read row.instr) s ≡ Some h.base = ap (λ (r : Option ℕ). base_seen r s) h.read ∙ h.base_known in
       let here = found_among s (plus h.base (offset_of row.instr)) (min (rules.places row) 4) h.k w (omega (arith, below, four)) in
-      ap (λ (b : Option ℕ). byte_among (bytes_at rules row s b) w a) seen_base ∙ subst (λ (n : ℕ). byte_among (bytes_at rules row s (Some h.base)) w n ≡ s.byte w n) (sym h.address) here
+      ap (λ (b : Option ℕ). byte_among (bytes_from_base rules row s b) w a) seen_base ∙ subst (λ (n : ℕ). byte_among (bytes_from_base rules row s (Some h.base)) w n ≡ s.byte w n) (sym h.address) here
 
   pub same_cells : HasSameCells rules row s (with_bytes s (row_bytes rules row s))
   same_cells Before (Register r) own = refl

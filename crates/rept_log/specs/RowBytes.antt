@@ -35,13 +35,13 @@ base_seen None s = None
 base_seen (Some r) s = s.register Before r
 
 -- of the bytes from an offset to that register on, where its value is known
-abbrev pub bytes_at : Rules → StepRow → Seen → Option ℕ → List RowByte
-bytes_at rules row s None = []
-bytes_at rules row s (Some base) = bytes_from s (plus base (offset_of row.instr)) (min (rules.places row) 4)
+abbrev pub bytes_from_base : Rules → StepRow → Seen → Option ℕ → List RowByte
+bytes_from_base rules row s None = []
+bytes_from_base rules row s (Some base) = bytes_from s (plus base (offset_of row.instr)) (min (rules.places row) 4)
 
 -- of the row's own bytes: as many as it has places, but at most four
 abbrev pub row_bytes : Rules → StepRow → Seen → List RowByte
-row_bytes rules row s = bytes_at rules row s (base_seen (first_read row.instr) s)
+row_bytes rules row s = bytes_from_base rules row s (base_seen (first_read row.instr) s)
 
 -- the same registers and ranges, and of bytes only these
 abbrev pub with_bytes : Seen → List RowByte → Seen

@@ -15,7 +15,7 @@ use Rattle.rept_elf.specs.Checks.{checks, first_failure}
 use Rattle.rept_elf.specs.declared.fault.Want.TheVariants.{Exec, Core}
 use Rattle.rept_notes.specs.Notes.{Note, HoldsNote, AreNotesThen, AreNotes, HaveNotes, first_note, after_note}
 use Rattle.rept_dump.specs.Registers.{SaysOfAll, all_registers, pid_of, short_size, first_of, first_short, first_twin, by_size, by_twin}
-use Rattle.rept_dump.specs.Memory.{bytes_from, byte_at, code_at, held_by}
+use Rattle.rept_dump.specs.Memory.{bytes_from, crash_byte, code_at, held_by}
 use Rattle.rept_path.specs.Code.{instruction, words as words_of, look}
 use Rattle.rept_make.specs.Files.{bytes_of_words}
 use Rattle.rept_make.proofs.Filed.{length_words, word_there}
@@ -279,7 +279,7 @@ first_byte [] k lt = absurd (omega arith)
 first_byte (x ∷ xs) zero lt = refl
 first_byte (x ∷ xs) (suc k) lt = first_byte xs k (omega arith)
 
-pub byte_there : (words notes bytes : List ℕ) (functions : ℕ → Option FunctionSymbol) (a v : ℕ) → length bytes ≡ 32 → byte_at (held_by (code_of words ∷ []) functions) (note_of notes ∷ data_of bytes ∷ []) a ≡ Some v → ((131072 ≤ a) × (a < 131104)) × (get_or bytes (a - 131072) 0 ≡ v)
+pub byte_there : (words notes bytes : List ℕ) (functions : ℕ → Option FunctionSymbol) (a v : ℕ) → length bytes ≡ 32 → crash_byte (held_by (code_of words ∷ []) functions) (note_of notes ∷ data_of bytes ∷ []) a ≡ Some v → ((131072 ≤ a) × (a < 131104)) × (get_or bytes (a - 131072) 0 ≡ v)
 byte_there words notes bytes functions a v size h =
     let x = one_segment (λ (s : ElfSegment). get_or (bytes_from a s) 0 0) (data_of bytes) (nat_le 131072 a && nat_le (a + 1) (131072 + length bytes)) v h in
     let t = and_parts (nat_le 131072 a) (nat_le (a + 1) (131072 + length bytes)) x.0 in

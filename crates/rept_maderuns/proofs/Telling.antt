@@ -6,7 +6,7 @@ use Rattle.rept_elf.specs.Segments.{ElfSegment, segments}
 use Rattle.rept_elf.specs.Symbols.{symbol_at}
 use Rattle.rept_elf.specs.Checks.{checks, first_failure}
 use Rattle.rept_elf.specs.declared.fault.Want.TheVariants.{Exec, Core}
-use Rattle.rept_dump.specs.Memory.{Contents, byte_at, held_by, of_executable}
+use Rattle.rept_dump.specs.Memory.{Contents, crash_byte, held_by, of_executable}
 use Rattle.rept_dump.specs.Registers.{SaysOfAll}
 use Rattle.rept_steps.specs.declared.threads.ThreadRows.{ThreadRows}
 use Rattle.rept_order.specs.History.{Ending}
@@ -23,12 +23,12 @@ use Rattle.rept_weave.specs.declared.stretch.Stretch.{Stretch}
 use Rattle.rept_weave.specs.Woven.{AreStreamsOf}
 use Rattle.rept_slices.specs.Joins.{Note}
 use Rattle.rept_slices.specs.Raw.{note_in, IsRunOf}
-use Rattle.rept_woven.specs.Ordered.{begins, dark_of, run_of, thread_in, AreOrdered, Carries}
+use Rattle.rept_woven.specs.Ordered.{begins, dark_of, run_of_harts, thread_in, AreOrdered, HasStretches}
 use Rattle.rept_maderuns.specs.declared.made.MadeRun.{MadeRun}
 use Rattle.rept_maderuns.specs.Files.{core_header, status_of, status_note, saved_of, pc_in}
 use Rattle.rept_maderuns.specs.Harts.{steps_in, harts_of}
 use Rattle.rept_maderuns.specs.Made.{IsMadeRun}
-use Rattle.rept_maderuns.specs.Told.{IsEndingOf, IsTold}
+use Rattle.rept_maderuns.specs.Told.{IsEndingOf, IsToldByFiles}
 use Rattle.rept_maderuns.proofs.Ordering.{notes_of, threads_are, are_ordered}
 use Rattle.rept_maderuns.proofs.Carrying.{carries}
 use Rattle.rept_maderuns.proofs.Filed.{code_of, exe_segments, exe_passes, note_of, data_of, notes_body, core_segments, core_passes, core_says, notes_size, saved_size, saved_at, saved_small, status_word, byte_there}
@@ -64,7 +64,7 @@ module _ (a b c d : List ℕ) (P : ℕ → ℕ → Type 0) (s : ℕ)
   in_notes (suc (suc (suc (suc t)))) desc found = absurd (no_desc found)
 
 module _ (seed : ℕ) (sizes : Sizes) (made : MadeRun) (m : IsMadeRun seed sizes made) (some : 1 ≤ sizes.turns) (small : (i : ℕ) → get_or made.made.played.registers i 0 < 2 ^ 32)
-    (whole : (contents : Contents) (file : StreamFile) (notes : List Note) (harts : List (List Stretch)) → AreStreamsOf file.halves harts file.streams → Carries (coded file.halves contents) harts → AreOrdered harts notes → IsRunOf (record { contents = contents; file = file; notes = notes; from = 0 }) (run_of harts notes)) where
+    (whole : (contents : Contents) (file : StreamFile) (notes : List Note) (harts : List (List Stretch)) → AreStreamsOf file.halves harts file.streams → HasStretches (coded file.halves contents) harts → AreOrdered harts notes → IsRunOf (record { contents = contents; file = file; notes = notes; from = 0 }) (run_of_harts harts notes)) where
   abbrev T : List ThreadRows
   T = made.made.played.run.threads
 
@@ -107,8 +107,8 @@ module _ (seed : ℕ) (sizes : Sizes) (made : MadeRun) (m : IsMadeRun seed sizes
   contents_are : of_executable made.exe ≡ held_by (code_of m.words ∷ []) (symbol_at made.exe)
   contents_are = ap (λ (ss : List ElfSegment). held_by ss (symbol_at made.exe)) exe_are
 
-  carried : Carries (coded false (of_executable made.exe)) harts
-  carried = subst (λ (x : Contents). Carries (coded false x) harts) (sym contents_are) (carries code m.words m.code m.code.small (symbol_at made.exe) T turns size rows m.play.playable.threads sizes.streams)
+  carried : HasStretches (coded false (of_executable made.exe)) harts
+  carried = subst (λ (x : Contents). HasStretches (coded false x) harts) (sym contents_are) (carries code m.words m.code m.code.small (symbol_at made.exe) T turns size rows m.play.playable.threads sizes.streams)
 
   -- the core file
   count : (t : ℕ) → length (saved t) ≡ 32
@@ -158,14 +158,14 @@ module _ (seed : ℕ) (sizes : Sizes) (made : MadeRun) (m : IsMadeRun seed sizes
     bytes = λ a v dumped. (byte_in a v (ending.bytes a v dumped)).1;
   }
     where
-      byte_in : (a v : ℕ) → byte_at (of_executable made.exe) (segments made.core) a ≡ Some v → ((131072 ≤ a) × (a < 131104)) × (get_or data_bytes (a - 131072) 0 ≡ v)
+      byte_in : (a v : ℕ) → crash_byte (of_executable made.exe) (segments made.core) a ≡ Some v → ((131072 ≤ a) × (a < 131104)) × (get_or data_bytes (a - 131072) 0 ≡ v)
       byte_in a v h = byte_there m.words (notes_body (saved 0) (saved 1) (saved 2) (saved 3)) data_bytes (symbol_at made.exe) a v bytes_size
-          (ap (λ (ss : List ElfSegment). byte_at (held_by (code_of m.words ∷ []) (symbol_at made.exe)) ss a) (sym core_are) ∙ ap (λ (x : Contents). byte_at x (segments made.core) a) (sym contents_are) ∙ h)
+          (ap (λ (ss : List ElfSegment). crash_byte (held_by (code_of m.words ∷ []) (symbol_at made.exe)) ss a) (sym core_are) ∙ ap (λ (x : Contents). crash_byte x (segments made.core) a) (sym contents_are) ∙ h)
 
   abbrev file : StreamFile
   file = record { halves = false; streams = m.woven.streams }
 
-  pub is_told : IsTold seed made
+  pub is_told : IsToldByFiles seed made
   is_told = record {
     exe_read = subst (λ (x : List ℕ). first_failure (checks Exec x) ≡ None) (sym m.exe) (exe_passes m.words m.code.size);
     core_read = subst (λ (x : List ℕ). first_failure (checks Core x) ≡ None) (sym core_is) (core_passes (notes_body (saved 0) (saved 1) (saved 2) (saved 3)) data_bytes body_size bytes_size);
@@ -173,8 +173,8 @@ module _ (seed : ℕ) (sizes : Sizes) (made : MadeRun) (m : IsMadeRun seed sizes
     notes = says;
     file = file;
     streams = m.woven.file;
-    run = run_of harts (notes_of turns);
-    told = subst (λ (ns : List Note). IsRunOf (record { contents = of_executable made.exe; file = record { halves = false; streams = m.woven.streams }; notes = ns; from = 0 }) (run_of harts (notes_of turns))) (sym notes_are)
+    run = run_of_harts harts (notes_of turns);
+    told = subst (λ (ns : List Note). IsRunOf (record { contents = of_executable made.exe; file = record { halves = false; streams = m.woven.streams }; notes = ns; from = 0 }) (run_of_harts harts (notes_of turns))) (sym notes_are)
         (whole (of_executable made.exe) (record { halves = false; streams = m.woven.streams }) (notes_of turns) harts m.woven.each carried ordered);
     played = told_threads;
     none_skipped = refl;

@@ -4,7 +4,7 @@ use Rattle.rept_elf.specs.Header.{word_at}
 use Rattle.rept_elf.specs.Segments.{segments}
 use Rattle.rept_elf.specs.Checks.{checks, first_failure}
 use Rattle.rept_elf.specs.declared.fault.Want.TheVariants.{Exec, Core}
-use Rattle.rept_dump.specs.Memory.{byte_at, of_executable}
+use Rattle.rept_dump.specs.Memory.{crash_byte, of_executable}
 use Rattle.rept_dump.specs.Registers.{SaysOfAll}
 use Rattle.rept_steps.specs.declared.run.Run.{Run}
 use Rattle.rept_steps.specs.Runs.{course_of}
@@ -18,11 +18,11 @@ use Rattle.rept_maderuns.specs.declared.made.MadeRun.{MadeRun}
 -- an ending of which all that is said is what a core file and an executable say: the registers of each thread by its note, and the bytes
 pub record IsEndingOf (exe core : List ℕ) (descs : List (List ℕ)) (D : Ending) : Type 0 where
   pub registers : (t s v : ℕ) → 0 < s → slice_get (D.registers t) s ≡ Some v → (desc : List ℕ) × (slice_get descs t ≡ Some desc) × (s < 32) × (word_at desc (72 + 4 * s) ≡ v)
-  pub bytes : (a v : ℕ) → D.dump a ≡ Some v → byte_at (of_executable exe) (segments core) a ≡ Some v
+  pub bytes : (a v : ℕ) → D.dump a ≡ Some v → crash_byte (of_executable exe) (segments core) a ≡ Some v
 
 -- The executable and the core file pass their checks, and the core file has the notes of its threads. The run that the streams tell of this program and these
 -- threads is the one that was played, and there is an execution of it that begins with the start registers and ends in the core file.
-pub record IsTold (seed : ℕ) (made : MadeRun) : Type 0 where
+pub record IsToldByFiles (seed : ℕ) (made : MadeRun) : Type 0 where
   pub exe_read : first_failure (checks Exec made.exe) ≡ None
   pub core_read : first_failure (checks Core made.core) ≡ None
   pub descs : List (List ℕ)

@@ -3,7 +3,7 @@
 ghost use Rattle.std.specs.Prelude.{◌≤◌, ◌<◌, ◌^◌, ℕ, slice_index, IfOk};
 ghost use Rattle.rept_play.specs.Made.{IsMade};
 ghost use Rattle.rept_maderuns.specs.Made.{IsMadeRun};
-ghost use Rattle.rept_maderuns.specs.Told.{IsTold};
+ghost use Rattle.rept_maderuns.specs.Told.{IsToldByFiles};
 
 use crate::code::words_of;
 use crate::files::{core_file, executable};
@@ -41,7 +41,7 @@ fn save(alloc: Global, seed: u32, sizes: Sizes, made: Made) -> Result<MadeRun, O
     requires few { sizes.streams ≤ 4 }
     requires turns { 1 ≤ sizes.turns }
     ensures made { IfOk result (λ made. IsMadeRun seed sizes made) }
-    ensures told { IfOk result (λ made. IsTold seed made) }
+    ensures told { IfOk result (λ made. IsToldByFiles seed made) }
 {
     runs_are_whole();
     are_words(&made.played.registers);
@@ -75,7 +75,7 @@ pub fn make_run(alloc: Global, seed: u32, sizes: Sizes) -> Result<MadeRun, OutOf
     requires some_turns { 1 ≤ sizes.turns }
     requires turns { sizes.turns ≤ 64 }
     ensures made { IfOk result (λ made. IsMadeRun seed sizes made) }
-    ensures told { IfOk result (λ made. IsTold seed made) }
+    ensures told { IfOk result (λ made. IsToldByFiles seed made) }
 {
     let made = make_play(alloc, seed, sizes)?;
     save(alloc, seed, sizes, made)

@@ -15,7 +15,7 @@ use Rattle.std.specs.Option.{option_map, option_or}
 use Rattle.rept_isa.specs.declared.instr.Instr.{Instr}
 use Rattle.rept_isa.specs.Words.{IsWord}
 use Rattle.rept_isa.proofs.WordLemmas.{reads}
-use Rattle.rept_dump.specs.Memory.{bytes_from, byte_at, code_at, held_by}
+use Rattle.rept_dump.specs.Memory.{bytes_from, crash_byte, code_at, held_by}
 use Rattle.rept_path.specs.Code.{instruction, words as words_of, look}
 use Rattle.rept_make.specs.Laid.{laid_byte}
 use Rattle.rept_make.proofs.Laying.{off_code}
@@ -195,7 +195,7 @@ first_of (x ∷ xs) zero lt = refl
 first_of (x ∷ xs) (suc k) lt = first_of xs k (omega arith)
 
 module _ (words registers bytes : List ℕ) (memory : ℕ → ℕ) (size : length words ≡ 256) (count : length bytes ≡ 1024) (saved : (i : ℕ) → i < 1024 → get_or bytes i 0 ≡ memory (131072 + i)) where
-  pub byte_there : (functions : ℕ → Option FunctionSymbol) (a v : ℕ) → byte_at (held_by (code_of words ∷ []) functions) (note_of registers ∷ data_of bytes ∷ []) a ≡ Some v → laid_byte (bytes_of_words words) a (memory a) ≡ v
+  pub byte_there : (functions : ℕ → Option FunctionSymbol) (a v : ℕ) → crash_byte (held_by (code_of words ∷ []) functions) (note_of registers ∷ data_of bytes ∷ []) a ≡ Some v → laid_byte (bytes_of_words words) a (memory a) ≡ v
   byte_there functions a v h =
       let n : length (bytes_of_words words) ≡ 1024 = (let l = length_words words in omega arith) in
       let b : Bool = nat_le 131072 a && nat_le (a + 1) (131072 + length bytes) in

@@ -6,7 +6,7 @@ use Rattle.rept_elf.specs.Header.{word_at}
 use Rattle.rept_elf.specs.Segments.{segments, greatest_end}
 use Rattle.rept_elf.specs.Checks.{checks, first_failure}
 use Rattle.rept_elf.specs.declared.fault.Want.TheVariants.{Exec, Core}
-use Rattle.rept_dump.specs.Memory.{byte_at, of_executable}
+use Rattle.rept_dump.specs.Memory.{crash_byte, of_executable}
 use Rattle.rept_dump.specs.Registers.{Says}
 use Rattle.rept_machine.specs.State.{State}
 use Rattle.rept_machine.specs.Execution.{Execution}
@@ -52,4 +52,4 @@ pub record IsMade (seed steps : ℕ) (made : Made) : Type 0 where
   pub layout : made.trace ≡ header false ++ rest
   pub few : length made.trace < 2 ^ 32
   pub path : IsTraced (record { code = words_of (of_executable made.exe); stream = plain false rest; from = 0; pc = pc }) 0 rows
-  pub execution : (last : List ℕ) → length last ≡ 32 → ((r : ℕ) → 0 < r → r < 32 → slice_index last r ≡ word_at status (72 + 4 * r)) → Execution (greatest_end (segments made.exe)) rows last (byte_at (of_executable made.exe) (segments made.core)) (λ i. laid (bytes_of_words words) (run i))
+  pub execution : (last : List ℕ) → length last ≡ 32 → ((r : ℕ) → 0 < r → r < 32 → slice_index last r ≡ word_at status (72 + 4 * r)) → Execution (greatest_end (segments made.exe)) rows last (crash_byte (of_executable made.exe) (segments made.core)) (λ i. laid (bytes_of_words words) (run i))

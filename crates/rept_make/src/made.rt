@@ -3,7 +3,7 @@
 ghost use Rattle.std.specs.Prelude.{◌≡◌, ◌+◌, ◌^◌, ◌<◌, ◌≤◌, ℕ, false, length, slice_index, IfOk};
 ghost use Rattle.rept_machine.specs.Machine.{state_of, pc_of};
 ghost use Rattle.rept_encode.specs.Walkable.{IsWalkable, IsJumpEnd};
-ghost use Rattle.rept_encode.specs.Encoded.{Tells};
+ghost use Rattle.rept_encode.specs.Encoded.{TellsRows};
 ghost use Rattle.rept_make.specs.Made.{IsMade};
 ghost use Rattle.rept_make.specs.Ran.{Ran};
 ghost use Rattle.rept_make.specs.Words.{IsCode};
@@ -58,7 +58,7 @@ fn saved_bytes(alloc: Global, machine: &Machine<'_>) -> Result<Vec<u8>, AllocErr
 fn trace_of(alloc: Global, steps: &Steps) -> Result<Text, OutOfMemory>
     requires walkable { IsWalkable false steps.now }
     requires entered { (i : ℕ) → IsJumpEnd steps.now i → ⊥ }
-    ensures tells { IfOk result (λ trace. Tells false trace steps.now) }
+    ensures tells { IfOk result (λ trace. TellsRows false trace steps.now) }
     ensures few { IfOk result (λ trace. length trace < 2 ^ 32) }
 {
     match encode(alloc, false, steps) {

@@ -53,30 +53,30 @@ abbrev pub offsets : ElfSegment → Bounds
 offsets s = record { from = s.offset; to = if is_load s then s.offset + length s.body else s.offset }
 
 -- where some bytes stand: in a segment of a file, at a place among the segment's bytes
-pub record Spot : Type 0 where
+pub record FileSpot : Type 0 where
   pub file : List ℕ
   pub segment : ElfSegment
   pub place : ℕ
 
 -- so many bytes of a file from an offset on, in one segment
-abbrev pub spot_in : List ℕ → ℕ → ℕ → Option Spot
+abbrev pub spot_in : List ℕ → ℕ → ℕ → Option FileSpot
 spot_in file count offset = option_map (λ s. record { file = file; segment = s; place = offset - s.offset }) (only_with offsets count offset (segments file))
 
 -- those of the file of a mapping, from an address on
-abbrev pub spot_of : ℕ → ℕ → Mapping → Option Spot
+abbrev pub spot_of : ℕ → ℕ → Mapping → Option FileSpot
 spot_of count a m = option_and_then (λ file. spot_in file count (m.offset + (a - m.start))) m.file
 
 -- where so many bytes from an address on stand: in one segment of the file of one mapping
-abbrev pub spot_at : List Mapping → ℕ → ℕ → Option Spot
+abbrev pub spot_at : List Mapping → ℕ → ℕ → Option FileSpot
 spot_at ms count a = option_and_then (spot_of count a) (only_with addresses count a ms)
 
 -- the segment's bytes from there on
-abbrev pub bytes_at : Spot → List ℕ
-bytes_at p = drop p.place p.segment.body
+abbrev pub bytes_there : FileSpot → List ℕ
+bytes_there p = drop p.place p.segment.body
 
 -- a number that is read there, where the segment may be looked at
-abbrev pub read_at : (ElfSegment → Bool) → (List ℕ → ℕ) → Spot → Option ℕ
-read_at allowed read p = if allowed p.segment then Some (read (bytes_at p)) else None
+abbrev pub read_at : (ElfSegment → Bool) → (List ℕ → ℕ) → FileSpot → Option ℕ
+read_at allowed read p = if allowed p.segment then Some (read (bytes_there p)) else None
 
 -- the word of code at an address, the low byte first: four bytes of one entry and of one segment, which is executable
 abbrev pub mapped_word : List Mapping → ℕ → Option ℕ
@@ -91,7 +91,7 @@ abbrev pub mapped_byte : List Mapping → ℕ → Option ℕ
 mapped_byte ms a = option_and_then (read_at (λ s. not (is_writable s)) (λ bytes. slice_index bytes 0)) (spot_at ms 1 a)
 
 -- the address that a file gives to a byte of it
-abbrev pub own_address : Spot → ℕ
+abbrev pub own_address : FileSpot → ℕ
 own_address p = (p.segment.vaddr + p.place) % 2 ^ 32
 
 -- a function of the file, as it stands in memory where an address of the file stands at another one

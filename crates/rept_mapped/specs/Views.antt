@@ -13,7 +13,7 @@ abbrev pub mapping_of : Mapping → mapped.Mapping
 mapping_of m = record { start = m.start; end = m.end; offset = m.offset; file = option_map file_of m.image }
 
 -- where some bytes stand
-abbrev pub spot_of : Spot → mapped.Spot
+abbrev pub spot_of : Spot → mapped.FileSpot
 spot_of p = record { file = file_of p.image; segment = segment_of p.segment; place = p.place }
 
 -- an address whose function is sought

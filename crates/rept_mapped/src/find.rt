@@ -4,7 +4,7 @@ ghost use Rattle.std.specs.Prelude.{◌≡◌, ◌≤◌, ◌<◌, ◌+◌, ◌-
 ghost use Rattle.std.specs.List.{find};
 ghost use Rattle.std.specs.Option.{option_map};
 ghost use Rattle.rept_elf.specs.Image.{file_of, segments_of, segment_of};
-ghost use Rattle.rept_mapped.specs.Mapped.{bytes_at, has_all as has_all_of, has_some as has_some_of, offsets, only_with, spot_in, spot_of as spot_in_mapping};
+ghost use Rattle.rept_mapped.specs.Mapped.{bytes_there, has_all as has_all_of, has_some as has_some_of, offsets, only_with, spot_in, spot_of as spot_in_mapping};
 ghost use Rattle.rept_mapped.specs.Views.{mapping_of, spot_of};
 
 use rept_elf::{Image, PT_LOAD, Segment, after};
@@ -132,7 +132,7 @@ pub fn spot_of_mapping<'a>(mapping: &Mapping<'a>, count: u64, a: u32) -> Option<
 
 /// The bytes of a segment from a spot on.
 pub fn bytes_at<'a>(spot: &Spot<'a>) -> &'a [u8]
-    ensures { result.now ≡ bytes_at (spot_of spot.now) }
+    ensures { result.now ≡ bytes_there (spot_of spot.now) }
 {
     after(spot.segment.body, spot.place as usize)
 }

@@ -7,7 +7,7 @@ ghost use Rattle.rept_elf.specs.Segments.{is_executable, is_writable};
 ghost use Rattle.rept_elf.specs.Symbols.{symbol_of};
 ghost use Rattle.rept_maps.specs.FileMap.{map_count};
 ghost use Rattle.rept_maps.specs.Views.{desc_of};
-ghost use Rattle.rept_mapped.specs.Mapped.{addresses, bytes_at, mapped_byte, mapped_half, mapped_symbol, mapped_word, mappings, moved, only_with, own_address, spot_at};
+ghost use Rattle.rept_mapped.specs.Mapped.{addresses, bytes_there, mapped_byte, mapped_half, mapped_symbol, mapped_word, mappings, moved, only_with, own_address, spot_at};
 ghost use Rattle.rept_mapped.specs.Naming.{found_of, in_the_end, named_at, so_far, with_file};
 ghost use Rattle.rept_mapped.specs.Views.{asked_of, mapping_of, spot_of};
 

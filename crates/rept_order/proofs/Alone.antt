@@ -18,7 +18,7 @@ use Rattle.rept_order.specs.Events.IsBefore.{by_row, by_call, by_time}
 use Rattle.rept_order.specs.Moments.{Moment, Act}
 use Rattle.rept_order.specs.Moments.Moment.{before, after, at_end}
 use Rattle.rept_order.specs.Moments.Act.{row}
-use Rattle.rept_order.specs.History.{World, Move, move_at, Happening, History, Ending, IsExecution, tick, seen_by, state_at, Stays, Occurs, Executes, Returns, CallChanges, Does}
+use Rattle.rept_order.specs.History.{World, Move, move_at, Happening, History, Ending, IsExecution, tick, seen_by, state_at, Stays, Occurs, ExecutesRow, Returns, CallChanges, Does}
 use Rattle.rept_order.specs.History.Happening.{event, change, nothing}
 use Rattle.rept_order.specs.Points.{moment_of, registers_at}
 use Rattle.rept_order.specs.Alone.{SavesOne, RunsAlone, IsShared}
@@ -128,7 +128,7 @@ module _ (C : Course) (alone : IsAlone C) (D : Ending) (run : ℕ → State) (x 
       let apart : v ≢ 0 = λ same. other (same ∙ sym own) in
       rw (ne_eqb v 0 apart) refl
 
-  plain_does : (i : ℕ) → i < n → calls C (row_of 0 i) ≡ false → Executes C D (row_of 0 i) (record { old = world_of (run i); new = world_of (run (suc i)) })
+  plain_does : (i : ℕ) → i < n → calls C (row_of 0 i) ≡ false → ExecutesRow C D (row_of 0 i) (record { old = world_of (run i); new = world_of (run (suc i)) })
   plain_does i below plain =
       let there = row_there i below in
       let step : IsStep D.image_end there.0 (run i) (run (suc i)) = subst (λ (j : ℕ). IsStep D.image_end there.0 (run i) (run j)) (omega arith) (x.steps i there.0 there.1) in

@@ -3,7 +3,7 @@ use Rattle.std.proofs.Common.{◌≡◌, ◌≢◌, ℕ, suc, ◌<◌, Bool, tru
 use Rattle.std.proofs.lemmas.Bool.{cases_eq, cases_order}
 use Rattle.rept_steps.specs.declared.slice.Slice.{Slice}
 use Rattle.rept_steps.specs.Course.{Course, Row, row_of, rows_of, slices_of, slice_of, IsRow, calls, CallsEnd, IsSound}
-use Rattle.rept_order.specs.Events.{Part, Event, IsEvent, FitsRow, slice_by, event_slice, first_event, last_event, Before, Precedes, PrecedesOrIs, IsTold, DarkPrecedes}
+use Rattle.rept_order.specs.Events.{Part, Event, IsEvent, FitsRow, slice_by, event_slice, first_event, last_event, Before, Precedes, PrecedesOrIs, IsAfterDark, DarkPrecedes}
 use Rattle.rept_order.specs.Events.Part.{whole, entry, return}
 use Rattle.rept_order.specs.Events.IsBefore.{by_row, by_call, by_time}
 use Rattle.rept_order.specs.Moments.{Act, IsAct, DarkBefore, WhollyBefore, WhollyAfter, Stretch, stretch, Falls, IsPauseIn}
@@ -30,7 +30,7 @@ module _ (C : Course) (sound : IsSound C) where
         | inr ends ↦ ends
       ]
 
-  told_begin : (d : ℕ) (f : Event) → C.dark ≡ Some d → IsTold C f → d < begin_of C f
+  told_begin : (d : ℕ) (f : Event) → C.dark ≡ Some d → IsAfterDark C f → d < begin_of C f
   told_begin d f is told =
       let same = same_number (sym is ∙ told.is_dark) in
       let begin = begin_is C sound f told.slice told.in_slice in

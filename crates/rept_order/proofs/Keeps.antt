@@ -15,7 +15,7 @@ use Rattle.rept_order.specs.Events.IsBefore.{by_call}
 use Rattle.rept_order.specs.Moments.{Moment, IsMoment, Act, IsAct, DarkBefore, WhollyBefore, WhollyAfter}
 use Rattle.rept_order.specs.Moments.Moment.{before, after, at_end}
 use Rattle.rept_order.specs.Moments.Act.{row, dark}
-use Rattle.rept_order.specs.History.{Happening, History, Ending, IsExecution, tick, seen_by, state_at, Occurs, Executes, DarkChanges, Does}
+use Rattle.rept_order.specs.History.{Happening, History, Ending, IsExecution, tick, seen_by, state_at, Occurs, ExecutesRow, DarkChanges, Does}
 use Rattle.rept_order.specs.History.Happening.{event, change, nothing}
 use Rattle.rept_order.specs.Writing.{WritesBy, RowWrites, ActWrites, By}
 use Rattle.rept_order.proofs.Sequence.{part_of, first_whole, last_whole, first_entry, last_return}
@@ -123,7 +123,7 @@ module _ (C : Course) (D : Ending) (h : History) (x : IsExecution C D h) where
         let to = subst (λ (i : ℕ). WritesBy its_row.instr D.image_end (state_at C h r.thread (before r)) (seen_by r.thread (h.world i)) a) (sym places.1) from in
         match_some (row_at C r) its_row (λ (s : StepRow). WritesBy s.instr D.image_end (state_at C h r.thread (before r)) (state_at C h r.thread (after r)) a) is to
 
-    executed_keeps : (r : Row) (k : ℕ) → k < h.ticks → h.happening k ≡ event (part_of r whole) → Executes C D r (record { old = h.world k; new = h.world (suc k) }) → (RowWrites C D h r a → ⊥) → (h.world (suc k)).memory a ≡ (h.world k).memory a
+    executed_keeps : (r : Row) (k : ℕ) → k < h.ticks → h.happening k ≡ event (part_of r whole) → ExecutesRow C D r (record { old = h.world k; new = h.world (suc k) }) → (RowWrites C D h r a → ⊥) → (h.world (suc k)).memory a ≡ (h.world k).memory a
     executed_keeps r k below is does out =
         let own = x.once k (part_of r whole) below is in
         effect_keeps_byte does.its_row.instr D.image_end (addresses_of does.its_row) (seen_by r.thread (h.world k)) (seen_by r.thread (h.world (suc k))) a does.step (λ writes. out (whole_writes r k does.its_row does.is_row (whole_ticks r k own.0.part own.1) writes))

@@ -77,7 +77,7 @@ abbrev pub PrecedesOrIs : Course → Event → Event → Type 0
 PrecedesOrIs C e f = (e ≡ f) ⊎ Precedes C e f
 
 -- its slice begins after the dark
-pub record IsTold (C : Course) (e : Event) : Type 0 where
+pub record IsAfterDark (C : Course) (e : Event) : Type 0 where
   pub event : IsEvent C e
   pub dark : ℕ
   pub slice : Slice
@@ -87,4 +87,4 @@ pub record IsTold (C : Course) (e : Event) : Type 0 where
 
 -- the order puts all that the dark writes before the event
 abbrev pub DarkPrecedes : Course → Event → Type 0
-DarkPrecedes C e = (f : Event) × IsTold C f × PrecedesOrIs C f e
+DarkPrecedes C e = (f : Event) × IsAfterDark C f × PrecedesOrIs C f e

@@ -9,7 +9,7 @@ use Rattle.rept_machine.specs.State.{State, IsState}
 use Rattle.rept_machine.specs.Step.{IsStep}
 use Rattle.rept_machine.specs.Calls.{MayChange}
 use Rattle.rept_steps.specs.Course.{Course, Row, IsRow, row_at, calls}
-use Rattle.rept_order.specs.Events.{Part, Event, IsEvent, Before, first_event, last_event, IsTold}
+use Rattle.rept_order.specs.Events.{Part, Event, IsEvent, Before, first_event, last_event, IsAfterDark}
 use Rattle.rept_order.specs.Events.Part.{whole, entry, return}
 use Rattle.rept_order.specs.Moments.{Moment, Act, IsAct}
 use Rattle.rept_order.specs.Moments.Moment.{before, after, at_end}
@@ -75,7 +75,7 @@ abbrev pub OthersKeep : ℕ → Move → Type 0
 OthersKeep t m = (u s : ℕ) → u ≢ t → m.new.register u s ≡ m.old.register u s
 
 -- a row that is no call is executed at once, by its thread's registers and the memory
-pub record Executes (C : Course) (D : Ending) (r : Row) (m : Move) : Type 0 where
+pub record ExecutesRow (C : Course) (D : Ending) (r : Row) (m : Move) : Type 0 where
   pub its_row : StepRow
   pub is_row : row_at C r ≡ Some its_row
   pub step : IsStep D.image_end its_row (seen_by r.thread m.old) (seen_by r.thread m.new)
@@ -92,7 +92,7 @@ pub record Returns (C : Course) (r : Row) (m : Move) : Type 0 where
 
 -- what an event of a row does
 abbrev pub Occurs : Course → Ending → Row → Move → Part → Type 0
-Occurs C D r m whole = Executes C D r m
+Occurs C D r m whole = ExecutesRow C D r m
 Occurs C D r m entry = Stays m
 Occurs C D r m return = Returns C r m
 
@@ -112,7 +112,7 @@ pub record CallChanges (C : Course) (D : Ending) (h : History) (k : ℕ) (r : Ro
 -- any bytes change, as long as it is dark
 pub record DarkChanges (C : Course) (h : History) (k : ℕ) : Type 0 where
   pub told : IsAct C dark
-  pub early : (e : Event) → IsTold C e → k < h.place e
+  pub early : (e : Event) → IsAfterDark C e → k < h.place e
   pub registers : SameRegisters (move_at h k)
 
 -- what happens at a tick

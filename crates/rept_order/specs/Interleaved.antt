@@ -13,13 +13,13 @@ use Rattle.rept_order.specs.Points.{memory_at, state_from}
 use Rattle.rept_order.specs.Legs.{number_of, registers_on}
 use Rattle.rept_order.specs.Writing.{WritesBy}
 
-pub record Run : Type 0 where
+pub record CourseRun : Type 0 where
   -- by the point's number among all
   pub register : ℕ → ℕ → ℕ
   pub memory : Moment → ℕ → ℕ
 
-abbrev pub run_of : Course → History → Run
-run_of C h = record { register = registers_on C h; memory = memory_at C h }
+abbrev pub run_of_history : Course → History → CourseRun
+run_of_history C h = record { register = registers_on C h; memory = memory_at C h }
 
 -- the point before a row
 abbrev pub leg_of : Course → Row → ℕ
@@ -27,18 +27,18 @@ leg_of C r = number_of C r.thread r.step
 
 -- The states before and after a row. Between a call's entry and its return others may go on, so of its step only the registers are
 -- said: it has one memory on both sides.
-abbrev pub state_before : Course → Run → Row → State
+abbrev pub state_before : Course → CourseRun → Row → State
 state_before C run r = state_from (run.register (leg_of C r)) (run.memory (before r))
 
-abbrev pub state_after : Course → Run → Row → State
+abbrev pub state_after : Course → CourseRun → Row → State
 state_after C run r = state_from (run.register (suc (leg_of C r))) (run.memory (if calls C r then before r else after r))
 
 -- the act writes the byte; of the dark this is said of each byte
-abbrev pub WritesIn : Course → Ending → Run → Act → ℕ → Type 0
+abbrev pub WritesIn : Course → Ending → CourseRun → Act → ℕ → Type 0
 WritesIn C D run (row r) a = MatchOption (row_at C r) ⊥ (λ its_row. WritesBy its_row.instr D.image_end (state_before C run r) (state_after C run r) a)
 WritesIn C D run dark a = Unit {0}
 
-pub record IsRun (C : Course) (D : Ending) (run : Run) : Type 0 where
+pub record IsCourseRun (C : Course) (D : Ending) (run : CourseRun) : Type 0 where
   -- registers are words, x0 is 0, and memory has bytes
   pub states : (g : ℕ) (m : Moment) → IsMoment C m → IsState (state_from (run.register g) (run.memory m))
   -- each row is a step of the machine

@@ -55,11 +55,11 @@ pub record NoneWrites (C : Course) (D : Ending) (h : History) (x : Spot) (from :
   pub none : (act : Act) (k : ℕ) → (left_out act → ⊥) → from ≤ k → k < tick C h x.moment → k < h.ticks → By (h.happening k) act → ActWrites C D h act x.address → ⊥
 
 -- what the answer says of an execution
-abbrev pub WriterHolds : Course → Ending → History → Spot → Writer → Type 0
-WriterHolds C D h x (writes r) = RowWrites C D h r x.address × (tick C h (after r) ≤ tick C h x.moment) × NoneWrites C D h x (tick C h (before r)) (λ act. act ≡ row r)
-WriterHolds C D h x (may_write r) = NoneWrites C D h x (tick C h (before r)) (λ act. act ≡ row r)
-WriterHolds C D h x several = Unit {0}
-WriterHolds C D h x none = NoneWrites C D h x 0 (λ act. ⊥)
+abbrev pub WriterHoldsInHistory : Course → Ending → History → Spot → Writer → Type 0
+WriterHoldsInHistory C D h x (writes r) = RowWrites C D h r x.address × (tick C h (after r) ≤ tick C h x.moment) × NoneWrites C D h x (tick C h (before r)) (λ act. act ≡ row r)
+WriterHoldsInHistory C D h x (may_write r) = NoneWrites C D h x (tick C h (before r)) (λ act. act ≡ row r)
+WriterHoldsInHistory C D h x several = Unit {0}
+WriterHoldsInHistory C D h x none = NoneWrites C D h x 0 (λ act. ⊥)
 
 -- a row of which one is sure writes each byte that it may write, in the execution
 abbrev pub SurelyWrites : Course → Ending → History → Reach → Type 0

@@ -10,13 +10,13 @@ ghost use Rattle.rept_order.specs.Events.{Event, IsEvent, Precedes, PrecedesOrIs
 ghost use Rattle.rept_order.specs.Moments.{Moment, IsMoment, NotLater, Earlier, Act, IsAct, WhollyBefore, WhollyAfter, Stretch, stretch, Falls, IsQuiet, IsQuietStep, IsNext, Forth, Joined, ArePause, AreOne, IsPauseIn, pause};
 ghost use Rattle.rept_order.specs.History.{History, Ending, IsExecution, tick};
 ghost use Rattle.rept_order.specs.Writing.{By, IsStill, Covers};
-ghost use Rattle.rept_order.specs.Writers.{Writer, Reach, Spot, IsWriter, WriterHolds, SurelyWrites};
+ghost use Rattle.rept_order.specs.Writers.{Writer, Reach, Spot, IsWriter, WriterHoldsInHistory, SurelyWrites};
 ghost use Rattle.rept_order.specs.Points.{registers_at, memory_at, state_from};
 ghost use Rattle.rept_order.specs.Times.{Sooner, begin_of};
 ghost use Rattle.rept_order.specs.Alone.{SavesOne, RunsAlone, IsShared};
 ghost use Rattle.rept_order.specs.Arrangements.{IsArrangement};
 ghost use Rattle.rept_order.specs.Links.{HasNext};
-ghost use Rattle.rept_order.specs.Interleaved.{IsRun, run_of};
+ghost use Rattle.rept_order.specs.Interleaved.{IsCourseRun, run_of_history};
 ghost use Rattle.rept_order.specs.Legs.{point_of, number_of, point_at, row_from, leg_row, registers_on};
 
 /// The order holds in each execution: a moment that it puts no later than another one comes no later. Whoever acts at a tick does so
@@ -63,12 +63,12 @@ pub fn legs_are_steps()
 /// Each execution is seen as a run: registers at the points of all threads, and the memory at moments, with all that an analysis
 /// has to know of them.
 pub fn executions_are_runs()
-    ensures { (C : Course) (D : Ending) (h : History) → IsExecution C D h → IsRun C D (run_of C h) }
+    ensures { (C : Course) (D : Ending) (h : History) → IsExecution C D h → IsCourseRun C D (run_of_history C h) }
 {}
 
 /// What the answer on the writer of a byte says holds in each execution, and there is one answer alone.
 pub fn writers_hold()
-    ensures holds { (C : Course) (D : Ending) (h : History) (can : Reach) (x : Spot) (writer : Writer) → IsExecution C D h → Covers C D h can.may → SurelyWrites C D h can → IsMoment C x.moment → IsWriter C can x writer → WriterHolds C D h x writer }
+    ensures holds { (C : Course) (D : Ending) (h : History) (can : Reach) (x : Spot) (writer : Writer) → IsExecution C D h → Covers C D h can.may → SurelyWrites C D h can → IsMoment C x.moment → IsWriter C can x writer → WriterHoldsInHistory C D h x writer }
     ensures only { (C : Course) (can : Reach) (x : Spot) (v w : Writer) → IsSound C → IsWriter C can x v → IsWriter C can x w → v ≡ w }
 {}
 

@@ -19,7 +19,7 @@ use Rattle.rept_path.specs.declared.fault.PathFault.TheVariants as faults
 use Rattle.rept_path.specs.Code.{look, is_short}
 use Rattle.rept_path.specs.Packets.{waiting}
 use Rattle.rept_path.specs.Gap.{gap_to_start, gap_to_end}
-use Rattle.rept_path.specs.Moves.{Lead, Place, Stand, along, next_of, IsMove, stops, misfits, unused, position, ◌>>=◌, course_by}
+use Rattle.rept_path.specs.Moves.{Lead, Place, Stand, along, next_of, IsMove, stops, misfits, unused, position, ◌>>=◌, heading_by}
 use Rattle.rept_path.specs.Legs.{Passes, Reaches, PhaseLeg, PhaseFault}
 use Rattle.rept_path.specs.Route.{Phase, PhaseLegs, PhasesFault, lead_of, further, with_bits, phases_of, admits, Met, met_by, stand_of, RunningLeg, RunningFault, WaitingLeg, WaitingFault, FirstLeg, FirstFault, Leg, Fault, Origin, alone, Route}
 use Rattle.rept_path.specs.Trace.{starts, loses, IsWindow, stand_after, IsPath, StopsAt, IsRefused}
@@ -45,14 +45,14 @@ position_of code a = go (look code a) where
 
 module _ (code : Code) (lead : Lead) (aim : Aim) (past : Place) where
   abbrev Ends : Type 0
-  Ends = ((leg : List StepRow) × Reaches code (course_by lead aim) past leg) ⊎ ((e : PathFault) × (leg : List StepRow) × Passes code (course_by lead aim) past leg × (next_of code lead (along code past leg) ≡ Err e))
+  Ends = ((leg : List StepRow) × Reaches code (heading_by lead aim) past leg) ⊎ ((e : PathFault) × (leg : List StepRow) × Passes code (heading_by lead aim) past leg × (next_of code lead (along code past leg) ≡ Err e))
 
   -- what a move gives
   row_of : (p : Place) (a : ℕ) → next_of code lead p ≡ Ok a → (row : StepRow) × IsMove code lead p row
   row_of p a h = let m = made code lead p a h in (record { at = p.at; instr = m.0; next = a; call = false; short = is_short code p.at }, record { next = h; at = refl; instr = m.1; call = refl; short = refl })
 
   -- a leg without a stop ends after one row more, or goes on
-  moves : (leg : List StepRow) → Passes code (course_by lead aim) past leg → ((row : StepRow) → length (along code past leg).rows < lead.room → Passes code (course_by lead aim) past (row ∷ leg) → Ends) → Ends
+  moves : (leg : List StepRow) → Passes code (heading_by lead aim) past leg → ((row : StepRow) → length (along code past leg).rows < lead.room → Passes code (heading_by lead aim) past (row ∷ leg) → Ends) → Ends
   moves leg x more = elim (result_of (next_of code lead (along code past leg))) [
     | inr f ↦ inr (f.0, leg, x, f.1)
     | inl a ↦
@@ -64,11 +64,11 @@ module _ (code : Code) (lead : Lead) (aim : Aim) (past : Place) where
   ]
 
   -- so many rows more are the limit
-  go : (room : ℕ) (leg : List StepRow) → Passes code (course_by lead aim) past leg → lead.room ≤ room + length (along code past leg).rows → Ends
+  go : (room : ℕ) (leg : List StepRow) → Passes code (heading_by lead aim) past leg → lead.room ≤ room + length (along code past leg).rows → Ends
   go zero leg x full = moves leg x (λ row few y. absurd (omega arith))
   go (suc room) leg x full = moves leg x (λ row few y. go room (row ∷ leg) y (omega arith))
 
-  one_phase : ((leg : List StepRow) × PhaseLeg code (course_by lead aim) past leg) ⊎ ((e : PathFault) × PhaseFault code (course_by lead aim) past e)
+  one_phase : ((leg : List StepRow) × PhaseLeg code (heading_by lead aim) past leg) ⊎ ((e : PathFault) × PhaseFault code (heading_by lead aim) past e)
   one_phase = elim (go lead.room [] tt (omega arith)) [
     | inl r ↦ elim (bool_of (misfits code lead.bits aim (along code past r.0))) [
       | inl m ↦ inr (BranchesLeft lead.packet (unused lead.bits (along code past r.0)), inr (record { leg = r.0; reaches = r.1; left = m; fault = refl }))

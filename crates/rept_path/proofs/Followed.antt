@@ -17,13 +17,13 @@ use Rattle.rept_path.specs.Gap.{gap_to_start}
 use Rattle.rept_path.specs.Legs.{PhaseFault}
 use Rattle.rept_path.specs.declared.walk.Walk.{Walk}
 use Rattle.rept_path.specs.Packets.{bits_of, bits_before, reported_after, waits_after}
-use Rattle.rept_path.specs.Moves.{Place, along, position, ◌>>=◌, course_by}
+use Rattle.rept_path.specs.Moves.{Place, along, position, ◌>>=◌, heading_by}
 use Rattle.rept_path.specs.Route.{phases_of, first_phase, PhaseLegs, Met, WaitingFault, RunningFault, mark_after, place_after, admits, meets}
 use Rattle.rept_path.specs.State.{here, standing, arrival, met, Counts, lead, Walked, WalkedAll, Followed, from_to}
 use Rattle.rept_path.proofs.Waiting.{LegIn, FaultIn}
 
 -- a phase alone
-pub alone : (code : Code) (k : ℕ) (target : Option ℕ) (aim : Aim) (old new : Walk) → Walked code (course_by (lead old k target) aim) old new → WalkedAll code (record { target = target; aim = aim } ∷ []) (from_to k old new)
+pub alone : (code : Code) (k : ℕ) (target : Option ℕ) (aim : Aim) (old new : Walk) → Walked code (heading_by (lead old k target) aim) old new → WalkedAll code (record { target = target; aim = aim } ∷ []) (from_to k old new)
 alone code k target aim old new w = record { leg = w.leg; goes = (w.leg, [], refl, w.goes, refl); seen = w.seen; counts = w.counts; kept = w.kept; grows = w.grows }
 
 -- Nothing is done at a packet that says nothing of the path.
@@ -64,7 +64,7 @@ as_support code packet p waits before e same h = rw same h
 
 -- The moves after a start packet in a stretch are stopped by a fault.
 pub restart_fault : (code : Code) (k : ℕ) (branch : Bool) (privilege a time context : ℕ) (old : Walk) (bits : List Bool) (e : PathFault) → ((at : ℕ) × (position code a ≡ Ok at)) → bits ≡ old.bits.items ++ bits_of code (Start branch privilege a time context)
-    → (e ≡ OutOfMemory) ⊎ PhaseFault code (course_by (record { packet = k; target = Some a; bits = bits; room = old.room }) (aims.Start a)) (here old) e → (e ≡ OutOfMemory) ⊎ RunningFault code (Start branch privilege a time context) (met k old) e
+    → (e ≡ OutOfMemory) ⊎ PhaseFault code (heading_by (record { packet = k; target = Some a; bits = bits; room = old.room }) (aims.Start a)) (here old) e → (e ≡ OutOfMemory) ⊎ RunningFault code (Start branch privilege a time context) (met k old) e
 restart_fault code k branch privilege a time context old bits e there all h = elim h [ inl m ↦ inl m | inr f ↦ inr (inr (there, inl (rw all at f))) ]
 
 pub same_position : (code : Code) (a at : ℕ) → position code a ≡ Ok at → at ≡ a

@@ -7,7 +7,7 @@ use Rattle.std.proofs.Math.Seq.{take-length}
 use Rattle.rept_path.specs.Code.{Code}
 use Rattle.rept_isa.specs.declared.row.StepRow.{StepRow}
 use Rattle.rept_path.specs.declared.aim.Aim.{Aim}
-use Rattle.rept_path.specs.Moves.{Lead, Place, along, IsMove, stops, course_by}
+use Rattle.rept_path.specs.Moves.{Lead, Place, along, IsMove, stops, heading_by}
 use Rattle.rept_path.specs.Legs.{Passes, Reaches}
 use Rattle.rept_path.specs.Index.{at_index, LeastStop}
 
@@ -57,7 +57,7 @@ module _ (code : Code) (lead : Lead) (aim : Aim) (past : Place) where
         | inr (inr l) ↦ let w = slice_get_within (rows ++ q ∷ []) i r at in absurd (omega (arith, longer q rows))
       ]
 
-  idle : (leg : List StepRow) → Passes code (course_by lead aim) past leg → Idle (reverse leg)
+  idle : (leg : List StepRow) → Passes code (heading_by lead aim) past leg → Idle (reverse leg)
   idle [] x = record { moves = λ i r at. absurd (cc); stays = λ i lt le. absurd (omega arith) }
   idle (q ∷ leg) x =
       let rows = reverse leg in
@@ -71,7 +71,7 @@ module _ (code : Code) (lead : Lead) (aim : Aim) (past : Place) where
         ];
       })
 
-  pub by_index : (leg : List StepRow) → Reaches code (course_by lead aim) past leg → LeastStop code (course_by lead aim) past (reverse leg)
+  pub by_index : (leg : List StepRow) → Reaches code (heading_by lead aim) past leg → LeastStop code (heading_by lead aim) past (reverse leg)
   by_index [] x = elim x [ ]
   by_index (q ∷ leg) x =
       let rows = reverse leg in
@@ -95,7 +95,7 @@ module _ (code : Code) (lead : Lead) (aim : Aim) (past : Place) where
       let e : at_index code past (rows ++ q ∷ []) (length rows) ≡ along code past leg = index_front rows q (length rows) (omega arith) ∙ index_end leg (length rows) refl in
       rw (← e) (moves (length rows) q (get_seam rows q))
 
-  passes : (leg : List StepRow) → Idle (reverse leg) → Passes code (course_by lead aim) past leg
+  passes : (leg : List StepRow) → Idle (reverse leg) → Passes code (heading_by lead aim) past leg
   passes [] h = tt
   passes (q ∷ leg) h =
       let rows = reverse leg in
@@ -108,11 +108,11 @@ module _ (code : Code) (lead : Lead) (aim : Aim) (past : Place) where
       let some : 0 < n = omega (arith, longer q rows, ap (length {A = StepRow}) (turned q leg)) in
       (passes leg front, last_move leg q g.moves, rw (index_end (q ∷ leg) n refl) at (h.stays n some (omega arith)))
 
-  pub from_index : (leg : List StepRow) → LeastStop code (course_by lead aim) past (reverse leg) → Reaches code (course_by lead aim) past leg
+  pub from_index : (leg : List StepRow) → LeastStop code (heading_by lead aim) past (reverse leg) → Reaches code (heading_by lead aim) past leg
   from_index [] h = let some = h.later in omega (arith, some)
   from_index (q ∷ leg) h =
       let rows = reverse leg in
-      let g : LeastStop code (course_by lead aim) past (rows ++ q ∷ []) = rw (turned q leg) at h in
+      let g : LeastStop code (heading_by lead aim) past (rows ++ q ∷ []) = rw (turned q leg) at h in
       let front : Idle rows = record {
         moves = moves_front rows q g.moves;
         stays = λ i lt le. rw (← index_front rows q i le) (g.least i lt (omega (arith, longer q rows)));

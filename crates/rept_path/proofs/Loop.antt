@@ -10,7 +10,7 @@ use Rattle.rept_path.specs.declared.fault.PathFault.{PathFault}
 use Rattle.rept_path.specs.declared.fault.PathFault.TheVariants.{BranchesLeft, OutOfMemory}
 use Rattle.rept_isa.specs.declared.row.StepRow.{StepRow}
 use Rattle.rept_path.specs.declared.walk.Walk.{Walk}
-use Rattle.rept_path.specs.Moves.{Lead, Place, after, along, next_of, IsMove, stops, misfits, unused, by_jump, bits_fit, course_by}
+use Rattle.rept_path.specs.Moves.{Lead, Place, after, along, next_of, IsMove, stops, misfits, unused, by_jump, bits_fit, heading_by}
 use Rattle.rept_path.specs.Legs.{Passes, Reaches, PhaseFault}
 use Rattle.rept_path.specs.State.{here, Counts, Keeps, lead, Moved, Walked, ends_fit}
 
@@ -18,7 +18,7 @@ use Rattle.rept_path.specs.State.{here, Counts, Keeps, lead, Moved, Walked, ends
 pub record Coming (code : Code) (how : Lead) (aim : Aim) (old new : Walk) : Type 0 where
   pub row : StepRow
   pub leg : List StepRow
-  pub passes : Passes code (course_by how aim) (here old) leg
+  pub passes : Passes code (heading_by how aim) (here old) leg
   pub move : IsMove code how (along code (here old) leg) row
   pub seen : here new ≡ along code (here old) (row ∷ leg)
   pub counts : Counts new
@@ -35,7 +35,7 @@ module _ (code : Code) (packet : ℕ) (target : Option ℕ) (aim : Aim) (old mid
   same_lead : lead mid packet target ≡ lead old packet target
   same_lead = let a = came.kept.bits in let b = came.kept.room in cc
 
-  longer : stops code mid.bits.items aim (here mid) ≡ false → Passes code (course_by (lead old packet target) aim) (here old) (came.row ∷ came.leg)
+  longer : stops code mid.bits.items aim (here mid) ≡ false → Passes code (heading_by (lead old packet target) aim) (here old) (came.row ∷ came.leg)
   longer stays = (came.passes, came.move, rw (← came.seen, ← came.kept.bits) stays)
 
   pub goes_on : (new : Walk) → stops code mid.bits.items aim (here mid) ≡ false → Moved code (lead mid packet target) mid new → Coming code (lead old packet target) aim old new
@@ -50,10 +50,10 @@ module _ (code : Code) (packet : ℕ) (target : Option ℕ) (aim : Aim) (old mid
     grows = (let a = came.grows in let b = moved.grows in omega arith);
   }
 
-  reached : stops code mid.bits.items aim (here mid) ≡ true → Reaches code (course_by (lead old packet target) aim) (here old) (came.row ∷ came.leg)
+  reached : stops code mid.bits.items aim (here mid) ≡ true → Reaches code (heading_by (lead old packet target) aim) (here old) (came.row ∷ came.leg)
   reached stopped = (came.passes, came.move, rw (← came.seen, ← came.kept.bits) stopped)
 
-  pub arrives : stops code mid.bits.items aim (here mid) ≡ true → misfits code mid.bits.items aim (here mid) ≡ false → Walked code (course_by (lead old packet target) aim) old mid
+  pub arrives : stops code mid.bits.items aim (here mid) ≡ true → misfits code mid.bits.items aim (here mid) ≡ false → Walked code (heading_by (lead old packet target) aim) old mid
   arrives stopped fits = record {
     leg = came.row ∷ came.leg;
     goes = record { reaches = reached stopped; fits = rw (← came.seen, ← came.kept.bits) fits };
@@ -63,11 +63,11 @@ module _ (code : Code) (packet : ℕ) (target : Option ℕ) (aim : Aim) (old mid
     grows = came.grows;
   }
 
-  pub is_blocked : (e : PathFault) → stops code mid.bits.items aim (here mid) ≡ false → next_of code (lead mid packet target) (here mid) ≡ Err e → PhaseFault code (course_by (lead old packet target) aim) (here old) e
+  pub is_blocked : (e : PathFault) → stops code mid.bits.items aim (here mid) ≡ false → next_of code (lead mid packet target) (here mid) ≡ Err e → PhaseFault code (heading_by (lead old packet target) aim) (here old) e
   is_blocked e stays h = inl (record { leg = came.row ∷ came.leg; passes = longer stays; blocked = rw (same_lead, came.seen) at h })
 
   pub has_left : (n : ℕ) → stops code mid.bits.items aim (here mid) ≡ true → misfits code mid.bits.items aim (here mid) ≡ true → n ≡ unused mid.bits.items (here mid)
-      → PhaseFault code (course_by (lead old packet target) aim) (here old) (BranchesLeft packet n)
+      → PhaseFault code (heading_by (lead old packet target) aim) (here old) (BranchesLeft packet n)
   has_left n stopped left is = inr (record {
     leg = came.row ∷ came.leg;
     reaches = reached stopped;
@@ -75,7 +75,7 @@ module _ (code : Code) (packet : ℕ) (target : Option ℕ) (aim : Aim) (old mid
     fault = ap (λ (m : ℕ). BranchesLeft packet m) (let h = rw (came.kept.bits) at is in h ∙ ap (λ (p : Place). unused old.bits.items p) came.seen);
   })
 
-  pub blocked_or : (e : PathFault) → stops code mid.bits.items aim (here mid) ≡ false → (e ≡ OutOfMemory) ⊎ (next_of code (lead mid packet target) (here mid) ≡ Err e) → (e ≡ OutOfMemory) ⊎ PhaseFault code (course_by (lead old packet target) aim) (here old) e
+  pub blocked_or : (e : PathFault) → stops code mid.bits.items aim (here mid) ≡ false → (e ≡ OutOfMemory) ⊎ (next_of code (lead mid packet target) (here mid) ≡ Err e) → (e ≡ OutOfMemory) ⊎ PhaseFault code (heading_by (lead old packet target) aim) (here old) e
   blocked_or e stays h = elim h [ inl m ↦ inl m | inr b ↦ inr (is_blocked e stays b) ]
 
 -- The same where the facts of a step speak of code that is the same, as that of a dump near a position.
@@ -93,13 +93,13 @@ module _ (code near : Code) (same : near ≡ code) (packet : ℕ) (target : Opti
     pub goes_on_near : (new : Walk) → stops near mid.bits.items aim (here mid) ≡ false → Moved near (lead mid packet target) mid new → Coming code (lead old packet target) aim old new
     goes_on_near new stays m = goes_on code packet target aim old mid came new (stops_there false stays) (subst (λ (c : Code). Moved c (lead mid packet target) mid new) same m)
 
-    pub arrives_near : stops near mid.bits.items aim (here mid) ≡ true → misfits near mid.bits.items aim (here mid) ≡ false → Walked code (course_by (lead old packet target) aim) old mid
+    pub arrives_near : stops near mid.bits.items aim (here mid) ≡ true → misfits near mid.bits.items aim (here mid) ≡ false → Walked code (heading_by (lead old packet target) aim) old mid
     arrives_near stopped fits = arrives code packet target aim old mid came (stops_there true stopped) (misfits_there false fits)
 
-    pub has_left_near : (n : ℕ) → stops near mid.bits.items aim (here mid) ≡ true → misfits near mid.bits.items aim (here mid) ≡ true → n ≡ unused mid.bits.items (here mid) → PhaseFault code (course_by (lead old packet target) aim) (here old) (BranchesLeft packet n)
+    pub has_left_near : (n : ℕ) → stops near mid.bits.items aim (here mid) ≡ true → misfits near mid.bits.items aim (here mid) ≡ true → n ≡ unused mid.bits.items (here mid) → PhaseFault code (heading_by (lead old packet target) aim) (here old) (BranchesLeft packet n)
     has_left_near n stopped left is = has_left code packet target aim old mid came n (stops_there true stopped) (misfits_there true left) is
 
-    pub blocked_near : (e : PathFault) → stops near mid.bits.items aim (here mid) ≡ false → (e ≡ OutOfMemory) ⊎ (next_of near (lead mid packet target) (here mid) ≡ Err e) → (e ≡ OutOfMemory) ⊎ PhaseFault code (course_by (lead old packet target) aim) (here old) e
+    pub blocked_near : (e : PathFault) → stops near mid.bits.items aim (here mid) ≡ false → (e ≡ OutOfMemory) ⊎ (next_of near (lead mid packet target) (here mid) ≡ Err e) → (e ≡ OutOfMemory) ⊎ PhaseFault code (heading_by (lead old packet target) aim) (here old) e
     blocked_near e stays h = blocked_or code packet target aim old mid came e (stops_there false stays) (subst (λ (c : Code). (e ≡ OutOfMemory) ⊎ (next_of c (lead mid packet target) (here mid) ≡ Err e)) same h)
 
 -- Where the bits fit, one is left at most.

@@ -15,7 +15,7 @@ use Rattle.rept_path.specs.declared.fault.PathFault.TheVariants.{TooLong, Gap, E
 use Rattle.rept_path.specs.Code.{instruction, expansion, short_half, is_short, alignment, after_instruction, by_instruction, by_word, by_code, look, flow_of, is_call}
 use Rattle.rept_path.specs.Gap.{row, call_row, Goal, Edge, by_successor, by_flow, crossing, gap}
 use Rattle.rept_path.specs.Legs.{PhaseFault}
-use Rattle.rept_path.specs.Moves.{Lead, Place, Stand, Site, along, site, successor, position, next_of, ◌>>=◌, course_by, way_by}
+use Rattle.rept_path.specs.Moves.{Lead, Place, Stand, Site, along, site, successor, position, next_of, ◌>>=◌, heading_by, way_by}
 use Rattle.rept_path.specs.Packets.{waiting}
 use Rattle.rept_path.specs.Route.{Phase, PhasesFault, lead_of, further, with_bits, phases_of, Met, met_by, stand_of, admits, FirstFault, WaitingFault, RunningFault, Fault, Origin, alone}
 use Rattle.rept_path.specs.Trace.{IsRefused, stand_after}
@@ -113,7 +113,7 @@ module _ (code : Code) where
       (λ i. others_bind (cross i) room (others_flow (record { at = p.at; instr = i; short = is_short code p.at; to = goal.address; otherwise = goal.otherwise }) other (successor s.packet (site code p.at) (flow_of i) (way_by bit None)) (others_bit s.packet (site code p.at) bit None (flow_of i)) (flow_of i))
       (λ rows. others_cond (nat_le (length p.rows + length rows) s.room) (Ok rows) (Err (TooLong s.packet)) (others_ok rows) (others_long s.packet)))
 
-  phase_other : (how : Lead) (aim : Aim) (past : Place) (e : PathFault) → PhaseFault code (course_by how aim) past e → e ≢ OutOfMemory
+  phase_other : (how : Lead) (aim : Aim) (past : Place) (e : PathFault) → PhaseFault code (heading_by how aim) past e → e ≢ OutOfMemory
   phase_other how aim past e (inl blocked) = others_next how (along code past blocked.leg) e blocked.blocked
   phase_other how aim past e (inr misfit) = λ m. let is = misfit.fault in cc
 

@@ -9,7 +9,7 @@ use Rattle.rept_trace.specs.declared.packet.Packet.TheVariants.{Start, Context, 
 use Rattle.rept_path.specs.Packets.{waiting}
 use Rattle.rept_path.specs.Gap.{gap_to_end}
 use Rattle.rept_path.specs.Route.{phases_of, with_bits, Met, met_by, WaitingLeg, WaitingFault, FirstLeg, FirstFault, Leg, Fault, Origin, alone, Route}
-use Rattle.rept_path.specs.Trace.{Window, stand_after, Run, newest_first, last_stand, IsPath, StopsAt, StopsAtEnd, IsRefused}
+use Rattle.rept_path.specs.Trace.{Window, stand_after, TracedRun, newest_first, last_stand, IsPath, StopsAt, StopsAtEnd, IsRefused}
 use Rattle.rept_path.proofs.Unique.{one_legs, legs_or_fault, one_of_faults}
 use Rattle.rept_path.proofs.Waiting.{LegIn, FaultIn}
 
@@ -177,7 +177,7 @@ pub one_window : (packets : List Packet) (from a b : ℕ) → Window packets fro
 one_window packets from a b x y = let p : a ≤ b = x.first b y.may in let q : b ≤ a = y.first a x.may in omega arith
 
 module _ (code : Code) (packets : List Packet) (from pc : ℕ) where
-  abbrev run : Run
+  abbrev run : TracedRun
   run = record { code = code; packets = packets; from = from; pc = pc }
 
   one_end : (skipped : ℕ) (d e : PathFault) → StopsAtEnd run skipped d → StopsAtEnd run skipped e → d ≡ e

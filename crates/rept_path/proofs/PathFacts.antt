@@ -21,7 +21,7 @@ use Rattle.rept_path.specs.declared.fault.PathFault.TheVariants.{TooLong, Gap, E
 use Rattle.rept_path.specs.Code.{look, after_instruction, is_short, flow_of, is_call}
 use Rattle.rept_path.specs.Gap.{row, call_row, Goal, Edge, by_successor, by_flow, crossing, gap}
 use Rattle.rept_path.specs.Legs.{Passes, Reaches}
-use Rattle.rept_path.specs.Moves.{Lead, Place, Stand, along, site, successor, IsMove, ◌>>=◌, course_by, way_by}
+use Rattle.rept_path.specs.Moves.{Lead, Place, Stand, along, site, successor, IsMove, ◌>>=◌, heading_by, way_by}
 use Rattle.rept_path.specs.Packets.{reported_after, begins, waiting}
 use Rattle.rept_path.specs.Route.{Phase, PhaseLegs, lead_of, further, with_bits, phases_of, Met, met_by, stand_of, FirstLeg, WaitingLeg, Leg, Origin, alone, Route, place, place_after, meets}
 use Rattle.rept_path.specs.Rows.{CarriesCode, CarryCode}
@@ -151,11 +151,11 @@ module _ (code : Code) where
   moved : (lead : Lead) (p : Place) (r : StepRow) → IsMove code lead p r → CarriesCode code r
   moved lead p r m = record { instr = rw m.at m.instr; short = m.short ∙ ap (is_short code) (sym m.at) }
 
-  passed : (lead : Lead) (aim : Aim) (past : Place) (leg : List StepRow) → Passes code (course_by lead aim) past leg → CarryCode code leg
+  passed : (lead : Lead) (aim : Aim) (past : Place) (leg : List StepRow) → Passes code (heading_by lead aim) past leg → CarryCode code leg
   passed lead aim past [] x = All-nil (CarriesCode code)
   passed lead aim past (r ∷ leg) x = All-cons (CarriesCode code) r leg (moved lead (along code past leg) r x.1) (passed lead aim past leg x.0)
 
-  reached : (lead : Lead) (aim : Aim) (past : Place) (leg : List StepRow) → Reaches code (course_by lead aim) past leg → CarryCode code leg
+  reached : (lead : Lead) (aim : Aim) (past : Place) (leg : List StepRow) → Reaches code (heading_by lead aim) past leg → CarryCode code leg
   reached lead aim past [] x = elim x [ ]
   reached lead aim past (r ∷ leg) x = All-cons (CarriesCode code) r leg (moved lead (along code past leg) r x.1) (passed lead aim past leg x.0)
 
@@ -207,11 +207,11 @@ module _ (code : Code) where
   move_on_chain : (lead : Lead) (past : Place) (r : StepRow) (leg : List StepRow) → IsMove code lead (along code past leg) r → OnChain (along code past leg) → OnChain (along code past (r ∷ leg))
   move_on_chain lead past r leg m h = (refl, rw m.at h)
 
-  passes_on_chain : (lead : Lead) (aim : Aim) (past : Place) (leg : List StepRow) → OnChain past → Passes code (course_by lead aim) past leg → OnChain (along code past leg)
+  passes_on_chain : (lead : Lead) (aim : Aim) (past : Place) (leg : List StepRow) → OnChain past → Passes code (heading_by lead aim) past leg → OnChain (along code past leg)
   passes_on_chain lead aim past [] h x = h
   passes_on_chain lead aim past (r ∷ leg) h x = move_on_chain lead past r leg x.1 (passes_on_chain lead aim past leg h x.0)
 
-  reach_on_chain : (lead : Lead) (aim : Aim) (past : Place) (leg : List StepRow) → OnChain past → Reaches code (course_by lead aim) past leg → OnChain (along code past leg)
+  reach_on_chain : (lead : Lead) (aim : Aim) (past : Place) (leg : List StepRow) → OnChain past → Reaches code (heading_by lead aim) past leg → OnChain (along code past leg)
   reach_on_chain lead aim past [] h x = elim x [ ]
   reach_on_chain lead aim past (r ∷ leg) h x = move_on_chain lead past r leg x.1 (passes_on_chain lead aim past leg h x.0)
 

@@ -10,11 +10,11 @@ use Rattle.rept_isa.specs.declared.row.StepRow.{StepRow}
 use Rattle.rept_trace.specs.declared.packet.Packet.{Packet}
 use Rattle.rept_trace.specs.declared.packet.Packet.TheVariants.{Start, Context, Support, Address, Map, MapAddress}
 use Rattle.rept_path.specs.Packets.{bits, reported, waiting}
-use Rattle.rept_path.specs.Moves.{Stand, course_by}
+use Rattle.rept_path.specs.Moves.{Stand, heading_by}
 use Rattle.rept_path.specs.Index.{LeastStop}
 use Rattle.rept_path.specs.Route.{Phase, PhaseLegs, by_waiting, admits, WaitingLeg, lead_of, further, with_bits, phases_of, Met, met_by, FirstLeg, Leg, alone, Route, place, marked}
 use Rattle.rept_path.specs.Gap.{gap_to_end}
-use Rattle.rept_path.specs.Trace.{starts, stand_after, Run, IsPath}
+use Rattle.rept_path.specs.Trace.{starts, stand_after, TracedRun, IsPath}
 use Rattle.rept_path.specs.Stops.{PhaseStops, left_by, nothing, StopsFrom, StopIndices}
 use Rattle.rept_path.proofs.IndexLemmas.{by_index, from_index}
 use Rattle.rept_path.proofs.OneRoute.{one_route, leg_within}
@@ -52,7 +52,7 @@ module _ (code : Code) where
         let turn : reverse leg ≡ reverse first ++ reverse rest = ap reverse whole ∙ reverse-append rest first in
         let cut : path ≡ before ++ (reverse first ++ (reverse rest ++ more)) = is ∙ ap (λ (ys : List StepRow). before ++ (ys ++ more)) turn ∙ ap (λ (ys : List StepRow). before ++ ys) (append_assoc (reverse first) (reverse rest) more) in
         let there : between i m path ≡ reverse first = part before (reverse first) (reverse rest ++ more) path i m cut start (omega (arith, length-reverse first)) in
-        let least : LeastStop code (course_by lead phase.aim) s.place (reverse first) = by_index code lead phase.aim s.place first x.reaches in
+        let least : LeastStop code (heading_by lead phase.aim) s.place (reverse first) = by_index code lead phase.aim s.place first x.reaches in
         let some = least.later in
         let same : reverse (between i m path) ≡ first = ap reverse there ∙ reverse-reverse first in
         let n = ap (length {A = StepRow}) whole in
@@ -65,7 +65,7 @@ module _ (code : Code) where
     phases_from s (phase ∷ phases) i j (m, low, high, least, fits, xs) =
         let first = reverse (between i m path) in
         let lead = lead_of s phase in
-        let back : LeastStop code (course_by lead phase.aim) s.place (reverse first) = rw (reverse-reverse (between i m path)) least in
+        let back : LeastStop code (heading_by lead phase.aim) s.place (reverse first) = rw (reverse-reverse (between i m path)) least in
         (first, reverse (between m j path), turned_parts path i m j (omega arith) high, record { reaches = from_index code lead phase.aim s.place first back; fits = fits }, phases_from (further code s first) phases m j xs)
 
   -- a packet that waits or not
@@ -124,7 +124,7 @@ module _ (code : Code) where
     leg_of packet (last ∷ earlier) legs leg some x = x
 
     module _ (given : List Packet) (from pc : ℕ) (path : List StepRow) where
-      abbrev given_run : Run
+      abbrev given_run : TracedRun
       given_run = record { code = code; packets = given; from = from; pc = pc }
 
       -- the path is that of these packets, newest first
@@ -219,7 +219,7 @@ begins [] h = absurd (cc)
 begins (x ∷ xs) h = (x, xs, refl)
 
 module _ (code : Code) (packets : List Packet) (from pc skipped : ℕ) (path : List StepRow) where
-  abbrev run : Run
+  abbrev run : TracedRun
   run = record { code = code; packets = packets; from = from; pc = pc }
 
   counted : (first : Packet) (later : List Packet) → drop skipped packets ≡ first ∷ later → skipped + length (reverse (drop skipped packets)) ≡ length packets

@@ -8,7 +8,7 @@ use Rattle.rept_path.specs.declared.fault.PathFault.{PathFault}
 use Rattle.rept_path.specs.declared.fault.PathFault.TheVariants.{BranchesLeft}
 use Rattle.rept_isa.specs.declared.instr.Instr.{Instr}
 use Rattle.rept_path.specs.Code.{look}
-use Rattle.rept_path.specs.Moves.{Lead, Place, Stand, along, next_of, IsMove, stops, misfits, unused, course_by}
+use Rattle.rept_path.specs.Moves.{Lead, Place, Stand, along, next_of, IsMove, stops, misfits, unused, heading_by}
 use Rattle.rept_path.specs.Legs.{Passes, Reaches, PhaseLeg, PhaseFault}
 use Rattle.rept_path.specs.Route.{Phase, PhaseLegs, PhasesFault, lead_of, further}
 
@@ -30,9 +30,9 @@ one_move code lead p r s x y =
 module _ (code : Code) (lead : Lead) (aim : Aim) (past : Place) where
   -- no move follows the leg, which has no stop
   abbrev Blocked : List StepRow → PathFault → Type 0
-  Blocked leg e = Passes code (course_by lead aim) past leg × (next_of code lead (along code past leg) ≡ Err e)
+  Blocked leg e = Passes code (heading_by lead aim) past leg × (next_of code lead (along code past leg) ≡ Err e)
 
-  same_passes : (a b : List StepRow) → Passes code (course_by lead aim) past a → Passes code (course_by lead aim) past b → length a ≡ length b → a ≡ b
+  same_passes : (a b : List StepRow) → Passes code (heading_by lead aim) past a → Passes code (heading_by lead aim) past b → length a ≡ length b → a ≡ b
   same_passes [] [] x y e = refl
   same_passes [] (q ∷ b) x y e = absurd (omega arith)
   same_passes (p ∷ a) [] x y e = absurd (omega arith)
@@ -43,7 +43,7 @@ module _ (code : Code) (lead : Lead) (aim : Aim) (past : Place) where
       cc
 
   -- a leg to a stop is not within a leg without one
-  stop_within : (q : StepRow) (a b : List StepRow) → Reaches code (course_by lead aim) past (q ∷ a) → Passes code (course_by lead aim) past b → length a < length b → ⊥
+  stop_within : (q : StepRow) (a b : List StepRow) → Reaches code (heading_by lead aim) past (q ∷ a) → Passes code (heading_by lead aim) past b → length a < length b → ⊥
   stop_within q a [] x y lt = omega arith
   stop_within q a (p ∷ b) x y lt = elim (cases_order (length a) (length b)) [
     | inl e ↦
@@ -57,7 +57,7 @@ module _ (code : Code) (lead : Lead) (aim : Aim) (past : Place) where
     | inr (inr l) ↦ omega arith
   ]
 
-  same_reach : (a b : List StepRow) → Reaches code (course_by lead aim) past a → Reaches code (course_by lead aim) past b → a ≡ b
+  same_reach : (a b : List StepRow) → Reaches code (heading_by lead aim) past a → Reaches code (heading_by lead aim) past b → a ≡ b
   same_reach [] b x y = elim x [ ]
   same_reach (p ∷ a) [] x y = elim y [ ]
   same_reach (p ∷ a) (q ∷ b) x y = elim (cases_order (length a) (length b)) [
@@ -71,7 +71,7 @@ module _ (code : Code) (lead : Lead) (aim : Aim) (past : Place) where
   ]
 
   -- no leg goes on past a blocked one
-  blocked_within : (a b : List StepRow) (e : PathFault) → Blocked a e → Passes code (course_by lead aim) past b → length a < length b → ⊥
+  blocked_within : (a b : List StepRow) (e : PathFault) → Blocked a e → Passes code (heading_by lead aim) past b → length a < length b → ⊥
   blocked_within a [] e x y lt = omega arith
   blocked_within a (q ∷ b) e x y lt = elim (cases_order (length a) (length b)) [
     | inl i ↦
@@ -94,7 +94,7 @@ module _ (code : Code) (lead : Lead) (aim : Aim) (past : Place) where
     | inr (inr l) ↦ absurd (blocked_within b a e y x.0 l)
   ]
 
-  reach_or_block : (a b : List StepRow) (e : PathFault) → Reaches code (course_by lead aim) past a → Blocked b e → ⊥
+  reach_or_block : (a b : List StepRow) (e : PathFault) → Reaches code (heading_by lead aim) past a → Blocked b e → ⊥
   reach_or_block [] b e x y = elim x [ ]
   reach_or_block (q ∷ a) b e x y = elim (cases_order (length a) (length b)) [
     | inl i ↦
@@ -106,10 +106,10 @@ module _ (code : Code) (lead : Lead) (aim : Aim) (past : Place) where
     | inr (inr l) ↦ blocked_within b a e y x.0 l
   ]
 
-  pub one_leg : (a b : List StepRow) → PhaseLeg code (course_by lead aim) past a → PhaseLeg code (course_by lead aim) past b → a ≡ b
+  pub one_leg : (a b : List StepRow) → PhaseLeg code (heading_by lead aim) past a → PhaseLeg code (heading_by lead aim) past b → a ≡ b
   one_leg a b x y = same_reach a b x.reaches y.reaches
 
-  pub leg_or_fault : (a : List StepRow) (e : PathFault) → PhaseLeg code (course_by lead aim) past a → PhaseFault code (course_by lead aim) past e → ⊥
+  pub leg_or_fault : (a : List StepRow) (e : PathFault) → PhaseLeg code (heading_by lead aim) past a → PhaseFault code (heading_by lead aim) past e → ⊥
   leg_or_fault a e x y = elim y [
     | inl f ↦ reach_or_block a f.leg e x.reaches (f.passes, f.blocked)
     | inr f ↦
@@ -119,7 +119,7 @@ module _ (code : Code) (lead : Lead) (aim : Aim) (past : Place) where
         cc
   ]
 
-  pub one_fault : (d e : PathFault) → PhaseFault code (course_by lead aim) past d → PhaseFault code (course_by lead aim) past e → d ≡ e
+  pub one_fault : (d e : PathFault) → PhaseFault code (heading_by lead aim) past d → PhaseFault code (heading_by lead aim) past e → d ≡ e
   one_fault d e x y = elim x [
     | inl f ↦ elim y [ inl g ↦ same_block f.leg g.leg d e (f.passes, f.blocked) (g.passes, g.blocked) | inr g ↦ absurd (reach_or_block g.leg f.leg d g.reaches (f.passes, f.blocked)) ]
     | inr f ↦ elim y [

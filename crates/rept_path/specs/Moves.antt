@@ -48,12 +48,12 @@ pub record Stand : Type 0 where
   pub room : ℕ
 
 -- what leads moves, and where they stop
-pub record Course : Type 0 where
+pub record Heading : Type 0 where
   pub lead : Lead
   pub aim : Aim
 
-abbrev pub course_by : Lead → Aim → Course
-course_by lead aim = record { lead = lead; aim = aim }
+abbrev pub heading_by : Lead → Aim → Heading
+heading_by lead aim = record { lead = lead; aim = aim }
 
 -- what the trace says of the way on from a position: the bit of a branch there, and where an uninferable jump goes
 pub record Way : Type 0 where

@@ -12,7 +12,7 @@ use Rattle.rept_trace.specs.declared.packet.Packet.{Packet}
 use Rattle.rept_trace.specs.declared.packet.Packet.TheVariants.{Start, Context, Support, Address, Map, MapAddress}
 use Rattle.rept_path.specs.Code.{sum}
 use Rattle.rept_path.specs.Packets.{bits, bits_of, reported, reported_after, waiting, begins}
-use Rattle.rept_path.specs.Moves.{Lead, Course, course_by, Place, Stand, along, position, is_inferred}
+use Rattle.rept_path.specs.Moves.{Lead, Heading, heading_by, Place, Stand, along, position, is_inferred}
 use Rattle.rept_path.specs.Legs.{PhaseLeg, PhaseFault}
 use Rattle.rept_path.specs.Gap.{gap_to_start}
 
@@ -25,9 +25,9 @@ pub record Phase : Type 0 where
 abbrev pub lead_of : Stand → Phase → Lead
 lead_of s phase = record { packet = s.packet; target = phase.target; bits = s.bits; room = s.room }
 
--- the course of its moves
-abbrev pub course_of : Stand → Phase → Course
-course_of s phase = course_by (lead_of s phase) phase.aim
+-- the heading of its moves
+abbrev pub heading_of : Stand → Phase → Heading
+heading_of s phase = heading_by (lead_of s phase) phase.aim
 
 -- the same packet and bits, after a leg
 abbrev pub further : Code → Stand → List StepRow → Stand
@@ -36,12 +36,12 @@ further code s leg = record { packet = s.packet; bits = s.bits; place = along co
 -- The leg is made of those of the phases, each from where the one before it stopped.
 abbrev pub PhaseLegs : Code → Stand → List Phase → List StepRow → Type 0
 PhaseLegs code s [] leg = leg ≡ []
-PhaseLegs code s (phase ∷ phases) leg = (first : List StepRow) × (rest : List StepRow) × (leg ≡ rest ++ first) × PhaseLeg code (course_of s phase) s.place first × PhaseLegs code (further code s first) phases rest
+PhaseLegs code s (phase ∷ phases) leg = (first : List StepRow) × (rest : List StepRow) × (leg ≡ rest ++ first) × PhaseLeg code (heading_of s phase) s.place first × PhaseLegs code (further code s first) phases rest
 
 -- One of the phases has no leg, and this is why.
 abbrev pub PhasesFault : Code → Stand → List Phase → PathFault → Type 0
 PhasesFault code s [] e = ⊥
-PhasesFault code s (phase ∷ phases) e = PhaseFault code (course_of s phase) s.place e ⊎ ((first : List StepRow) × PhaseLeg code (course_of s phase) s.place first × PhasesFault code (further code s first) phases e)
+PhasesFault code s (phase ∷ phases) e = PhaseFault code (heading_of s phase) s.place e ⊎ ((first : List StepRow) × PhaseLeg code (heading_of s phase) s.place first × PhasesFault code (further code s first) phases e)
 
 -- Where the last stop was inferred, the program had come to the reported address and went on to the next uninferable jump, which
 -- led there again.

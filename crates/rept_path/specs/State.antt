@@ -9,7 +9,7 @@ use Rattle.rept_isa.specs.declared.row.StepRow.{StepRow}
 use Rattle.rept_trace.specs.declared.packet.Packet.{Packet}
 use Rattle.rept_path.specs.declared.walk.Walk.{Walk}
 use Rattle.rept_path.specs.Packets.{bits, bits_of, bits_before, reported, reported_after, waiting, waits_after}
-use Rattle.rept_path.specs.Moves.{Lead, Course, Place, Stand, along, IsMove}
+use Rattle.rept_path.specs.Moves.{Lead, Heading, Place, Stand, along, IsMove}
 use Rattle.rept_path.specs.Legs.{PhaseLeg}
 use Rattle.rept_path.specs.Route.{Phase, PhaseLegs, Met, LegBy, Arrival, Earlier, mark_after, meets, Route, place, place_after, marked}
 
@@ -50,9 +50,9 @@ pub record Moved (code : Code) (how : Lead) (old new : Walk) : Type 0 where
   pub grows : old.used ≤ new.used
 
 -- a phase was walked
-pub record Walked (code : Code) (course : Course) (old new : Walk) : Type 0 where
+pub record Walked (code : Code) (heading : Heading) (old new : Walk) : Type 0 where
   pub leg : List StepRow
-  pub goes : PhaseLeg code course (here old) leg
+  pub goes : PhaseLeg code heading (here old) leg
   pub seen : here new ≡ along code (here old) leg
   pub counts : Counts new
   pub kept : Keeps old new

@@ -9,9 +9,9 @@ use Rattle.rept_trace.specs.Stream.{Hold}
 use Rattle.rept_path.specs.Packets.{bits_of, bits_before, reported_after, waits_after}
 use Rattle.rept_path.specs.Moves.{Stand, misfits}
 use Rattle.rept_path.specs.Index.{LeastStop}
-use Rattle.rept_path.specs.Route.{Phase, course_of, meets, further, with_bits, phases_of, Met, stand_of, admits, mark_after, place_after, by_waiting, WaitingLeg, FirstLeg, Origin, alone}
+use Rattle.rept_path.specs.Route.{Phase, heading_of, meets, further, with_bits, phases_of, Met, stand_of, admits, mark_after, place_after, by_waiting, WaitingLeg, FirstLeg, Origin, alone}
 use Rattle.rept_path.specs.Gap.{gap_to_end}
-use Rattle.rept_path.specs.Trace.{Window, Run}
+use Rattle.rept_path.specs.Trace.{Window, TracedRun}
 use Rattle.rept_path.specs.Traced.{RawRun, with_packets}
 
 -- a section of a path: the rows between two of its indices
@@ -38,7 +38,7 @@ onward code s part = further code s (reverse (rows_in part))
 abbrev pub PhaseStops : Code → Stand → List Phase → Section → Type 0
 PhaseStops code s [] part = part.from ≡ part.to
 PhaseStops code s (phase ∷ phases) part =
-    (stop : ℕ) × (part.from < stop) × (stop ≤ part.to) × LeastStop code (course_of s phase) s.place (rows_in (up_to part stop))
+    (stop : ℕ) × (part.from < stop) × (stop ≤ part.to) × LeastStop code (heading_of s phase) s.place (rows_in (up_to part stop))
     × (misfits code s.bits phase.aim (onward code s (up_to part stop)).place ≡ false) × PhaseStops code (onward code s (up_to part stop)) phases (beyond part stop)
 
 -- A packet's section: its phases end there, while the trace runs, and else its rows are those of the gap.
@@ -60,27 +60,27 @@ abbrev pub nothing : Origin → Met
 nothing origin = record { number = origin.number; bits = []; reported = 0; marked = false; waits = true; place = record { at = 0; rows = []; branches = 0 }; room = origin.room }
 
 -- an index in a path, and what the next packet is met by there
-pub record Spot : Type 0 where
+pub record Meeting : Type 0 where
   pub path : List StepRow
   pub index : ℕ
   pub met : Met
 
 -- the section from there to a later index, and what the packet of that section leaves
-abbrev pub section_to : Spot → ℕ → Section
-section_to spot j = record { path = spot.path; from = spot.index; to = j }
+abbrev pub section_to : Meeting → ℕ → Section
+section_to meeting j = record { path = meeting.path; from = meeting.index; to = j }
 
-abbrev pub spot_after : Code → Packet → Spot → ℕ → Spot
-spot_after code packet spot j = record { path = spot.path; index = j; met = left_by code packet spot.met (rows_in (section_to spot j)) }
+abbrev pub meeting_after : Code → Packet → Meeting → ℕ → Meeting
+meeting_after code packet meeting j = record { path = meeting.path; index = j; met = left_by code packet meeting.met (rows_in (section_to meeting j)) }
 
 -- Each packet has one stop, at or after that of the packet before it. The rows from the last stop on lead to the end.
-abbrev pub StopsFrom : Run → List Packet → Spot → List ℕ → Type 0
-StopsFrom run [] spot [] = gap_to_end run.code (stand_of spot.met) run.pc ≡ Ok (reverse (drop spot.index spot.path))
-StopsFrom run [] spot (j ∷ stops) = ⊥
-StopsFrom run (packet ∷ later) spot [] = ⊥
-StopsFrom run (packet ∷ later) spot (j ∷ stops) = (spot.index ≤ j) × (j ≤ length spot.path) × PacketStops run.code packet spot.met (section_to spot j) × StopsFrom run later (spot_after run.code packet spot j) stops
+abbrev pub StopsFrom : TracedRun → List Packet → Meeting → List ℕ → Type 0
+StopsFrom run [] meeting [] = gap_to_end run.code (stand_of meeting.met) run.pc ≡ Ok (reverse (drop meeting.index meeting.path))
+StopsFrom run [] meeting (j ∷ stops) = ⊥
+StopsFrom run (packet ∷ later) meeting [] = ⊥
+StopsFrom run (packet ∷ later) meeting (j ∷ stops) = (meeting.index ≤ j) × (j ≤ length meeting.path) × PacketStops run.code packet meeting.met (section_to meeting j) × StopsFrom run later (meeting_after run.code packet meeting j) stops
 
 -- The first packet of the window is at index 0, and the later ones have these stops.
-pub record StopIndices (run : Run) (skipped : ℕ) (path : List StepRow) (stops : List ℕ) : Type 0 where
+pub record StopIndices (run : TracedRun) (skipped : ℕ) (path : List StepRow) (stops : List ℕ) : Type 0 where
   pub window : Window run.packets run.from skipped
   pub first : Packet
   pub later : List Packet

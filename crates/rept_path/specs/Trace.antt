@@ -42,22 +42,22 @@ abbrev pub stand_after : Code → ℕ → List Packet → List (List StepRow) �
 stand_after code count packets legs = record { packet = count; bits = bits code packets; place = place code packets legs; room = 65536 }
 
 -- a traced run: the program, the packets, the number from which on the window may begin, and the program counter at the end
-pub record Run : Type 0 where
+pub record TracedRun : Type 0 where
   pub code : Code
   pub packets : List Packet
   pub from : ℕ
   pub pc : ℕ
 
 -- the packets of its window, newest first
-abbrev pub newest_first : Run → ℕ → List Packet
+abbrev pub newest_first : TracedRun → ℕ → List Packet
 newest_first run skipped = reverse (drop skipped run.packets)
 
 -- where a route of the window leaves the walk, before the end, whose number is the count of all packets
-abbrev pub last_stand : Run → ℕ → List (List StepRow) → Stand
+abbrev pub last_stand : TracedRun → ℕ → List (List StepRow) → Stand
 last_stand run skipped legs = stand_after run.code (length run.packets) (newest_first run skipped) legs
 
 -- A route of the window, and the rows of the gap to the end.
-pub record IsPath (run : Run) (skipped : ℕ) (path : List StepRow) : Type 0 where
+pub record IsPath (run : TracedRun) (skipped : ℕ) (path : List StepRow) : Type 0 where
   pub window : Window run.packets run.from skipped
   pub legs : List (List StepRow)
   pub route : Route run.code (alone skipped) (newest_first run skipped) legs
@@ -76,12 +76,12 @@ pub record StopsAt (code : Code) (origin : Origin) (window : List Packet) (e : P
   pub fault : Fault code packet (earlier_by origin earlier legs) e
 
 -- There is a route of the window, and no way from it to the end.
-pub record StopsAtEnd (run : Run) (skipped : ℕ) (e : PathFault) : Type 0 where
+pub record StopsAtEnd (run : TracedRun) (skipped : ℕ) (e : PathFault) : Type 0 where
   pub legs : List (List StepRow)
   pub route : Route run.code (alone skipped) (newest_first run skipped) legs
   pub end : gap_to_end run.code (last_stand run skipped legs) run.pc ≡ Err e
 
-abbrev pub IsRefused : Run → PathFault → Type 0
+abbrev pub IsRefused : TracedRun → PathFault → Type 0
 IsRefused run e =
     (IsWindow run.packets run.from None × (e ≡ NoStart (length run.packets)))
     ⊎ ((skipped : ℕ) × Window run.packets run.from skipped × (StopsAt run.code (alone skipped) (drop skipped run.packets) e ⊎ StopsAtEnd run skipped e))

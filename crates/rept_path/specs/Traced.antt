@@ -15,7 +15,7 @@ use Rattle.rept_trace.specs.Packets.{rest_of, number_of}
 use Rattle.rept_trace.specs.Stream.{Stream, Hold, FailsAfter}
 use Rattle.rept_path.specs.declared.fault.PathFault.{PathFault}
 use Rattle.rept_path.specs.declared.fault.PathFault.TheVariants as fault
-use Rattle.rept_path.specs.Trace.{Run, IsPath, IsRefused}
+use Rattle.rept_path.specs.Trace.{TracedRun, IsPath, IsRefused}
 
 -- the program counter of a dump, as its register note holds it
 abbrev pub pc_of : Dump → ℕ
@@ -30,7 +30,7 @@ pub record RawRun : Type 0 where
   pub pc : ℕ
 
 -- the run of these packets
-abbrev pub with_packets : RawRun → List Packet → Run
+abbrev pub with_packets : RawRun → List Packet → TracedRun
 with_packets raw list = record { code = raw.code; packets = list; from = raw.from; pc = raw.pc }
 
 -- The stream holds whole packets, and this is their path over the program to the end.

@@ -11,23 +11,23 @@ ghost use Rattle.rept_trace.specs.declared.packets.Packets.{Packets};
 ghost use Rattle.rept_path.specs.declared.aim.Aim.{Aim};
 ghost use Rattle.rept_path.specs.declared.fault.PathFault.{PathFault};
 ghost use Rattle.rept_path.specs.Code.{instruction, expansion};
-ghost use Rattle.rept_path.specs.Moves.{Lead, Place, course_by};
+ghost use Rattle.rept_path.specs.Moves.{Lead, Place, heading_by};
 ghost use Rattle.rept_path.specs.Legs.{Reaches};
 ghost use Rattle.rept_path.specs.Index.{LeastStop};
 ghost use Rattle.rept_path.specs.Stops.{StopIndices};
-ghost use Rattle.rept_path.specs.Trace.{Run, IsPath};
+ghost use Rattle.rept_path.specs.Trace.{TracedRun, IsPath};
 ghost use Rattle.rept_path.specs.Traced.{IsTraced, IsRefusedBy, raw_of};
 
 /// A leg ends at the least later index at which the walk stops, and only such a leg is one.
 pub fn least_stop()
-    ensures leg { (code : Code) (lead : Lead) (aim : Aim) (past : Place) (leg : List StepRow) → Reaches code (course_by lead aim) past leg → LeastStop code (course_by lead aim) past (reverse leg) }
-    ensures only { (code : Code) (lead : Lead) (aim : Aim) (past : Place) (leg : List StepRow) → LeastStop code (course_by lead aim) past (reverse leg) → Reaches code (course_by lead aim) past leg }
+    ensures leg { (code : Code) (lead : Lead) (aim : Aim) (past : Place) (leg : List StepRow) → Reaches code (heading_by lead aim) past leg → LeastStop code (heading_by lead aim) past (reverse leg) }
+    ensures only { (code : Code) (lead : Lead) (aim : Aim) (past : Place) (leg : List StepRow) → LeastStop code (heading_by lead aim) past (reverse leg) → Reaches code (heading_by lead aim) past leg }
 {}
 
 /// In a path each packet of the window has its stop index, and only such rows are a path.
 pub fn stop_indices()
-    ensures path { (run : Run) (skipped : ℕ) (path : List StepRow) → IsPath run skipped path → (stops : List ℕ) × StopIndices run skipped path stops }
-    ensures only { (run : Run) (skipped : ℕ) (path : List StepRow) (stops : List ℕ) → StopIndices run skipped path stops → IsPath run skipped path }
+    ensures path { (run : TracedRun) (skipped : ℕ) (path : List StepRow) → IsPath run skipped path → (stops : List ℕ) × StopIndices run skipped path stops }
+    ensures only { (run : TracedRun) (skipped : ℕ) (path : List StepRow) (stops : List ℕ) → StopIndices run skipped path stops → IsPath run skipped path }
 {}
 
 /// A trace has at most one path over a program, or one refusal, and never both.

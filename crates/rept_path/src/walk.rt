@@ -3,7 +3,7 @@
 ghost use Rattle.std.specs.Prelude.{◌≡◌, ◌⊎◌, ◌+◌, ◌≤◌, ◌<◌, ◌++◌, ◌∷◌, [], List, ℕ, Bool, length, slice_get, OnOk, IfOk, IfErr, MatchResult, Some, None, Ok, Err, true, false};
 ghost use Rattle.rept_path.specs.declared.fault.PathFault.TheVariants.{OutOfMemory};
 ghost use Rattle.rept_path.specs.Code.{look, is_short, flow_of};
-ghost use Rattle.rept_path.specs.Moves.{site, successor, next_of, by_jump, unused, bits_fit, stops, misfits, is_inferred, course_by, way_by};
+ghost use Rattle.rept_path.specs.Moves.{site, successor, next_of, by_jump, unused, bits_fit, stops, misfits, is_inferred, heading_by, way_by};
 ghost use Rattle.rept_path.specs.Legs.{PhaseFault};
 ghost use Rattle.rept_path.specs.Gap.{by_successor, by_flow, gap};
 ghost use Rattle.rept_isa.specs.declared.row.StepRow.{StepRow};
@@ -350,8 +350,8 @@ impl Walk {
         aim: Aim,
     ) -> Result<(), PathFault>
         requires { Counts self.old }
-        ensures ok { OnOk result (Walked (code_of program.now) (course_by (lead self.old packet target) aim) self.old self.new) }
-        ensures err { IfErr result (λ e. (e ≡ OutOfMemory) ⊎ PhaseFault (code_of program.now) (course_by (lead self.old packet target) aim) (here self.old) e) }
+        ensures ok { OnOk result (Walked (code_of program.now) (heading_by (lead self.old packet target) aim) self.old self.new) }
+        ensures err { IfErr result (λ e. (e ≡ OutOfMemory) ⊎ PhaseFault (code_of program.now) (heading_by (lead self.old packet target) aim) (here self.old) e) }
         ensures rests { OnOk result (ends_fit aim ≡ true → length self.new.bits.items ≤ self.new.used + 1) }
     {
         let mut near = program.near(self.at);

@@ -16,7 +16,7 @@ use Rattle.rept_machine.specs.Machine.{state_of}
 use Rattle.rept_steps.specs.declared.slice.Slice.{Slice}
 use Rattle.rept_steps.specs.declared.threads.ThreadRows.{ThreadRows}
 use Rattle.rept_steps.specs.Course.{Course, Row, row_of, rows_of, no_thread, row_at, is_call, is_call_row, calls, CallsEnd, IsSound, slice_of}
-use Rattle.rept_order.specs.History.{World, seen_by, OthersKeep, Stays, Executes, Ending}
+use Rattle.rept_order.specs.History.{World, seen_by, OthersKeep, Stays, ExecutesRow, Ending}
 use Rattle.rept_turns.specs.declared.turn.Turn.{Turn}
 use Rattle.rept_turns.specs.Turns.{slice_by, all_rows, rows_in, steps_before, turn_at, HasTurns, slices_from}
 use Rattle.rept_turns.specs.Play.{Playing, IsPlay}
@@ -165,7 +165,7 @@ module _ (code : List Instr) (turns : List Turn) (played : Played) (playable : I
               }
         ]
 
-    executes : (D : Ending) (k : ℕ) (turn : Turn) → turn_at turns k ≡ Some turn → Executes C D (row_of turn.thread (steps_before turn.thread turns k)) (record { old = x.world k; new = x.world (suc k) })
+    executes : (D : Ending) (k : ℕ) (turn : Turn) → turn_at turns k ≡ Some turn → ExecutesRow C D (row_of turn.thread (steps_before turn.thread turns k)) (record { old = x.world k; new = x.world (suc k) })
     executes D k turn at =
         let own = counted turns k turn at in
         let does = moves D turn.thread (steps_before turn.thread turns k) (ran.states k) (ran.states (suc k)) (thread_below turns k turn playable.threads at) (ran.goes k turn own.inside at) in

@@ -7,7 +7,7 @@ use Rattle.rept_ports.specs.declared.arguments.Unreadable.TheVariants as unreada
 use Rattle.rept_simlog.specs.declared.refusal.Refusal.TheVariants as one
 use Rattle.rept_hartlog.specs.declared.refusal.Refusal.TheVariants as several
 use Rattle.rept_recording.specs.declared.logs.LogRefusal.TheVariants.{OneHart, SeveralHarts}
-use Rattle.rept_recording.specs.Worked.{Inputs, Writes, Ends}
+use Rattle.rept_recording.specs.Worked.{Inputs, WritesTrace, Ends}
 use Rattle.rept_recording.specs.declared.stop.Stop.{Stop}
 use Rattle.rept_recording.specs.declared.stop.Stop.TheVariants as stop
 
@@ -21,7 +21,7 @@ asked (Err unreadable.OutOfMemory) = Err stop.OutOfMemory
 
 -- the trace was written, or this is why not
 pub record Records {T : Type 0} (from : Inputs) (out : Move Port) (result : Result T Stop) : Type 0 where
-  pub ok : OnOk result (Writes from out)
+  pub ok : OnOk result (WritesTrace from out)
   pub err : IfErr result (Ends from out)
   pub loads : Loads from.shelf.before from.shelf.after result
 

@@ -78,7 +78,7 @@ Stops from stop.OutputFault = ⊥
 Stops from stop.OutOfMemory = IsInputCalm from
 
 -- a trace was made, and all of it was written, without a fault
-pub record Writes (from : Inputs) (out : Move Port) : Type 0 where
+pub record WritesTrace (from : Inputs) (out : Move Port) : Type 0 where
   pub trace : List ℕ
   pub made : Makes from trace
   pub written : Appends out.before.bytes out.after.bytes trace

@@ -4,7 +4,7 @@ ghost use Rattle.std.specs.Prelude.{◌≡◌, ◌≤◌, length, IfOk, IfErr, O
 ghost use Rattle.std.specs.Io.KnownBytes.{Consumes, IsAtEnd};
 ghost use Rattle.rept_ports.specs.Port.{move};
 ghost use Rattle.rept_ports.specs.Shelves.{Loads};
-ghost use Rattle.rept_recording.specs.Worked.{Ends, Makes, ReadStops, Stops, Writes, inputs_of};
+ghost use Rattle.rept_recording.specs.Worked.{Ends, Makes, ReadStops, Stops, WritesTrace, inputs_of};
 
 use crate::logs::record;
 use crate::stop::Stop;
@@ -100,7 +100,7 @@ pub fn run<H: Shelf, S: Source, K: Sink>(
     input: &mut S,
     out: &mut K,
 ) -> Result<(), Stop>
-    ensures ok { OnOk result (Writes (inputs_of name.now (move (H.port shelf.old) (H.port shelf.new)) (move (S.port input.old) (S.port input.new))) (move (K.port out.old) (K.port out.new))) }
+    ensures ok { OnOk result (WritesTrace (inputs_of name.now (move (H.port shelf.old) (H.port shelf.new)) (move (S.port input.old) (S.port input.new))) (move (K.port out.old) (K.port out.new))) }
     ensures err { IfErr result (Ends (inputs_of name.now (move (H.port shelf.old) (H.port shelf.new)) (move (S.port input.old) (S.port input.new))) (move (K.port out.old) (K.port out.new))) }
     ensures loads { Loads (H.port shelf.old) (H.port shelf.new) result }
 {

@@ -7,7 +7,7 @@ use Rattle.std.specs.Prelude.{Ok, Err}
 use Rattle.rept_ports.proofs.LineLemmas.{Consumes-nothing, Consumes-trans}
 use Rattle.rept_ports.specs.Causes.{OneFault}
 use Rattle.rept_ports.specs.Port.{Port, move}
-use Rattle.rept_remote.specs.Frames.{IsCut, arrived, brought, has_call, has_end, is_call}
+use Rattle.rept_remote.specs.Frames.{IsCutPacket, arrived, brought, has_call, has_end, is_call}
 use Rattle.rept_remote.specs.Reading.{Passed, most_input, taking}
 use Rattle.rept_remote.specs.Steps.{Halts, IsOpen, TakesArrival, TakesByte, TakesDigits, TakesPacket, ending_of}
 use Rattle.rept_remote.specs.declared.bytes.NoByte.{NoByte}
@@ -91,7 +91,7 @@ module _ (a b c : ℕ) (s t u : Port) (noise : List ℕ) (quiet : has_call noise
   arrival_comes carried what h =
       ((noise ++ 36 ∷ []) ++ h.0, passed_more a b c s t u (noise ++ 36 ∷ []) h.0 before h.2, record { noise = noise; part = 36 ∷ h.0; parts = append_assoc noise (36 ∷ []) h.0; quiet = quiet; arrives = inl h.1 })
 
-  cut : (part : List ℕ) → IsOpen part → IsCut ((noise ++ 36 ∷ []) ++ part)
+  cut : (part : List ℕ) → IsOpen part → IsCutPacket ((noise ++ 36 ∷ []) ++ part)
   cut part open_part = record {
     noise = noise;
     body = open_part.body;

@@ -6,7 +6,7 @@ use Rattle.std.proofs.lemmas.List.Folds.{list_any-append}
 use Rattle.std.specs.Prelude.{Option, Some, option_map, nat_eq}
 use Rattle.rept_word.specs.Hex.{hex_digit}
 use Rattle.rept_remote.specs.Escapes.{checksum, digit_value, digits_value, escape, escaped, packet_of, unescaped}
-use Rattle.rept_remote.specs.Frames.{Carries, has_end, is_checked}
+use Rattle.rept_remote.specs.Frames.{CarriesBytes, has_end, is_checked}
 use Rattle.rept_remote.proofs.Escaping.{plain}
 
 -- what stands for a byte is read as that byte, and has no `#`
@@ -67,7 +67,7 @@ two_digits n h = rw (digit (n / 2 ^ 4 % 16) (omega arith), digit (n / 2 ^ 0 % 16
 checked : (n : ℕ) (found : Option ℕ) → found ≡ Some n → (body : List ℕ) → n ≡ checksum body → is_checked body found ≡ true
 checked n found e body h = rw e (eq-eqb n (checksum body) h)
 
-pub carries : (reply : List ℕ) → Carries (packet_of reply) reply
+pub carries : (reply : List ℕ) → CarriesBytes (packet_of reply) reply
 carries reply =
     let n = checksum (escaped reply) in
     record {

@@ -59,7 +59,7 @@ pub record IsPacket (bytes : List ℕ) (what : Arrived) : Type 0 where
   pub brings : what ≡ brought body high low
 
 -- a packet that carries these bytes, however many they are
-pub record Carries (bytes carried : List ℕ) : Type 0 where
+pub record CarriesBytes (bytes carried : List ℕ) : Type 0 where
   pub body : List ℕ
   pub high : ℕ
   pub low : ℕ
@@ -86,7 +86,7 @@ IsShortEnd [] = Unit {0}
 IsShortEnd (byte ∷ digits) = (byte ≡ 35) × (length digits ≤ 1)
 
 -- `$` and what stands after it, up to `#` and one byte at most
-pub record IsCut (bytes : List ℕ) : Type 0 where
+pub record IsCutPacket (bytes : List ℕ) : Type 0 where
   pub noise : List ℕ
   pub body : List ℕ
   pub tail : List ℕ
@@ -97,7 +97,7 @@ pub record IsCut (bytes : List ℕ) : Type 0 where
 
 -- they are no arrival: nothing that asks for anything, or a packet that isn't whole
 abbrev pub HasNone : List ℕ → Type 0
-HasNone bytes = (has_call bytes ≡ false) ⊎ IsCut bytes
+HasNone bytes = (has_call bytes ≡ false) ⊎ IsCutPacket bytes
 
 -- these bytes are these arrivals, one after the other
 pub data AreArrivals : List ℕ → List Arrived → Type 0 where

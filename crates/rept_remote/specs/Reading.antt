@@ -3,7 +3,7 @@ use Rattle.std.specs.Prelude.{◌≡◌, ℕ, ◌+◌, ◌≤◌, ◌^◌, List,
 use Rattle.std.specs.Io.KnownBytes.{Consumes, IsAtEnd}
 use Rattle.rept_ports.specs.Causes.{OneFault}
 use Rattle.rept_ports.specs.Port.{Port, Move}
-use Rattle.rept_remote.specs.Frames.{Arrives, HasNone, IsCut, arrived, has_call}
+use Rattle.rept_remote.specs.Frames.{Arrives, HasNone, IsCutPacket, arrived, has_call}
 use Rattle.rept_remote.specs.declared.arrival.Arrival.{Arrival}
 use Rattle.rept_remote.specs.declared.arrival.Ending.{Ending}
 use Rattle.rept_remote.specs.declared.arrival.Ending.TheVariants as ending
@@ -38,7 +38,7 @@ pub record Passed (t : Taking) : Type 0 where
   pub calm : t.source.after.faults ≡ t.source.before.faults
 
 -- then the input ended
-pub record Ended (t : Taking) : Type 0 where
+pub record TakingEnded (t : Taking) : Type 0 where
   pub passed : Passed t
   pub at_end : IsAtEnd t.source.after.bytes
 
@@ -57,8 +57,8 @@ pub record Overran (t : Taking) : Type 0 where
 
 -- why nothing arrived
 abbrev pub Stops : Taking → Ending → Type 0
-Stops t ending.AtEnd = (has_call t.got ≡ false) × Ended t
-Stops t ending.InPacket = IsCut t.got × Ended t
+Stops t ending.AtEnd = (has_call t.got ≡ false) × TakingEnded t
+Stops t ending.InPacket = IsCutPacket t.got × TakingEnded t
 Stops t ending.ReadFault = HasNone t.got × Failed t
 Stops t ending.TooMuchInput = HasNone t.got × Overran t
 

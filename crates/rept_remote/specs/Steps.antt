@@ -4,7 +4,7 @@ use Rattle.std.specs.Int.Bits.{bit_xor}
 use Rattle.rept_ports.specs.Port.{Port, Move}
 use Rattle.rept_remote.specs.Escapes.{checksum}
 use Rattle.rept_remote.specs.Frames.{Arrives, IsPacket, IsShortEnd, arrived, has_call, has_end, is_call}
-use Rattle.rept_remote.specs.Reading.{Ended, Failed, Overran, Passed, Stops, Taking, taking}
+use Rattle.rept_remote.specs.Reading.{Failed, Overran, Passed, Stops, Taking, TakingEnded, taking}
 use Rattle.rept_remote.specs.declared.arrival.Arrival.{Arrival}
 use Rattle.rept_remote.specs.declared.arrival.Ending.{Ending}
 use Rattle.rept_remote.specs.declared.arrival.Ending.TheVariants as ending
@@ -14,7 +14,7 @@ use Rattle.rept_remote.specs.declared.frame.Body.{Body}
 
 -- why no more came after these bytes
 abbrev pub Halts : Taking → NoByte → Type 0
-Halts t none.End = Ended t
+Halts t none.End = TakingEnded t
 Halts t none.ReadFault = Failed t
 Halts t none.TooMuchInput = Overran t
 

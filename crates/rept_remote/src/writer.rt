@@ -2,7 +2,7 @@
 
 ghost use Rattle.std.specs.Prelude.{◌≡◌, ◌++◌, IfOk, OnOk};
 ghost use Rattle.rept_remote.specs.Escapes.{checksum, escape, escaped, packet_of};
-ghost use Rattle.rept_remote.specs.Frames.{Carries};
+ghost use Rattle.rept_remote.specs.Frames.{CarriesBytes};
 
 use rept_word::{OutOfMemory, Text};
 use std::alloc::Global;
@@ -10,7 +10,7 @@ use std::alloc::Global;
 /// Appends a packet that carries these bytes: a reader of packets reads them back. The only refusal is out of memory.
 pub fn push_packet(alloc: Global, text: &mut Text, reply: &[u8]) -> Result<(), OutOfMemory>
     ensures text { OnOk result (text.new ≡ text.old ++ packet_of reply.now) }
-    ensures reads_back { OnOk result (Carries (packet_of reply.now) reply.now) }
+    ensures reads_back { OnOk result (CarriesBytes (packet_of reply.now) reply.now) }
 {
     let body = escaped(alloc, reply)?;
     text.push(b"$")?;

@@ -15,7 +15,7 @@ use Rattle.rept_span.proofs.FinerLaws.{sets_within}
 use Rattle.rept_view.specs.Seen.{KnowsMore}
 use Rattle.rept_report.specs.Knowing.{Extends}
 use Rattle.rept_report.specs.Setting.{Setting, HasLaws, Uses, IsInstant, way_of}
-use Rattle.rept_report.specs.Beside.{beside}
+use Rattle.rept_report.specs.Beside.{by_other_sets}
 use Rattle.rept_report.specs.Spots.{passage}
 use Rattle.rept_report.specs.Views.{point_of, bounds, register_range, seen_at, registers_at, touched_by, may_write, Carries}
 use Rattle.rept_report.specs.Conclusions.{HasWords, IsCarried, Follows, Concludes}
@@ -60,9 +60,9 @@ module _ {V W : Type 0} (o : Sets V) (p : Sets W) (laws : AreLawful o) (wide_law
             ]
       ]
 
-module _ {V W : Type 0} (S : Setting V) (o : Sets W) (m : Moves W) (laws : HasLaws S) (wide_laws : HasLaws (beside S o m)) (finer : IsFiner (kind S.sets S.moves) (kind o m)) where
+module _ {V W : Type 0} (S : Setting V) (o : Sets W) (m : Moves W) (laws : HasLaws S) (wide_laws : HasLaws (by_other_sets S o m)) (finer : IsFiner (kind S.sets S.moves) (kind o m)) where
   abbrev T : Setting W
-  T = beside S o m
+  T = by_other_sets S o m
 
   module _ (K : Knowledge) (words : HasWords K) (quiet : IsQuiet S K) where
     within : (p r v : ℕ) → HasIn S.sets (range (way_of S) K p r) v → HasIn o (range (way_of T) K p r) v

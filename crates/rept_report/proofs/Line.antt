@@ -18,7 +18,7 @@ use Rattle.rept_report.specs.Moments.{Moments, points_of}
 use Rattle.rept_report.specs.Setting.{Setting, IsLast, IsInstant}
 use Rattle.rept_report.specs.Given.{Given, setting_by}
 use Rattle.rept_report.specs.Spots.{spot, passage}
-use Rattle.rept_report.specs.OneThread.{Alone, given_alone, IsLine}
+use Rattle.rept_report.specs.OneThread.{Alone, given_alone, IsOnePath}
 use Rattle.rept_report.specs.Views.{point_of, instant_of, may_write, Carries}
 use Rattle.rept_report.specs.Writers.{IsCandidate, IsLastCandidate}
 use Rattle.rept_report.specs.Implied.{all_past, is_settled}
@@ -37,7 +37,7 @@ pub is_next : (n m : ℕ) → m < n → (points_of n).next m (m + 1) ≡ true
 is_next n m h = and_from (ltb m n) (eqb (m + 1) (m + 1)) (lt-ltb m n h) (eq-eqb (m + 1) (m + 1) refl)
 
 -- one thread is one path
-pub is_line : (g : Alone) → IsLine (given_alone g)
+pub is_line : (g : Alone) → IsOnePath (given_alone g)
 is_line g = record {
   rows = λ i below. elim ((slice_get_cases g.rows i).1) [
     | inl (row, inside, is, at) ↦ (row, is)
@@ -47,7 +47,7 @@ is_line g = record {
   moments = refl;
 }
 
-module _ {W : Type 0} (sets : Sets W) (moves : Moves W) (rules : Rules) (g : Given) (line : IsLine g) where
+module _ {W : Type 0} (sets : Sets W) (moves : Moves W) (rules : Rules) (g : Given) (line : IsOnePath g) where
   abbrev S : Setting W
   S = setting_by sets moves rules g
 

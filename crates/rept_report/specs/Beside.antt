@@ -3,8 +3,8 @@ use Rattle.rept_partial.specs.Sets.{Sets}
 use Rattle.rept_span.specs.Moves.{Moves}
 use Rattle.rept_report.specs.Setting.{Setting}
 
-abbrev pub beside : {V W : Type 0} → Setting V → Sets W → Moves W → Setting W
-beside S sets moves = record {
+abbrev pub by_other_sets : {V W : Type 0} → Setting V → Sets W → Moves W → Setting W
+by_other_sets S sets moves = record {
   sets = sets;
   moves = moves;
   rules = S.rules;

@@ -3,14 +3,14 @@ use Rattle.std.specs.Prelude.{◌≡◌, ℕ, true, false}
 use Rattle.rept_report.specs.Moments.{Moments}
 
 -- a row lies wholly before another one, and not after it
-pub record IsBefore (moments : Moments) (i j : ℕ) : Type 0 where
+pub record IsEarlierRow (moments : Moments) (i j : ℕ) : Type 0 where
   pub later : moments.later j i ≡ true
   pub apart : moments.later i j ≡ false
 
 -- the one of some rows that lies wholly after all others, and after the writers that aren't traced
 pub record IsLatest (moments : Moments) (Is : ℕ → Type 0) (j : ℕ) : Type 0 where
   pub one : Is j
-  pub after : (k : ℕ) → Is k → (k ≡ j → ⊥) → IsBefore moments k j
+  pub after : (k : ℕ) → Is k → (k ≡ j → ⊥) → IsEarlierRow moments k j
   pub dark : moments.is_dark ≡ true → moments.dark_before j ≡ true
 
 -- there is none of them, and each writer is traced

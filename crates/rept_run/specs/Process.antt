@@ -7,7 +7,7 @@ use Rattle.rept_ports.specs.declared.arguments.Unreadable.TheVariants.{NotText, 
 use Rattle.rept_words.specs.Words.{meaning_of}
 use Rattle.rept_app.specs.Delivered.{Delivers, Says}
 use Rattle.rept_app.specs.Promise.{Promise}
-use Rattle.rept_app.specs.Told.{Given, Writes, given}
+use Rattle.rept_app.specs.Told.{CallInput, CallWrites, call_input}
 use Rattle.rept_app.specs.Top.{FaultsEnd, ShelfCauses, TopCauses, EndsByFiles}
 use Rattle.rept_app.specs.declared.refusal.Refusal.TheVariants as refusal
 use Rattle.rept_app.specs.declared.status.Status.{Status}
@@ -35,8 +35,8 @@ abbrev pub process : Result (List (List ℕ)) Unreadable → Move Shelved → Mo
 process words shelf input output = record { words = words; shelf = shelf; input = input; output = output }
 
 -- what the call was given, where its files and this input are told
-abbrev pub given_to : Process → Files → List ℕ → Given
-given_to p files input = given (words_read p.words) files p.shelf (record { input = input; left = p.input.after.bytes })
+abbrev pub given_to : Process → Files → List ℕ → CallInput
+given_to p files input = call_input (words_read p.words) files p.shelf (record { input = input; left = p.input.after.bytes })
 
 -- The status and the text are those of the top call on the words; without memory for them the line of that.
 pub record Answers (p : Process) (status : Status) : Type 0 where
@@ -45,5 +45,5 @@ pub record Answers (p : Process) (status : Status) : Type 0 where
   pub once : FaultsEnd (meaning_of (words_read p.words)) p.shelf.before.files → ShelfCauses p.shelf status
   pub usage : status ≡ ends.Usage → meaning_of (words_read p.words) ≡ None
   pub files : AreRead p.words → IfSome p.shelf.before.files (λ files. EndsByFiles (words_read p.words) files status)
-  pub text : AreRead p.words → IfSome p.shelf.before.files (λ files. IfSome p.input.before.bytes (λ input. Delivers (Writes (given_to p files input)) p.output status))
+  pub text : AreRead p.words → IfSome p.shelf.before.files (λ files. IfSome p.input.before.bytes (λ input. Delivers (CallWrites (given_to p files input)) p.output status))
   pub memory : p.words ≡ Err OutOfMemory → Delivers (Says refusal.OutOfMemory) p.output status

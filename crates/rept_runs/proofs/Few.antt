@@ -20,9 +20,9 @@ use Rattle.rept_path.proofs.MoveLemmas.{bind_ok}
 use Rattle.rept_slices.specs.Parts.{thread_of, begin_of}
 use Rattle.rept_slices.specs.Order.{put, by_time, head_of}
 use Rattle.rept_slices.specs.Stretches.{Ran, ran}
-use Rattle.rept_slices.specs.Joins.{Note, Ending, Ground, Joined, bridge, with_rows, join, thread, ending, of_thread, rows_in, ran_rows, threads, stand_at}
+use Rattle.rept_slices.specs.Joins.{Note, ThreadGround, Ground, Joined, bridge, with_rows, join, thread, thread_ground, of_thread, rows_in, ran_rows, threads, stand_at}
 use Rattle.rept_slices.specs.Checks.{first_fault}
-use Rattle.rept_slices.specs.Many.{Traces, IsRun, processes, left, ground, overlap_fault, unmet, run_by}
+use Rattle.rept_slices.specs.Many.{Traces, IsRunOfStreams, processes, left, ground, overlap_fault, unmet, run_by}
 use Rattle.rept_slices.specs.Raw.{note_in, traces}
 use Rattle.rept_dump.specs.Registers.{first_twin, pid_of}
 use Rattle.rept_steps.specs.declared.run.Run.{Run}
@@ -99,7 +99,7 @@ gap_some code s goal rows is =
     ]
 
 -- the last slice of a thread leads to the end, so there is room for a row
-end_fits : (e : Ending) (count : ℕ) (r : Ran) (more : List StepRow) → bridge e count r None ≡ Ok more → count + length more ≤ 65536
+end_fits : (e : ThreadGround) (count : ℕ) (r : Ran) (more : List StepRow) → bridge e count r None ≡ Ok more → count + length more ≤ 65536
 end_fits e count r more is =
     let fits = gap_some e.code (stand_at e.packets r count) _ more is in
     let some = fits.0 in let room : length more ≤ 65536 - count = omega (arith, fits.1) in
@@ -118,7 +118,7 @@ with_rows_count : (r : Ran) (more : List StepRow) → length (with_rows r more).
 with_rows_count r more = let n = length-append r.rows (reverse more) in let m = length-reverse more in omega arith
 
 -- the first slice, where the others fit
-first_fits : (e : Ending) (count : ℕ) (r : Ran) (rs : List Ran) (more : List StepRow) (others : List Joined) (all : ℕ) → bridge e count r (head_of rs) ≡ Ok more → Fits (count + length more) rs others → all ≡ length r.rows + length more + rows_in others → count + (all - (length r.rows + ran_rows rs)) ≤ 65536
+first_fits : (e : ThreadGround) (count : ℕ) (r : Ran) (rs : List Ran) (more : List StepRow) (others : List Joined) (all : ℕ) → bridge e count r (head_of rs) ≡ Ok more → Fits (count + length more) rs others → all ≡ length r.rows + length more + rows_in others → count + (all - (length r.rows + ran_rows rs)) ≤ 65536
 first_fits e count r [] more others all led rest n = let room = end_fits e count r more led in let none = rest.none refl in omega arith
 first_fits e count r (q ∷ rs) more others all led rest n =
     let own = rest.own in
@@ -127,7 +127,7 @@ first_fits e count r (q ∷ rs) more others all led rest n =
       | inr room ↦ omega arith
     ]
 
-join_fits : (e : Ending) (count : ℕ) (rs : List Ran) (js : List Joined) → join e count rs ≡ Ok js → Fits count rs js
+join_fits : (e : ThreadGround) (count : ℕ) (rs : List Ran) (js : List Joined) → join e count rs ≡ Ok js → Fits count rs js
 join_fits e count [] js is = let n = ap (λ (xs : List Joined). rows_in xs) (ok_same is) in record { own = omega arith; none = λ nil. omega arith; room = inl refl }
 join_fits e count (r ∷ rs) js is =
     let b = bind_ok (bridge e count r (head_of rs)) (λ more. join e (count + length more) rs >>= (λ others. Ok (with_rows r more ∷ others))) js is in
@@ -154,9 +154,9 @@ unfolding own_rows
 threads_fit g count [] rs all is = inl (ap (λ (xs : List ThreadRows). rows_of_threads xs) (sym (ok_same is)))
 threads_fit g count (note ∷ notes) rs all is =
     let own = of_thread note.process rs in
-    let b = bind_ok (join (ending g.code g.packets note) count own) (λ js. threads g (count + (rows_in js - ran_rows own)) notes rs >>= (λ others. Ok (thread js ∷ others))) all is in
+    let b = bind_ok (join (thread_ground g.code g.packets note) count own) (λ js. threads g (count + (rows_in js - ran_rows own)) notes rs >>= (λ others. Ok (thread js ∷ others))) all is in
     let c = bind_ok (threads g (count + (rows_in b.0 - ran_rows own)) notes rs) (λ others. Ok (thread b.0 ∷ others)) all b.2 in
-    let fits = join_fits (ending g.code g.packets note) count own b.0 b.1 in
+    let fits = join_fits (thread_ground g.code g.packets note) count own b.0 b.1 in
     let rest = threads_fit g (count + (rows_in b.0 - ran_rows own)) notes rs c.0 c.1 in
     let rows = thread_count b.0 in
     let n : length (thread b.0).steps + rows_of_threads c.0 ≡ rows_of_threads all = ap (λ (xs : List ThreadRows). rows_of_threads xs) (ok_same c.2) in
@@ -172,7 +172,7 @@ pub threads_count : (g : Ground) (count : ℕ) (notes : List Note) (rs : List Ra
 threads_count g count [] rs all is = ap (λ (xs : List ThreadRows). length xs) (sym (ok_same is))
 threads_count g count (note ∷ notes) rs all is =
     let own = of_thread note.process rs in
-    let b = bind_ok (join (ending g.code g.packets note) count own) (λ js. threads g (count + (rows_in js - ran_rows own)) notes rs >>= (λ others. Ok (thread js ∷ others))) all is in
+    let b = bind_ok (join (thread_ground g.code g.packets note) count own) (λ js. threads g (count + (rows_in js - ran_rows own)) notes rs >>= (λ others. Ok (thread js ∷ others))) all is in
     let c = bind_ok (threads g (count + (rows_in b.0 - ran_rows own)) notes rs) (λ others. Ok (thread b.0 ∷ others)) all b.2 in
     let rest = threads_count g (count + (rows_in b.0 - ran_rows own)) notes rs c.0 c.1 in
     let n = ap (λ (xs : List ThreadRows). length xs) (ok_same c.2) in
@@ -264,7 +264,7 @@ own_few : (notes : List Note) (rs : List Ran) → first_twin (processes_in notes
 own_few notes [] apart = let none = own_nothing notes in omega arith
 own_few notes (r ∷ rs) apart = let rest = own_few notes rs apart in let all = ran_cons r rs in let first = own_once notes r rs apart in omega arith
 
-module _ (t : Traces) (run : Run) (is : IsRun t run) where
+module _ (t : Traces) (run : Run) (is : IsRunOfStreams t run) where
   pub walked_threads : (all : List ThreadRows) × (threads (ground t) (ran_rows (ran t.code (left t) is.walked)) t.notes (ran t.code (left t) is.walked) ≡ Ok all) × (all ≡ run.threads)
   walked_threads =
       let slices = ran t.code (left t) is.walked in

@@ -20,7 +20,7 @@ use Rattle.rept_path.specs.Gap.{Goal, Edge, gap, row, call_row, crossing, by_flo
 use Rattle.rept_path.proofs.MoveLemmas.{bind_ok}
 use Rattle.rept_slices.specs.Order.{head_of}
 use Rattle.rept_slices.specs.Stretches.{Ran, ran}
-use Rattle.rept_slices.specs.Joins.{Note, Ending, Ground, Joined, bridge, with_rows, join, slices, thread, ending, of_thread, rows_in, ran_rows, threads, stand_at}
+use Rattle.rept_slices.specs.Joins.{Note, ThreadGround, Ground, Joined, bridge, with_rows, join, slices, thread, thread_ground, of_thread, rows_in, ran_rows, threads, stand_at}
 use Rattle.rept_slices.specs.Many.{left, ground}
 use Rattle.rept_slices.specs.Raw.{note_in, traces}
 use Rattle.rept_moments.specs.Seen.{rows_in as rows_of_slices, alone_by}
@@ -100,7 +100,7 @@ led_ends a own more led =
     let n = length-append (own ++ reverse led.rest) (led.row ∷ []) in
     subst (EndsAt a) (sym back) (record { some = omega arith; ends = end_at (own ++ reverse led.rest) led.row a led.next })
 
-join_count : (e : Ending) (count : ℕ) (rs : List Ran) (js : List Joined) → join e count rs ≡ Ok js → length js ≡ length rs
+join_count : (e : ThreadGround) (count : ℕ) (rs : List Ran) (js : List Joined) → join e count rs ≡ Ok js → length js ≡ length rs
 join_count e count [] js is = ap (λ (xs : List Joined). length xs) (sym (ok_same is))
 join_count e count (r ∷ rs) js is =
     let b = bind_ok (bridge e count r (head_of rs)) (λ more. join e (count + length more) rs >>= (λ others. Ok (with_rows r more ∷ others))) js is in
@@ -118,7 +118,7 @@ no_more [] e = refl
 no_more (x ∷ xs) e = absurd (omega arith)
 
 -- the rows of a thread of one slice
-joined_one : (e : Ending) (count : ℕ) (rs : List Ran) (js : List Joined) (s : Slice) → join e count rs ≡ Ok js → slices 0 js ≡ s ∷ [] → EndsAt e.pc (thread js).steps
+joined_one : (e : ThreadGround) (count : ℕ) (rs : List Ran) (js : List Joined) (s : Slice) → join e count rs ≡ Ok js → slices 0 js ≡ s ∷ [] → EndsAt e.pc (thread js).steps
 joined_one e count [] js s is one =
     let n = join_count e count [] js is in
     let m = slices_count 0 js in
@@ -156,7 +156,7 @@ threads_one : (g : Ground) (count : ℕ) (notes : List Note) (rs : List Ran) (th
 threads_one g count [] rs th s is one = absurd (nil_more (ok_same is))
 threads_one g count (note ∷ notes) rs th s is one =
     let own = of_thread note.process rs in
-    let b = bind_ok (join (ending g.code g.packets note) count own) (λ js. threads g (count + (rows_in js - ran_rows own)) notes rs >>= (λ others. Ok (thread js ∷ others))) (th ∷ []) is in
+    let b = bind_ok (join (thread_ground g.code g.packets note) count own) (λ js. threads g (count + (rows_in js - ran_rows own)) notes rs >>= (λ others. Ok (thread js ∷ others))) (th ∷ []) is in
     let c = bind_ok (threads g (count + (rows_in b.0 - ran_rows own)) notes rs) (λ others. Ok (thread b.0 ∷ others)) (th ∷ []) b.2 in
     let same : thread b.0 ≡ th = first_same (ok_same c.2) in
     let none : c.0 ≡ [] = rest_same (ok_same c.2) in
@@ -165,7 +165,7 @@ threads_one g count (note ∷ notes) rs th s is one =
     record {
       note = note;
       is = ap (λ (xs : List Note). note ∷ xs) (no_more notes (omega arith));
-      ends = subst (λ (x : ThreadRows). EndsAt note.pc x.steps) same (joined_one (ending g.code g.packets note) count own b.0 s b.1 (ap (λ (x : ThreadRows). x.slices) same ∙ one));
+      ends = subst (λ (x : ThreadRows). EndsAt note.pc x.steps) same (joined_one (thread_ground g.code g.packets note) count own b.0 s b.1 (ap (λ (x : ThreadRows). x.slices) same ∙ one));
     }
 
 -- one thread in one slice

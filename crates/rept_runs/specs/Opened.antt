@@ -7,7 +7,7 @@ use Rattle.rept_elf.specs.Checks.{checks, first_failure}
 use Rattle.rept_elf.specs.declared.fault.ElfFault.{ElfFault}
 use Rattle.rept_elf.specs.declared.fault.Want.TheVariants as want
 use Rattle.rept_dump.specs.Dump.{exe_of, core_of, HasThreads, threads_of}
-use Rattle.rept_dump.specs.Memory.{byte_at}
+use Rattle.rept_dump.specs.Memory.{crash_byte}
 use Rattle.rept_dump.specs.Program.{contents}
 use Rattle.rept_dump.specs.Program.Program.{OneFile}
 use Rattle.rept_dump.specs.Registers.{SaysOfAll}
@@ -90,7 +90,7 @@ values_by (Some desc) = values_in desc
 
 -- how the run ended: with the registers of the notes, and with the bytes that the core file saved or the program can't have changed
 abbrev pub ending_of : CrashBytes → List (List ℕ) → Ending
-ending_of b descs = record { registers = λ t. values_by (slice_get descs t); dump = byte_at (contents (OneFile b.exe)) (segments b.core); image_end = (contents (OneFile b.exe)).end }
+ending_of b descs = record { registers = λ t. values_by (slice_get descs t); dump = crash_byte (contents (OneFile b.exe)) (segments b.core); image_end = (contents (OneFile b.exe)).end }
 
 -- an execution that the files tell
 abbrev pub Executes : CrashBytes → History → Type 0

@@ -15,7 +15,7 @@ use Rattle.rept_ports.proofs.CallerLemmas.{Appends-nothing, Appends-trans}
 use Rattle.rept_session.specs.Commands.{command_of_words}
 use Rattle.rept_session.specs.Session.{HasAnswered, IsReply, IsSession, cursor_of, ends, is_quit_line, said_at}
 use Rattle.rept_session.specs.SessionLaws.{begun, answered_more, quits_alike, session_over, session_quit}
-use Rattle.rept_session.specs.Shown.{Shown, Told}
+use Rattle.rept_session.specs.Shown.{SessionTold, Shown}
 use Rattle.rept_session.specs.Texts.{last_of}
 use Rattle.rept_session.specs.declared.place.ThreadPoint.{ThreadPoint}
 use Rattle.rept_session.specs.Words.{words_in}
@@ -58,7 +58,7 @@ quit_there (d ∷ done) l later e = by_test (is_quit_line d) (quit_there done l 
     by_test false k = k
 
 -- A session so far: its answers to the lines that were given are written, and none of these is `quit`.
-pub record SoFar (t : Told) (input : List ℕ) (left : Option (List ℕ)) (intake : Taken) (cursor : ThreadPoint) (old new : Option (List ℕ)) : Type 0 where
+pub record SoFar (t : SessionTold) (input : List ℕ) (left : Option (List ℕ)) (intake : Taken) (cursor : ThreadPoint) (old new : Option (List ℕ)) : Type 0 where
   pub done : List (List ℕ)
   pub read : ReadTo input left intake done
   pub goes_on : has_quit done ≡ false
@@ -66,7 +66,7 @@ pub record SoFar (t : Told) (input : List ℕ) (left : Option (List ℕ)) (intak
   pub answered : HasAnswered t (last_of t.shown 0) done written cursor
   pub text : Appends old new written
 
-pub starts : (t : Told) (o : Option (List ℕ)) (intake : Taken) (cursor : ThreadPoint) (old : Option (List ℕ)) → intake ≡ record { pending = []; count = 0; ended = false } → cursor ≡ last_of t.shown 0 → IfSome o (λ input. SoFar t input o intake cursor old old)
+pub starts : (t : SessionTold) (o : Option (List ℕ)) (intake : Taken) (cursor : ThreadPoint) (old : Option (List ℕ)) → intake ≡ record { pending = []; count = 0; ended = false } → cursor ≡ last_of t.shown 0 → IfSome o (λ input. SoFar t input o intake cursor old old)
 starts t o intake cursor old h at = where_told o (λ input. SoFar t input o intake cursor old old) (λ input told. record {
   done = [];
   read = none_read input o intake told h;
@@ -84,7 +84,7 @@ prefix_after old mid new front whole h p = (
   subst (Appends old new) (sym (take-append-add front whole p.0)) (Appends-trans old mid new front (take p.0 whole) h p.2),
 )
 
-module _ (t : Told) (input : List ℕ) (source source' : Port) (intake intake' : Taken) (cursor : ThreadPoint) (old mid : Port) (so_far : SoFar t input source.bytes intake cursor old.bytes mid.bytes) where
+module _ (t : SessionTold) (input : List ℕ) (source source' : Port) (intake intake' : Taken) (cursor : ThreadPoint) (old mid : Port) (so_far : SoFar t input source.bytes intake cursor old.bytes mid.bytes) where
   abbrev start : ThreadPoint
   start = last_of t.shown 0
 
@@ -228,7 +228,7 @@ pub fault_said : (r : Result (Option Line) LineFault) (f g : LineFault) → r �
 fault_said r f g e h = ap line_said_by (e ∙ ap Err h)
 
 -- what a session delivers, where the input tells its bytes
-pub served_so : {S : Type 0} (port : S → Port) (t : Told) (o o' left : Option (List ℕ)) (now final : S) (intake : Taken) (cursor : ThreadPoint) (old mid new : Port) (result : Served) → o ≡ o' → final ≡ now
+pub served_so : {S : Type 0} (port : S → Port) (t : SessionTold) (o o' left : Option (List ℕ)) (now final : S) (intake : Taken) (cursor : ThreadPoint) (old mid new : Port) (result : Served) → o ≡ o' → final ≡ now
     → IfSome o (λ input. SoFar t input left intake cursor old.bytes mid.bytes)
     → ((input : List ℕ) → SoFar t input left intake cursor old.bytes mid.bytes → Serves t (reading_of input (port now).bytes) (move old new) result)
     → IfSome o' (λ input. Serves t (reading_of input (port final).bytes) (move old new) result)

@@ -6,7 +6,7 @@ use Rattle.rept_ports.specs.Port.{Port, Move}
 use Rattle.rept_ports.specs.declared.lines.limits.Line.{Line}
 use Rattle.rept_ports.specs.declared.lines.limits.Line.TheVariants as line
 use Rattle.rept_session.specs.Session.{Said, IsReply, cursor_of, ends, said_at}
-use Rattle.rept_session.specs.Shown.{IsAt, Shown, Told}
+use Rattle.rept_session.specs.Shown.{IsAt, SessionTold, Shown}
 use Rattle.rept_session.specs.declared.place.ThreadPoint.{ThreadPoint}
 use Rattle.rept_session.specs.declared.command.BadCommand.TheVariants.{LongLine}
 use Rattle.rept_session.specs.declared.reply.Answer.{Answer}
@@ -24,14 +24,14 @@ said_by s cursor None = Err LongLine
 said_by s cursor (Some text) = said_at s cursor text
 
 -- the answer to a line at a cursor
-pub record IsAnswer (t : Told) (cursor : ThreadPoint) (said : Option (List ℕ)) (answer : Answer) : Type 0 where
+pub record IsAnswer (t : SessionTold) (cursor : ThreadPoint) (said : Option (List ℕ)) (answer : Answer) : Type 0 where
   pub text : IsReply t cursor (said_by t.shown cursor said) answer.text
   pub now : answer.cursor ≡ cursor_of t.shown cursor (said_by t.shown cursor said)
   pub within : IsAt t.shown answer.cursor
   pub quit : answer.quit ≡ ends (said_by t.shown cursor said)
 
 -- the answer was written, and this is the cursor then
-pub record Replied (t : Told) (cursor : ThreadPoint) (said : Option (List ℕ)) (out : Move Port) (now : ThreadPoint) : Type 0 where
+pub record Replied (t : SessionTold) (cursor : ThreadPoint) (said : Option (List ℕ)) (out : Move Port) (now : ThreadPoint) : Type 0 where
   pub reply : List ℕ
   pub answers : IsReply t cursor (said_by t.shown cursor said) reply
   pub goes_on : ends (said_by t.shown cursor said) ≡ false
@@ -41,7 +41,7 @@ pub record Replied (t : Told) (cursor : ThreadPoint) (said : Option (List ℕ)) 
   pub calm : out.after.faults ≡ out.before.faults
 
 -- the output failed in the answer
-pub record FailsReply (t : Told) (cursor : ThreadPoint) (said : Option (List ℕ)) (out : Move Port) : Type 0 where
+pub record FailsReply (t : SessionTold) (cursor : ThreadPoint) (said : Option (List ℕ)) (out : Move Port) : Type 0 where
   pub reply : List ℕ
   pub answers : IsReply t cursor (said_by t.shown cursor said) reply
   pub goes_on : ends (said_by t.shown cursor said) ≡ false
@@ -49,7 +49,7 @@ pub record FailsReply (t : Told) (cursor : ThreadPoint) (said : Option (List ℕ
   pub fault : OneFault out.before.faults out.after.faults
 
 -- what came of a line, at a cursor
-abbrev pub Replies : Told → ThreadPoint → Option (List ℕ) → Move Port → Next → Type 0
+abbrev pub Replies : SessionTold → ThreadPoint → Option (List ℕ) → Move Port → Next → Type 0
 Replies t cursor said out (next.Line now) = Replied t cursor said out now
 Replies t cursor said out next.Quit = (ends (said_by t.shown cursor said) ≡ true) × (out.after ≡ out.before)
 Replies t cursor said out next.OutputFault = FailsReply t cursor said out

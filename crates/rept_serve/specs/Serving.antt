@@ -7,7 +7,7 @@ use Rattle.rept_ports.specs.Causes.{OneFault, AppendsPrefix}
 use Rattle.rept_ports.specs.Lines.{lines_of, whole_lines}
 use Rattle.rept_ports.specs.Port.{Port, Move}
 use Rattle.rept_session.specs.Session.{IsSession, is_quit_line}
-use Rattle.rept_session.specs.Shown.{Told}
+use Rattle.rept_session.specs.Shown.{SessionTold}
 use Rattle.rept_session.specs.Texts.{last_of}
 use Rattle.rept_serve.specs.declared.serving.Served.{Served}
 use Rattle.rept_serve.specs.declared.serving.Served.TheVariants as served
@@ -30,16 +30,16 @@ abbrev pub has_quit : List (List ℕ) → Bool
 has_quit lines = list_any is_quit_line lines
 
 -- the answers to these lines, from the last point of thread 0 on
-abbrev pub AreAnswers : Told → List (List ℕ) → List ℕ → Type 0
+abbrev pub AreAnswers : SessionTold → List (List ℕ) → List ℕ → Type 0
 AreAnswers t lines text = IsSession t (last_of t.shown 0) lines text
 
 -- the input was read to its end, or to `quit`
-pub record Ended (t : Told) (input text : List ℕ) : Type 0 where
+pub record InputEnded (t : SessionTold) (input text : List ℕ) : Type 0 where
   pub whole : (length input ≤ most_input) ⊎ (has_quit (lines_read input) ≡ true)
   pub answers : AreAnswers t (lines_read input) text
 
 -- The input failed after the bytes that are no longer left of it; none of their lines is `quit`, and all whole ones are answered.
-pub record Failed (t : Told) (reading : Reading) (text : List ℕ) : Type 0 where
+pub record Failed (t : SessionTold) (reading : Reading) (text : List ℕ) : Type 0 where
   pub taken : List ℕ
   pub rest : List ℕ
   pub parts : reading.input ≡ taken ++ rest
@@ -49,20 +49,20 @@ pub record Failed (t : Told) (reading : Reading) (text : List ℕ) : Type 0 wher
   pub answers : AreAnswers t (whole_lines taken) text
 
 -- the input has too many bytes, and no line that is read of it is `quit`
-pub record Overran (t : Told) (input text : List ℕ) : Type 0 where
+pub record Overran (t : SessionTold) (input text : List ℕ) : Type 0 where
   pub long : most_input < length input
   pub goes_on : has_quit (lines_read input) ≡ false
   pub answers : AreAnswers t (lines_read input) text
 
 -- the answers to the first lines that are read, as many as they are
-pub record FirstAnswers (t : Told) (input text : List ℕ) : Type 0 where
+pub record FirstAnswers (t : SessionTold) (input text : List ℕ) : Type 0 where
   pub count : ℕ
   pub goes_on : has_quit (take count (lines_read input)) ≡ false
   pub answers : AreAnswers t (take count (lines_read input)) text
 
 -- what was written by a session that ended so, where the output doesn't fail
-abbrev pub Wrote : Told → Reading → List ℕ → Served → Type 0
-Wrote t reading text served.Ended = Ended t reading.input text
+abbrev pub Wrote : SessionTold → Reading → List ℕ → Served → Type 0
+Wrote t reading text served.Ended = InputEnded t reading.input text
 Wrote t reading text served.ReadFault = Failed t reading text
 Wrote t reading text served.TooMuchInput = Overran t reading.input text
 Wrote t reading text served.OutOfMemory = FirstAnswers t reading.input text
@@ -70,7 +70,7 @@ Wrote t reading text served.OutputFault = ⊥
 
 -- The output is what it was, followed by such a text; or it failed once, and what follows is a prefix of the answers to the first
 -- lines.
-abbrev pub Serves : Told → Reading → Move Port → Served → Type 0
+abbrev pub Serves : SessionTold → Reading → Move Port → Served → Type 0
 Serves t reading out result =
     ((text : List ℕ) × Wrote t reading text result × Appends out.before.bytes out.after.bytes text)
     ⊎ ((result ≡ served.OutputFault) × ((whole : List ℕ) × FirstAnswers t reading.input whole × AppendsPrefix out.before.bytes out.after.bytes whole))

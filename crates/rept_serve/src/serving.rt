@@ -2,7 +2,7 @@
 
 ghost use Rattle.std.specs.Prelude.{◌≡◌, false, IfOk, IfSome};
 ghost use Rattle.rept_ports.specs.Port.{move};
-ghost use Rattle.rept_session.specs.Shown.{IsAt, SameReasons, told};
+ghost use Rattle.rept_session.specs.Shown.{IsAt, SameReasons, session_told};
 ghost use Rattle.rept_session.specs.Texts.{refusal_line};
 ghost use Rattle.rept_serve.specs.Replies.{IsAnswer, Replies, said_of_line};
 ghost use Rattle.rept_serve.specs.Serving.{Serves, IsCaused};
@@ -49,7 +49,7 @@ fn answer_to<F: Findings>(
     line: Line<'_>,
 ) -> Result<Answer, OutOfMemory>
     requires { IsAt (F.shown findings.old) cursor }
-    ensures answer { IfOk result (λ answer. IsAnswer (told (F.shown findings.old) skipped (F.reasons findings.old)) cursor (said_of_line line.entry) answer) }
+    ensures answer { IfOk result (λ answer. IsAnswer (session_told (F.shown findings.old) skipped (F.reasons findings.old)) cursor (said_of_line line.entry) answer) }
     ensures same { F.shown findings.new ≡ F.shown findings.old }
     ensures same_reasons { SameReasons (F.reasons findings.old) (F.reasons findings.new) }
 {
@@ -83,7 +83,7 @@ fn reply<F: Findings, K: Sink>(
     out: &mut K,
 ) -> Next
     requires { IsAt (F.shown findings.old) cursor }
-    ensures came { Replies (told (F.shown findings.old) skipped (F.reasons findings.old)) cursor (said_of_line line.entry) (move (K.port out.old) (K.port out.new)) result }
+    ensures came { Replies (session_told (F.shown findings.old) skipped (F.reasons findings.old)) cursor (said_of_line line.entry) (move (K.port out.old) (K.port out.new)) result }
     ensures same { F.shown findings.new ≡ F.shown findings.old }
     ensures same_reasons { SameReasons (F.reasons findings.old) (F.reasons findings.new) }
 {
@@ -109,7 +109,7 @@ pub fn serve<F: Findings, S: Source, K: Sink>(
     input: &mut S,
     out: &mut K,
 ) -> Served
-    ensures text { IfSome (S.port input.old).bytes (λ bytes. Serves (told (F.shown findings.old) skipped (F.reasons findings.old)) (record { input = bytes; left = (S.port input.new).bytes }) (move (K.port out.old) (K.port out.new)) result) }
+    ensures text { IfSome (S.port input.old).bytes (λ bytes. Serves (session_told (F.shown findings.old) skipped (F.reasons findings.old)) (record { input = bytes; left = (S.port input.new).bytes }) (move (K.port out.old) (K.port out.new)) result) }
     ensures causes { IsCaused (move (S.port input.old) (S.port input.new)) (move (K.port out.old) (K.port out.new)) result }
     ensures same { F.shown findings.new ≡ F.shown findings.old }
     ensures same_reasons { SameReasons (F.reasons findings.old) (F.reasons findings.new) }

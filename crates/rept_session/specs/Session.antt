@@ -3,7 +3,7 @@ use Rattle.std.specs.Prelude.{◌≡◌, ℕ, List, [], ◌∷◌, ◌++◌, len
 use Rattle.rept_session.specs.declared.command.Command.{Command}
 use Rattle.rept_session.specs.declared.command.BadCommand.{BadCommand}
 use Rattle.rept_session.specs.Commands.{command_of}
-use Rattle.rept_session.specs.Shown.{Shown, Told}
+use Rattle.rept_session.specs.Shown.{SessionTold, Shown}
 use Rattle.rept_session.specs.declared.place.ThreadPoint.{ThreadPoint}
 use Rattle.rept_session.specs.Texts.{IsText, cursor_after, is_quit, refusal_line}
 
@@ -26,7 +26,7 @@ abbrev pub is_quit_line : List ℕ → Bool
 is_quit_line line = ends (command_of 0 1 line)
 
 -- whether a text answers a line, at the cursor before it
-abbrev pub IsReply : Told → ThreadPoint → Said → List ℕ → Type 0
+abbrev pub IsReply : SessionTold → ThreadPoint → Said → List ℕ → Type 0
 IsReply t cursor (Ok command) text = IsText t (cursor_after t.shown cursor command) command text
 IsReply t cursor (Err refusal) text = text ≡ refusal_line refusal
 
@@ -43,7 +43,7 @@ pub record IsDivided (text : List ℕ) (First Rest : List ℕ → Type 0) : Type
   pub follows : Rest rest
 
 -- whether a text is what a session writes to these lines from a cursor on: the answer to each line in order, up to `quit`
-abbrev pub IsSession : Told → ThreadPoint → List (List ℕ) → List ℕ → Type 0
+abbrev pub IsSession : SessionTold → ThreadPoint → List (List ℕ) → List ℕ → Type 0
 IsSession t cursor [] text = text ≡ []
 IsSession t cursor (line ∷ lines) text =
     MatchBool (ends (said_at t.shown cursor line)) (text ≡ [])
@@ -51,5 +51,5 @@ IsSession t cursor (line ∷ lines) text =
 
 -- Some lines were answered by a text, and the cursor is where it is then; none of them ended the session. However the input goes on, what
 -- the session writes is this text and what it writes to the rest from that cursor on.
-pub record HasAnswered (t : Told) (start : ThreadPoint) (lines : List (List ℕ)) (written : List ℕ) (cursor : ThreadPoint) : Type 0 where
+pub record HasAnswered (t : SessionTold) (start : ThreadPoint) (lines : List (List ℕ)) (written : List ℕ) (cursor : ThreadPoint) : Type 0 where
   pub onward : (later : List (List ℕ)) (text : List ℕ) → IsSession t cursor later text → IsSession t start (lines ++ later) (written ++ text)

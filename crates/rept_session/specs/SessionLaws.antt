@@ -3,7 +3,7 @@ use Rattle.std.specs.Prelude.{◌≡◌, ℕ, List, [], ◌∷◌, ◌++◌, len
 use Rattle.std.proofs.Common.{refl, sym, subst, subst₂, ◌∙◌, append_assoc, append-nil}
 use Rattle.rept_session.specs.Session.{HasAnswered, IsDivided, IsReply, IsSession, Said, cursor_of, ends, said_at}
 use Rattle.rept_session.specs.declared.place.ThreadPoint.{ThreadPoint}
-use Rattle.rept_session.specs.Shown.{SameReasons, Shown, Told, moment_at, number, told}
+use Rattle.rept_session.specs.Shown.{SameReasons, SessionTold, Shown, moment_at, number, session_told}
 use Rattle.rept_session.specs.Texts.{IsExplained, IsText, cursor_after}
 use Rattle.rept_session.specs.Commands.{command_of, command_of_first, command_of_words, double_command, goto_command, is_count, single_command, thread_command, verb_of}
 use Rattle.rept_session.specs.Words.{words_in}
@@ -84,10 +84,10 @@ module _ (last threads last' threads' : ℕ) where
   quits_alike line = ends_by (nat_lt 256 (length line)) _ _ _ _ refl (words_alike (words_in line))
 
 -- before the first line nothing was written
-pub begun : (t : Told) (start : ThreadPoint) → HasAnswered t start [] [] start
+pub begun : (t : SessionTold) (start : ThreadPoint) → HasAnswered t start [] [] start
 begun t start = record { onward = λ later text h. h }
 
-module _ (t : Told) (start : ThreadPoint) (lines : List (List ℕ)) (written : List ℕ) (cursor : ThreadPoint) (so_far : HasAnswered t start lines written cursor) where
+module _ (t : SessionTold) (start : ThreadPoint) (lines : List (List ℕ)) (written : List ℕ) (cursor : ThreadPoint) (so_far : HasAnswered t start lines written cursor) where
   abbrev after : List ℕ → ThreadPoint
   after line = cursor_of t.shown cursor (said_at t.shown cursor line)
 
@@ -122,11 +122,11 @@ otherwise false A B C f h = f h
 
 -- what answers a line by one account of reasons answers it by the same account
 module _ (s : Shown) (skipped : ℕ) (old new : Fact → Because → Type 0) (same : SameReasons old new) where
-  explained_same : (point : ℕ) (cell : Cell) (value : Option ℕ) (text : List ℕ) → IsExplained (told s skipped new) point cell value text → IsExplained (told s skipped old) point cell value text
+  explained_same : (point : ℕ) (cell : Cell) (value : Option ℕ) (text : List ℕ) → IsExplained (session_told s skipped new) point cell value text → IsExplained (session_told s skipped old) point cell value text
   explained_same point cell None text h = h
   explained_same point cell (Some v) text h = (h.0, ((same (record { point = point; cell = cell; value = v }) h.0).1 h.1.0, h.1.1))
 
-  text_same : (at : ThreadPoint) (c : Command) (text : List ℕ) → IsText (told s skipped new) at c text → IsText (told s skipped old) at c text
+  text_same : (at : ThreadPoint) (c : Command) (text : List ℕ) → IsText (session_told s skipped new) at c text → IsText (session_told s skipped old) at c text
   text_same at (command.WhyReg r) text h = otherwise (r == 0) _ _ _ (explained_same (number s at) (Register r) (s.register (number s at) r) text) h
   text_same at (command.WhyByte a) text h = explained_same (moment_at s at) (Byte a) (s.byte (moment_at s at) a) text h
   text_same at command.Where text h = h
@@ -145,6 +145,6 @@ module _ (s : Shown) (skipped : ℕ) (old new : Fact → Because → Type 0) (sa
   text_same at command.Quit text h = h
   text_same at command.Nothing text h = h
 
-  pub reply_same : (cursor : ThreadPoint) (said : Said) (text : List ℕ) → IsReply (told s skipped new) cursor said text → IsReply (told s skipped old) cursor said text
+  pub reply_same : (cursor : ThreadPoint) (said : Said) (text : List ℕ) → IsReply (session_told s skipped new) cursor said text → IsReply (session_told s skipped old) cursor said text
   reply_same cursor (Ok c) text h = text_same (cursor_after s cursor c) c text h
   reply_same cursor (Err refusal) text h = h

@@ -54,13 +54,13 @@ abbrev pub moment_at : Shown → ThreadPoint → ℕ
 moment_at s c = s.moment (number s c)
 
 -- what a session tells: what was found, how many packets were left out, and what is a reason of a fact
-pub record Told : Type 1 where
+pub record SessionTold : Type 1 where
   pub shown : Shown
   pub skipped : ℕ
   pub reasons : Fact → Because → Type 0
 
-abbrev pub told : Shown → ℕ → (Fact → Because → Type 0) → Told
-told shown skipped reasons = record { shown = shown; skipped = skipped; reasons = reasons }
+abbrev pub session_told : Shown → ℕ → (Fact → Because → Type 0) → SessionTold
+session_told shown skipped reasons = record { shown = shown; skipped = skipped; reasons = reasons }
 
 -- the same reasons of each fact
 abbrev pub SameReasons : (Fact → Because → Type 0) → (Fact → Because → Type 0) → Type 0

@@ -21,7 +21,7 @@ use Rattle.rept_session.specs.declared.command.Command.TheVariants as command
 use Rattle.rept_session.specs.declared.command.BadCommand.{BadCommand}
 use Rattle.rept_report.specs.declared.counts.Counts.{Counts}
 use Rattle.rept_session.specs.Commands.{number_of_refusal}
-use Rattle.rept_session.specs.Shown.{Shown, Told, moment_at, number}
+use Rattle.rept_session.specs.Shown.{SessionTold, Shown, moment_at, number}
 use Rattle.rept_session.specs.declared.place.Place.{Place}
 use Rattle.rept_session.specs.declared.place.Place.TheVariants as places
 use Rattle.rept_session.specs.declared.place.ThreadPoint.{ThreadPoint}
@@ -195,12 +195,12 @@ abbrev pub reason_lines : Shown → Because → List ℕ
 reason_lines s why = codes "rule " ++ decimal why.rule ++ 10 ∷ [] ++ flat_map (premise_line s) why.premises ++ flat_map (looked_line s) why.ranges
 
 -- why a cell has this value at a point or moment: `unknown` where it has none, else a reason of the fact
-abbrev pub IsExplained : Told → ℕ → Cell → Option ℕ → List ℕ → Type 0
+abbrev pub IsExplained : SessionTold → ℕ → Cell → Option ℕ → List ℕ → Type 0
 IsExplained t point cell None text = text ≡ codes "unknown" ++ 10 ∷ []
 IsExplained t point cell (Some value) text = (why : Because) × (t.reasons (record { point = point; cell = cell; value = value }) why × (text ≡ reason_lines t.shown why))
 
 -- the same of a register, of which x0 always has one value
-abbrev pub IsRegisterExplained : Told → ℕ → ℕ → List ℕ → Type 0
+abbrev pub IsRegisterExplained : SessionTold → ℕ → ℕ → List ℕ → Type 0
 IsRegisterExplained t point r text = MatchBool (r == 0) (text ≡ codes "constant" ++ 10 ∷ []) (IsExplained t point (Register r) (t.shown.register point r) text)
 
 -- a point of a thread
@@ -224,7 +224,7 @@ cursor_after s c (command.Thread t) = last_of s t
 cursor_after s c other = at c.thread (point_after (length (s.rows c.thread)) c.point other)
 
 -- whether a text answers a command, with the cursor after it; which reason `why` tells is free
-abbrev pub IsText : Told → ThreadPoint → Command → List ℕ → Type 0
+abbrev pub IsText : SessionTold → ThreadPoint → Command → List ℕ → Type 0
 IsText t c command.Where text = text ≡ point_line t.shown c
 IsText t c (command.Back k) text = text ≡ point_line t.shown c
 IsText t c (command.Fwd k) text = text ≡ point_line t.shown c

@@ -3,7 +3,7 @@
 ghost use Rattle.std.specs.Prelude.{◌≡◌, ℕ, ◌<◌, ◌≤◌, ◌++◌, false, length, IfOk, OnOk};
 ghost use Rattle.rept_session.specs.Commands.{IsWithin};
 ghost use Rattle.rept_session.specs.Session.{IsReply, cursor_of, ends, said_at};
-ghost use Rattle.rept_session.specs.Shown.{IsAt, SameReasons, told};
+ghost use Rattle.rept_session.specs.Shown.{IsAt, SameReasons, session_told};
 ghost use Rattle.rept_session.specs.Texts.{IsText, cursor_after, is_quit, last_of, point_after, point_line, range_line, refusal_line, register_line, registers_line, steps_line, stores_line, summary_lines, thread_lines, writer_line};
 
 use crate::command::{BadCommand, Command};
@@ -32,7 +32,7 @@ pub fn answer<F: Findings>(
 ) -> Result<Answer, OutOfMemory>
     requires cursor { IsAt (F.shown findings.old) cursor }
     requires command { IsWithin (length ((F.shown findings.old).rows cursor.thread)) (F.shown findings.old).threads command.now }
-    ensures text { IfOk result (λ answer. IsText (told (F.shown findings.old) skipped (F.reasons findings.old)) answer.cursor command.now answer.text) }
+    ensures text { IfOk result (λ answer. IsText (session_told (F.shown findings.old) skipped (F.reasons findings.old)) answer.cursor command.now answer.text) }
     ensures cursor { IfOk result (λ answer. answer.cursor ≡ cursor_after (F.shown findings.old) cursor command.now) }
     ensures within { IfOk result (λ answer. IsAt (F.shown findings.old) answer.cursor) }
     ensures quit { IfOk result (λ answer. answer.quit ≡ is_quit command.now) }
@@ -59,7 +59,7 @@ pub fn answer_line<F: Findings>(
     line: &[u8],
 ) -> Result<Answer, OutOfMemory>
     requires { IsAt (F.shown findings.old) cursor }
-    ensures text { IfOk result (λ answer. IsReply (told (F.shown findings.old) skipped (F.reasons findings.old)) cursor (said_at (F.shown findings.old) cursor line.now) answer.text) }
+    ensures text { IfOk result (λ answer. IsReply (session_told (F.shown findings.old) skipped (F.reasons findings.old)) cursor (said_at (F.shown findings.old) cursor line.now) answer.text) }
     ensures cursor { IfOk result (λ answer. answer.cursor ≡ cursor_of (F.shown findings.old) cursor (said_at (F.shown findings.old) cursor line.now)) }
     ensures within { IfOk result (λ answer. IsAt (F.shown findings.old) answer.cursor) }
     ensures quit { IfOk result (λ answer. answer.quit ≡ ends (said_at (F.shown findings.old) cursor line.now)) }
@@ -163,7 +163,7 @@ fn text_of<F: Findings>(
 ) -> Result<Text, OutOfMemory>
     requires cursor { IsAt (F.shown findings.old) at }
     requires command { IsWithin (length ((F.shown findings.old).rows at.thread)) (F.shown findings.old).threads command.now }
-    ensures text { IfOk result (λ text. IsText (told (F.shown findings.old) skipped (F.reasons findings.old)) at command.now text) }
+    ensures text { IfOk result (λ text. IsText (session_told (F.shown findings.old) skipped (F.reasons findings.old)) at command.now text) }
     ensures same { F.shown findings.new ≡ F.shown findings.old }
     ensures same_reasons { SameReasons (F.reasons findings.old) (F.reasons findings.new) }
 {

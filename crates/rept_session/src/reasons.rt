@@ -3,7 +3,7 @@
 ghost use Rattle.std.specs.Prelude.{◌≡◌, ◌≢◌, ℕ, ◌<◌, ◌++◌, IfOk, OnOk, Some};
 ghost use Rattle.std.specs.List.{flat_map};
 ghost use Rattle.rept_reason.specs.declared.fact.Cell.TheVariants.{Byte, Register};
-ghost use Rattle.rept_session.specs.Shown.{SameReasons, explained, known_value, places_of, told};
+ghost use Rattle.rept_session.specs.Shown.{SameReasons, explained, known_value, places_of, session_told};
 ghost use Rattle.rept_session.specs.Texts.{IsExplained, IsRegisterExplained, looked_line, premise_line, reason_lines};
 
 use crate::findings::Findings;
@@ -21,7 +21,7 @@ pub fn why_register<F: Findings>(
     register: Reg,
 ) -> Result<Text, OutOfMemory>
     requires { point < (F.shown findings.old).points }
-    ensures text { (skipped : ℕ) → IfOk result (IsRegisterExplained (told (F.shown findings.old) skipped (F.reasons findings.old)) point register) }
+    ensures text { (skipped : ℕ) → IfOk result (IsRegisterExplained (session_told (F.shown findings.old) skipped (F.reasons findings.old)) point register) }
     ensures same { F.shown findings.new ≡ F.shown findings.old }
     ensures same_reasons { SameReasons (F.reasons findings.old) (F.reasons findings.new) }
 {
@@ -40,7 +40,7 @@ fn why_value<F: Findings>(
 ) -> Result<Text, OutOfMemory>
     requires point { point < (F.shown findings.old).points }
     requires named { register ≢ 0 }
-    ensures text { (skipped : ℕ) → IfOk result (IsExplained (told (F.shown findings.old) skipped (F.reasons findings.old)) point (Register register) ((F.shown findings.old).register point register)) }
+    ensures text { (skipped : ℕ) → IfOk result (IsExplained (session_told (F.shown findings.old) skipped (F.reasons findings.old)) point (Register register) ((F.shown findings.old).register point register)) }
     ensures same { F.shown findings.new ≡ F.shown findings.old }
     ensures same_reasons { SameReasons (F.reasons findings.old) (F.reasons findings.new) }
 {
@@ -58,7 +58,7 @@ pub fn why_byte<F: Findings>(
     address: u32,
 ) -> Result<Text, OutOfMemory>
     requires { moment < (F.shown findings.old).moments }
-    ensures text { (skipped : ℕ) → IfOk result (IsExplained (told (F.shown findings.old) skipped (F.reasons findings.old)) moment (Byte address) ((F.shown findings.old).byte moment address)) }
+    ensures text { (skipped : ℕ) → IfOk result (IsExplained (session_told (F.shown findings.old) skipped (F.reasons findings.old)) moment (Byte address) ((F.shown findings.old).byte moment address)) }
     ensures same { F.shown findings.new ≡ F.shown findings.old }
     ensures same_reasons { SameReasons (F.reasons findings.old) (F.reasons findings.new) }
 {
@@ -94,7 +94,7 @@ fn explain<F: Findings>(
     requires place { number < places_of (F.shown findings.old) cell }
     requires named { cell ≢ Register 0 }
     requires known { known_value (F.shown findings.old) number cell ≡ Some value }
-    ensures text { (skipped : ℕ) → IfOk result (IsExplained (told (F.shown findings.old) skipped (F.reasons findings.old)) number cell (Some value)) }
+    ensures text { (skipped : ℕ) → IfOk result (IsExplained (session_told (F.shown findings.old) skipped (F.reasons findings.old)) number cell (Some value)) }
     ensures same { F.shown findings.new ≡ F.shown findings.old }
     ensures same_reasons { SameReasons (F.reasons findings.old) (F.reasons findings.new) }
 {

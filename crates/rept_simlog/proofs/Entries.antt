@@ -9,23 +9,23 @@ use Rattle.rept_steps.specs.Linked.{EndBefore}
 use Rattle.rept_path.specs.Code.{Code}
 use Rattle.rept_path.specs.Rows.{CarriesCode, CarryCode}
 use Rattle.rept_encode.specs.Walkable.{IsFirstJumpEnd}
-use Rattle.rept_encode.specs.Encoded.{Tells}
+use Rattle.rept_encode.specs.Encoded.{TellsRows}
 use Rattle.rept_encode.specs.Added as added
 use Rattle.rept_encode.specs.Added.{asked_of}
 use Rattle.rept_encode.specs.declared.step.Site.{Site}
 use Rattle.rept_simlog.specs.declared.log.Entry.{Entry}
 use Rattle.rept_simlog.specs.declared.refusal.Refusal.{Refusal}
 use Rattle.rept_simlog.specs.declared.refusal.Refusal.TheVariants.{Executable, NoNumber, NoInstruction, NoStep, JumpEnds, NoSteps, OutOfMemory}
-use Rattle.rept_simlog.specs.Log.{IsNumber, IsLine, AreEntriesThen}
+use Rattle.rept_simlog.specs.Log.{IsNumber, IsFirstLine, AreEntriesThen}
 use Rattle.rept_simlog.specs.Program.{site_of}
 use Rattle.rept_simlog.specs.Recorded.{IsStepRefused, IsWalkFault}
 use Rattle.rept_simlog.specs.Walk.{step_asked, IsStepBetween, AddsRow, Along, GoAlong, MayStep, MayGo, EndsJump, Records}
 
 -- one entry more
-pub entries_push : (before : ℕ) (bytes rest line after : List ℕ) (entries : List Entry) (entry : Entry) → AreEntriesThen before bytes entries rest → 0 < length rest → IsLine rest line after → entry.line ≡ before + length entries + 1 → IsNumber line entry.address → AreEntriesThen before bytes (entries ++ entry ∷ []) after
+pub entries_push : (before : ℕ) (bytes rest line after : List ℕ) (entries : List Entry) (entry : Entry) → AreEntriesThen before bytes entries rest → 0 < length rest → IsFirstLine rest line after → entry.line ≡ before + length entries + 1 → IsNumber line entry.address → AreEntriesThen before bytes (entries ++ entry ∷ []) after
 entries_push before bytes rest line after [] entry h some cut place number =
     let e : rest ≡ bytes = sym h in
-    (line, after, subst (λ (b : List ℕ). 0 < length b) e some, subst (λ (b : List ℕ). IsLine b line after) e cut, (place ∙ omega arith), number, refl)
+    (line, after, subst (λ (b : List ℕ). 0 < length b) e some, subst (λ (b : List ℕ). IsFirstLine b line after) e cut, (place ∙ omega arith), number, refl)
 entries_push before bytes rest line after (x ∷ entries) entry h some cut place number =
     (h.0, h.1, h.2, h.3, h.4, h.5, entries_push (before + 1) h.1 rest line after entries entry h.6 some cut (place ∙ omega arith) number)
 
@@ -100,7 +100,7 @@ abbrev pub no_entry : Entry
 no_entry = record { line = 0; address = 0 }
 
 -- what is told of the rows
-pub records_is : (code : Code) (entries : List Entry) (rows : List StepRow) (trace : List ℕ) → GoAlong code entries rows → Tells code.halves trace rows → Records code entries trace
+pub records_is : (code : Code) (entries : List Entry) (rows : List StepRow) (trace : List ℕ) → GoAlong code entries rows → TellsRows code.halves trace rows → Records code entries trace
 records_is code entries rows trace g t = record {
   rows = rows;
   along = g;

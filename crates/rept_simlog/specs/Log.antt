@@ -5,7 +5,7 @@ use Rattle.std.specs.Str.Parse.{IsNumeral, digits_value}
 use Rattle.rept_simlog.specs.declared.log.Entry.{Entry}
 
 -- The digits write a number below 2^32.
-pub record Writes (radix : ℕ) (digits : List ℕ) (n : ℕ) : Type 0 where
+pub record WritesNumber (radix : ℕ) (digits : List ℕ) (n : ℕ) : Type 0 where
   pub numeral : IsNumeral radix digits
   pub value : digits_value radix digits ≡ n
   pub small : n < 2 ^ 32
@@ -14,28 +14,28 @@ pub record Writes (radix : ℕ) (digits : List ℕ) (n : ℕ) : Type 0 where
 pub record WritesHex (line : List ℕ) (n : ℕ) : Type 0 where
   pub digits : List ℕ
   pub front : line ≡ 48 ∷ 120 ∷ digits
-  pub writes : Writes 16 digits n
+  pub writes : WritesNumber 16 digits n
 
 abbrev pub IsNumber : List ℕ → ℕ → Type 0
-IsNumber line n = Writes 10 line n ⊎ WritesHex line n
+IsNumber line n = WritesNumber 10 line n ⊎ WritesHex line n
 
 -- The first newline stands after so many bytes, or there is none.
-pub record IsCut (bytes : List ℕ) (size : ℕ) : Type 0 where
+pub record IsLineEnd (bytes : List ℕ) (size : ℕ) : Type 0 where
   pub within : size ≤ length bytes
   pub before : (i : ℕ) → i < size → slice_index bytes i ≢ 10
   pub there : size < length bytes → slice_index bytes size ≡ 10
 
 -- The bytes begin with this line, and these follow its newline.
-pub record IsLine (bytes line rest : List ℕ) : Type 0 where
+pub record IsFirstLine (bytes line rest : List ℕ) : Type 0 where
   pub size : ℕ
-  pub cut : IsCut bytes size
+  pub cut : IsLineEnd bytes size
   pub text : line ≡ take size bytes
   pub later : rest ≡ drop (size + 1) bytes
 
 -- The bytes are the lines of these entries, of which the first has the number after `before`, and then the rest.
 abbrev pub AreEntriesThen : ℕ → List ℕ → List Entry → List ℕ → Type 0
 AreEntriesThen before bytes [] rest = bytes ≡ rest
-AreEntriesThen before bytes (entry ∷ entries) rest = (line : List ℕ) × (after : List ℕ) × (0 < length bytes) × IsLine bytes line after × (entry.line ≡ before + 1) × IsNumber line entry.address × AreEntriesThen (before + 1) after entries rest
+AreEntriesThen before bytes (entry ∷ entries) rest = (line : List ℕ) × (after : List ℕ) × (0 < length bytes) × IsFirstLine bytes line after × (entry.line ≡ before + 1) × IsNumber line entry.address × AreEntriesThen (before + 1) after entries rest
 
 -- The log is the lines of these entries.
 abbrev pub AreEntries : List ℕ → List Entry → Type 0
@@ -49,7 +49,7 @@ pub record IsNoNumber (log : List ℕ) (number : ℕ) : Type 0 where
   pub some : 0 < length rest
   pub line : List ℕ
   pub after : List ℕ
-  pub cut : IsLine rest line after
+  pub cut : IsFirstLine rest line after
   pub none : (n : ℕ) → IsNumber line n → ⊥
   pub place : number ≡ length entries + 1
 

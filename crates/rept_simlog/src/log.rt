@@ -1,7 +1,7 @@
 //! The lines of a log, each an address.
 
 ghost use Rattle.std.specs.Prelude.{◌≡◌, ◌<◌, ◌^◌, length, IfOk, IfErr};
-ghost use Rattle.rept_simlog.specs.Log.{IsCut, IsLine, AreEntries};
+ghost use Rattle.rept_simlog.specs.Log.{IsLineEnd, IsFirstLine, AreEntries};
 ghost use Rattle.rept_simlog.specs.Recorded.{IsLogFault};
 
 use crate::address::address_of;
@@ -17,7 +17,7 @@ pub struct Entry {
 
 /// The length of the first line.
 fn line_length(bytes: &[u8]) -> usize
-    ensures { IsCut bytes.now result }
+    ensures { IsLineEnd bytes.now result }
 {
     for i in 0..bytes.len() {
         if bytes[i] == b'\n' {
@@ -29,7 +29,7 @@ fn line_length(bytes: &[u8]) -> usize
 
 /// The first line, and what follows its newline.
 pub fn first_line(bytes: &[u8]) -> (&[u8], &[u8])
-    ensures line { IsLine bytes.now result.0.now result.1.now }
+    ensures line { IsFirstLine bytes.now result.0.now result.1.now }
     ensures fewer { 0 < length bytes.now → length result.1.now < length bytes.now }
 {
     let size = line_length(bytes);

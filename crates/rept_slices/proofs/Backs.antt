@@ -7,7 +7,7 @@ use Rattle.rept_trace.specs.Stream.{Hold, Answers}
 use Rattle.rept_trace.proofs.Going.{one_list}
 use Rattle.rept_path.specs.declared.fault.PathFault.TheVariants.{TimeBack}
 use Rattle.rept_path.proofs.Packeting.{taken, none_left}
-use Rattle.rept_slices.specs.Stamps.{time_of, is_past, is_before}
+use Rattle.rept_slices.specs.Stamps.{stamp_of, is_past, is_before}
 use Rattle.rept_slices.specs.Checks.{back_from}
 use Rattle.rept_slices.specs.Latest.{latest_by}
 use Rattle.rept_slices.proofs.Going.{Bytes}
@@ -18,7 +18,7 @@ pub record Back (all : Bytes) (number : ℕ) (rest : Bytes) (k latest : ℕ) : T
   pub more : List Packet
   pub hold : Hold rest more
   pub same : (list : List Packet) → Hold all list → back_from number [] list ≡ back_from k done more
-  pub asks : (time : ℕ) → list_any (λ q. is_past time (time_of q)) done ≡ nat_lt time latest
+  pub asks : (time : ℕ) → list_any (λ q. is_past time (stamp_of q)) done ≡ nat_lt time latest
   pub few : k + length more < 2 ^ 32
 
 pub back_first : (all : Bytes) (number : ℕ) (list : List Packet) → Hold all list → number + length list < 2 ^ 32 → Back all number all number 0
@@ -31,7 +31,7 @@ back_first all number list h few = record {
   few = few;
 }
 
-none_before : (done : List Packet) → list_any (λ q. is_before None (time_of q)) done ≡ false
+none_before : (done : List Packet) → list_any (λ q. is_before None (stamp_of q)) done ≡ false
 none_before [] = refl
 none_before (q ∷ done) = none_before done
 
@@ -51,10 +51,10 @@ module _ (all : Bytes) (number : ℕ) (rest : Bytes) (k latest : ℕ) (b : Back 
     left : (later : List Packet) × (b.more ≡ p ∷ later) × Hold after later
     left = taken key next rest after p b.more b.hold a
 
-    step : (found : Bool) → list_any (λ q. is_before (time_of p) (time_of q)) b.done ≡ found → (list : List Packet) → Hold all list → back_from number [] list ≡ cond found (Some (TimeBack k)) (back_from (suc k) (p ∷ b.done) left.0)
+    step : (found : Bool) → list_any (λ q. is_before (stamp_of p) (stamp_of q)) b.done ≡ found → (list : List Packet) → Hold all list → back_from number [] list ≡ cond found (Some (TimeBack k)) (back_from (suc k) (p ∷ b.done) left.0)
     step found e list h = b.same list h ∙ ap (back_from k b.done) left.1 ∙ ap (λ (x : Bool). cond x (Some (TimeBack k)) (back_from (suc k) (p ∷ b.done) left.0)) e
 
-    on : (new : ℕ) → list_any (λ q. is_before (time_of p) (time_of q)) b.done ≡ false → ((time : ℕ) → (is_past time (time_of p) || nat_lt time latest) ≡ nat_lt time new) → Back all number after (k + 1) new
+    on : (new : ℕ) → list_any (λ q. is_before (stamp_of p) (stamp_of q)) b.done ≡ false → ((time : ℕ) → (is_past time (stamp_of p) || nat_lt time latest) ≡ nat_lt time new) → Back all number after (k + 1) new
     on new none later =
         let fewer = ap (length {A = Packet}) left.1 in
         let few = b.few in
@@ -63,14 +63,14 @@ module _ (all : Bytes) (number : ℕ) (rest : Bytes) (k latest : ℕ) (b : Back 
           more = left.0;
           hold = left.2;
           same = λ list h. rw add-one (step false none list h);
-          asks = λ time. ap (λ (x : Bool). is_past time (time_of p) || x) (b.asks time) ∙ later time;
+          asks = λ time. ap (λ (x : Bool). is_past time (stamp_of p) || x) (b.asks time) ∙ later time;
           few = omega (arith, fewer, few);
         }
 
     -- a packet that isn't of an earlier time
-    pub back_on : (new : ℕ) → latest_by (time_of p) latest ≡ Some new → Back all number after (k + 1) new
-    back_on new e = go (time_of p) refl where
-      go : (o : Option ℕ) → time_of p ≡ o → Back all number after (k + 1) new
+    pub back_on : (new : ℕ) → latest_by (stamp_of p) latest ≡ Some new → Back all number after (k + 1) new
+    back_on new e = go (stamp_of p) refl where
+      go : (o : Option ℕ) → stamp_of p ≡ o → Back all number after (k + 1) new
       go None is =
           let plain : latest_by None latest ≡ Some new = ap (λ (o : Option ℕ). latest_by o latest) (sym is) ∙ e in
           let same : latest ≡ new = (cc) in
@@ -87,9 +87,9 @@ module _ (all : Bytes) (number : ℕ) (rest : Bytes) (k latest : ℕ) (b : Back 
               on new (rw is (b.asks t ∙ test)) (λ time. rw (is, same) (either_past time new latest (omega arith)))
 
     -- a packet that is
-    pub back_here : latest_by (time_of p) latest ≡ None → (list : List Packet) → Hold all list → Some (TimeBack k) ≡ back_from number [] list
-    back_here e = go (time_of p) refl where
-      go : (o : Option ℕ) → time_of p ≡ o → (list : List Packet) → Hold all list → Some (TimeBack k) ≡ back_from number [] list
+    pub back_here : latest_by (stamp_of p) latest ≡ None → (list : List Packet) → Hold all list → Some (TimeBack k) ≡ back_from number [] list
+    back_here e = go (stamp_of p) refl where
+      go : (o : Option ℕ) → stamp_of p ≡ o → (list : List Packet) → Hold all list → Some (TimeBack k) ≡ back_from number [] list
       go None is = let plain : latest_by None latest ≡ None = ap (λ (o : Option ℕ). latest_by o latest) (sym is) ∙ e in absurd ((cc))
       go (Some t) is =
           let timed : latest_by (Some t) latest ≡ None = ap (λ (o : Option ℕ). latest_by o latest) (sym is) ∙ e in

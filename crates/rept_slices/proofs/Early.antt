@@ -4,17 +4,17 @@ use Rattle.std.specs.List.{filter, list_any}
 use Rattle.std.proofs.lemmas.Bool.Decides.{leb_tells}
 use Rattle.rept_trace.specs.declared.packet.Packet.{Packet}
 use Rattle.rept_slices.specs.Stamps.{clock_of}
-use Rattle.rept_slices.specs.Parts.{Told, begin_of}
+use Rattle.rept_slices.specs.Parts.{ToldSlice, begin_of}
 use Rattle.rept_slices.specs.Order.{end_of}
 use Rattle.rept_slices.specs.Skipping.{greatest, ends_of}
-use Rattle.rept_slices.specs.Entries.{AreTold}
+use Rattle.rept_slices.specs.Entries.{AreEntriesOf}
 use Rattle.rept_slices.specs.declared.telling.Entry.{Entry}
 
 no_or : (a b : Bool) → (a || b) ≡ false → (a ≡ false) × (b ≡ false)
 no_or true b h = absurd ((cc))
 no_or false b h = (refl, h)
 
-none_kept : (time : ℕ) (es : List Entry) (ts : List Told) → AreTold es ts → list_any (λ (e : Entry). nat_lt (clock_of e.start) time) es ≡ false → filter (λ t. nat_lt (begin_of t) time) ts ≡ []
+none_kept : (time : ℕ) (es : List Entry) (ts : List ToldSlice) → AreEntriesOf es ts → list_any (λ (e : Entry). nat_lt (clock_of e.start) time) es ≡ false → filter (λ t. nat_lt (begin_of t) time) ts ≡ []
 none_kept time [] ts h none = ap (filter (λ t. nat_lt (begin_of t) time)) h
 none_kept time (e ∷ es) [] h none = absurd h
 none_kept time (e ∷ es) (t ∷ ts) h none =
@@ -28,5 +28,5 @@ greatest_one n = elim (leb_tells n 0) [
   | inr t ↦ ap (λ (b : Bool). cond b 0 n) t.0
 ]
 
-pub time_alone : (time : ℕ) (es : List Entry) (ts : List Told) → AreTold es ts → list_any (λ (e : Entry). nat_lt (clock_of e.start) time) es ≡ false → time ≡ greatest (time ∷ ends_of time ts)
-time_alone time es ts h none = sym (ap (λ (us : List Told). greatest (time ∷ map (end_of ts) us)) (none_kept time es ts h none) ∙ greatest_one time)
+pub time_alone : (time : ℕ) (es : List Entry) (ts : List ToldSlice) → AreEntriesOf es ts → list_any (λ (e : Entry). nat_lt (clock_of e.start) time) es ≡ false → time ≡ greatest (time ∷ ends_of time ts)
+time_alone time es ts h none = sym (ap (λ (us : List ToldSlice). greatest (time ∷ map (end_of ts) us)) (none_kept time es ts h none) ∙ greatest_one time)

@@ -4,20 +4,20 @@ use Rattle.std.specs.List.{flat_map}
 use Rattle.rept_trace.specs.declared.packet.Packet.{Packet}
 use Rattle.rept_trace.specs.declared.packet.Packet.TheVariants.{Start, Context, Support, Address, Map, MapAddress}
 use Rattle.rept_slices.specs.Stamps.{clock_of, is_start, running_after}
-use Rattle.rept_slices.specs.Parts.{Left, Told, begin_of, told_from, told_in, told}
+use Rattle.rept_slices.specs.Parts.{Left, ToldSlice, begin_of, told_from, told_in, slices_told}
 use Rattle.rept_slices.specs.Skipping.{from_time}
 use Rattle.rept_slices.specs.Lefts.{before_time}
-use Rattle.rept_slices.specs.Entries.{IsTold, AreTold, with_head, entries_from}
+use Rattle.rept_slices.specs.Entries.{IsEntryOf, AreEntriesOf, with_head, entries_from}
 use Rattle.rept_slices.specs.declared.telling.Entry.{Entry}
 
-abbrev pub told_head : Told → Told
+abbrev pub told_head : ToldSlice → ToldSlice
 told_head t = record { stream = t.stream; number = t.number; start = t.start; later = t.later; inside = None }
 
 -- those from the first one on that begins at a time or later
-abbrev pub told_by : Bool → Told → List Told → List Told → List Told
+abbrev pub told_by : Bool → ToldSlice → List ToldSlice → List ToldSlice → List ToldSlice
 told_by b t ts others = cond b (told_head t ∷ ts) others
 
-abbrev pub slices_from : ℕ → List Told → List Told
+abbrev pub slices_from : ℕ → List ToldSlice → List ToldSlice
 slices_from time [] = []
 slices_from time (t ∷ ts) = told_by (nat_le time (begin_of t)) t ts (slices_from time ts)
 
@@ -32,18 +32,18 @@ same_start (Address report) x y h = absurd ((cc))
 same_start (Map map) x y h = absurd ((cc))
 same_start (MapAddress count map report) x y h = absurd ((cc))
 
-entry_is : (time : ℕ) (e : Entry) (es : List Entry) (t : Told) (ts : List Told) → IsTold e t → AreTold es ts → AreTold (entries_from time es) (slices_from time ts) → AreTold (entries_from time (e ∷ es)) (slices_from time (t ∷ ts))
+entry_is : (time : ℕ) (e : Entry) (es : List Entry) (t : ToldSlice) (ts : List ToldSlice) → IsEntryOf e t → AreEntriesOf es ts → AreEntriesOf (entries_from time es) (slices_from time ts) → AreEntriesOf (entries_from time (e ∷ es)) (slices_from time (t ∷ ts))
 entry_is time e es t ts h later others = go (nat_le time (clock_of e.start)) refl where
-  by : (b : Bool) → AreTold (entry_by b e es (entries_from time es)) (told_by b t ts (slices_from time ts))
+  by : (b : Bool) → AreEntriesOf (entry_by b e es (entries_from time es)) (told_by b t ts (slices_from time ts))
   by true = (record { stream = h.stream; number = h.number; start = h.start; later = h.later; inside = refl }, later)
   by false = others
 
-  go : (b : Bool) → nat_le time (clock_of e.start) ≡ b → AreTold (entries_from time (e ∷ es)) (slices_from time (t ∷ ts))
+  go : (b : Bool) → nat_le time (clock_of e.start) ≡ b → AreEntriesOf (entries_from time (e ∷ es)) (slices_from time (t ∷ ts))
   go b x =
       let y : nat_le time (begin_of t) ≡ b = ap (λ (p : Packet). nat_le time (clock_of p)) (sym h.start) ∙ x in
-      subst (λ (d : Bool). AreTold (entry_by d e es (entries_from time es)) (slices_from time (t ∷ ts))) (sym x) (subst (λ (d : Bool). AreTold (entry_by b e es (entries_from time es)) (told_by d t ts (slices_from time ts))) (sym y) (by b))
+      subst (λ (d : Bool). AreEntriesOf (entry_by d e es (entries_from time es)) (slices_from time (t ∷ ts))) (sym x) (subst (λ (d : Bool). AreEntriesOf (entry_by b e es (entries_from time es)) (told_by d t ts (slices_from time ts))) (sym y) (by b))
 
-pub entries_are : (time : ℕ) (es : List Entry) (ts : List Told) → AreTold es ts → AreTold (entries_from time es) (slices_from time ts)
+pub entries_are : (time : ℕ) (es : List Entry) (ts : List ToldSlice) → AreEntriesOf es ts → AreEntriesOf (entries_from time es) (slices_from time ts)
 entries_are time [] ts h = ap (slices_from time) h
 entries_are time (e ∷ es) [] h = absurd h
 entries_are time (e ∷ es) (t ∷ ts) h = entry_is time e es t ts h.0 h.1 (entries_are time es ts h.1)
@@ -63,17 +63,17 @@ left_more time s k inside p later others = go (is_start p) refl (nat_le time (cl
 
   go : (b : Bool) → is_start p ≡ b → (c : Bool) → nat_le time (clock_of p) ≡ c → told_from s (k + before_time time (p ∷ later)) None (drop (before_time time (p ∷ later)) (p ∷ later)) ≡ slices_from time (told_from s k inside (p ∷ later))
   go false x c y =
-      let t : Told = record { stream = s; number = k; start = p; later = later; inside = inside } in
+      let t : ToldSlice = record { stream = s; number = k; start = p; later = later; inside = inside } in
       let r : told_from s k inside (p ∷ later) ≡ told_from s (suc k) (running_after p inside) later = ap (λ (b : Bool). cond b (t ∷ told_from s (suc k) (running_after p inside) later) (told_from s (suc k) (running_after p inside) later)) x in
       passes (ap (λ (b : Bool). b && nat_le time (clock_of p)) x) ∙ sym (ap (slices_from time) r)
   go true x false y =
-      let t : Told = record { stream = s; number = k; start = p; later = later; inside = inside } in
+      let t : ToldSlice = record { stream = s; number = k; start = p; later = later; inside = inside } in
       let r : told_from s k inside (p ∷ later) ≡ t ∷ told_from s (suc k) (running_after p inside) later = ap (λ (b : Bool). cond b (t ∷ told_from s (suc k) (running_after p inside) later) (told_from s (suc k) (running_after p inside) later)) x in
       let u : slices_from time (t ∷ told_from s (suc k) (running_after p inside) later) ≡ slices_from time (told_from s (suc k) (running_after p inside) later) = ap (λ (b : Bool). told_by b t (told_from s (suc k) (running_after p inside) later) (slices_from time (told_from s (suc k) (running_after p inside) later))) y in
       passes (ap (λ (b : Bool). b && nat_le time (clock_of p)) x ∙ y) ∙ sym (ap (slices_from time) r ∙ u)
   go true x true y =
-      let t : Told = record { stream = s; number = k; start = p; later = later; inside = inside } in
-      let h : Told = record { stream = s; number = k; start = p; later = later; inside = None } in
+      let t : ToldSlice = record { stream = s; number = k; start = p; later = later; inside = inside } in
+      let h : ToldSlice = record { stream = s; number = k; start = p; later = later; inside = None } in
       let e : (is_start p && nat_le time (clock_of p)) ≡ true = ap (λ (b : Bool). b && nat_le time (clock_of p)) x ∙ y in
       let m : before_time time (p ∷ later) ≡ 0 = ap (λ (b : Bool). cond (not b) (1 + before_time time later) 0) e in
       let zero : k + 0 ≡ k = omega arith in
@@ -94,10 +94,10 @@ left_told time s k inside (p ∷ later) = left_more time s k inside p later (lef
 pub left_in : (time : ℕ) (l : Left) → told_in (from_time time l) ≡ slices_from time (told_in l)
 left_in time l = left_told time l.stream l.number None l.packets
 
-pub left_are : (time : ℕ) (l : Left) (es : List Entry) → AreTold es (told_in l) → AreTold (entries_from time es) (told_in (from_time time l))
-left_are time l es h = subst (λ (ts : List Told). AreTold (entries_from time es) ts) (sym (left_in time l)) (entries_are time es (told_in l) h)
+pub left_are : (time : ℕ) (l : Left) (es : List Entry) → AreEntriesOf es (told_in l) → AreEntriesOf (entries_from time es) (told_in (from_time time l))
+left_are time l es h = subst (λ (ts : List ToldSlice). AreEntriesOf (entries_from time es) ts) (sym (left_in time l)) (entries_are time es (told_in l) h)
 
 -- of all of them
-pub all_left : (time : ℕ) (ls : List Left) → flat_map (λ (l : Left). told_in (from_time time l)) ls ≡ told (map (from_time time) ls)
+pub all_left : (time : ℕ) (ls : List Left) → flat_map (λ (l : Left). told_in (from_time time l)) ls ≡ slices_told (map (from_time time) ls)
 all_left time [] = refl
-all_left time (l ∷ ls) = ap (λ (ts : List Told). told_in (from_time time l) ++ ts) (all_left time ls)
+all_left time (l ∷ ls) = ap (λ (ts : List ToldSlice). told_in (from_time time l) ++ ts) (all_left time ls)

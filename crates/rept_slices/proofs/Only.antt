@@ -6,25 +6,25 @@ use Rattle.rept_path.specs.Code.{Code}
 use Rattle.rept_path.specs.declared.fault.PathFault.{PathFault}
 use Rattle.rept_path.proofs.OneRoute.{one_route, route_or_stop, one_stop}
 use Rattle.std.specs.Prelude.{reverse}
-use Rattle.rept_slices.specs.Parts.{Told}
+use Rattle.rept_slices.specs.Parts.{ToldSlice}
 use Rattle.rept_slices.specs.Stretches.{stretch, heads, Walked, origin_after, count_of, Goes, Walks, WalksFault}
-use Rattle.rept_slices.specs.Many.{Traces, IsRun, IsRefused, joined, left}
+use Rattle.rept_slices.specs.Many.{Traces, IsRunOfStreams, IsRefused, joined, left}
 
 module _ (code : Code) where
-  abbrev walked : Told → List (List StepRow) → Walked
+  abbrev walked : ToldSlice → List (List StepRow) → Walked
   walked t legs = record { head = t; legs = legs }
 
   -- a stretch is walked in one way
-  one_walk : (count : ℕ) (t : Told) (v w : Walked) → v.head ≡ t → w.head ≡ t → Goes code count v → Goes code count w → v ≡ w
+  one_walk : (count : ℕ) (t : ToldSlice) (v w : Walked) → v.head ≡ t → w.head ≡ t → Goes code count v → Goes code count w → v ≡ w
   one_walk count t v w a b x y = go v.head w.head v.legs w.legs (a ∙ sym b) x y
     where
-      go : (h k : Told) (p q : List (List StepRow)) → h ≡ k → Goes code count (walked h p) → Goes code count (walked k q) → walked h p ≡ walked k q
+      go : (h k : ToldSlice) (p q : List (List StepRow)) → h ≡ k → Goes code count (walked h p) → Goes code count (walked k q) → walked h p ≡ walked k q
       go h k p q same x y =
-          let z = subst (λ (u : Told). Goes code count (walked u p)) same x in
+          let z = subst (λ (u : ToldSlice). Goes code count (walked u p)) same x in
           let l : p ≡ q = one_route code (origin_after count k) (reverse (stretch k)) p q z y in
-          ap (λ (u : Told). walked u p) same ∙ ap (λ (ls : List (List StepRow)). walked k ls) l
+          ap (λ (u : ToldSlice). walked u p) same ∙ ap (λ (ls : List (List StepRow)). walked k ls) l
 
-  one_walks : (count : ℕ) (ts : List Told) (vs ws : List Walked) → Walks code count ts vs → Walks code count ts ws → vs ≡ ws
+  one_walks : (count : ℕ) (ts : List ToldSlice) (vs ws : List Walked) → Walks code count ts vs → Walks code count ts ws → vs ≡ ws
   one_walks count [] vs ws x y = x ∙ sym y
   one_walks count (t ∷ ts) [] ws x y = elim x [ ]
   one_walks count (t ∷ ts) (v ∷ vs) [] x y = elim y [ ]
@@ -34,13 +34,13 @@ module _ (code : Code) where
       let others : vs ≡ ws = one_walks (count + count_of code w) ts vs ws rest y.2 in
       cc
 
-  stop_at : (count : ℕ) (t : Told) (w : Walked) (e : PathFault) → w.head ≡ t → Goes code count w → WalksFault code count (t ∷ []) e → ⊥
+  stop_at : (count : ℕ) (t : ToldSlice) (w : Walked) (e : PathFault) → w.head ≡ t → Goes code count w → WalksFault code count (t ∷ []) e → ⊥
   stop_at count t w e h x (inl s) =
-      let z = subst (λ (u : Told). Goes code count (walked u w.legs)) h x in
+      let z = subst (λ (u : ToldSlice). Goes code count (walked u w.legs)) h x in
       route_or_stop code (origin_after count t) (stretch t) w.legs e z s
   stop_at count t w e h x (inr (v, i, y, f)) = f
 
-  walks_or_fault : (count : ℕ) (ts : List Told) (ws : List Walked) (e : PathFault) → Walks code count ts ws → WalksFault code count ts e → ⊥
+  walks_or_fault : (count : ℕ) (ts : List ToldSlice) (ws : List Walked) (e : PathFault) → Walks code count ts ws → WalksFault code count ts e → ⊥
   walks_or_fault count [] ws e x f = f
   walks_or_fault count (t ∷ ts) [] e x f = x
   walks_or_fault count (t ∷ ts) (w ∷ ws) e x (inl s) = stop_at count t w e x.0 x.1 (inl s)
@@ -48,7 +48,7 @@ module _ (code : Code) where
       let same : w ≡ v = one_walk count t w v x.0 i x.1 y in
       walks_or_fault (count + count_of code v) ts ws e (subst (λ (u : Walked). Walks code (count + count_of code u) ts ws) same x.2) f
 
-  one_fault : (count : ℕ) (ts : List Told) (d e : PathFault) → WalksFault code count ts d → WalksFault code count ts e → d ≡ e
+  one_fault : (count : ℕ) (ts : List ToldSlice) (d e : PathFault) → WalksFault code count ts d → WalksFault code count ts e → d ≡ e
   one_fault count [] d e x y = elim x [ ]
   one_fault count (t ∷ ts) d e (inl a) (inl b) = one_stop code (origin_after count t) (stretch t) d e a b
   one_fault count (t ∷ ts) d e (inl a) (inr (w, i, y, f)) = absurd (stop_at count t w d i y (inl a))
@@ -73,12 +73,12 @@ none_or_some : {o : Option PathFault} {x : PathFault} → o ≡ None → o ≡ S
 none_or_some h g = cc
 
 module _ (t : Traces) where
-  pub one_run : (a b : Run) → IsRun t a → IsRun t b → a ≡ b
+  pub one_run : (a b : Run) → IsRunOfStreams t a → IsRunOfStreams t b → a ≡ b
   one_run a b x y =
       let same : x.walked ≡ y.walked = one_walks t.code 0 (heads (left t)) x.walked y.walked x.walks y.walks in
       same_ok (ap (λ (ws : List Walked). joined t ws) (sym same) ∙ x.result) y.result
 
-  pub run_or_refusal : (a : Run) (e : PathFault) → IsRun t a → IsRefused t e → ⊥
+  pub run_or_refusal : (a : Run) (e : PathFault) → IsRunOfStreams t a → IsRefused t e → ⊥
   run_or_refusal a e x (inl f) = none_or_some x.passed f
   run_or_refusal a e x (inr (passed, inl f)) = walks_or_fault t.code 0 (heads (left t)) x.walked e x.walks f
   run_or_refusal a e x (inr (passed, inr (ws, walks, f))) =

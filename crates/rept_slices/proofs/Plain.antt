@@ -11,14 +11,14 @@ use Rattle.rept_trace.specs.declared.packet.Packet.TheVariants.{Start, Context, 
 use Rattle.rept_path.specs.declared.aim.Aim.{Aim}
 use Rattle.rept_path.specs.Code.{Code, look, flow_of}
 use Rattle.rept_path.specs.Packets.{begins, waiting, waits_after}
-use Rattle.rept_path.specs.Moves.{Lead, Place, Way, way_by, Stand, along, Site, site, successor, IsMove, course_by}
+use Rattle.rept_path.specs.Moves.{Lead, Place, Way, way_by, Stand, along, Site, site, successor, IsMove, heading_by}
 use Rattle.rept_path.specs.Legs.{Passes, Reaches}
 use Rattle.rept_path.specs.Route.{Phase, lead_of, further, with_bits, phases_of, PhaseLegs, Met, met_by, WaitingLeg, FirstLeg, Origin, Route}
 use Rattle.rept_path.proofs.MoveLemmas.{made}
 use Rattle.rept_path.proofs.Waiting.{LegIn}
 use Rattle.rept_slices.specs.Stamps.{is_start}
 use Rattle.rept_steps.specs.Course.{is_call}
-use Rattle.rept_slices.specs.Parts.{Told, inner}
+use Rattle.rept_slices.specs.Parts.{ToldSlice, inner}
 use Rattle.rept_slices.specs.Stretches.{same_stretch, stretch, Walked, origin_after, Goes, rows_of}
 use Rattle.rept_slices.proofs.InTime.{Each}
 use Rattle.rept_slices.proofs.Calm.{each_append}
@@ -74,7 +74,7 @@ starts_run (Map map) h = absurd (cc)
 starts_run (Context privilege time context) h = absurd (cc)
 starts_run (Support enabled status) h = absurd (cc)
 
-one_stretch : (t : Told) → is_start t.start ≡ true → OneStretch (reverse (stretch t))
+one_stretch : (t : ToldSlice) → is_start t.start ≡ true → OneStretch (reverse (stretch t))
 unfolding waiting
 one_stretch t h =
     let runs : waiting (t.start ∷ []) ≡ false = starts_run t.start h in
@@ -91,11 +91,11 @@ module _ (code : Code) where
       let same : x.0 ≡ r.instr = cc in
       subst (λ (i : Instr). is_call i ≡ false) same (has_successor lead.packet (site code p.at) x.2.0 x.0 (way_by (slice_get lead.bits p.branches) lead.target) x.2.1)
 
-  passed : (lead : Lead) (aim : Aim) (past : Place) (leg : List StepRow) → Passes code (course_by lead aim) past leg → Each IsPlain leg
+  passed : (lead : Lead) (aim : Aim) (past : Place) (leg : List StepRow) → Passes code (heading_by lead aim) past leg → Each IsPlain leg
   passed lead aim past [] x = tt
   passed lead aim past (r ∷ leg) x = (of_move lead (along code past leg) r x.1, passed lead aim past leg x.0)
 
-  reached : (lead : Lead) (aim : Aim) (past : Place) (leg : List StepRow) → Reaches code (course_by lead aim) past leg → Each IsPlain leg
+  reached : (lead : Lead) (aim : Aim) (past : Place) (leg : List StepRow) → Reaches code (heading_by lead aim) past leg → Each IsPlain leg
   reached lead aim past [] x = elim x [ ]
   reached lead aim past (r ∷ leg) x = (of_move lead (along code past leg) r x.1, passed lead aim past leg x.0)
 
@@ -152,7 +152,7 @@ all_plain [] h = tt
 all_plain (leg ∷ legs) h = each_append IsPlain (reverse leg) (flat_map reverse legs) (each_reverse IsPlain leg h.0) (all_plain legs h.1)
 
 -- The rows of a slice that was walked are no calls.
-pub rows_plain : (code : Code) (count : ℕ) (w : Walked) (t : Told) → is_start w.head.start ≡ true → Goes code count w → Each IsPlain (rows_of w t)
+pub rows_plain : (code : Code) (count : ℕ) (w : Walked) (t : ToldSlice) → is_start w.head.start ≡ true → Goes code count w → Each IsPlain (rows_of w t)
 rows_plain code count w t starts goes =
     let legs = of_route code (origin_after count w.head) (reverse (stretch w.head)) w.legs (one_stretch w.head starts) goes in
     let oldest = reverse w.legs in

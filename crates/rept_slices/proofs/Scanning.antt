@@ -6,7 +6,7 @@ use Rattle.rept_trace.specs.declared.packet.Packet.{Packet}
 use Rattle.rept_trace.specs.Stream.{Hold, Answers}
 use Rattle.rept_trace.proofs.Going.{one_list}
 use Rattle.rept_path.proofs.Packeting.{taken, none_left}
-use Rattle.rept_slices.specs.Stamps.{time_of, closes}
+use Rattle.rept_slices.specs.Stamps.{stamp_of, closes}
 use Rattle.rept_slices.specs.Parts.{first_time}
 use Rattle.rept_slices.proofs.Going.{Bytes}
 
@@ -60,10 +60,10 @@ end_on p later h =
 pub end_here : (p : Packet) (later : List Packet) → closes p ≡ true → from_end (p ∷ later) ≡ p ∷ later
 end_here p later h = ap (λ (b : Bool). drop (cond (not b) (1 + prefix_len (λ q. not (closes q)) later) 0) (p ∷ later)) h
 
-pub time_on : (p : Packet) (later : List Packet) → time_of p ≡ None → first_time (p ∷ later) ≡ first_time later
+pub time_on : (p : Packet) (later : List Packet) → stamp_of p ≡ None → first_time (p ∷ later) ≡ first_time later
 time_on p later h = ap (λ (o : Option ℕ). option_or o (first_time later)) h
 
-pub time_here : (p : Packet) (later : List Packet) (time : ℕ) → time_of p ≡ Some time → first_time (p ∷ later) ≡ Some time
+pub time_here : (p : Packet) (later : List Packet) (time : ℕ) → stamp_of p ≡ Some time → first_time (p ∷ later) ≡ Some time
 time_here p later time h = ap (λ (o : Option ℕ). option_or o (first_time later)) h
 
 -- the first time from the end of the slice on

@@ -19,14 +19,14 @@ use Rattle.rept_path.specs.Gap.{row, Goal, Edge, by_successor, by_flow, crossing
 use Rattle.rept_path.specs.Moves.{Stand, way_by, site, successor, ◌>>=◌}
 use Rattle.rept_path.proofs.MoveLemmas.{bind_ok}
 use Rattle.rept_steps.specs.Course.{no_thread, is_call, is_call_row, slice_of, TakeRows, BeginsFrom, first_slice, KeepTime, IsSound}
-use Rattle.rept_slices.specs.Parts.{Told, thread_of, begin_of, first_time, beyond, lesser, never, end_before}
+use Rattle.rept_slices.specs.Parts.{ToldSlice, thread_of, begin_of, first_time, beyond, lesser, never, end_before}
 use Rattle.rept_slices.specs.Order.{head_of}
 use Rattle.rept_slices.specs.Stamps.{clock_of, address_of}
 use Rattle.rept_slices.specs.Skipping.{kept}
 use Rattle.rept_slices.specs.Checks.{first_fault}
 use Rattle.rept_slices.specs.Stretches.{heads, Ran, ran_by, ran_in, ran, Walked, within, Walks, count_of}
-use Rattle.rept_slices.specs.Joins.{Note, Ground, Ending, ending, stand_at, bridge, Joined, with_rows, join, slice_by, slices, thread, of_thread, rows_in, ran_rows, threads}
-use Rattle.rept_slices.specs.Many.{Traces, processes, left, ground, overlap_fault, unmet, run_by, IsRun}
+use Rattle.rept_slices.specs.Joins.{Note, Ground, ThreadGround, thread_ground, stand_at, bridge, Joined, with_rows, join, slice_by, slices, thread, of_thread, rows_in, ran_rows, threads}
+use Rattle.rept_slices.specs.Many.{Traces, processes, left, ground, overlap_fault, unmet, run_by, IsRunOfStreams}
 use Rattle.rept_slices.proofs.InTime.{Each, Ascend, FromTime, ascends, each_by_time, each_filter}
 use Rattle.rept_slices.proofs.Calm.{OnTime, NotBefore, ends_late, each_append, CanTell, CanBe, left_on_time, left_can}
 use Rattle.rept_slices.proofs.Plain.{IsPlain, has_successor, rows_plain}
@@ -104,7 +104,7 @@ module _ (code : Code) where
       let there = flow_bridged edge (successor s.packet (site code p.at) (flow_of b.0) way) (flow_of b.0) c.0 (λ a h. has_successor s.packet (site code p.at) a b.0 way h) c.1 in
       fits (nat_le (length p.rows + length c.0) s.room) s.packet c.0 rows there c.2
 
-bridge_bridged : (e : Ending) (count : ℕ) (r : Ran) (next : Option Ran) (rows : List StepRow) → bridge e count r next ≡ Ok rows → Bridged rows
+bridge_bridged : (e : ThreadGround) (count : ℕ) (r : Ran) (next : Option Ran) (rows : List StepRow) → bridge e count r next ≡ Ok rows → Bridged rows
 bridge_bridged e count r None rows h =
     let s = stand_at e.packets r count in
     gap_bridged e.code s (record { address = e.pc; otherwise = End s.place.at e.pc }) rows h
@@ -126,7 +126,7 @@ Same [] (j ∷ js) = ⊥
 Same (r ∷ rs) [] = ⊥
 Same (r ∷ rs) (j ∷ js) = (j.told ≡ r.told) × LastCall j.rows × Same rs js
 
-join_same : (e : Ending) (count : ℕ) (rs : List Ran) (js : List Joined) → Each (λ r. Each IsPlain r.rows) rs → join e count rs ≡ Ok js → Same rs js
+join_same : (e : ThreadGround) (count : ℕ) (rs : List Ran) (js : List Joined) → Each (λ r. Each IsPlain r.rows) rs → join e count rs ≡ Ok js → Same rs js
 join_same e count [] js p h = let is : [] ≡ js = cc in subst (Same []) is tt
 join_same e count (r ∷ rs) js p h =
     let b = bind_ok (bridge e count r (head_of rs)) (λ more. join e (count + length more) rs >>= (λ others. Ok (with_rows r more ∷ others))) js h in
@@ -136,7 +136,7 @@ join_same e count (r ∷ rs) js p h =
     subst (Same (r ∷ rs)) is (refl, last, join_same e (count + length b.0) rs c.0 p.1 c.1)
 
 -- The slice is one that its stream can tell of, at a time that can be told.
-abbrev pub InTime : Told → Type 0
+abbrev pub InTime : ToldSlice → Type 0
 InTime t = OnTime t × (begin_of t ≤ never)
 
 same_ascend : (rs : List Ran) (js : List Joined) → Same rs js → Ascend (λ (r : Ran). begin_of r.told) rs → Ascend (λ (j : Joined). begin_of j.told) js
@@ -254,7 +254,7 @@ module _ (g : Ground) (rs : List Ran) (plain : Each (λ (r : Ran). Each IsPlain 
   good_threads count [] all h = let is : [] ≡ all = cc in subst (Each Good) is tt
   good_threads count (note ∷ notes) all h =
       let own = of_thread note.process rs in
-      let e = ending g.code g.packets note in
+      let e = thread_ground g.code g.packets note in
       let onward : List Joined → Result (List ThreadRows) PathFault = λ js. threads g (count + (rows_in js - ran_rows own)) notes rs >>= (λ others. Ok (thread js ∷ others)) in
       let b = bind_ok (join e count own) onward all h in
       let c = bind_ok (threads g (count + (rows_in b.0 - ran_rows own)) notes rs) (λ others. Ok (thread b.0 ∷ others)) all b.2 in
@@ -267,19 +267,19 @@ module _ (g : Ground) (rs : List Ran) (plain : Each (λ (r : Ran). Each IsPlain 
       subst (Each Good) is (good_thread own b.0 same (ascends time (filter test rs)) timed_own, good_threads (count + (rows_in b.0 - ran_rows own)) notes c.0 c.1)
 
 -- the slices of stretches that were walked
-module _ (code : Code) (ts : List Told) where
+module _ (code : Code) (ts : List ToldSlice) where
   ran_in_time : Each InTime ts → (ws : List Walked) → Each (λ (r : Ran). InTime r.told) (ran code ts ws)
   ran_in_time h [] = tt
   ran_in_time h (w ∷ ws) = each_append (λ (r : Ran). InTime r.told) (ran_in code ts w) (ran code ts ws) (go (filter (within w) ts) (each_filter InTime (within w) ts h)) (ran_in_time h ws) where
-    go : (us : List Told) → Each InTime us → Each (λ (r : Ran). InTime r.told) (map (ran_by code w) us)
+    go : (us : List ToldSlice) → Each InTime us → Each (λ (r : Ran). InTime r.told) (map (ran_by code w) us)
     go [] h = tt
     go (u ∷ us) h = (h.0, go us h.1)
 
-  ran_plain : (count : ℕ) (heads : List Told) (ws : List Walked) → Each Started heads → Walks code count heads ws → Each (λ (r : Ran). Each IsPlain r.rows) (ran code ts ws)
+  ran_plain : (count : ℕ) (heads : List ToldSlice) (ws : List Walked) → Each Started heads → Walks code count heads ws → Each (λ (r : Ran). Each IsPlain r.rows) (ran code ts ws)
   ran_plain count [] ws s x = subst (λ (vs : List Walked). Each (λ (r : Ran). Each IsPlain r.rows) (ran code ts vs)) (sym x) tt
   ran_plain count (t ∷ heads) [] s x = elim x [ ]
   ran_plain count (t ∷ heads) (w ∷ ws) s x = each_append (λ (r : Ran). Each IsPlain r.rows) (ran_in code ts w) (ran code ts ws) (go (filter (within w) ts)) (ran_plain (count + count_of code w) heads ws s.1 x.2) where
-    go : (us : List Told) → Each (λ (r : Ran). Each IsPlain r.rows) (map (ran_by code w) us)
+    go : (us : List ToldSlice) → Each (λ (r : Ran). Each IsPlain r.rows) (map (ran_by code w) us)
     go [] = tt
     go (u ∷ us) = (rows_plain code count w u (subst Started (sym x.0) s.0) x.1, go us)
 
@@ -291,12 +291,12 @@ all_can_be : (streams : List (List Packet)) → All (All (λ p. clock_of p < 2 ^
 all_can_be [] h = tt
 all_can_be (s ∷ streams) h = (can_be s (All-head (All (λ (q : Packet). clock_of q < 2 ^ 64)) s streams h), all_can_be streams (All-tail (All (λ (q : Packet). clock_of q < 2 ^ 64)) s streams h))
 
-in_time : (ts : List Told) → Each OnTime ts → Each CanTell ts → Each InTime ts
+in_time : (ts : List ToldSlice) → Each OnTime ts → Each CanTell ts → Each InTime ts
 in_time [] a b = tt
 in_time (t ∷ ts) a b = ((a.0, b.0), in_time ts a.1 b.1)
 
 -- The run of streams, each time of which has 64 bits, is sound.
-pub is_sound : (t : Traces) (run : Run) → All (All (λ p. clock_of p < 2 ^ 64)) t.streams → IsRun t run → IsSound (record { threads = run.threads; dark = run.dark })
+pub is_sound : (t : Traces) (run : Run) → All (All (λ p. clock_of p < 2 ^ 64)) t.streams → IsRunOfStreams t run → IsSound (record { threads = run.threads; dark = run.dark })
 is_sound t run fits x =
     let ts = left t in
     let rs = ran t.code ts x.walked in

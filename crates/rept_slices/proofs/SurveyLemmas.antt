@@ -6,7 +6,7 @@ use Rattle.rept_trace.specs.declared.packet.Packet.{Packet}
 use Rattle.rept_trace.specs.Stream.{Stream}
 use Rattle.rept_trace.specs.Streams.{StreamFile}
 use Rattle.rept_path.specs.declared.fault.PathFault.{PathFault}
-use Rattle.rept_slices.specs.Parts.{told}
+use Rattle.rept_slices.specs.Parts.{slices_told}
 use Rattle.rept_slices.specs.Skipping.{whole, kept}
 use Rattle.rept_slices.specs.Checks.{first_fault, time_back, startless, all_idle, stranger, check}
 use Rattle.rept_slices.specs.Raw.{streams_of, HoldEach}
@@ -51,7 +51,7 @@ last_of_four None None None None h = refl
 last_of_four None None None (Some x) h = refl
 
 pub checks_found : (from : ℕ) (threads : List ℕ) (lists : List (List Packet)) (e : PathFault) → Some e ≡ first_fault (λ found. found) (first_fault time_back (whole lists) ∷ first_fault (startless from) (whole lists) ∷ all_idle lists ∷ []) → check from threads lists ≡ Some e
-checks_found from threads lists e h = found_of_four (first_fault time_back (whole lists)) (first_fault (startless from) (whole lists)) (all_idle lists) (first_fault (stranger threads) (told (kept from lists))) e h
+checks_found from threads lists e h = found_of_four (first_fault time_back (whole lists)) (first_fault (startless from) (whole lists)) (all_idle lists) (first_fault (stranger threads) (slices_told (kept from lists))) e h
 
-pub checks_last : (from : ℕ) (threads : List ℕ) (lists : List (List Packet)) (found : Option PathFault) → None ≡ first_fault (λ found. found) (first_fault time_back (whole lists) ∷ first_fault (startless from) (whole lists) ∷ all_idle lists ∷ []) → found ≡ first_fault (stranger threads) (told (kept from lists)) → check from threads lists ≡ found
-checks_last from threads lists found h e = last_of_four (first_fault time_back (whole lists)) (first_fault (startless from) (whole lists)) (all_idle lists) (first_fault (stranger threads) (told (kept from lists))) h ∙ sym e
+pub checks_last : (from : ℕ) (threads : List ℕ) (lists : List (List Packet)) (found : Option PathFault) → None ≡ first_fault (λ found. found) (first_fault time_back (whole lists) ∷ first_fault (startless from) (whole lists) ∷ all_idle lists ∷ []) → found ≡ first_fault (stranger threads) (slices_told (kept from lists)) → check from threads lists ≡ found
+checks_last from threads lists found h e = last_of_four (first_fault time_back (whole lists)) (first_fault (startless from) (whole lists)) (all_idle lists) (first_fault (stranger threads) (slices_told (kept from lists))) h ∙ sym e

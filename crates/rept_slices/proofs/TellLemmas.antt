@@ -8,21 +8,21 @@ use Rattle.rept_trace.specs.Stream.{Hold, Answers}
 use Rattle.rept_trace.proofs.Going.{one_list}
 use Rattle.rept_path.proofs.Packeting.{taken, none_left}
 use Rattle.rept_slices.specs.Stamps.{is_start, running_after}
-use Rattle.rept_slices.specs.Parts.{Told, told_from}
-use Rattle.rept_slices.specs.Entries.{AreTold}
+use Rattle.rept_slices.specs.Parts.{ToldSlice, told_from}
+use Rattle.rept_slices.specs.Entries.{AreEntriesOf}
 use Rattle.rept_slices.specs.declared.telling.Entry.{Entry}
 use Rattle.rept_slices.proofs.Going.{Bytes}
 
-pub AreTold-append : (a b : List Entry) (x y : List Told) → AreTold a x → AreTold b y → AreTold (a ++ b) (x ++ y)
-AreTold-append [] b x y h k = subst (λ (ts : List Told). AreTold b (ts ++ y)) (sym h) k
-AreTold-append (e ∷ a) b [] y h k = absurd h
-AreTold-append (e ∷ a) b (t ∷ x) y h k = (h.0, AreTold-append a b x y h.1 k)
+pub AreEntriesOf-append : (a b : List Entry) (x y : List ToldSlice) → AreEntriesOf a x → AreEntriesOf b y → AreEntriesOf (a ++ b) (x ++ y)
+AreEntriesOf-append [] b x y h k = subst (λ (ts : List ToldSlice). AreEntriesOf b (ts ++ y)) (sym h) k
+AreEntriesOf-append (e ∷ a) b [] y h k = absurd h
+AreEntriesOf-append (e ∷ a) b (t ∷ x) y h k = (h.0, AreEntriesOf-append a b x y h.1 k)
 
 -- the slice that a packet begins, if it does
 pub record Begun (s k : ℕ) (inside : Option ℕ) (p : Packet) (later : List Packet) (after : Packets) : Type 0 where
   pub entries : List Entry
-  pub told : List Told
-  pub are : AreTold entries told
+  pub told : List ToldSlice
+  pub are : AreEntriesOf entries told
   pub added : cond (is_start p) (record { stream = s; number = k; start = p; later = after; inside = inside } ∷ []) [] ≡ entries
   pub list : told_from s k inside (p ∷ later) ≡ told ++ told_from s (suc k) (running_after p inside) later
 
@@ -31,10 +31,10 @@ begun s k inside p later after h = go (is_start p) refl where
   entry : Entry
   entry = record { stream = s; number = k; start = p; later = after; inside = inside }
 
-  told : Told
+  told : ToldSlice
   told = record { stream = s; number = k; start = p; later = later; inside = inside }
 
-  others : List Told
+  others : List ToldSlice
   others = told_from s (suc k) (running_after p inside) later
 
   go : (b : Bool) → is_start p ≡ b → Begun s k inside p later after
@@ -43,21 +43,21 @@ begun s k inside p later after h = go (is_start p) refl where
     told = record { stream = s; number = k; start = p; later = later; inside = inside } ∷ [];
     are = (record { stream = refl; number = refl; start = refl; later = h; inside = refl }, refl);
     added = let x : List Entry = record { stream = s; number = k; start = p; later = after; inside = inside } ∷ [] in ap (λ (b : Bool). cond b x []) e;
-    list = let x : Told = record { stream = s; number = k; start = p; later = later; inside = inside } in ap (λ (b : Bool). cond b (x ∷ told_from s (suc k) (running_after p inside) later) (told_from s (suc k) (running_after p inside) later)) e;
+    list = let x : ToldSlice = record { stream = s; number = k; start = p; later = later; inside = inside } in ap (λ (b : Bool). cond b (x ∷ told_from s (suc k) (running_after p inside) later) (told_from s (suc k) (running_after p inside) later)) e;
   }
   go false e = record {
     entries = [];
     told = [];
     are = refl;
     added = let x : List Entry = record { stream = s; number = k; start = p; later = after; inside = inside } ∷ [] in ap (λ (b : Bool). cond b x []) e;
-    list = let x : Told = record { stream = s; number = k; start = p; later = later; inside = inside } in ap (λ (b : Bool). cond b (x ∷ told_from s (suc k) (running_after p inside) later) (told_from s (suc k) (running_after p inside) later)) e;
+    list = let x : ToldSlice = record { stream = s; number = k; start = p; later = later; inside = inside } in ap (λ (b : Bool). cond b (x ∷ told_from s (suc k) (running_after p inside) later) (told_from s (suc k) (running_after p inside) later)) e;
   }
 
 -- The slices that were added, and the packets that are left.
-pub record Telling (s : ℕ) (wanted : List Packet → List Told) (all : Bytes) (old : List Entry) (k : ℕ) (inside : Option ℕ) (rest : Bytes) (now : List Entry) : Type 0 where
+pub record Telling (s : ℕ) (wanted : List Packet → List ToldSlice) (all : Bytes) (old : List Entry) (k : ℕ) (inside : Option ℕ) (rest : Bytes) (now : List Entry) : Type 0 where
   pub done : List Entry
-  pub told : List Told
-  pub are : AreTold done told
+  pub told : List ToldSlice
+  pub are : AreEntriesOf done told
   pub items : now ≡ old ++ done
   pub more : List Packet
   pub hold : Hold rest more
@@ -80,7 +80,7 @@ tells_first s number start all list old now h few e =
       few = few;
     }
 
-module _ (s : ℕ) (wanted : List Packet → List Told) (all : Bytes) (old : List Entry) (k : ℕ) (inside : Option ℕ) (rest : Bytes) (now : List Entry) (t : Telling s wanted all old k inside rest now) where
+module _ (s : ℕ) (wanted : List Packet → List ToldSlice) (all : Bytes) (old : List Entry) (k : ℕ) (inside : Option ℕ) (rest : Bytes) (now : List Entry) (t : Telling s wanted all old k inside rest now) where
   module _ (key n : ℕ) (after : Packets) (p : Packet) (a : Answers key rest (Ok (Some p)) n (rest_of after)) where
     left : (later : List Packet) × (t.more ≡ p ∷ later) × Hold (rest_of after) later
     left = taken key n rest (rest_of after) p t.more t.hold a
@@ -93,11 +93,11 @@ module _ (s : ℕ) (wanted : List Packet → List Told) (all : Bytes) (old : Lis
         record {
           done = t.done ++ b.entries;
           told = t.told ++ b.told;
-          are = AreTold-append t.done b.entries t.told b.told t.are b.are;
+          are = AreEntriesOf-append t.done b.entries t.told b.told t.are b.are;
           items = e ∙ ap (λ (xs : List Entry). now ++ xs) b.added ∙ ap (λ (xs : List Entry). xs ++ b.entries) t.items ∙ append_assoc old t.done b.entries;
           more = left.0;
           hold = left.2;
-          same = λ list h. rw add-one (t.same list h ∙ ap (λ (xs : List Packet). t.told ++ told_from s k inside xs) left.1 ∙ ap (λ (ts : List Told). t.told ++ ts) b.list ∙ sym (append_assoc t.told b.told (told_from s (suc k) (running_after p inside) left.0)));
+          same = λ list h. rw add-one (t.same list h ∙ ap (λ (xs : List Packet). t.told ++ told_from s k inside xs) left.1 ∙ ap (λ (ts : List ToldSlice). t.told ++ ts) b.list ∙ sym (append_assoc t.told b.told (told_from s (suc k) (running_after p inside) left.0)));
           few = omega (arith, fewer, few);
         }
 
@@ -107,8 +107,8 @@ module _ (s : ℕ) (wanted : List Packet → List Told) (all : Bytes) (old : Lis
         let few = t.few in
         omega (arith, fewer, few)
 
-  pub tells_end : (key n : ℕ) (after : Bytes) → Answers key rest (Ok None) n after → (list : List Packet) → Hold all list → (more : List Entry) × (now ≡ old ++ more) × AreTold more (wanted list)
+  pub tells_end : (key n : ℕ) (after : Bytes) → Answers key rest (Ok None) n after → (list : List Packet) → Hold all list → (more : List Entry) × (now ≡ old ++ more) × AreEntriesOf more (wanted list)
   tells_end key n after a list h =
       let none = none_left key n rest after t.more t.hold a in
       let e : wanted list ≡ t.told = t.same list h ∙ ap (λ (xs : List Packet). t.told ++ told_from s k inside xs) none ∙ append-nil t.told in
-      (t.done, t.items, subst (λ (ts : List Told). AreTold t.done ts) (sym e) t.are)
+      (t.done, t.items, subst (λ (ts : List ToldSlice). AreEntriesOf t.done ts) (sym e) t.are)

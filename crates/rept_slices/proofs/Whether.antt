@@ -7,37 +7,37 @@ use Rattle.rept_path.specs.Code.{Code}
 use Rattle.rept_path.specs.declared.fault.PathFault.{PathFault}
 use Rattle.rept_path.proofs.Decided.{route_of}
 use Rattle.rept_slices.specs.Stamps.{is_start, running_after}
-use Rattle.rept_slices.specs.Parts.{Left, Told, told_from, told_in, told}
+use Rattle.rept_slices.specs.Parts.{Left, ToldSlice, told_from, told_in, slices_told}
 use Rattle.rept_slices.specs.Stretches.{stretch, heads, Walked, origin_after, count_of, Walks, WalksFault}
 use Rattle.rept_slices.specs.Checks.{check}
 use Rattle.rept_slices.specs.Skipping.{kept}
 use Rattle.rept_slices.proofs.InTime.{Each, each_filter}
 use Rattle.rept_slices.proofs.Calm.{each_append}
-use Rattle.rept_slices.specs.Many.{Traces, IsRun, IsRefused, joined, left, processes}
+use Rattle.rept_slices.specs.Many.{Traces, IsRunOfStreams, IsRefused, joined, left, processes}
 
 -- A slice begins with a start packet.
-abbrev pub Started : Told → Type 0
+abbrev pub Started : ToldSlice → Type 0
 Started t = is_start t.start ≡ true
 
 start_told : (s k : ℕ) (inside : Option ℕ) (packets : List Packet) → Each Started (told_from s k inside packets)
 start_told s k inside [] = tt
 start_told s k inside (p ∷ later) = go (is_start p) refl (start_told s (suc k) (running_after p inside) later) where
-  here : Told
+  here : ToldSlice
   here = record { stream = s; number = k; start = p; later = later; inside = inside }
 
-  rest : List Told
+  rest : List ToldSlice
   rest = told_from s (suc k) (running_after p inside) later
 
   go : (b : Bool) → is_start p ≡ b → Each Started rest → Each Started (cond b (here ∷ rest) rest)
   go true is more = (is, more)
   go false is more = more
 
-pub starts_told : (lefts : List Left) → Each Started (told lefts)
+pub starts_told : (lefts : List Left) → Each Started (slices_told lefts)
 starts_told [] = tt
-starts_told (l ∷ lefts) = each_append Started (told_in l) (told lefts) (start_told l.stream l.number None l.packets) (starts_told lefts)
+starts_told (l ∷ lefts) = each_append Started (told_in l) (slices_told lefts) (start_told l.stream l.number None l.packets) (starts_told lefts)
 
 module _ (code : Code) where
-  walks_of : (count : ℕ) (ts : List Told) → Each Started ts → ((ws : List Walked) × Walks code count ts ws) ⊎ ((e : PathFault) × WalksFault code count ts e)
+  walks_of : (count : ℕ) (ts : List ToldSlice) → Each Started ts → ((ws : List Walked) × Walks code count ts ws) ⊎ ((e : PathFault) × WalksFault code count ts e)
   walks_of count [] a = inl ([], refl)
   walks_of count (t ∷ ts) a = elim (route_of code (origin_after count t) (stretch t) a.0) [
     | inl r ↦
@@ -50,16 +50,16 @@ module _ (code : Code) where
   ]
 
 module _ (t : Traces) where
-  pub run_or_refusal_of : ((run : Run) × IsRun t run) ⊎ ((e : PathFault) × IsRefused t e)
+  pub run_or_refusal_of : ((run : Run) × IsRunOfStreams t run) ⊎ ((e : PathFault) × IsRefused t e)
   run_or_refusal_of = by_check (check t.from (processes t) t.streams) refl where
-    by_result : (passed : check t.from (processes t) t.streams ≡ None) (ws : List Walked) → Walks t.code 0 (heads (left t)) ws → (r : Result Run PathFault) → joined t ws ≡ r → ((run : Run) × IsRun t run) ⊎ ((e : PathFault) × IsRefused t e)
+    by_result : (passed : check t.from (processes t) t.streams ≡ None) (ws : List Walked) → Walks t.code 0 (heads (left t)) ws → (r : Result Run PathFault) → joined t ws ≡ r → ((run : Run) × IsRunOfStreams t run) ⊎ ((e : PathFault) × IsRefused t e)
     by_result passed ws walks (Ok run) is = inl (run, record { passed = passed; walked = ws; walks = walks; result = is })
     by_result passed ws walks (Err e) is = inr (e, inr (passed, inr (ws, walks, is)))
 
-    by_walks : check t.from (processes t) t.streams ≡ None → ((ws : List Walked) × Walks t.code 0 (heads (left t)) ws) ⊎ ((e : PathFault) × WalksFault t.code 0 (heads (left t)) e) → ((run : Run) × IsRun t run) ⊎ ((e : PathFault) × IsRefused t e)
+    by_walks : check t.from (processes t) t.streams ≡ None → ((ws : List Walked) × Walks t.code 0 (heads (left t)) ws) ⊎ ((e : PathFault) × WalksFault t.code 0 (heads (left t)) e) → ((run : Run) × IsRunOfStreams t run) ⊎ ((e : PathFault) × IsRefused t e)
     by_walks passed (inl ws) = by_result passed ws.0 ws.1 (joined t ws.0) refl
     by_walks passed (inr f) = inr (f.0, inr (passed, inl f.1))
 
-    by_check : (o : Option PathFault) → check t.from (processes t) t.streams ≡ o → ((run : Run) × IsRun t run) ⊎ ((e : PathFault) × IsRefused t e)
+    by_check : (o : Option PathFault) → check t.from (processes t) t.streams ≡ o → ((run : Run) × IsRunOfStreams t run) ⊎ ((e : PathFault) × IsRefused t e)
     by_check (Some e) is = inr (e, inl is)
     by_check None is = by_walks is (walks_of t.code 0 (heads (left t)) (each_filter Started (λ u. is_none u.inside) (left t) (starts_told (kept t.from t.streams))))

@@ -10,17 +10,17 @@ use Rattle.rept_trace.specs.Stream.{Stream, Hold}
 use Rattle.rept_path.specs.declared.fault.PathFault.TheVariants.{NoStart}
 use Rattle.rept_path.specs.declared.window.Begin.{Begin}
 use Rattle.rept_path.specs.Survey.{IsThere, number_in}
-use Rattle.rept_slices.specs.Parts.{Left, Told, told_from, told_in}
+use Rattle.rept_slices.specs.Parts.{Left, ToldSlice, told_from, told_in}
 use Rattle.rept_slices.specs.Skipping.{whole, numbered, window_of, windows, kept, skipped}
 use Rattle.rept_slices.specs.Checks.{first_fault, startless}
 use Rattle.rept_slices.specs.Windows.{IsWindow, AreWindows, AreAll, window_left, skipped_by, skipped_of}
 use Rattle.rept_slices.specs.Lefts.{BeginsWith, IsLeftBy, IsLeft, AreLeft}
-use Rattle.rept_slices.specs.Entries.{AreTold}
+use Rattle.rept_slices.specs.Entries.{AreEntriesOf}
 use Rattle.rept_slices.specs.declared.reading.Window.{Window}
 use Rattle.rept_slices.specs.declared.telling.Entry.{Entry}
 use Rattle.rept_slices.proofs.Calm.{none_first}
 use Rattle.rept_slices.proofs.Checking.{left, split, unique, no_window}
-use Rattle.rept_slices.proofs.TellLemmas.{AreTold-append}
+use Rattle.rept_slices.proofs.TellLemmas.{AreEntriesOf-append}
 
 module _ (w : Window) (l : Left) (is : IsLeft w l) where
   pub nothing_told : w.begin ≡ None → told_in l ≡ []
@@ -51,23 +51,23 @@ split_left w ws [] a = absurd a
 split_left w ws (l ∷ later) a = (l, later, refl, a.0, a.1)
 
 -- The slices that were added, of which each stream has a part, and the streams that are left.
-pub record Tells (part : Left → List Told) (lefts : List Left) (ws : List Window) (now : List Entry) : Type 0 where
+pub record Tells (part : Left → List ToldSlice) (lefts : List Left) (ws : List Window) (now : List Entry) : Type 0 where
   pub later : List Left
   pub left : AreLeft ws later
-  pub done : List Told
-  pub are : AreTold now done
+  pub done : List ToldSlice
+  pub are : AreEntriesOf now done
   pub same : flat_map part lefts ≡ done ++ flat_map part later
 
-pub record Next (part : Left → List Told) (lefts : List Left) (w : Window) (ws : List Window) (now : List Entry) : Type 0 where
+pub record Next (part : Left → List ToldSlice) (lefts : List Left) (w : Window) (ws : List Window) (now : List Entry) : Type 0 where
   pub l : Left
   pub later : List Left
   pub first : IsLeft w l
   pub left : AreLeft ws later
-  pub done : List Told
-  pub are : AreTold now done
+  pub done : List ToldSlice
+  pub are : AreEntriesOf now done
   pub same : flat_map part lefts ≡ done ++ (part l ++ flat_map part later)
 
-module _ (part : Left → List Told) where
+module _ (part : Left → List ToldSlice) where
   pub none_told : (lefts : List Left) (ws : List Window) → AreLeft ws lefts → Tells part lefts ws []
   none_told lefts ws a = record { later = lefts; left = a; done = []; are = refl; same = refl }
 
@@ -76,23 +76,23 @@ module _ (part : Left → List Told) where
       let s = split_left w ws t.later t.left in
       record { l = s.0; later = s.1; first = s.3; left = s.4; done = t.done; are = t.are; same = t.same ∙ ap (λ (ls : List Left). t.done ++ flat_map part ls) s.2 }
 
-  pub one_told : (lefts : List Left) (w : Window) (ws : List Window) (now new more : List Entry) (n : Next part lefts w ws now) → new ≡ now ++ more → AreTold more (part n.l) → Tells part lefts ws new
+  pub one_told : (lefts : List Left) (w : Window) (ws : List Window) (now new more : List Entry) (n : Next part lefts w ws now) → new ≡ now ++ more → AreEntriesOf more (part n.l) → Tells part lefts ws new
   one_told lefts w ws now new more n items are = record {
     later = n.later;
     left = n.left;
     done = n.done ++ part n.l;
-    are = subst (λ (es : List Entry). AreTold es (n.done ++ part n.l)) (sym items) (AreTold-append now more n.done (part n.l) n.are are);
+    are = subst (λ (es : List Entry). AreEntriesOf es (n.done ++ part n.l)) (sym items) (AreEntriesOf-append now more n.done (part n.l) n.are are);
     same = n.same ∙ sym (append_assoc n.done (part n.l) (flat_map part n.later));
   }
 
   pub tells_at : (lefts : List Left) (ws : List Window) (i : ℕ) (w : Window) (now : List Entry) → i < length ws → w ≡ get_or ws i w → Tells part lefts (drop i ws) now → Next part lefts w (drop (i + 1) ws) now
   tells_at lefts ws i w now within at t = next lefts w (drop (i + 1) ws) now (subst (λ (vs : List Window). Tells part lefts vs now) (split ws i w within at) t)
 
-  pub all_told : (lefts : List Left) (ws : List Window) (i : ℕ) (now : List Entry) → length ws ≤ i → Tells part lefts (drop i ws) now → AreTold now (flat_map part lefts)
+  pub all_told : (lefts : List Left) (ws : List Window) (i : ℕ) (now : List Entry) → length ws ≤ i → Tells part lefts (drop i ws) now → AreEntriesOf now (flat_map part lefts)
   all_told lefts ws i now past t =
       let none : t.later ≡ [] = subst (λ (vs : List Window). AreLeft vs t.later) (at_drop_all (λ (vs : List Window). vs) ws i past) t.left in
       let e : flat_map part lefts ≡ t.done = t.same ∙ ap (λ (ls : List Left). t.done ++ flat_map part ls) none ∙ append-nil t.done in
-      subst (λ (ts : List Told). AreTold now ts) (sym e) t.are
+      subst (λ (ts : List ToldSlice). AreEntriesOf now ts) (sym e) t.are
 
 -- what is left of streams that have windows
 module _ (s k from : ℕ) (stream : Stream) (w : Window) where

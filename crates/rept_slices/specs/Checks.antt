@@ -4,8 +4,8 @@ use Rattle.std.specs.List.{list_any, filter_map}
 use Rattle.rept_trace.specs.declared.packet.Packet.{Packet}
 use Rattle.rept_path.specs.declared.fault.PathFault.{PathFault}
 use Rattle.rept_path.specs.declared.fault.PathFault.TheVariants.{NoStart, TimeBack, UnknownThread, OtherThread}
-use Rattle.rept_slices.specs.Stamps.{time_of, is_before}
-use Rattle.rept_slices.specs.Parts.{Left, Told, thread_of, told}
+use Rattle.rept_slices.specs.Stamps.{stamp_of, is_before}
+use Rattle.rept_slices.specs.Parts.{Left, ToldSlice, slices_told, thread_of}
 use Rattle.rept_slices.specs.Order.{head_of}
 use Rattle.rept_slices.specs.Skipping.{whole, window_of, kept}
 
@@ -17,7 +17,7 @@ first_fault check xs = head_of (filter_map check xs)
 -- it, newest first, and those from it on.
 abbrev pub back_from : ℕ → List Packet → List Packet → Option PathFault
 back_from k earlier [] = None
-back_from k earlier (p ∷ later) = if list_any (λ q. is_before (time_of p) (time_of q)) earlier then Some (TimeBack k) else back_from (suc k) (p ∷ earlier) later
+back_from k earlier (p ∷ later) = if list_any (λ q. is_before (stamp_of p) (stamp_of q)) earlier then Some (TimeBack k) else back_from (suc k) (p ∷ earlier) later
 
 abbrev pub time_back : Left → Option PathFault
 time_back left = back_from left.number [] left.packets
@@ -37,11 +37,11 @@ all_idle ([] ∷ others) = all_idle others
 all_idle ((p ∷ later) ∷ others) = None
 
 -- The slice is of a thread without a note, or it begins while another thread runs.
-abbrev pub while_other : Told → Option ℕ → Option PathFault
+abbrev pub while_other : ToldSlice → Option ℕ → Option PathFault
 while_other t None = None
 while_other t (Some thread) = if thread == thread_of t then None else Some (OtherThread t.number (thread_of t))
 
-abbrev pub stranger : List ℕ → Told → Option PathFault
+abbrev pub stranger : List ℕ → ToldSlice → Option PathFault
 stranger threads t = if list_any (λ thread. thread == thread_of t) threads then while_other t t.inside else Some (UnknownThread t.number (thread_of t))
 
 -- The checks in their order: times that go back, windows, and then the threads of the slices that are left.
@@ -50,7 +50,7 @@ checks from threads streams =
     first_fault time_back (whole streams)
     ∷ first_fault (startless from) (whole streams)
     ∷ all_idle streams
-    ∷ first_fault (stranger threads) (told (kept from streams))
+    ∷ first_fault (stranger threads) (slices_told (kept from streams))
     ∷ []
 
 abbrev pub check : ℕ → List ℕ → List (List Packet) → Option PathFault

@@ -1,46 +1,46 @@
 -- Which ends and begins of slices in order count. This project's own.
 use Rattle.std.specs.Prelude.{⊤, ◌≡◌, ◌==◌, nat_lt, ℕ, ◌≤◌, List, [], ◌∷◌, Option, Some, None, if◌then◌else◌}
 use Rattle.std.specs.List.{cons_option}
-use Rattle.rept_slices.specs.Parts.{Told, thread_of, begin_of, end_before}
+use Rattle.rept_slices.specs.Parts.{ToldSlice, thread_of, begin_of, end_before}
 use Rattle.std.specs.Option.{option_or}
 use Rattle.rept_slices.specs.Order.{head_of, meets, slices_of, overlap}
 
 -- the begin of the next slice in order, if it is of the same thread
-abbrev pub next_begin : Told → Option Told → Option ℕ
+abbrev pub next_begin : ToldSlice → Option ToldSlice → Option ℕ
 next_begin t None = None
 next_begin t (Some u) = if thread_of u == thread_of t then Some (begin_of u) else None
 
 -- the end of a slice that begins before a time, by the next one in order
-abbrev pub early : ℕ → Told → Option Told → Option ℕ
+abbrev pub early : ℕ → ToldSlice → Option ToldSlice → Option ℕ
 early time t next = if nat_lt (begin_of t) time then Some (end_before t (next_begin t next)) else None
 
 -- the ends of those slices that begin before a time, of slices that stand in order
-abbrev pub ends_in : ℕ → List Told → List ℕ
+abbrev pub ends_in : ℕ → List ToldSlice → List ℕ
 ends_in time [] = []
 ends_in time (t ∷ ts) = cons_option (early time t (head_of ts)) (ends_in time ts)
 
 -- the begin of the next slice of the thread, if this one meets it
-abbrev pub met_next : Told → Option Told → Option ℕ
+abbrev pub met_next : ToldSlice → Option ToldSlice → Option ℕ
 met_next t None = None
 met_next t (Some u) = if meets t u then Some (begin_of u) else None
 
 -- the begin of the first slice that the one right before it meets
-abbrev pub first_met : List Told → Option ℕ
+abbrev pub first_met : List ToldSlice → Option ℕ
 first_met [] = None
 first_met (t ∷ ts) = option_or (met_next t (head_of ts)) (first_met ts)
 
 -- slices of one thread, none of which begins before the one before it
-abbrev pub IsBefore : Told → Option Told → Type 0
-IsBefore t None = ⊤
-IsBefore t (Some u) = (thread_of t ≡ thread_of u) × (begin_of t ≤ begin_of u)
+abbrev pub IsInTurn : ToldSlice → Option ToldSlice → Type 0
+IsInTurn t None = ⊤
+IsInTurn t (Some u) = (thread_of t ≡ thread_of u) × (begin_of t ≤ begin_of u)
 
-abbrev pub InTurn : List Told → Type 0
+abbrev pub InTurn : List ToldSlice → Type 0
 InTurn [] = ⊤
-InTurn (t ∷ ts) = IsBefore t (head_of ts) × InTurn ts
+InTurn (t ∷ ts) = IsInTurn t (head_of ts) × InTurn ts
 
 -- What streams whose times don't go back tell: where no slice of a thread meets the one right after it, none meets another one, and the
 -- first one that is met so has the least begin of all that are met.
-abbrev pub KeepTurn : List Told → Type 0
+abbrev pub KeepTurn : List ToldSlice → Type 0
 KeepTurn ts = (process : ℕ) → first_met (slices_of process ts) ≡ overlap ts process
 
 -- the first one of numbers, or this one where there is none

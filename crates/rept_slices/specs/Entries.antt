@@ -6,20 +6,20 @@ use Rattle.rept_path.specs.declared.fault.PathFault.TheVariants.{UnknownThread, 
 use Rattle.rept_trace.specs.Packets.{rest_of}
 use Rattle.rept_trace.specs.Stream.{Hold}
 use Rattle.rept_slices.specs.Stamps.{clock_of}
-use Rattle.rept_slices.specs.Parts.{Told}
+use Rattle.rept_slices.specs.Parts.{ToldSlice}
 use Rattle.rept_slices.specs.declared.telling.Entry.{Entry}
 
-pub record IsTold (e : Entry) (t : Told) : Type 0 where
+pub record IsEntryOf (e : Entry) (t : ToldSlice) : Type 0 where
   pub stream : e.stream ≡ t.stream
   pub number : e.number ≡ t.number
   pub start : e.start ≡ t.start
   pub later : Hold (rest_of e.later) t.later
   pub inside : e.inside ≡ t.inside
 
-abbrev pub AreTold : List Entry → List Told → Type 0
-AreTold [] ts = ts ≡ []
-AreTold (e ∷ es) [] = ⊥
-AreTold (e ∷ es) (t ∷ ts) = IsTold e t × AreTold es ts
+abbrev pub AreEntriesOf : List Entry → List ToldSlice → Type 0
+AreEntriesOf [] ts = ts ≡ []
+AreEntriesOf (e ∷ es) [] = ⊥
+AreEntriesOf (e ∷ es) (t ∷ ts) = IsEntryOf e t × AreEntriesOf es ts
 
 -- why a slice is refused for its thread: by the number of its start packet, its thread, and the thread that runs as it begins
 abbrev pub judged_inside : ℕ → ℕ → Option ℕ → Option PathFault

@@ -10,7 +10,7 @@ use Rattle.rept_path.specs.declared.fault.PathFault.{PathFault}
 use Rattle.rept_path.specs.Moves.{Stand, ◌>>=◌}
 use Rattle.rept_path.specs.Gap.{gap_to_start, gap_to_end}
 use Rattle.rept_slices.specs.Stamps.{address_of}
-use Rattle.rept_slices.specs.Parts.{Told, thread_of, begin_of, end_before}
+use Rattle.rept_slices.specs.Parts.{ToldSlice, thread_of, begin_of, end_before}
 use Rattle.rept_slices.specs.Order.{by_time, head_of}
 use Rattle.rept_slices.specs.Stretches.{Ran}
 
@@ -20,7 +20,7 @@ pub record Note : Type 0 where
   pub pc : ℕ
 
 -- what joins are made over: the program, the count of all packets, and the thread's program counter at the end
-pub record Ending : Type 0 where
+pub record ThreadGround : Type 0 where
   pub code : Code
   pub packets : ℕ
   pub pc : ℕ
@@ -31,7 +31,7 @@ stand_at k r count = record { packet = k; bits = r.bits; place = record { at = r
 
 -- The rows, newest first, that lead from a slice to the next one of its thread, or to the end. A slice that begins while the trace runs
 -- stands where the former one ended.
-abbrev pub bridge : Ending → ℕ → Ran → Option Ran → Result (List StepRow) PathFault
+abbrev pub bridge : ThreadGround → ℕ → Ran → Option Ran → Result (List StepRow) PathFault
 bridge e count r None = gap_to_end e.code (stand_at e.packets r count) e.pc
 bridge e count r (Some next) =
     if is_none next.told.inside then gap_to_start e.code (stand_at next.told.number r count) (address_of next.told.start)
@@ -39,14 +39,14 @@ bridge e count r (Some next) =
 
 -- A slice with the rows that lead on from it, oldest first.
 pub record Joined : Type 0 where
-  pub told : Told
+  pub told : ToldSlice
   pub rows : List StepRow
 
 abbrev pub with_rows : Ran → List StepRow → Joined
 with_rows r more = record { told = r.told; rows = r.rows ++ reverse more }
 
 -- the slices of a thread, in their order, where so many rows stand in all threads
-abbrev pub join : Ending → ℕ → List Ran → Result (List Joined) PathFault
+abbrev pub join : ThreadGround → ℕ → List Ran → Result (List Joined) PathFault
 join e count [] = Ok []
 join e count (r ∷ rs) = do
   more ← bridge e count r (head_of rs)
@@ -69,8 +69,8 @@ thread js = record { steps = flat_map (λ (j : Joined). j.rows) js; slices = sli
 abbrev pub of_thread : ℕ → List Ran → List Ran
 of_thread process rs = by_time (λ r. begin_of r.told) (filter (λ r. thread_of r.told == process) rs)
 
-abbrev pub ending : Code → ℕ → Note → Ending
-ending code packets note = record { code = code; packets = packets; pc = note.pc }
+abbrev pub thread_ground : Code → ℕ → Note → ThreadGround
+thread_ground code packets note = record { code = code; packets = packets; pc = note.pc }
 
 abbrev pub rows_in : List Joined → ℕ
 rows_in js = sum_by (λ (j : Joined). length j.rows) js
@@ -87,6 +87,6 @@ pub record Ground : Type 0 where
 abbrev pub threads : Ground → ℕ → List Note → List Ran → Result (List ThreadRows) PathFault
 threads g count [] rs = Ok []
 threads g count (note ∷ notes) rs = do
-  js ← join (ending g.code g.packets note) count (of_thread note.process rs)
+  js ← join (thread_ground g.code g.packets note) count (of_thread note.process rs)
   others ← threads g (count + (rows_in js - ran_rows (of_thread note.process rs))) notes rs
   Ok (thread js ∷ others)

@@ -8,7 +8,7 @@ use Rattle.rept_path.specs.Code.{Code}
 use Rattle.rept_path.specs.declared.fault.PathFault.{PathFault}
 use Rattle.rept_path.specs.declared.fault.PathFault.TheVariants.{SliceOverlap}
 use Rattle.rept_path.specs.Moves.{◌>>=◌}
-use Rattle.rept_slices.specs.Parts.{Told, told}
+use Rattle.rept_slices.specs.Parts.{ToldSlice, slices_told}
 use Rattle.rept_slices.specs.Skipping.{kept, skipped, dark}
 use Rattle.rept_slices.specs.Order.{overlap}
 use Rattle.rept_slices.specs.Checks.{first_fault, check}
@@ -26,14 +26,14 @@ abbrev pub processes : Traces → List ℕ
 processes t = map (λ (n : Note). n.process) t.notes
 
 -- the slices that are left
-abbrev pub left : Traces → List Told
-left t = told (kept t.from t.streams)
+abbrev pub left : Traces → List ToldSlice
+left t = slices_told (kept t.from t.streams)
 
 abbrev pub ground : Traces → Ground
 ground t = record { code = t.code; packets = sum_by (λ packets. length packets) t.streams }
 
 -- Two streams tell of one thread at a time.
-abbrev pub overlap_fault : List Told → ℕ → Option PathFault
+abbrev pub overlap_fault : List ToldSlice → ℕ → Option PathFault
 overlap_fault ts process = option_map (λ time. SliceOverlap process time) (overlap ts process)
 
 abbrev pub unmet : Option PathFault → Result ℕ PathFault
@@ -52,7 +52,7 @@ joined t ws =
       Ok (run_by t all)
 
 -- The packets pass the checks, the stretches are walked, and this is the run of them.
-pub record IsRun (t : Traces) (run : Run) : Type 0 where
+pub record IsRunOfStreams (t : Traces) (run : Run) : Type 0 where
   pub passed : check t.from (processes t) t.streams ≡ None
   pub walked : List Walked
   pub walks : Walks t.code 0 (heads (left t)) walked

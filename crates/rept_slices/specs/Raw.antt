@@ -16,7 +16,7 @@ use Rattle.rept_path.specs.declared.fault.PathFault.{PathFault}
 use Rattle.rept_path.specs.declared.fault.PathFault.TheVariants as fault
 use Rattle.rept_slices.specs.Checks.{check}
 use Rattle.rept_slices.specs.Joins.{Note}
-use Rattle.rept_slices.specs.Many.{Traces, IsRun, IsRefused}
+use Rattle.rept_slices.specs.Many.{Traces, IsRunOfStreams, IsRefused}
 
 -- the streams of packets of a file, with times and contexts
 abbrev pub streams_of : StreamFile → List Stream
@@ -50,7 +50,7 @@ abbrev pub traces : Files → List (List Packet) → Traces
 traces f packets = record { code = code_in f; streams = packets; notes = f.notes; from = f.from }
 
 abbrev pub IsRunOf : Files → Run → Type 0
-IsRunOf f run = (packets : List (List Packet)) × HoldEach (streams_of f.file) packets × IsRun (traces f packets) run
+IsRunOf f run = (packets : List (List Packet)) × HoldEach (streams_of f.file) packets × IsRunOfStreams (traces f packets) run
 
 -- A packet is refused, before all else; or all are whole, and there is no run.
 abbrev pub HasNoRun : Files → PathFault → Type 0

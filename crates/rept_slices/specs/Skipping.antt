@@ -5,7 +5,7 @@ use Rattle.std.specs.List.{prefix_len, list_any, filter, filter_map, sum_by}
 use Rattle.rept_trace.specs.declared.packet.Packet.{Packet}
 use Rattle.rept_path.specs.Trace.{loses}
 use Rattle.rept_slices.specs.Stamps.{clock_of, is_start}
-use Rattle.rept_slices.specs.Parts.{Left, Told, begin_of, told}
+use Rattle.rept_slices.specs.Parts.{Left, ToldSlice, begin_of, slices_told}
 use Rattle.rept_slices.specs.Order.{end_of}
 
 -- the streams, from that of this number on, the first packet of which has this number
@@ -62,7 +62,7 @@ abbrev pub skipped : ℕ → List (List Packet) → ℕ
 skipped from streams = sum_by (λ packets. length packets) streams - sum_by (λ left. length left.packets) (kept from streams)
 
 -- the ends of slices that begin before a time
-abbrev pub ends_of : ℕ → List Told → List ℕ
+abbrev pub ends_of : ℕ → List ToldSlice → List ℕ
 ends_of time ts = map (end_of ts) (filter (λ t. nat_lt (begin_of t) time) ts)
 
 -- The time until which anything may have happened: that from which on all streams tell, or the greatest end of a slice that is skipped for
@@ -71,4 +71,4 @@ abbrev pub dark : ℕ → List (List Packet) → Option ℕ
 dark from streams =
     let ws = windows from streams in
     let time = full_from ws in
-    if nat_lt 1 (length (filter_map opening ws)) then Some (greatest (time ∷ ends_of time (told ws))) else None
+    if nat_lt 1 (length (filter_map opening ws)) then Some (greatest (time ∷ ends_of time (slices_told ws))) else None

@@ -6,17 +6,17 @@ use Rattle.rept_trace.specs.declared.packet.Packet.{Packet}
 use Rattle.rept_trace.specs.declared.packet.Packet.TheVariants.{Start, Context, Support, Address, Map, MapAddress}
 use Rattle.rept_path.specs.Trace.{starts}
 
-abbrev pub time_of : Packet → Option ℕ
-time_of (Start branch privilege a time context) = Some time
-time_of (Context privilege time context) = Some time
-time_of (Support enabled status) = None
-time_of (Address report) = None
-time_of (Map map) = None
-time_of (MapAddress count map report) = None
+abbrev pub stamp_of : Packet → Option ℕ
+stamp_of (Start branch privilege a time context) = Some time
+stamp_of (Context privilege time context) = Some time
+stamp_of (Support enabled status) = None
+stamp_of (Address report) = None
+stamp_of (Map map) = None
+stamp_of (MapAddress count map report) = None
 
 -- 0 where it has none
 abbrev pub clock_of : Packet → ℕ
-clock_of p = unwrap_or (time_of p) 0
+clock_of p = unwrap_or (stamp_of p) 0
 
 -- the process of a start packet's thread
 abbrev pub context_of : Packet → ℕ

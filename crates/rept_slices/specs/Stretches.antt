@@ -11,7 +11,7 @@ use Rattle.rept_path.specs.Moves.{Place}
 use Rattle.rept_path.specs.Route.{Origin, Route, place}
 use Rattle.rept_path.specs.Trace.{StopsAt}
 use Rattle.rept_slices.specs.Stamps.{is_start}
-use Rattle.rept_slices.specs.Parts.{Told, inner}
+use Rattle.rept_slices.specs.Parts.{ToldSlice, inner}
 
 -- the packets up to the next one that begins a stretch, by whether the trace waits
 abbrev pub same_stretch : Bool → List Packet → List Packet
@@ -19,16 +19,16 @@ same_stretch waits [] = []
 same_stretch waits (p ∷ later) = if begins p waits then [] else p ∷ same_stretch (waits_after p waits) later
 
 -- the packets of the stretch that begins with a slice
-abbrev pub stretch : Told → List Packet
+abbrev pub stretch : ToldSlice → List Packet
 stretch t = t.start ∷ same_stretch false t.later
 
 -- the slices with which stretches begin
-abbrev pub heads : List Told → List Told
+abbrev pub heads : List ToldSlice → List ToldSlice
 heads ts = filter (λ t. is_none t.inside) ts
 
 -- A stretch that was walked: the slice with which it begins, and the legs of its packets, newest first.
 pub record Walked : Type 0 where
-  pub head : Told
+  pub head : ToldSlice
   pub legs : List (List StepRow)
 
 abbrev pub last_place : Code → Walked → Place
@@ -38,20 +38,20 @@ abbrev pub count_of : Code → Walked → ℕ
 count_of code w = length (last_place code w).rows
 
 -- where the walk of a stretch begins, after others of so many rows
-abbrev pub origin_after : ℕ → Told → Origin
+abbrev pub origin_after : ℕ → ToldSlice → Origin
 origin_after count t = record { number = t.number; room = 65536 - count }
 
 abbrev pub Goes : Code → ℕ → Walked → Type 0
 Goes code count w = Route code (origin_after count w.head) (reverse (stretch w.head)) w.legs
 
 -- The stretches that begin with these slices are walked one after the other, after others of so many rows.
-abbrev pub Walks : Code → ℕ → List Told → List Walked → Type 0
+abbrev pub Walks : Code → ℕ → List ToldSlice → List Walked → Type 0
 Walks code count [] ws = ws ≡ []
 Walks code count (t ∷ ts) [] = ⊥
 Walks code count (t ∷ ts) (w ∷ ws) = (w.head ≡ t) × Goes code count w × Walks code (count + count_of code w) ts ws
 
 -- One of them is refused, after those before it were walked.
-abbrev pub WalksFault : Code → ℕ → List Told → PathFault → Type 0
+abbrev pub WalksFault : Code → ℕ → List ToldSlice → PathFault → Type 0
 WalksFault code count [] e = ⊥
 WalksFault code count (t ∷ ts) e =
     StopsAt code (origin_after count t) (stretch t) e
@@ -59,27 +59,27 @@ WalksFault code count (t ∷ ts) e =
 
 -- A slice that was walked: its rows, oldest first, and the last place of its stretch with all branch bits of the stretch.
 pub record Ran : Type 0 where
-  pub told : Told
+  pub told : ToldSlice
   pub rows : List StepRow
   pub last : Place
   pub bits : List Bool
 
 -- whether a slice is one of the stretch
-abbrev pub within : Walked → Told → Bool
+abbrev pub within : Walked → ToldSlice → Bool
 within w t = nat_le w.head.number t.number && nat_lt t.number (w.head.number + length (stretch w.head))
 
 -- The rows of a slice are the legs of the packets after its start packet up to the one that ends it.
-abbrev pub rows_of : Walked → Told → List StepRow
+abbrev pub rows_of : Walked → ToldSlice → List StepRow
 rows_of w t = flat_map reverse (take (suc (inner t)) (drop (suc (t.number - w.head.number)) (reverse w.legs)))
 
-abbrev pub ran_by : Code → Walked → Told → Ran
+abbrev pub ran_by : Code → Walked → ToldSlice → Ran
 ran_by code w t = record { told = t; rows = rows_of w t; last = last_place code w; bits = bits code (reverse (stretch w.head)) }
 
-abbrev pub ran_in : Code → List Told → Walked → List Ran
+abbrev pub ran_in : Code → List ToldSlice → Walked → List Ran
 ran_in code ts w = map (ran_by code w) (filter (within w) ts)
 
 -- all slices, in the order of their packets
-abbrev pub ran : Code → List Told → List Walked → List Ran
+abbrev pub ran : Code → List ToldSlice → List Walked → List Ran
 ran code ts ws = flat_map (ran_in code ts) ws
 
 -- how many rows stand after each start packet of a stretch: of its packets and their legs, newest first

@@ -2,15 +2,15 @@
 use Rattle.std.specs.Prelude.{◌≡◌, nat_lt, ℕ, List, length}
 use Rattle.std.specs.List.{sum_by, filter_map}
 use Rattle.rept_trace.specs.declared.packet.Packet.{Packet}
-use Rattle.rept_slices.specs.Parts.{told}
+use Rattle.rept_slices.specs.Parts.{slices_told}
 use Rattle.rept_slices.specs.Skipping.{windows as all_windows, opening, full_from, kept, skipped}
-use Rattle.rept_slices.specs.Entries.{AreTold}
+use Rattle.rept_slices.specs.Entries.{AreEntriesOf}
 use Rattle.rept_slices.specs.declared.survey.Survey.{Survey}
 
 pub record IsSurvey (from : ℕ) (lists : List (List Packet)) (s : Survey) : Type 0 where
-  pub windows : AreTold s.windows.items (told (all_windows from lists))
+  pub windows : AreEntriesOf s.windows.items (slices_told (all_windows from lists))
   pub time : s.time ≡ full_from (all_windows from lists)
   pub several : s.several ≡ nat_lt 1 (length (filter_map opening (all_windows from lists)))
-  pub slices : AreTold s.slices.items (told (kept from lists))
+  pub slices : AreEntriesOf s.slices.items (slices_told (kept from lists))
   pub packets : s.packets ≡ sum_by (λ packets. length packets) lists
   pub skipped : s.skipped ≡ skipped from lists

@@ -4,7 +4,7 @@ use Rattle.rept_trace.specs.declared.packet.Qual.TheVariants.{EndedRep, TraceLos
 use Rattle.rept_trace.specs.declared.packet.Packet.{Packet}
 use Rattle.rept_trace.specs.declared.packet.Packet.TheVariants.{Start, Context, Support}
 use Rattle.rept_path.specs.declared.fault.PathFault.{PathFault}
-use Rattle.rept_slices.specs.Parts.{thread_of, begin_of, told}
+use Rattle.rept_slices.specs.Parts.{thread_of, begin_of, slices_told}
 use Rattle.rept_slices.specs.Order.{end_of}
 use Rattle.rept_slices.specs.Skipping.{kept, skipped, dark}
 use Rattle.rept_slices.specs.Checks.{first_fault, check}
@@ -34,7 +34,7 @@ abbrev pub times : ℕ → ℕ → ℕ → ℕ → Times
 times stream thread begin end = record { stream = stream; thread = thread; begin = begin; end = end }
 
 abbrev pub slices : ℕ → List (List Packet) → List Times
-slices from streams = map (λ t. times t.stream (thread_of t) (begin_of t) (end_of (told (kept from streams)) t)) (told (kept from streams))
+slices from streams = map (λ t. times t.stream (thread_of t) (begin_of t) (end_of (slices_told (kept from streams)) t)) (slices_told (kept from streams))
 
 -- what streams tell: their slices, until when anything may have happened, and how many packets are skipped
 pub record Says : Type 0 where
@@ -50,7 +50,7 @@ abbrev pub fault : List (List Packet) → Option PathFault
 fault streams = check 0 (1 ∷ 2 ∷ []) streams
 
 abbrev pub overlaps : List (List Packet) → Option PathFault
-overlaps streams = first_fault (overlap_fault (told (kept 0 streams))) (1 ∷ 2 ∷ [])
+overlaps streams = first_fault (overlap_fault (slices_told (kept 0 streams))) (1 ∷ 2 ∷ [])
 
 -- a slice ends at the next time of its stream after it
 abbrev pub two_harts : List (List Packet)

@@ -4,7 +4,7 @@ ghost use Rattle.std.specs.Prelude.{◌≡◌, ◌+◌, ◌<◌, ◌^◌, List, 
 ghost use Rattle.rept_trace.specs.declared.packet.Packet.{Packet};
 ghost use Rattle.rept_trace.specs.Packets.{rest_of};
 ghost use Rattle.rept_trace.specs.Stream.{Hold};
-ghost use Rattle.rept_slices.specs.Stamps.{time_of};
+ghost use Rattle.rept_slices.specs.Stamps.{stamp_of};
 ghost use Rattle.rept_slices.specs.Checks.{back_from};
 ghost use Rattle.rept_slices.specs.Latest.{latest_by};
 
@@ -15,7 +15,7 @@ use rept_trace::{Packet, Packets};
 
 /// The latest time after a packet, where it was this one before it. None where the packet is of an earlier time.
 fn latest_after(packet: Packet, latest: u64) -> Option<u64>
-    ensures { result ≡ latest_by (time_of packet) latest }
+    ensures { result ≡ latest_by (stamp_of packet) latest }
 {
     match time_of(packet) {
         None => Some(latest),

@@ -7,8 +7,8 @@ ghost use Rattle.rept_trace.specs.Packets.{rest_of};
 ghost use Rattle.rept_trace.specs.Stream.{Hold};
 ghost use Rattle.rept_path.specs.declared.fault.PathFault.TheVariants.{OutOfMemory};
 ghost use Rattle.rept_slices.specs.Stamps.{clock_of, context_of};
-ghost use Rattle.rept_slices.specs.Parts.{Left, Told, told, begin_of, thread_of, end_before, lesser};
-ghost use Rattle.rept_slices.specs.Entries.{IsTold, AreTold};
+ghost use Rattle.rept_slices.specs.Parts.{Left, ToldSlice, slices_told, begin_of, thread_of, end_before, lesser};
+ghost use Rattle.rept_slices.specs.Entries.{IsEntryOf, AreEntriesOf};
 ghost use Rattle.rept_slices.specs.Lefts.{IsLeft, AreLeft};
 ghost use Rattle.rept_slices.specs.Ends.{next_begin, early, ends_in};
 ghost use Rattle.rept_slices.specs.Order.{head_of};
@@ -37,7 +37,7 @@ fn lesser(time: u64, other: Option<u64>) -> u64
 /// The time at which a slice has ended, where the next one of its thread begins at this time, if there is a next one.
 pub fn end_before(slice: &Entry<'_>, next: Option<u64>) -> u64
     requires { (list : List Packet) × Hold (rest_of slice.now.later) list }
-    ensures { (t : Told) → IsTold slice.now t → result ≡ end_before t next }
+    ensures { (t : ToldSlice) → IsEntryOf slice.now t → result ≡ end_before t next }
 {
     let own = lesser(u64::MAX, time_beyond(slice.later));
     lesser(own, next)
@@ -45,7 +45,7 @@ pub fn end_before(slice: &Entry<'_>, next: Option<u64>) -> u64
 
 /// The begin of the next slice of a thread, which is the first one of these, of slices that stand in order; if it has one.
 fn begin_next(slices: &[Entry<'_>], process: u32) -> Option<u64>
-    ensures { (ts : List Told) (t : Told) → AreTold slices.now ts → process ≡ thread_of t → result ≡ next_begin t (head_of ts) }
+    ensures { (ts : List ToldSlice) (t : ToldSlice) → AreEntriesOf slices.now ts → process ≡ thread_of t → result ≡ next_begin t (head_of ts) }
 {
     let next = slices.first()?;
     if process_of(next) == process {
@@ -57,8 +57,8 @@ fn begin_next(slices: &[Entry<'_>], process: u32) -> Option<u64>
 
 /// The end of the first one of slices that stand in order, if it begins before a time.
 fn end_early(slices: &[Entry<'_>], time: u64) -> Option<u64>
-    requires { (ts : List Told) × AreTold slices.now ts }
-    ensures { (t : Told) (later : List Told) → AreTold slices.now (t ∷ later) → result ≡ early time t (head_of later) }
+    requires { (ts : List ToldSlice) × AreEntriesOf slices.now ts }
+    ensures { (t : ToldSlice) (later : List ToldSlice) → AreEntriesOf slices.now (t ∷ later) → result ≡ early time t (head_of later) }
 {
     let (slice, later) = slices.split_first()?;
     if begin_of(slice) < time {
@@ -77,8 +77,8 @@ fn any_early(slices: &[Entry<'_>], time: u64) -> bool
 
 /// The greatest of a time and of the ends of the slices that begin before it, of slices that stand in order.
 fn last_end(slices: &[Entry<'_>], time: u64) -> u64
-    requires { (ts : List Told) × AreTold slices.now ts }
-    ensures { (ts : List Told) → AreTold slices.now ts → result ≡ greatest (time ∷ ends_in time ts) }
+    requires { (ts : List ToldSlice) × AreEntriesOf slices.now ts }
+    ensures { (ts : List ToldSlice) → AreEntriesOf slices.now ts → result ≡ greatest (time ∷ ends_in time ts) }
 {
     let mut last = time;
     for i in 0..slices.len() {
@@ -146,9 +146,9 @@ pub fn skipped(windows: &[Window<'_>]) -> u32
 /// The time until which anything may have happened, of the slices of all windows, of the time from which on all streams tell, and of whether they are several. The slices
 /// are put in order.
 pub fn dark(slices: &mut Vec<Entry<'_>>, time: u64, several: bool) -> Result<Option<u64>, PathFault>
-    requires { (ts : List Told) × AreTold slices.old.items ts }
-    ensures ok { (from : ℕ) (lists : List (List Packet)) → AreTold slices.old.items (told (all_windows from lists)) →
-        IfOk result (λ dark. dark ≡ (if several then Some (greatest (time ∷ ends_of time (told (all_windows from lists)))) else None)) }
+    requires { (ts : List ToldSlice) × AreEntriesOf slices.old.items ts }
+    ensures ok { (from : ℕ) (lists : List (List Packet)) → AreEntriesOf slices.old.items (slices_told (all_windows from lists)) →
+        IfOk result (λ dark. dark ≡ (if several then Some (greatest (time ∷ ends_of time (slices_told (all_windows from lists)))) else None)) }
     ensures err { IfErr result (λ e. e ≡ OutOfMemory) }
 {
     if !several {

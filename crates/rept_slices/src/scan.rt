@@ -5,7 +5,7 @@ ghost use Rattle.std.specs.List.{prefix_len};
 ghost use Rattle.rept_trace.specs.declared.packet.Packet.{Packet};
 ghost use Rattle.rept_trace.specs.Packets.{rest_of};
 ghost use Rattle.rept_trace.specs.Stream.{Hold};
-ghost use Rattle.rept_slices.specs.Stamps.{time_of, closes};
+ghost use Rattle.rept_slices.specs.Stamps.{stamp_of, closes};
 ghost use Rattle.rept_slices.specs.Parts.{first_time};
 
 use rept_path::window::next_packet;
@@ -13,7 +13,7 @@ use rept_trace::{Packet, Packets, Qual};
 
 /// The time of a packet.
 pub fn time_of(packet: Packet) -> Option<u64>
-    ensures { result ≡ time_of packet }
+    ensures { result ≡ stamp_of packet }
 {
     match packet {
         Packet::Start { time, .. } => Some(time),

@@ -3,9 +3,9 @@
 ghost use Rattle.std.specs.Prelude.{◌≡◌, ◌==◌, List};
 ghost use Rattle.std.specs.List.{list_any};
 ghost use Rattle.rept_slices.specs.Stamps.{context_of};
-ghost use Rattle.rept_slices.specs.Parts.{Told};
+ghost use Rattle.rept_slices.specs.Parts.{ToldSlice};
 ghost use Rattle.rept_slices.specs.Checks.{first_fault, stranger};
-ghost use Rattle.rept_slices.specs.Entries.{AreTold, judged, judged_inside};
+ghost use Rattle.rept_slices.specs.Entries.{AreEntriesOf, judged, judged_inside};
 
 use crate::telling::Entry;
 use rept_path::PathFault;
@@ -61,7 +61,7 @@ fn stranger(slice: &Entry<'_>, processes: &[u32]) -> Option<PathFault>
 
 /// The first slice of a thread that isn't one of these processes, or that begins while another thread runs: the refusal, if there is one.
 pub fn refused_by_threads(slices: &[Entry<'_>], processes: &[u32]) -> Option<PathFault>
-    ensures { (ts : List Told) → AreTold slices.now ts → result ≡ first_fault (stranger processes.now) ts }
+    ensures { (ts : List ToldSlice) → AreEntriesOf slices.now ts → result ≡ first_fault (stranger processes.now) ts }
 {
     for slice in slices {
         if let Some(fault) = stranger(slice, processes) {

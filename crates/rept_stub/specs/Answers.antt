@@ -2,7 +2,7 @@
 -- Remote Serial Protocol, sections Packets, General Query Packets and vCont). What is asked of no thread by name is asked of the selected one, at
 -- its cursor.
 use Rattle.std.specs.Prelude.{◌≡◌, ℕ, List, [], drop, length, Option, None, Some, codes, if◌then◌else◌}
-use Rattle.rept_session.specs.Shown.{Shown, Told}
+use Rattle.rept_session.specs.Shown.{SessionTold, Shown}
 use Rattle.rept_session.specs.Session.{IsReply, said_at}
 use Rattle.rept_session.specs.declared.place.ThreadPoint.{ThreadPoint}
 use Rattle.rept_request.specs.Requests.{request_of}
@@ -12,7 +12,7 @@ use Rattle.rept_request.specs.declared.request.Way.{Way}
 use Rattle.rept_request.specs.declared.request.Way.TheVariants as way
 use Rattle.rept_stub.specs.Description.{description_text}
 use Rattle.rept_stub.specs.Halts.{Wanted, continued, continued_back, stepped, stepped_back, wanted}
-use Rattle.rept_stub.specs.Replies.{bytes_at, decoded, error, memory_bytes, memory_digits, part_reply, register_reply, registers_reply, text_reply}
+use Rattle.rept_stub.specs.Replies.{bytes_told, decoded, error, memory_bytes, memory_digits, part_reply, register_reply, registers_reply, text_reply}
 use Rattle.rept_stub.specs.Monitoring.{asked_of, help_text, signal_text, writers_text}
 use Rattle.rept_stub.specs.Spots.{Spots, is_small, watched, with_break, with_region, without_break, without_region}
 use Rattle.rept_stub.specs.Standing.{cursor_of, here, named_thread, put, selected, selected_moving}
@@ -81,19 +81,19 @@ abbrev pub still_reply : Shown → ℕ → Stand → Request → List ℕ
 still_reply s signal stand request.Reason = reason_reply s signal (here stand)
 still_reply s signal stand request.Registers = registers_reply s (here stand)
 still_reply s signal stand (request.Register number) = register_reply s (here stand) number
-still_reply s signal stand (request.Memory address count) = memory_digits (bytes_at s (here stand) address count)
-still_reply s signal stand (request.Bytes address count) = memory_bytes (bytes_at s (here stand) address count)
+still_reply s signal stand (request.Memory address count) = memory_digits (bytes_told s (here stand) address count)
+still_reply s signal stand (request.Bytes address count) = memory_bytes (bytes_told s (here stand) address count)
 still_reply s signal stand (request.Description offset count) = part_reply description_text offset count
 still_reply s signal stand request = threads_still s stand request
 
 -- a line of the debugger's user, at a cursor, which it doesn't move: one of this project's own, or a line of a session
-abbrev pub IsLineAnswered : Told → ℕ → ThreadPoint → List ℕ → Asked → List ℕ → Type 0
+abbrev pub IsLineAnswered : SessionTold → ℕ → ThreadPoint → List ℕ → Asked → List ℕ → Type 0
 IsLineAnswered t signal c line asked.Signal said = said ≡ signal_text signal
 IsLineAnswered t signal c line asked.Help said = said ≡ help_text
 IsLineAnswered t signal c line (asked.Writers address) said = said ≡ writers_text t.shown c address
 IsLineAnswered t signal c line asked.Session said = IsReply t c (said_at t.shown c line) said
 
-abbrev pub IsMonitored : Told → ℕ → ThreadPoint → Option (List ℕ) → List ℕ → Type 0
+abbrev pub IsMonitored : SessionTold → ℕ → ThreadPoint → Option (List ℕ) → List ℕ → Type 0
 IsMonitored t signal c None text = text ≡ error
 IsMonitored t signal c (Some line) text = (said : List ℕ) × IsLineAnswered t signal c line (asked_of line) said × (text ≡ text_reply said)
 
@@ -104,20 +104,20 @@ pub record Still : Type 0 where
   pub packet : List ℕ
 
 -- the answer to a request that moves nothing and changes no spots
-abbrev pub IsStill : Told → Still → Request → List ℕ → Type 0
+abbrev pub IsStill : SessionTold → Still → Request → List ℕ → Type 0
 IsStill t still request.Monitor text = IsMonitored t still.signal (here still.stand) (decoded (drop 6 still.packet)) text
 IsStill t still request text = text ≡ still_reply t.shown still.signal still.stand request
 
-abbrev pub IsChanged : Told → Still → Request → Option Spots → List ℕ → Type 0
+abbrev pub IsChanged : SessionTold → Still → Request → Option Spots → List ℕ → Type 0
 IsChanged t still request (Some spots) text = text ≡ codes "OK"
 IsChanged t still request None text = IsStill t still request text
 
-abbrev pub IsAnswerTo : Told → Still → Request → List ℕ → Type 0
+abbrev pub IsAnswerTo : SessionTold → Still → Request → List ℕ → Type 0
 IsAnswerTo t still (request.Move way name) text = text ≡ move_reply t.shown still.stand way (named_thread t.shown still.stand name)
 IsAnswerTo t still request text = IsChanged t still request (spots_after still.stand.spots request) text
 
 -- whether a text answers a packet; the signal is that which ended the process
-abbrev pub IsAnswer : Told → ℕ → Stand → List ℕ → List ℕ → Type 0
+abbrev pub IsAnswer : SessionTold → ℕ → Stand → List ℕ → List ℕ → Type 0
 IsAnswer t signal stand packet text = IsAnswerTo t (record { signal = signal; stand = stand; packet = packet }) (request_of packet) text
 
 -- which threads are selected after a packet that is no move

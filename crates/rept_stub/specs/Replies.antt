@@ -49,8 +49,8 @@ abbrev pub known_bytes : Shown → ℕ → ℕ → ℕ → List ℕ
 known_bytes s moment address count = known_run (map (λ i. s.byte moment (wrapped (address + i))) (range_with_len 0 (min count 2000)))
 
 -- those at a point of a thread
-abbrev pub bytes_at : Shown → ThreadPoint → ℕ → ℕ → List ℕ
-bytes_at s c address count = known_bytes s (moment_at s c) address count
+abbrev pub bytes_told : Shown → ThreadPoint → ℕ → ℕ → List ℕ
+bytes_told s c address count = known_bytes s (moment_at s c) address count
 
 abbrev pub memory_digits : List ℕ → List ℕ
 memory_digits [] = error

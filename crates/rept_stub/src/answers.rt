@@ -2,10 +2,10 @@
 
 ghost use Rattle.std.specs.Prelude.{◌≡◌, ◌≤◌, ◌<◌, [], drop, length, None, Some, option_map, IfOk, OnOk, OnErr, MatchBool};
 ghost use Rattle.rept_request.specs.Requests.{request_of};
-ghost use Rattle.rept_session.specs.Shown.{IsAt, SameReasons, told};
+ghost use Rattle.rept_session.specs.Shown.{IsAt, SameReasons, session_told};
 ghost use Rattle.rept_stub.specs.Answers.{IsAnswer, IsChanged, IsLineAnswered, IsMonitored, IsStill, changed, fixed_reply, halt_by, move_reply, moved, selected_by, spots_after, stand_after, still_reply, threads_still};
 ghost use Rattle.rept_stub.specs.Monitoring.{asked_of};
-ghost use Rattle.rept_stub.specs.Replies.{bytes_at, decoded, memory_bytes, memory_digits};
+ghost use Rattle.rept_stub.specs.Replies.{bytes_told, decoded, memory_bytes, memory_digits};
 ghost use Rattle.rept_stub.specs.Standing.{AreCursors, IsStanding, cursor_of, here, named_thread, start_of};
 
 use crate::cursors::Cursors;
@@ -74,7 +74,7 @@ pub fn answer_packet<F: Findings>(
     packet: &[u8],
 ) -> Result<Text, OutOfMemory>
     requires { IsStanding (F.shown findings.old) stand.old }
-    ensures text { IfOk result (IsAnswer (told (F.shown findings.old) setting.skipped (F.reasons findings.old)) setting.signal stand.old packet.now) }
+    ensures text { IfOk result (IsAnswer (session_told (F.shown findings.old) setting.skipped (F.reasons findings.old)) setting.signal stand.old packet.now) }
     ensures stand { OnOk result (stand.new ≡ stand_after (F.shown findings.old) stand.old packet.now) }
     ensures within { IsStanding (F.shown findings.old) stand.new }
     ensures same { F.shown findings.new ≡ F.shown findings.old }
@@ -96,7 +96,7 @@ fn answer_other<F: Findings>(
     packet: &[u8],
 ) -> Result<Text, OutOfMemory>
     requires { IsStanding (F.shown findings.old) stand.old }
-    ensures text { IfOk result (IsChanged (told (F.shown findings.old) setting.skipped (F.reasons findings.old)) (record { signal = setting.signal; stand = stand.old; packet = packet.now }) (request_of packet.now) (spots_after stand.old.spots (request_of packet.now))) }
+    ensures text { IfOk result (IsChanged (session_told (F.shown findings.old) setting.skipped (F.reasons findings.old)) (record { signal = setting.signal; stand = stand.old; packet = packet.now }) (request_of packet.now) (spots_after stand.old.spots (request_of packet.now))) }
     ensures stand { OnOk result (stand.new ≡ changed (F.shown findings.old) stand.old (request_of packet.now) (spots_after stand.old.spots (request_of packet.now))) }
     ensures within { IsStanding (F.shown findings.old) stand.new }
     ensures same { F.shown findings.new ≡ F.shown findings.old }
@@ -121,7 +121,7 @@ fn unchanged<F: Findings>(
     packet: &[u8],
 ) -> Result<Text, OutOfMemory>
     requires { IsStanding (F.shown findings.old) stand.now }
-    ensures text { IfOk result (IsStill (told (F.shown findings.old) setting.skipped (F.reasons findings.old)) (record { signal = setting.signal; stand = stand.now; packet = packet.now }) (request_of packet.now)) }
+    ensures text { IfOk result (IsStill (session_told (F.shown findings.old) setting.skipped (F.reasons findings.old)) (record { signal = setting.signal; stand = stand.now; packet = packet.now }) (request_of packet.now)) }
     ensures same { F.shown findings.new ≡ F.shown findings.old }
     ensures same_reasons { SameReasons (F.reasons findings.old) (F.reasons findings.new) }
 {
@@ -230,7 +230,7 @@ fn monitor<F: Findings>(
     packet: &[u8],
 ) -> Result<Text, OutOfMemory>
     requires { IsAt (F.shown findings.old) at }
-    ensures text { IfOk result (IsMonitored (told (F.shown findings.old) setting.skipped (F.reasons findings.old)) setting.signal at (decoded (drop 6 packet.now))) }
+    ensures text { IfOk result (IsMonitored (session_told (F.shown findings.old) setting.skipped (F.reasons findings.old)) setting.signal at (decoded (drop 6 packet.now))) }
     ensures same { F.shown findings.new ≡ F.shown findings.old }
     ensures same_reasons { SameReasons (F.reasons findings.old) (F.reasons findings.new) }
 {
@@ -258,7 +258,7 @@ fn line_answer<F: Findings>(
     line: &[u8],
 ) -> Result<Text, OutOfMemory>
     requires { IsAt (F.shown findings.old) at }
-    ensures text { IfOk result (IsLineAnswered (told (F.shown findings.old) setting.skipped (F.reasons findings.old)) setting.signal at line.now (asked_of line.now)) }
+    ensures text { IfOk result (IsLineAnswered (session_told (F.shown findings.old) setting.skipped (F.reasons findings.old)) setting.signal at line.now (asked_of line.now)) }
     ensures same { F.shown findings.new ≡ F.shown findings.old }
     ensures same_reasons { SameReasons (F.reasons findings.old) (F.reasons findings.new) }
 {
@@ -403,7 +403,7 @@ fn memory<F: Findings>(
     count: u32,
 ) -> Result<Text, OutOfMemory>
     requires { IsAt (F.shown findings.now) at }
-    ensures { IfOk result (λ text. text ≡ memory_digits (bytes_at (F.shown findings.now) at address count)) }
+    ensures { IfOk result (λ text. text ≡ memory_digits (bytes_told (F.shown findings.now) at address count)) }
 {
     let known = known_bytes(alloc, findings, moment_of(findings, at), address, count)?;
     memory_digits(alloc, known.bytes())
@@ -417,7 +417,7 @@ fn bytes<F: Findings>(
     count: u32,
 ) -> Result<Text, OutOfMemory>
     requires { IsAt (F.shown findings.now) at }
-    ensures { IfOk result (λ text. text ≡ memory_bytes (bytes_at (F.shown findings.now) at address count)) }
+    ensures { IfOk result (λ text. text ≡ memory_bytes (bytes_told (F.shown findings.now) at address count)) }
 {
     let known = known_bytes(alloc, findings, moment_of(findings, at), address, count)?;
     memory_bytes(alloc, known.bytes())

@@ -16,7 +16,7 @@ use Rattle.rept_path.specs.Moves.{Stand, way_by, site, successor, ◌>>=◌}
 use Rattle.rept_path.proofs.MoveLemmas.{bind_ok}
 use Rattle.rept_slices.specs.Stamps.{address_of}
 use Rattle.rept_slices.specs.Stretches.{Ran}
-use Rattle.rept_slices.specs.Joins.{Ending, stand_at, bridge}
+use Rattle.rept_slices.specs.Joins.{ThreadGround, stand_at, bridge}
 use Rattle.rept_threads.specs.Linking.{Goes, onward_to, Ready}
 use Rattle.rept_threads.proofs.Leading.{Leads, leads_goes}
 
@@ -63,11 +63,11 @@ module _ (code : Code) where
       fits false xs l h = absurd (cc)
 
 -- where what is joined leads
-abbrev pub target : Ending → Option Ran → ℕ
+abbrev pub target : ThreadGround → Option Ran → ℕ
 target e None = e.pc
 target e (Some q) = address_of q.told.start
 
-pub bridge_goes : (e : Ending) (count : ℕ) (r : Ran) (o : Option Ran) (more : List StepRow) → bridge e count r o ≡ Ok more → Goes (reverse more) (onward_to r o) (target e o)
+pub bridge_goes : (e : ThreadGround) (count : ℕ) (r : Ran) (o : Option Ran) (more : List StepRow) → bridge e count r o ≡ Ok more → Goes (reverse more) (onward_to r o) (target e o)
 bridge_goes e count r None more h =
     let s = stand_at e.packets r count in
     leads_goes more r.last.at e.pc (gap_leads e.code s (record { address = e.pc; otherwise = End s.place.at e.pc }) more h)
@@ -81,7 +81,7 @@ bridge_goes e count r (Some q) more h = go (is_none q.told.inside) h where
       leads_goes more r.last.at a (gap_leads e.code s (record { address = a; otherwise = Gap s.packet s.place.at a }) more k)
   go false k = let is : [] ≡ more = cc in subst (λ (xs : List StepRow). Goes (reverse xs) a a) is refl
 
-pub ready_of : (e : Ending) (o : Option Ran) (rows : List StepRow) → EndBefore rows (target e o) → Ready rows o
+pub ready_of : (e : ThreadGround) (o : Option Ran) (rows : List StepRow) → EndBefore rows (target e o) → Ready rows o
 ready_of e None rows h = tt
 ready_of e (Some q) rows h = h
 

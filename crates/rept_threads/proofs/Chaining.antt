@@ -5,7 +5,7 @@ use Rattle.std.specs.List.{filter}
 use Rattle.rept_trace.specs.declared.packet.Packet.{Packet}
 use Rattle.rept_path.specs.Code.{Code}
 use Rattle.rept_slices.specs.Stamps.{is_start, address_of}
-use Rattle.rept_slices.specs.Parts.{Told, thread_of, begin_of, told_from, told}
+use Rattle.rept_slices.specs.Parts.{ToldSlice, thread_of, begin_of, told_from, slices_told}
 use Rattle.rept_slices.specs.Skipping.{kept}
 use Rattle.rept_slices.specs.Order.{put, by_time, slices_of}
 use Rattle.rept_slices.specs.Stretches.{same_stretch, stretch, heads, Walked, last_place, origin_after, count_of, Goes as GoesBy, Walks as AreWalks, Ran, within, ran_by, ran_in, ran}
@@ -29,7 +29,7 @@ abbrev pub HeadRan : List Ran → Type 0
 HeadRan [] = Unit {0}
 HeadRan (r ∷ rs) = r.told.inside ≡ None
 
-inner_running : (code : Code) (w : Walked) (ts : List Told) → Running (map (ran_by code w) (inner_slices ts))
+inner_running : (code : Code) (w : Walked) (ts : List ToldSlice) → Running (map (ran_by code w) (inner_slices ts))
 inner_running code w [] = tt
 inner_running code w (t ∷ ts) = go (is_none t.inside) refl (inner_running code w ts) where
   go : (b : Bool) → is_none t.inside ≡ b → Running (map (ran_by code w) (inner_slices ts)) → Running (map (ran_by code w) (cond b [] (t ∷ inner_slices ts)))
@@ -41,9 +41,9 @@ chained_append r [] [] l n c h = (l.0, tt)
 chained_append r [] (y ∷ ys) l n c h = (subst (λ (a : ℕ). Goes r.rows (address_of r.told.start) a) (sym (ap (λ (o : Option ℕ). cond (is_none o) r.last.at (address_of y.told.start)) h)) l.0, c)
 chained_append r (q ∷ rs) ys l n c h = (subst (λ (a : ℕ). Goes r.rows (address_of r.told.start) a) (sym (ap (λ (b : Bool). cond b r.last.at (address_of q.told.start)) n.0)) l.0, chained_append q rs ys l.1 n.1 c h)
 
-module _ (code : Code) (ts : List Told) where
+module _ (code : Code) (ts : List ToldSlice) where
   -- the slices of one stretch
-  own_locals : (before later : List Told) (count : ℕ) (w : Walked) → ts ≡ before ++ w.head ∷ later → Each Started (before ++ w.head ∷ later) → Following (before ++ w.head ∷ later) → GoesBy code count w → Locals (ran_in code ts w)
+  own_locals : (before later : List ToldSlice) (count : ℕ) (w : Walked) → ts ≡ before ++ w.head ∷ later → Each Started (before ++ w.head ∷ later) → Following (before ++ w.head ∷ later) → GoesBy code count w → Locals (ran_in code ts w)
   own_locals before later count w e s f g = elim (kind w.head.start) [
     | inr j ↦ absurd (elim j [ inl i ↦ wrong i.start | inr i ↦ wrong i.start ])
     | inl o ↦
@@ -62,13 +62,13 @@ module _ (code : Code) (ts : List Told) where
         (subst (λ (ps : List Packet). Cut false ps ([] ∷ sheet.later)) (sym long) sheet.cut)
         (subst (λ (ps : List Packet). Steered (address_of w.head.start) ps ([] ∷ sheet.later) (last_place code w).at) (sym long) steered) in
         let here_ran : map (ran_by code w) (filter (within w) (told_from w.head.stream w.head.number w.head.inside (w.head.start ∷ w.head.later) ++ x.others)) ≡ ran_in code ts w =
-        ap (λ (xs : List Told). map (ran_by code w) (filter (within w) xs)) (sym x.same) ∙ ap (map (ran_by code w)) (sym (none_before w before (w.head ∷ later) (before_earlier before w.head later s f))) ∙ ap (λ (xs : List Told). map (ran_by code w) (filter (within w) xs)) (sym e) in
+        ap (λ (xs : List ToldSlice). map (ran_by code w) (filter (within w) xs)) (sym x.same) ∙ ap (map (ran_by code w)) (sym (none_before w before (w.head ∷ later) (before_earlier before w.head later s f))) ∙ ap (λ (xs : List ToldSlice). map (ran_by code w) (filter (within w) xs)) (sym e) in
         subst Locals here_ran there
   ] where
     wrong : is_start w.head.start ≡ false → ⊥
     wrong h = let starts : is_start w.head.start ≡ true = started_there before w.head later s in cc
 
-  chain : (before later : List Told) (count : ℕ) (ws : List Walked) → ts ≡ before ++ later → Each Started (before ++ later) → Following (before ++ later) → AreWalks code count (heads later) ws → Chained (ran code ts ws) × HeadRan (ran code ts ws)
+  chain : (before later : List ToldSlice) (count : ℕ) (ws : List Walked) → ts ≡ before ++ later → Each Started (before ++ later) → Following (before ++ later) → AreWalks code count (heads later) ws → Chained (ran code ts ws) × HeadRan (ran code ts ws)
   chain before [] count ws e s f a = subst (λ (vs : List Walked). Chained (ran code ts vs) × HeadRan (ran code ts vs)) (sym a) (tt, tt)
   chain before (t ∷ later) count ws e s f a = go t.inside refl ws a (λ n vs b. chain (before ++ t ∷ []) later n vs (e ∙ sym shift) (subst (Each Started) (sym shift) s) (subst Following (sym shift) f) b) where
     shift : (before ++ t ∷ []) ++ later ≡ before ++ t ∷ later
@@ -81,10 +81,10 @@ module _ (code : Code) (ts : List Told) where
     go None is (w ∷ vs) a more =
         let b = subst (λ (o : Option ℕ). AreWalks code count (cond (is_none o) (t ∷ heads later) (heads later)) (w ∷ vs)) is a in
         let y = follow_there before t later f in
-        let number = ap (λ (u : Told). u.number) b.0 in
+        let number = ap (λ (u : ToldSlice). u.number) b.0 in
         let early = subst (λ (n : ℕ). Each (Earlier n) before) (sym number) (before_earlier before t later s f) in
         let own : filter (within w) ts ≡ t ∷ inner_slices later = ap (filter (within w)) e ∙ none_before w before (t ∷ later) early ∙ gathered w t later y.others b.0 (started_there before t later s) y.same y.after y.heads in
-        let at : before ++ t ∷ later ≡ before ++ w.head ∷ later = ap (λ (u : Told). before ++ u ∷ later) (sym b.0) in
+        let at : before ++ t ∷ later ≡ before ++ w.head ∷ later = ap (λ (u : ToldSlice). before ++ u ∷ later) (sym b.0) in
         let local = own_locals before later count w (e ∙ at) (subst (Each Started) at s) (subst Following at f) b.1 in
         let parts : ran_in code ts w ≡ ran_by code w t ∷ map (ran_by code w) (inner_slices later) = ap (map (ran_by code w)) own in
         let rest = more (count + count_of code w) vs b.2 in
@@ -99,25 +99,25 @@ module _ (process : ℕ) where
     go : (b : Bool) → map (λ (q : Ran). q.told) (put (λ (q : Ran). begin_of q.told) r rs) ≡ put begin_of r.told (map (λ (q : Ran). q.told) rs)
         → map (λ (q : Ran). q.told) (cond b (r ∷ q ∷ rs) (q ∷ put (λ (q : Ran). begin_of q.told) r rs)) ≡ cond b (r.told ∷ q.told ∷ map (λ (q : Ran). q.told) rs) (q.told ∷ put begin_of r.told (map (λ (q : Ran). q.told) rs))
     go true h = refl
-    go false h = ap (λ (ts : List Told). q.told ∷ ts) h
+    go false h = ap (λ (ts : List ToldSlice). q.told ∷ ts) h
 
   tell_by_time : (rs : List Ran) → map (λ (q : Ran). q.told) (by_time (λ (q : Ran). begin_of q.told) rs) ≡ by_time begin_of (map (λ (q : Ran). q.told) rs)
   tell_by_time [] = refl
   tell_by_time (r ∷ rs) = tell_put r (by_time (λ (q : Ran). begin_of q.told) rs) ∙ ap (put begin_of r.told) (tell_by_time rs)
 
-  tell_filter : (rs : List Ran) → map (λ (q : Ran). q.told) (filter (λ (q : Ran). thread_of q.told == process) rs) ≡ filter (λ (t : Told). thread_of t == process) (map (λ (q : Ran). q.told) rs)
+  tell_filter : (rs : List Ran) → map (λ (q : Ran). q.told) (filter (λ (q : Ran). thread_of q.told == process) rs) ≡ filter (λ (t : ToldSlice). thread_of t == process) (map (λ (q : Ran). q.told) rs)
   tell_filter [] = refl
   tell_filter (r ∷ rs) = go (thread_of r.told == process) (tell_filter rs) where
-    go : (b : Bool) → map (λ (q : Ran). q.told) (filter (λ (q : Ran). thread_of q.told == process) rs) ≡ filter (λ (t : Told). thread_of t == process) (map (λ (q : Ran). q.told) rs)
-        → map (λ (q : Ran). q.told) (cond b (r ∷ filter (λ (q : Ran). thread_of q.told == process) rs) (filter (λ (q : Ran). thread_of q.told == process) rs)) ≡ cond b (r.told ∷ filter (λ (t : Told). thread_of t == process) (map (λ (q : Ran). q.told) rs)) (filter (λ (t : Told). thread_of t == process) (map (λ (q : Ran). q.told) rs))
-    go true h = ap (λ (ts : List Told). r.told ∷ ts) h
+    go : (b : Bool) → map (λ (q : Ran). q.told) (filter (λ (q : Ran). thread_of q.told == process) rs) ≡ filter (λ (t : ToldSlice). thread_of t == process) (map (λ (q : Ran). q.told) rs)
+        → map (λ (q : Ran). q.told) (cond b (r ∷ filter (λ (q : Ran). thread_of q.told == process) rs) (filter (λ (q : Ran). thread_of q.told == process) rs)) ≡ cond b (r.told ∷ filter (λ (t : ToldSlice). thread_of t == process) (map (λ (q : Ran). q.told) rs)) (filter (λ (t : ToldSlice). thread_of t == process) (map (λ (q : Ran). q.told) rs))
+    go true h = ap (λ (ts : List ToldSlice). r.told ∷ ts) h
     go false h = h
 
   tell_thread : (rs : List Ran) → map (λ (q : Ran). q.told) (of_thread process rs) ≡ slices_of process (map (λ (q : Ran). q.told) rs)
   tell_thread rs = tell_by_time (filter (λ (q : Ran). thread_of q.told == process) rs) ∙ ap (by_time begin_of) (tell_filter rs)
 
 -- the slices of a thread, where no two of them meet
-pub thread_chained : (code : Code) (rs : List Ran) (ts : List Told) (process : ℕ) → map (λ (r : Ran). r.told) rs ≡ ts → Chained rs → Apt ts (slices_of process ts) → Chained (of_thread process rs)
+pub thread_chained : (code : Code) (rs : List Ran) (ts : List ToldSlice) (process : ℕ) → map (λ (r : Ran). r.told) rs ≡ ts → Chained rs → Apt ts (slices_of process ts) → Chained (of_thread process rs)
 thread_chained code rs ts process told_are c a =
     let places : Each (InPlace rs) rs = in_place [] rs c in
     let own = each_by_time (λ (r : Ran). begin_of r.told) (InPlace rs) (filter (λ (r : Ran). thread_of r.told == process) rs) (each_filter (InPlace rs) (λ (r : Ran). thread_of r.told == process) rs places) in
@@ -125,5 +125,5 @@ thread_chained code rs ts process told_are c a =
     chained rs ts told_are [] (of_thread process rs) (subst (Apt ts) same a) own
 
 -- all slices
-pub all_chained : (code : Code) (from : ℕ) (lists : List (List Packet)) (ws : List Walked) → AreWalks code 0 (heads (told (kept from lists))) ws → Chained (ran code (told (kept from lists)) ws)
-all_chained code from lists ws a = (chain code (told (kept from lists)) [] (told (kept from lists)) 0 ws refl (starts_told (kept from lists)) (kept_follow from lists) a).0
+pub all_chained : (code : Code) (from : ℕ) (lists : List (List Packet)) (ws : List Walked) → AreWalks code 0 (heads (slices_told (kept from lists))) ws → Chained (ran code (slices_told (kept from lists)) ws)
+all_chained code from lists ws a = (chain code (slices_told (kept from lists)) [] (slices_told (kept from lists)) 0 ws refl (starts_told (kept from lists)) (kept_follow from lists) a).0

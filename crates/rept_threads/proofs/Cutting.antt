@@ -13,10 +13,10 @@ use Rattle.rept_path.specs.Code.{Code}
 use Rattle.rept_path.specs.Packets.{begins, bits, waits_after}
 use Rattle.rept_path.specs.State.{here, Counts}
 use Rattle.rept_slices.specs.Stamps.{is_start, closes, running_after}
-use Rattle.rept_slices.specs.Parts.{Told, inner, told_from}
+use Rattle.rept_slices.specs.Parts.{ToldSlice, inner, told_from}
 use Rattle.rept_slices.specs.Stretches.{same_stretch, stretch, Walked, last_place, within, rows_of, Ran, ran_by}
 use Rattle.rept_slices.specs.Joins.{ran_rows}
-use Rattle.rept_slices.specs.Entries.{AreTold}
+use Rattle.rept_slices.specs.Entries.{AreEntriesOf}
 use Rattle.rept_threads.specs.Kept.{IsRan, AreRan, kept_by}
 use Rattle.rept_slices.specs.Ends.{first_or}
 use Rattle.rept_slices.specs.declared.telling.Entry.{Entry}
@@ -55,9 +55,9 @@ after_stretch s k (p ∷ later) = elim (kind p) [
   passed start runs e more =
       let n = ap (length {A = Packet}) e in
       let same : k + length (same_stretch true (p ∷ later)) ≡ suc k + length (same_stretch true later) = omega (arith, n) in
-      let here : Told = record { stream = s; number = k; start = p; later = later; inside = None } in
+      let here : ToldSlice = record { stream = s; number = k; start = p; later = later; inside = None } in
       let told : told_from s k None (p ∷ later) ≡ told_from s (suc k) None later = ap (λ (b : Bool). cond b (here ∷ told_from s (suc k) (running_after p None) later) (told_from s (suc k) (running_after p None) later)) start ∙ ap (λ (o : Option ℕ). told_from s (suc k) o later) runs in
-      subst (λ (ts : List Told). Each (From (k + length (same_stretch true (p ∷ later)))) ts) (sym told) (subst (λ (m : ℕ). Each (From m) (told_from s (suc k) None later)) (sym same) more)
+      subst (λ (ts : List ToldSlice). Each (From (k + length (same_stretch true (p ∷ later)))) ts) (sym told) (subst (λ (m : ℕ). Each (From m) (told_from s (suc k) None later)) (sym same) more)
 
 -- rows of some of the legs
 front_rows : (j : ℕ) (ls : List (List StepRow)) → take (length (rows_by (take j ls))) (rows_by ls) ≡ rows_by (take j ls)
@@ -81,7 +81,7 @@ module _ (code : Code) (w : Walked) (all : List Kept) (number total : ℕ) (kept
   abbrev end : ℕ
   end = w.head.number + length (stretch w.head)
 
-  none_within : (ts : List Told) → Each (From end) ts → filter (within w) ts ≡ []
+  none_within : (ts : List ToldSlice) → Each (From end) ts → filter (within w) ts ≡ []
   none_within [] h = refl
   none_within (t ∷ ts) h = elim (leb_tells (suc t.number) end) [
     | inl x ↦ absurd (let lt = x.1 in let le = h.0 in omega (arith, lt, le))
@@ -91,7 +91,7 @@ module _ (code : Code) (w : Walked) (all : List Kept) (number total : ℕ) (kept
     go true e r = ap (λ (c : Bool). cond c (t ∷ filter (within w) ts) (filter (within w) ts)) e ∙ r
     go false e r = r
 
-  some_within : (t : Told) (ts : List Told) → base ≤ t.number → t.number < end → filter (within w) (t ∷ ts) ≡ t ∷ filter (within w) ts
+  some_within : (t : ToldSlice) (ts : List ToldSlice) → base ≤ t.number → t.number < end → filter (within w) (t ∷ ts) ≡ t ∷ filter (within w) ts
   some_within t ts low high = elim (leb_tells base t.number) [
     | inr x ↦ absurd (let lt = x.1 in omega (arith, lt, low))
     | inl x ↦ elim (leb_tells (suc t.number) end) [
@@ -110,16 +110,16 @@ module _ (code : Code) (w : Walked) (all : List Kept) (number total : ℕ) (kept
     pub cut : Cut false (same_stretch false later) ls
 
   -- the slices of it, as they are kept
-  abbrev mine : List Told → List Ran
+  abbrev mine : List ToldSlice → List Ran
   mine ts = map (ran_by code w) (filter (within w) ts)
 
-  abbrev Kepts : ℕ → List Packet → List (List StepRow) → List Entry → List Told → Type 0
+  abbrev Kepts : ℕ → List Packet → List (List StepRow) → List Entry → List ToldSlice → Type 0
   Kepts n ps ls es ts = AreRan all (kept_by number total (counts_from n ps ls) es) (mine ts) × (first_or total (counts_from n ps ls) + ran_rows (mine ts) ≡ total)
 
-  none_kept : (n : ℕ) (ps : List Packet) (ls : List (List StepRow)) (es : List Entry) (ts : List Told) → counts_from n ps ls ≡ [] → filter (within w) ts ≡ [] → Kepts n ps ls es ts
+  none_kept : (n : ℕ) (ps : List Packet) (ls : List (List StepRow)) (es : List Entry) (ts : List ToldSlice) → counts_from n ps ls ≡ [] → filter (within w) ts ≡ [] → Kepts n ps ls es ts
   none_kept n ps ls es ts none nothing =
       subst (λ (ms : List ℕ). AreRan all (kept_by number total ms es) (mine ts) × (first_or total ms + ran_rows (mine ts) ≡ total)) (sym none)
-      (ap (map (ran_by code w)) nothing, let e = ap (λ (us : List Told). ran_rows (map (ran_by code w) us)) nothing in omega (arith, e))
+      (ap (map (ran_by code w)) nothing, let e = ap (λ (us : List ToldSlice). ran_rows (map (ran_by code w) us)) nothing in omega (arith, e))
 
   next_left : (k n : ℕ) (p : Packet) (later : List Packet) (after : Bool) (l : List StepRow) (ls : List (List StepRow)) → same_stretch false (p ∷ later) ≡ p ∷ same_stretch after later → Left k n (p ∷ later) (l ∷ ls) → waits_after p false ≡ after → after ≡ false → Left (suc k) (n + length l) later ls
   next_left k n p later after l ls e h waits runs =
@@ -142,13 +142,13 @@ module _ (code : Code) (w : Walked) (all : List Kept) (number total : ℕ) (kept
         cut = subst (λ (b : Bool). Cut b (same_stretch b later) ls) runs (subst (λ (b : Bool). Cut b (same_stretch after later) ls) waits cut.1);
       }
 
-  abbrev More : ℕ → ℕ → List Packet → List Told → Type 0
-  More s k later others = (m : ℕ) (i : Option ℕ) (ks : List (List StepRow)) (fs : List Entry) → Left (suc k) m later ks → Each (From (suc k + length later)) others → AreTold fs (told_from s (suc k) i later ++ others) → Kepts m (same_stretch false later) ks fs (told_from s (suc k) i later ++ others)
+  abbrev More : ℕ → ℕ → List Packet → List ToldSlice → Type 0
+  More s k later others = (m : ℕ) (i : Option ℕ) (ks : List (List StepRow)) (fs : List Entry) → Left (suc k) m later ks → Each (From (suc k + length later)) others → AreEntriesOf fs (told_from s (suc k) i later ++ others) → Kepts m (same_stretch false later) ks fs (told_from s (suc k) i later ++ others)
 
-  abbrev Wanted : ℕ → List (List StepRow) → List Entry → List Told → List Packet → List Told → Type 0
+  abbrev Wanted : ℕ → List (List StepRow) → List Entry → List ToldSlice → List Packet → List ToldSlice → Type 0
   Wanted n ls es others ps ts = Kepts n ps ls es (ts ++ others)
 
-  pub kept_from : (later : List Packet) (s k n : ℕ) (inside : Option ℕ) (ls : List (List StepRow)) (es : List Entry) (others : List Told) → Left k n later ls → Each (From (k + length later)) others → AreTold es (told_from s k inside later ++ others) → Kepts n (same_stretch false later) ls es (told_from s k inside later ++ others)
+  pub kept_from : (later : List Packet) (s k n : ℕ) (inside : Option ℕ) (ls : List (List StepRow)) (es : List Entry) (others : List ToldSlice) → Left k n later ls → Each (From (k + length later)) others → AreEntriesOf es (told_from s k inside later ++ others) → Kepts n (same_stretch false later) ls es (told_from s k inside later ++ others)
   kept_from [] s k n inside ls es others h o a =
       let to = h.to in
       none_kept n [] ls es others refl (none_within others (each_from_less end (k + 0) (omega (arith, to)) others o))
@@ -168,10 +168,10 @@ module _ (code : Code) (w : Walked) (all : List Kept) (number total : ℕ) (kept
       | inr i ↦ passed i (stretch_on p false false later (i.begins false) (i.waits false)) (λ m x ks fs q r t. kept_from later s (suc k) m x ks fs others q r t)
     ]
   ] where
-    here_told : Told
+    here_told : ToldSlice
     here_told = record { stream = s; number = k; start = p; later = later; inside = inside }
 
-    rest : List Told
+    rest : List ToldSlice
     rest = told_from s (suc k) (running_after p inside) later
 
     far : Each (From (suc k + length later)) others
@@ -189,9 +189,9 @@ module _ (code : Code) (w : Walked) (all : List Kept) (number total : ℕ) (kept
     passed : IsInner p → same_stretch false (p ∷ later) ≡ p ∷ same_stretch false later → More s k later others → Kepts n (same_stretch false (p ∷ later)) (l ∷ ls) es (told_from s k inside (p ∷ later) ++ others)
     passed i e more =
         let told = not_told i.start in
-        let r = more (n + length l) (running_after p inside) ls es (next_left k n p later false l ls e h (i.waits false) refl) far (subst (λ (ts : List Told). AreTold es (ts ++ others)) told a) in
+        let r = more (n + length l) (running_after p inside) ls es (next_left k n p later false l ls e h (i.waits false) refl) far (subst (λ (ts : List ToldSlice). AreEntriesOf es (ts ++ others)) told a) in
         let here_kept : Wanted n (l ∷ ls) es others (p ∷ same_stretch false later) rest = subst (λ (ms : List ℕ). AreRan all (kept_by number total ms es) (mine (rest ++ others)) × (first_or total ms + ran_rows (mine (rest ++ others)) ≡ total)) (sym (uncounted false i.start)) r in
-        subst (λ (ps : List Packet). Wanted n (l ∷ ls) es others ps (told_from s k inside (p ∷ later))) (sym e) (subst (λ (ts : List Told). Wanted n (l ∷ ls) es others (p ∷ same_stretch false later) ts) (sym told) here_kept)
+        subst (λ (ps : List Packet). Wanted n (l ∷ ls) es others ps (told_from s k inside (p ∷ later))) (sym e) (subst (λ (ts : List ToldSlice). Wanted n (l ∷ ls) es others (p ∷ same_stretch false later) ts) (sym told) here_kept)
 
     ended : IsEnd p → same_stretch false (p ∷ later) ≡ p ∷ same_stretch true later → Kepts n (same_stretch false (p ∷ later)) (l ∷ ls) es (told_from s k inside (p ∷ later) ++ others)
     ended i e =
@@ -205,16 +205,16 @@ module _ (code : Code) (w : Walked) (all : List Kept) (number total : ℕ) (kept
         let cut : Cut false (p ∷ same_stretch true later) (l ∷ ls) = subst (λ (ps : List Packet). Cut false ps (l ∷ ls)) e h.cut in
         let more = nothing_more (n + length l) later ls (subst (λ (b : Bool). Cut b (same_stretch true later) ls) (i.waits false) cut.1) in
         let here_kept : Wanted n (l ∷ ls) es others (p ∷ same_stretch true later) (told_from s (suc k) None later) = none_kept n (p ∷ same_stretch true later) (l ∷ ls) es (told_from s (suc k) None later ++ others) (uncounted true i.start ∙ more.0) none in
-        subst (λ (ps : List Packet). Wanted n (l ∷ ls) es others ps (told_from s k inside (p ∷ later))) (sym e) (subst (λ (ts : List Told). Wanted n (l ∷ ls) es others (p ∷ same_stretch true later) ts) (sym told) here_kept)
+        subst (λ (ps : List Packet). Wanted n (l ∷ ls) es others ps (told_from s k inside (p ∷ later))) (sym e) (subst (λ (ts : List ToldSlice). Wanted n (l ∷ ls) es others (p ∷ same_stretch true later) ts) (sym told) here_kept)
 
     opened : IsOpen p → same_stretch false (p ∷ later) ≡ p ∷ same_stretch false later → More s k later others → Kepts n (same_stretch false (p ∷ later)) (l ∷ ls) es (told_from s k inside (p ∷ later) ++ others)
     opened i e more =
         let told = is_told i.start in
         let counted : counts_from n (p ∷ same_stretch false later) (l ∷ ls) ≡ (n + length l) ∷ counts_from (n + length l) (same_stretch false later) ls = ap (λ (b : Bool). cond b ((n + length l) ∷ []) [] ++ counts_from (n + length l) (same_stretch false later) ls) i.start in
         let on = next_left k n p later false l ls e h (i.waits false) refl in
-        let first = go es (subst (λ (ts : List Told). AreTold es (ts ++ others)) told a) e on more in
+        let first = go es (subst (λ (ts : List ToldSlice). AreEntriesOf es (ts ++ others)) told a) e on more in
         let here_kept : Wanted n (l ∷ ls) es others (p ∷ same_stretch false later) (here_told ∷ rest) = subst (λ (ms : List ℕ). AreRan all (kept_by number total ms es) (mine (here_told ∷ rest ++ others)) × (first_or total ms + ran_rows (mine (here_told ∷ rest ++ others)) ≡ total)) (sym counted) first in
-        subst (λ (ps : List Packet). Wanted n (l ∷ ls) es others ps (told_from s k inside (p ∷ later))) (sym e) (subst (λ (ts : List Told). Wanted n (l ∷ ls) es others (p ∷ same_stretch false later) ts) (sym told) here_kept)
+        subst (λ (ps : List Packet). Wanted n (l ∷ ls) es others ps (told_from s k inside (p ∷ later))) (sym e) (subst (λ (ts : List ToldSlice). Wanted n (l ∷ ls) es others (p ∷ same_stretch false later) ts) (sym told) here_kept)
       where
         m : ℕ
         m = n + length l
@@ -222,7 +222,7 @@ module _ (code : Code) (w : Walked) (all : List Kept) (number total : ℕ) (kept
         ms : List ℕ
         ms = counts_from (n + length l) (same_stretch false later) ls
 
-        go : (es : List Entry) → AreTold es (here_told ∷ rest ++ others) → same_stretch false (p ∷ later) ≡ p ∷ same_stretch false later → Left (suc k) (n + length l) later ls → More s k later others
+        go : (es : List Entry) → AreEntriesOf es (here_told ∷ rest ++ others) → same_stretch false (p ∷ later) ≡ p ∷ same_stretch false later → Left (suc k) (n + length l) later ls → More s k later others
             → AreRan all (kept_by number total ((n + length l) ∷ counts_from (n + length l) (same_stretch false later) ls) es) (mine (here_told ∷ rest ++ others)) × (n + length l + ran_rows (mine (here_told ∷ rest ++ others)) ≡ total)
         go [] b e on more = absurd (cc)
         go (f ∷ fs) b e on more =
@@ -255,5 +255,5 @@ module _ (code : Code) (w : Walked) (all : List Kept) (number total : ℕ) (kept
             } in
             let sums = sum_by-cons (λ (x : Ran). length x.rows) (ran_by code w here_told) (mine (rest ++ others)) in
             let rest_sum = r.1 in
-            subst (λ (ts : List Told). AreRan all (kept_by number total ((n + length l) ∷ counts_from (n + length l) (same_stretch false later) ls) (f ∷ fs)) (map (ran_by code w) ts) × (n + length l + ran_rows (map (ran_by code w) ts) ≡ total)) (sym inside_it)
+            subst (λ (ts : List ToldSlice). AreRan all (kept_by number total ((n + length l) ∷ counts_from (n + length l) (same_stretch false later) ls) (f ∷ fs)) (map (ran_by code w) ts) × (n + length l + ran_rows (map (ran_by code w) ts) ≡ total)) (sym inside_it)
             ((is, r.0), omega (arith, sums, rest_sum, at, up, own_size))

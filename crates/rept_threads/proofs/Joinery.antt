@@ -22,7 +22,7 @@ use Rattle.rept_path.specs.Program.{code_of}
 use Rattle.rept_path.specs.State.{here}
 use Rattle.rept_path.proofs.MoveLemmas.{bind_ok}
 use Rattle.rept_slices.specs.Stamps.{address_of, clock_of, context_of}
-use Rattle.rept_slices.specs.Parts.{Told, thread_of, begin_of, end_before}
+use Rattle.rept_slices.specs.Parts.{ToldSlice, thread_of, begin_of, end_before}
 use Rattle.std.specs.List.Sorted.{IsPermutation}
 use Rattle.std.proofs.lemmas.List.Sorted.{IsPermutation-map}
 use Rattle.rept_slices.specs.Order.{put, by_time, head_of, slices_of}
@@ -32,9 +32,9 @@ use Rattle.rept_slices.proofs.Until.{told_permuted}
 use Rattle.rept_slices.specs.Stretches.{Ran}
 use Rattle.rept_steps.specs.Linked.{EndBefore}
 use Rattle.rept_threads.specs.Linking.{Chained, Ready}
-use Rattle.rept_slices.specs.Joins.{Note, Ground, Ending, ending, stand_at, bridge, Joined, with_rows, join, slices, thread, of_thread, rows_in, ran_rows, threads}
+use Rattle.rept_slices.specs.Joins.{Note, Ground, ThreadGround, thread_ground, stand_at, bridge, Joined, with_rows, join, slices, thread, of_thread, rows_in, ran_rows, threads}
 use Rattle.rept_threads.specs.Joining.{onward, ending_of, ground_of, slice_before, begin_of_ran, AreRanInOrder, GoesOn}
-use Rattle.rept_slices.specs.Entries.{IsTold, AreTold}
+use Rattle.rept_slices.specs.Entries.{IsEntryOf, AreEntriesOf}
 use Rattle.rept_threads.specs.Kept.{IsRan, AreRan}
 use Rattle.rept_slices.specs.declared.telling.Entry.{Entry}
 use Rattle.rept_threads.specs.declared.walks.Kept.{Kept}
@@ -47,7 +47,7 @@ abbrev pub NextRan : Option Entry → Option Ran → Type 0
 NextRan None None = Unit {0}
 NextRan None (Some r) = ⊥
 NextRan (Some e) None = ⊥
-NextRan (Some e) (Some r) = IsTold e r.told
+NextRan (Some e) (Some r) = IsEntryOf e r.told
 
 pub next_ran : (all : List Kept) (ws : List Walked) (r : Ran) (rs : List Ran) → AreRan all ws (r ∷ rs) → NextRan (option_map (λ (w : Walked). w.slice) (slice_get ws 1)) (head_of rs)
 next_ran all [] r rs a = absurd (cc)
@@ -163,7 +163,7 @@ abbrev after_done : List Joined → Result (List Joined) PathFault → Result (L
 after_done done r = r >>= (λ others. Ok (done ++ others))
 
 -- The slices that were joined, and those that are left.
-pub record Joining (e : Ending) (start : ℕ) (rs : List Ran) (all : List Kept) (ws : List Walked) (count : ℕ) (now : ThreadRows) : Type 0 where
+pub record Joining (e : ThreadGround) (start : ℕ) (rs : List Ran) (all : List Kept) (ws : List Walked) (count : ℕ) (now : ThreadRows) : Type 0 where
   pub done : List Joined
   pub later : List Ran
   pub are : AreRan all ws later
@@ -174,7 +174,7 @@ pub record Joining (e : Ending) (start : ℕ) (rs : List Ran) (all : List Kept) 
   pub grows : start ≤ count
   pub ready : Chained rs → Chained later × Ready now.steps (head_of later)
 
-pub none_joined : (e : Ending) (start : ℕ) (rs : List Ran) (all : List Kept) (ws : List Walked) (now : ThreadRows) → AreRan all ws rs → now.steps ≡ [] → now.slices ≡ [] → Joining e start rs all ws start now
+pub none_joined : (e : ThreadGround) (start : ℕ) (rs : List Ran) (all : List Kept) (ws : List Walked) (now : ThreadRows) → AreRan all ws rs → now.steps ≡ [] → now.slices ≡ [] → Joining e start rs all ws start now
 none_joined e start rs all ws now a steps told = record {
   done = [];
   later = rs;
@@ -195,7 +195,7 @@ none_joined e start rs all ws now a steps told = record {
   whole (Err f) = refl
 
 -- the first one that is left
-pub record NextJoin (e : Ending) (start : ℕ) (rs : List Ran) (all : List Kept) (ws rest : List Walked) (count : ℕ) (now : ThreadRows) : Type 0 where
+pub record NextJoin (e : ThreadGround) (start : ℕ) (rs : List Ran) (all : List Kept) (ws rest : List Walked) (count : ℕ) (now : ThreadRows) : Type 0 where
   pub done : List Joined
   pub r : Ran
   pub later : List Ran
@@ -212,7 +212,7 @@ split_ran : (all : List Kept) (w : Walked) (ws : List Walked) (rs : List Ran) �
 split_ran all w ws [] a = absurd a
 split_ran all w ws (r ∷ later) a = (r, later, refl, a.0, a.1)
 
-pub next_join : (e : Ending) (start : ℕ) (rs : List Ran) (all : List Kept) (ws : List Walked) (i count : ℕ) (now : ThreadRows) → i < length ws → Joining e start rs all (drop i ws) count now → NextJoin e start rs all (drop i ws) (drop (i + 1) ws) count now
+pub next_join : (e : ThreadGround) (start : ℕ) (rs : List Ran) (all : List Kept) (ws : List Walked) (i count : ℕ) (now : ThreadRows) → i < length ws → Joining e start rs all (drop i ws) count now → NextJoin e start rs all (drop i ws) (drop (i + 1) ws) count now
 next_join e start rs all ws i count now within g = go (drop i ws) refl where
   go : (rest : List Walked) → drop i ws ≡ rest → NextJoin e start rs all (drop i ws) (drop (i + 1) ws) count now
   go [] h = absurd (let n = ap (length {A = Walked}) h in let d = length-drop i ws in omega (arith, n, d, within))
@@ -235,7 +235,7 @@ next_join e start rs all ws i count now within g = go (drop i ws) refl where
         ready = λ c. (let x = g.ready c in (subst Chained s.2 x.0, subst (λ (xs : List Ran). Ready now.steps (head_of xs)) s.2 x.1));
       }
 
-join_ok : (e : Ending) (count : ℕ) (r : Ran) (rs : List Ran) (more : List StepRow) (done : List Joined) → bridge e count r (head_of rs) ≡ Ok more
+join_ok : (e : ThreadGround) (count : ℕ) (r : Ran) (rs : List Ran) (more : List StepRow) (done : List Joined) → bridge e count r (head_of rs) ≡ Ok more
     → (join e count (r ∷ rs) >>= (λ others. Ok (done ++ others))) ≡ (join e (count + length more) rs >>= (λ others. Ok ((done ++ with_rows r more ∷ []) ++ others)))
 join_ok e count r rs more done h =
     ap (λ (x : Result (List StepRow) PathFault). (x >>= (λ more. join e (count + length more) rs >>= (λ others. Ok (with_rows r more ∷ others)))) >>= (λ others. Ok (done ++ others))) h
@@ -245,10 +245,10 @@ join_ok e count r rs more done h =
     go (Ok js) = ap Ok (sym (append_assoc done (with_rows r more ∷ []) js))
     go (Err f) = refl
 
-join_err : (e : Ending) (count : ℕ) (r : Ran) (rs : List Ran) (f : PathFault) (done : List Joined) → bridge e count r (head_of rs) ≡ Err f → (join e count (r ∷ rs) >>= (λ others. Ok (done ++ others))) ≡ Err f
+join_err : (e : ThreadGround) (count : ℕ) (r : Ran) (rs : List Ran) (f : PathFault) (done : List Joined) → bridge e count r (head_of rs) ≡ Err f → (join e count (r ∷ rs) >>= (λ others. Ok (done ++ others))) ≡ Err f
 join_err e count r rs f done h = ap (λ (x : Result (List StepRow) PathFault). (x >>= (λ more. join e (count + length more) rs >>= (λ others. Ok (with_rows r more ∷ others)))) >>= (λ others. Ok (done ++ others))) h
 
-pub one_joined : (e : Ending) (start : ℕ) (rs : List Ran) (all : List Kept) (ws rest : List Walked) (count : ℕ) (old new : ThreadRows) (g : NextJoin e start rs all ws rest count old) (more : List StepRow) → bridge e count g.r (head_of g.later) ≡ Ok more
+pub one_joined : (e : ThreadGround) (start : ℕ) (rs : List Ran) (all : List Kept) (ws rest : List Walked) (count : ℕ) (old new : ThreadRows) (g : NextJoin e start rs all ws rest count old) (more : List StepRow) → bridge e count g.r (head_of g.later) ≡ Ok more
     → new ≡ record { steps = old.steps ++ (with_rows g.r more).rows; slices = old.slices ++ slice_before (with_rows g.r more) (option_map begin_of_ran (head_of g.later)) (length old.steps) ∷ [] }
     → (Chained rs → Ready new.steps (head_of g.later)) → Joining e start rs all rest (count + length more) new
 one_joined e start rs all ws rest count old new g more h new_is ready =
@@ -274,10 +274,10 @@ one_joined e start rs all ws rest count old new g more h new_is ready =
       ready = λ c. ((g.ready c).0.1, ready c);
     }
 
-pub one_unjoined : (e : Ending) (start : ℕ) (rs : List Ran) (all : List Kept) (ws rest : List Walked) (count : ℕ) (old : ThreadRows) (g : NextJoin e start rs all ws rest count old) (f : PathFault) → (f ≡ OutOfMemory) ⊎ (bridge e count g.r (head_of g.later) ≡ Err f) → (f ≡ OutOfMemory) ⊎ (join e start rs ≡ Err f)
+pub one_unjoined : (e : ThreadGround) (start : ℕ) (rs : List Ran) (all : List Kept) (ws rest : List Walked) (count : ℕ) (old : ThreadRows) (g : NextJoin e start rs all ws rest count old) (f : PathFault) → (f ≡ OutOfMemory) ⊎ (bridge e count g.r (head_of g.later) ≡ Err f) → (f ≡ OutOfMemory) ⊎ (join e start rs ≡ Err f)
 one_unjoined e start rs all ws rest count old g f h = elim h [ inl m ↦ inl m | inr x ↦ inr (g.same ∙ join_err e count g.r g.later f g.done x) ]
 
-pub all_joined : (e : Ending) (start : ℕ) (rs : List Ran) (all : List Kept) (ws : List Walked) (i count : ℕ) (now : ThreadRows) → length ws ≤ i → Joining e start rs all (drop i ws) count now
+pub all_joined : (e : ThreadGround) (start : ℕ) (rs : List Ran) (all : List Kept) (ws : List Walked) (i count : ℕ) (now : ThreadRows) → length ws ≤ i → Joining e start rs all (drop i ws) count now
     → (js : List Joined) × (join e start rs ≡ Ok js) × (now ≡ thread js) × (count ≡ start + (rows_in js - ran_rows rs))
 all_joined e start rs all ws i count now past g =
     let none : g.later ≡ [] = subst (λ (xs : List Walked). AreRan all xs g.later) (at_drop_all (λ (xs : List Walked). xs) ws i past) g.are in
@@ -329,7 +329,7 @@ module _ (all : List Kept) where
       → ((n : ℕ) → filter (λ (w : Walked). context_of w.slice.start == n) vs ≡ by_time (λ (w : Walked). clock_of w.slice.start) (filter (λ (w : Walked). context_of w.slice.start == n) ws)) → AreRanInOrder all vs rs
   ran_in_order ws vs rs a times = λ n. subst (λ (xs : List Walked). AreRan all xs (of_thread n rs)) (sym (times n)) (ran_by_time (filter (λ (w : Walked). context_of w.slice.start == n) ws) (filter (λ (r : Ran). thread_of r.told == n) rs) (ran_filter n ws rs a))
 
-  pub ran_told : (ws : List Walked) (rs : List Ran) → AreRan all ws rs → AreTold (map (λ (w : Walked). w.slice) ws) (map (λ (r : Ran). r.told) rs)
+  pub ran_told : (ws : List Walked) (rs : List Ran) → AreRan all ws rs → AreEntriesOf (map (λ (w : Walked). w.slice) ws) (map (λ (r : Ran). r.told) rs)
   ran_told [] rs a = ap (map (λ (r : Ran). r.told)) a
   ran_told (w ∷ ws) [] a = absurd a
   ran_told (w ∷ ws) (r ∷ rs) a = ((a.0).told, ran_told ws rs a.1)
@@ -342,7 +342,7 @@ module _ (g : Ground) (rs : List Ran) (whole : Result (List ThreadRows) PathFaul
   abbrev own : Note → List Ran
   own note = of_thread note.process rs
 
-  pub one_thread : (done : List ThreadRows) (count new : ℕ) (note : Note) (notes : List Note) (js : List Joined) → Left done count (note ∷ notes) → join (ending g.code g.packets note) count (own note) ≡ Ok js → new ≡ count + (rows_in js - ran_rows (own note)) → Left (done ++ thread js ∷ []) new notes
+  pub one_thread : (done : List ThreadRows) (count new : ℕ) (note : Note) (notes : List Note) (js : List Joined) → Left done count (note ∷ notes) → join (thread_ground g.code g.packets note) count (own note) ≡ Ok js → new ≡ count + (rows_in js - ran_rows (own note)) → Left (done ++ thread js ∷ []) new notes
   one_thread done count new note notes js h joined counted =
       h ∙ ap (λ (r : Result (List Joined) PathFault). (r >>= (λ js. threads g (count + (rows_in js - ran_rows (own note))) notes rs >>= (λ others. Ok (thread js ∷ others)))) >>= (λ others. Ok (done ++ others))) joined
       ∙ go (threads g (count + (rows_in js - ran_rows (own note))) notes rs)
@@ -352,7 +352,7 @@ module _ (g : Ground) (rs : List Ran) (whole : Result (List ThreadRows) PathFaul
       go (Ok ts) = ap Ok (sym (append_assoc done (thread js ∷ []) ts))
       go (Err f) = refl
 
-  pub one_thread_fails : (done : List ThreadRows) (count : ℕ) (note : Note) (notes : List Note) (f : PathFault) → Left done count (note ∷ notes) → (f ≡ OutOfMemory) ⊎ (join (ending g.code g.packets note) count (own note) ≡ Err f) → (f ≡ OutOfMemory) ⊎ (whole ≡ Err f)
+  pub one_thread_fails : (done : List ThreadRows) (count : ℕ) (note : Note) (notes : List Note) (f : PathFault) → Left done count (note ∷ notes) → (f ≡ OutOfMemory) ⊎ (join (thread_ground g.code g.packets note) count (own note) ≡ Err f) → (f ≡ OutOfMemory) ⊎ (whole ≡ Err f)
   one_thread_fails done count note notes f h x = elim x [
     | inl m ↦ inl m
     | inr e ↦ inr (h ∙ ap (λ (r : Result (List Joined) PathFault). (r >>= (λ js. threads g (count + (rows_in js - ran_rows (own note))) notes rs >>= (λ others. Ok (thread js ∷ others)))) >>= (λ others. Ok (done ++ others))) e)
@@ -422,17 +422,17 @@ map_by_time : (ws : List Walked) → map (λ (v : Walked). v.slice) (by_time (λ
 map_by_time [] = refl
 map_by_time (w ∷ ws) = map_put w (by_time (λ (v : Walked). clock_of v.slice.start) ws) ∙ ap (put (λ (e : Entry). clock_of e.start) w.slice) (map_by_time ws)
 
-pub told_in_order : (all : List Kept) (ws vs : List Walked) (rs : List Ran) (ts : List Told) → AreRan all ws rs → map (λ (r : Ran). r.told) rs ≡ ts
+pub told_in_order : (all : List Kept) (ws vs : List Walked) (rs : List Ran) (ts : List ToldSlice) → AreRan all ws rs → map (λ (r : Ran). r.told) rs ≡ ts
     → ((n : ℕ) → filter (λ (w : Walked). context_of w.slice.start == n) vs ≡ by_time (λ (w : Walked). clock_of w.slice.start) (filter (λ (w : Walked). context_of w.slice.start == n) ws))
-    → (n : ℕ) → AreTold (map (λ (w : Walked). w.slice) (filter (λ (w : Walked). context_of w.slice.start == n) vs)) (slices_of n ts)
+    → (n : ℕ) → AreEntriesOf (map (λ (w : Walked). w.slice) (filter (λ (w : Walked). context_of w.slice.start == n) vs)) (slices_of n ts)
 told_in_order all ws vs rs ts a e times n =
     let es = map (λ (w : Walked). w.slice) ws in
-    let told : AreTold es ts = subst (λ (us : List Told). AreTold es us) e (ran_told all ws rs a) in
+    let told : AreEntriesOf es ts = subst (λ (us : List ToldSlice). AreEntriesOf es us) e (ran_told all ws rs a) in
     let same : map (λ (w : Walked). w.slice) (filter (λ (w : Walked). context_of w.slice.start == n) vs) ≡ by_time (λ (e : Entry). clock_of e.start) (filter (λ (e : Entry). context_of e.start == n) es) =
     ap (map (λ (w : Walked). w.slice)) (times n) ∙ map_by_time (filter (λ (w : Walked). context_of w.slice.start == n) ws) ∙ ap (by_time (λ (e : Entry). clock_of e.start)) (sym (map_filter n ws)) in
-    subst (λ (xs : List Entry). AreTold xs (slices_of n ts)) (sym same) (told_slices n es ts told)
+    subst (λ (xs : List Entry). AreEntriesOf xs (slices_of n ts)) (sym same) (told_slices n es ts told)
 
-pub told_again : (all : List Kept) (ws vs : List Walked) (rs : List Ran) → AreRan all ws rs → IsPermutation ws vs → (us : List Told) × AreTold (map (λ (w : Walked). w.slice) vs) us
+pub told_again : (all : List Kept) (ws vs : List Walked) (rs : List Ran) → AreRan all ws rs → IsPermutation ws vs → (us : List ToldSlice) × AreEntriesOf (map (λ (w : Walked). w.slice) vs) us
 told_again all ws vs rs a p = told_permuted (map (λ (w : Walked). w.slice) ws) (map (λ (w : Walked). w.slice) vs) (map (λ (r : Ran). r.told) rs) (IsPermutation-map (λ (w : Walked). w.slice) ws vs p) (ran_told all ws rs a)
 
 -- a slice and its rows were added

@@ -14,9 +14,9 @@ use Rattle.rept_path.specs.declared.flow.Flow.TheVariants.{Plain, Branch, Jump, 
 use Rattle.rept_path.specs.declared.aim.Aim.TheVariants as aims
 use Rattle.rept_path.specs.Code.{Code, look, flow_of, jumps_far}
 use Rattle.rept_path.specs.Packets.{begins}
-use Rattle.rept_path.specs.Moves.{Lead, Course, Place, Stand, along, IsMove, site, successor, position, stops, by_jump, bits_fit, way_by, course_by}
+use Rattle.rept_path.specs.Moves.{Lead, Heading, Place, Stand, along, IsMove, site, successor, position, stops, by_jump, bits_fit, way_by, heading_by}
 use Rattle.rept_path.specs.Legs.{Passes, Reaches}
-use Rattle.rept_path.specs.Route.{Phase, PhaseLegs, Met, WaitingLeg, further, with_bits, phases_of, lead_of, course_of}
+use Rattle.rept_path.specs.Route.{Phase, PhaseLegs, Met, WaitingLeg, further, with_bits, phases_of, lead_of, heading_of}
 use Rattle.rept_path.proofs.MoveLemmas.{bind_ok, made}
 use Rattle.rept_path.proofs.Phases.{along-append}
 use Rattle.rept_path.proofs.Waiting.{LegIn}
@@ -63,18 +63,18 @@ ends_on (d ∷ (f ∷ done)) rows a b e x = ends_on (f ∷ done) rows a b e x
 
 -- the legs of a route lead from place to place
 module _ (code : Code) where
-  passed : (course : Course) (past : Place) (leg : List StepRow) → Passes code course past leg → Leads leg past.at (along code past leg).at
+  passed : (course : Heading) (past : Place) (leg : List StepRow) → Passes code course past leg → Leads leg past.at (along code past leg).at
   passed course past [] x = refl
   passed course past (r ∷ leg) x = (refl, subst (λ (n : ℕ). Leads leg past.at n) (sym (x.1).at) (passed course past leg x.0))
 
-  reached : (course : Course) (past : Place) (leg : List StepRow) → Reaches code course past leg → Leads leg past.at (along code past leg).at
+  reached : (course : Heading) (past : Place) (leg : List StepRow) → Reaches code course past leg → Leads leg past.at (along code past leg).at
   reached course past [] x = elim x [ ]
   reached course past (r ∷ leg) x = (refl, subst (λ (n : ℕ). Leads leg past.at n) (sym (x.1).at) (passed course past leg x.0))
 
   phases_lead : (s : Stand) (phases : List Phase) (leg : List StepRow) → PhaseLegs code s phases leg → Leads leg s.place.at (along code s.place leg).at
   phases_lead s [] leg x = subst (λ (l : List StepRow). Leads l s.place.at (along code s.place l).at) (sym x) refl
   phases_lead s (phase ∷ phases) leg (first, rest, is, x, xs) =
-      let one = reached (course_of s phase) s.place first x.reaches in
+      let one = reached (heading_of s phase) s.place first x.reaches in
       let two = phases_lead (further code s first) phases rest xs in
       let both = leads_append rest first s.place.at (along code s.place first).at (along code (along code s.place first) rest).at one two in
       subst (λ (l : List StepRow). Leads l s.place.at (along code s.place l).at) (sym is) (subst (λ (p : Place). Leads (rest ++ first) s.place.at p.at) (sym (along-append code s.place rest first)) both)
@@ -121,7 +121,7 @@ module _ (code : Code) where
       limited_is true n h = absurd (cc)
       limited_is false n h = position_is n r.next h
 
-  start_reaches : (lead : Lead) (past : Place) (a : ℕ) (leg : List StepRow) → lead.target ≡ Some a → Reaches code (course_by lead (aims.Start a)) past leg → (along code past leg).at ≡ a
+  start_reaches : (lead : Lead) (past : Place) (a : ℕ) (leg : List StepRow) → lead.target ≡ Some a → Reaches code (heading_by lead (aims.Start a)) past leg → (along code past leg).at ≡ a
   unfolding stops by_jump
   start_reaches lead past a [] target x = elim x [ ]
   start_reaches lead past a (r ∷ leg) target x = go (jumps_far (flow_of r.instr)) refl x.2 where

@@ -8,7 +8,7 @@ use Rattle.rept_path.specs.Code.{Code}
 use Rattle.rept_path.specs.Moves.{Place}
 use Rattle.rept_path.specs.Packets.{waits_after}
 use Rattle.rept_slices.specs.Stamps.{closes, running_after, context_of, address_of}
-use Rattle.rept_slices.specs.Parts.{Told, inner, told_from}
+use Rattle.rept_slices.specs.Parts.{ToldSlice, inner, told_from}
 use Rattle.rept_slices.specs.Order.{head_of}
 use Rattle.rept_slices.specs.Stretches.{same_stretch, stretch, Walked, last_place, within, rows_of, Ran, ran_by}
 use Rattle.rept_slices.proofs.InTime.{Each}
@@ -39,7 +39,7 @@ module _ (code : Code) (w : Walked) where
   abbrev end : ℕ
   end = w.head.number + length (stretch w.head)
 
-  abbrev mine : List Told → List Ran
+  abbrev mine : List ToldSlice → List Ran
   mine ts = map (ran_by code w) (filter (within w) ts)
 
   -- After the trace ended a stretch stays where it is.
@@ -60,13 +60,13 @@ module _ (code : Code) (w : Walked) where
         same ∙ more t.0 ls (subst (λ (b : Bool). Cut b (same_stretch true later) ls) x k.1) t.3
 
   -- where the rows of a slice lead, from its start packet on
-  abbrev Leaves : List Packet → List (List StepRow) → ℕ → Ran → List Told → Type 0
+  abbrev Leaves : List Packet → List (List StepRow) → ℕ → Ran → List ToldSlice → Type 0
   Leaves later ls c r ts = Goes (first_rows later ls) c (leads_to r (head_of (mine ts)))
 
-  nothing_else : (r : Ran) (ts : List Told) → r.last ≡ last_place code w → filter (within w) ts ≡ [] → finish ≡ leads_to r (head_of (mine ts))
-  nothing_else r ts last none = ap (λ (p : Place). p.at) (sym last) ∙ sym (ap (λ (us : List Told). leads_to r (head_of (map (ran_by code w) us))) none)
+  nothing_else : (r : Ran) (ts : List ToldSlice) → r.last ≡ last_place code w → filter (within w) ts ≡ [] → finish ≡ leads_to r (head_of (mine ts))
+  nothing_else r ts last none = ap (λ (p : Place). p.at) (sym last) ∙ sym (ap (λ (us : List ToldSlice). leads_to r (head_of (map (ran_by code w) us))) none)
 
-  leaves : (later : List Packet) (s k x : ℕ) (others : List Told) (ls : List (List StepRow)) (c : ℕ) (r : Ran) → r.last ≡ last_place code w → w.head.number ≤ k → end ≡ k + length (same_stretch false later) → Each (From (k + length later)) others
+  leaves : (later : List Packet) (s k x : ℕ) (others : List ToldSlice) (ls : List (List StepRow)) (c : ℕ) (r : Ran) → r.last ≡ last_place code w → w.head.number ≤ k → end ≡ k + length (same_stretch false later) → Each (From (k + length later)) others
       → Cut false (same_stretch false later) ls → Steered c (same_stretch false later) ls finish → Leaves later ls c r (told_from s k (Some x) later ++ others)
   leaves [] s k x others ls c r last low to far cut steered =
       let none = out w others (each_from_less end (k + 0) (omega (arith, to)) others far) in
@@ -88,10 +88,10 @@ module _ (code : Code) (w : Walked) where
     farther : Each (From (suc k + length later)) others
     farther = each_from_less (suc k + length later) (k + suc (length later)) (omega arith) others far
 
-    here : Told
+    here : ToldSlice
     here = record { stream = s; number = k; start = p; later = later; inside = Some x }
 
-    rest : List Told
+    rest : List ToldSlice
     rest = told_from s (suc k) (running_after p (Some x)) later
 
     closed : closes p ≡ true → first_rows (p ∷ later) (l ∷ ls) ≡ reverse l
@@ -110,7 +110,7 @@ module _ (code : Code) (w : Walked) where
         let rows : first_rows (p ∷ later) (l ∷ ls) ≡ reverse l ++ first_rows later ls = ap (λ (b : Bool). rows_by (take (suc (cond (not b) (1 + j) 0)) (l ∷ ls))) i.closes ∙ ap (λ (n : ℕ). rows_by (l ∷ take n ls)) one in
         let own = more t.0 (omega (arith, to, size)) (subst (λ (b : Bool). Cut b (same_stretch false later) ls) (i.waits false) k2.1) t.3 in
         let both = goes_append (reverse l) (first_rows later ls) c t.0 (leads_to r (head_of (mine (told_from s (suc k) (Some x) later ++ others)))) (leads_goes l c t.0 t.1) own in
-        subst (λ (ts : List Told). Leaves (p ∷ later) (l ∷ ls) c r (ts ++ others)) (sym told) (subst (λ (xs : List StepRow). Goes xs c (leads_to r (head_of (mine (told_from s (suc k) (Some x) later ++ others))))) (sym rows) both)
+        subst (λ (ts : List ToldSlice). Leaves (p ∷ later) (l ∷ ls) c r (ts ++ others)) (sym told) (subst (λ (xs : List StepRow). Goes xs c (leads_to r (head_of (mine (told_from s (suc k) (Some x) later ++ others))))) (sym rows) both)
 
     ended : IsEnd p → same_stretch false (p ∷ later) ≡ p ∷ same_stretch true later → Leaves (p ∷ later) (l ∷ ls) c r (told_from s k (Some x) (p ∷ later) ++ others)
     ended i e =
@@ -124,7 +124,7 @@ module _ (code : Code) (w : Walked) where
         let stay = stays t.0 later ls (subst (λ (b : Bool). Cut b (same_stretch true later) ls) (i.waits false) k2.1) t.3 in
         let to_end : t.0 ≡ leads_to r (head_of (mine (told_from s (suc k) None later ++ others))) = stay ∙ nothing_else r (told_from s (suc k) None later ++ others) last none in
         let own : Goes (reverse l) c (leads_to r (head_of (mine (told_from s (suc k) None later ++ others)))) = subst (λ (b : ℕ). Goes (reverse l) c b) to_end (leads_goes l c t.0 t.1) in
-        subst (λ (ts : List Told). Leaves (p ∷ later) (l ∷ ls) c r (ts ++ others)) (sym told) (subst (λ (xs : List StepRow). Goes xs c (leads_to r (head_of (mine (told_from s (suc k) None later ++ others))))) (sym (closed i.closes)) own)
+        subst (λ (ts : List ToldSlice). Leaves (p ∷ later) (l ∷ ls) c r (ts ++ others)) (sym told) (subst (λ (xs : List StepRow). Goes xs c (leads_to r (head_of (mine (told_from s (suc k) None later ++ others))))) (sym (closed i.closes)) own)
 
     opened : IsOpen p → same_stretch false (p ∷ later) ≡ p ∷ same_stretch false later → Leaves (p ∷ later) (l ∷ ls) c r (told_from s k (Some x) (p ∷ later) ++ others)
     opened i e =
@@ -132,16 +132,16 @@ module _ (code : Code) (w : Walked) where
         let t : Steered c (p ∷ same_stretch false later) (l ∷ ls) finish = subst (λ (ps : List Packet). Steered c ps (l ∷ ls) finish) e steered in
         let told : told_from s k (Some x) (p ∷ later) ≡ here ∷ rest = ap (λ (b : Bool). cond b (here ∷ rest) rest) i.start in
         let inside : filter (within w) (here ∷ rest ++ others) ≡ here ∷ filter (within w) (rest ++ others) = into w here (rest ++ others) low (omega (arith, to, size)) in
-        let first : leads_to r (head_of (mine (here ∷ rest ++ others))) ≡ address_of p = ap (λ (us : List Told). leads_to r (head_of (map (ran_by code w) us))) inside in
+        let first : leads_to r (head_of (mine (here ∷ rest ++ others))) ≡ address_of p = ap (λ (us : List ToldSlice). leads_to r (head_of (map (ran_by code w) us))) inside in
         let own : Goes (reverse l) c (leads_to r (head_of (mine (here ∷ rest ++ others)))) = subst (λ (b : ℕ). Goes (reverse l) c b) (t.2 i.start ∙ sym first) (leads_goes l c t.0 t.1) in
-        subst (λ (ts : List Told). Leaves (p ∷ later) (l ∷ ls) c r (ts ++ others)) (sym told) (subst (λ (xs : List StepRow). Goes xs c (leads_to r (head_of (mine (here ∷ rest ++ others))))) (sym (closed i.closes)) own)
+        subst (λ (ts : List ToldSlice). Leaves (p ∷ later) (l ∷ ls) c r (ts ++ others)) (sym told) (subst (λ (xs : List StepRow). Goes xs c (leads_to r (head_of (mine (here ∷ rest ++ others))))) (sym (closed i.closes)) own)
 
   -- each slice of what is left of a stretch
-  locals : (later : List Packet) (s k : ℕ) (inside : Option ℕ) (others : List Told) (ls : List (List StepRow)) (c : ℕ) → w.head.number ≤ k → end ≡ k + length (same_stretch false later) → Each (From (k + length later)) others → drop (k - w.head.number) (reverse w.legs) ≡ ls
+  locals : (later : List Packet) (s k : ℕ) (inside : Option ℕ) (others : List ToldSlice) (ls : List (List StepRow)) (c : ℕ) → w.head.number ≤ k → end ≡ k + length (same_stretch false later) → Each (From (k + length later)) others → drop (k - w.head.number) (reverse w.legs) ≡ ls
       → Cut false (same_stretch false later) ls → Steered c (same_stretch false later) ls finish → Locals (mine (told_from s k inside later ++ others))
   locals [] s k inside others ls c low to far legs cut steered =
       let none = out w others (each_from_less end (k + 0) (omega (arith, to)) others far) in
-      subst (λ (us : List Told). Locals (map (ran_by code w) us)) (sym none) tt
+      subst (λ (us : List ToldSlice). Locals (map (ran_by code w) us)) (sym none) tt
   locals (p ∷ later) s k inside others [] c low to far legs cut steered = elim (kind p) [
     | inl i ↦ absurd (subst (λ (ps : List Packet). Cut false ps []) (stretch_on p false false later (i.begins false) (i.waits false)) cut)
     | inr j ↦ elim j [
@@ -162,10 +162,10 @@ module _ (code : Code) (w : Walked) where
     onward : drop (suc k - w.head.number) (reverse w.legs) ≡ ls
     onward = ap (λ (j : ℕ). drop j (reverse w.legs)) (let q : suc k - w.head.number ≡ (k - w.head.number) + 1 = omega (arith, low) in q) ∙ sym (drop-drop 1 (k - w.head.number) (reverse w.legs)) ∙ ap (drop 1) legs
 
-    here : Told
+    here : ToldSlice
     here = record { stream = s; number = k; start = p; later = later; inside = inside }
 
-    rest : List Told
+    rest : List ToldSlice
     rest = told_from s (suc k) (running_after p inside) later
 
     passed : IsInner p → same_stretch false (p ∷ later) ≡ p ∷ same_stretch false later
@@ -176,7 +176,7 @@ module _ (code : Code) (w : Walked) where
         let t : Steered c (p ∷ same_stretch false later) (l ∷ ls) finish = subst (λ (ps : List Packet). Steered c ps (l ∷ ls) finish) e steered in
         let k2 : Cut false (p ∷ same_stretch false later) (l ∷ ls) = subst (λ (ps : List Packet). Cut false ps (l ∷ ls)) e cut in
         let told : told_from s k inside (p ∷ later) ≡ rest = ap (λ (b : Bool). cond b (here ∷ rest) rest) i.start in
-        subst (λ (ts : List Told). Locals (mine (ts ++ others))) (sym told) (more t.0 (running_after p inside) (omega (arith, to, size)) (subst (λ (b : Bool). Cut b (same_stretch false later) ls) (i.waits false) k2.1) t.3)
+        subst (λ (ts : List ToldSlice). Locals (mine (ts ++ others))) (sym told) (more t.0 (running_after p inside) (omega (arith, to, size)) (subst (λ (b : Bool). Cut b (same_stretch false later) ls) (i.waits false) k2.1) t.3)
 
     ended : IsEnd p → same_stretch false (p ∷ later) ≡ p ∷ same_stretch true later → Locals (mine (told_from s k inside (p ∷ later) ++ others))
     ended i e =
@@ -185,7 +185,7 @@ module _ (code : Code) (w : Walked) where
         let at : end ≡ suc k + length (same_stretch true later) = omega (arith, to, size) in
         let told : told_from s k inside (p ∷ later) ≡ told_from s (suc k) None later = ap (λ (b : Bool). cond b (here ∷ rest) rest) i.start ∙ ap (λ (o : Option ℕ). told_from s (suc k) o later) (i.runs inside) in
         let none = out w (told_from s (suc k) None later ++ others) (each_append (From end) (told_from s (suc k) None later) others (subst (λ (m : ℕ). Each (From m) (told_from s (suc k) None later)) (sym at) (after_stretch s (suc k) later)) (each_from_less end (suc k + length later) (omega (arith, at, short)) others farther)) in
-        subst (λ (ts : List Told). Locals (mine (ts ++ others))) (sym told) (subst (λ (us : List Told). Locals (map (ran_by code w) us)) (sym none) tt)
+        subst (λ (ts : List ToldSlice). Locals (mine (ts ++ others))) (sym told) (subst (λ (us : List ToldSlice). Locals (map (ran_by code w) us)) (sym none) tt)
 
     opened : IsOpen p → same_stretch false (p ∷ later) ≡ p ∷ same_stretch false later
         → ((d : ℕ) (o : Option ℕ) → end ≡ suc k + length (same_stretch false later) → Cut false (same_stretch false later) ls → Steered d (same_stretch false later) ls finish → Locals (mine (told_from s (suc k) o later ++ others)))
@@ -204,8 +204,8 @@ module _ (code : Code) (w : Walked) where
         leaves later s (suc k) (context_of p) others ls (address_of p) (ran_by code w here) refl (omega (arith, low)) (omega (arith, to, size)) farther k3 (subst (λ (a : ℕ). Steered a (same_stretch false later) ls finish) (t.2 i.start) t.3) in
         let first : Goes (rows_of w here) (address_of p) (leads_to (ran_by code w here) (head_of (mine (told_from s (suc k) (Some (context_of p)) later ++ others)))) = subst (λ (xs : List StepRow). Goes xs (address_of p) (leads_to (ran_by code w here) (head_of (mine (told_from s (suc k) (Some (context_of p)) later ++ others))))) (sym rows) own in
         let others_are = more t.0 (Some (context_of p)) (omega (arith, to, size)) k3 t.3 in
-        subst (λ (ts : List Told). Locals (mine (ts ++ others))) (sym told) (subst (λ (us : List Told). Locals (map (ran_by code w) us)) (sym within_it) (first, others_are))
+        subst (λ (ts : List ToldSlice). Locals (mine (ts ++ others))) (sym told) (subst (λ (us : List ToldSlice). Locals (map (ran_by code w) us)) (sym within_it) (first, others_are))
 
-pub stretch_locals : (code : Code) (w : Walked) (later : List Packet) (s k : ℕ) (inside : Option ℕ) (others : List Told) (ls : List (List StepRow)) (c : ℕ) → w.head.number ≤ k → w.head.number + length (stretch w.head) ≡ k + length (same_stretch false later) → Each (From (k + length later)) others → drop (k - w.head.number) (reverse w.legs) ≡ ls
+pub stretch_locals : (code : Code) (w : Walked) (later : List Packet) (s k : ℕ) (inside : Option ℕ) (others : List ToldSlice) (ls : List (List StepRow)) (c : ℕ) → w.head.number ≤ k → w.head.number + length (stretch w.head) ≡ k + length (same_stretch false later) → Each (From (k + length later)) others → drop (k - w.head.number) (reverse w.legs) ≡ ls
     → Cut false (same_stretch false later) ls → Steered c (same_stretch false later) ls (last_place code w).at → Locals (map (ran_by code w) (filter (within w) (told_from s k inside later ++ others)))
 stretch_locals code w later s k inside others ls c low to far legs cut steered = locals code w later s k inside others ls c low to far legs cut steered

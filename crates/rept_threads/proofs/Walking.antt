@@ -22,11 +22,11 @@ use Rattle.rept_path.specs.Route.{Origin, earlier_by}
 use Rattle.rept_path.specs.State.{here, Counts, Stands}
 use Rattle.rept_path.specs.Trace.{StopsAt}
 use Rattle.rept_slices.specs.Stamps.{is_start}
-use Rattle.rept_slices.specs.Parts.{Told, told_from, told}
+use Rattle.rept_slices.specs.Parts.{ToldSlice, told_from, slices_told}
 use Rattle.rept_slices.specs.Skipping.{kept}
 use Rattle.rept_slices.specs.Stretches.{same_stretch, stretch, heads, Walked, last_place, count_of, origin_after, Goes, Walks as AreWalks, WalksFault, Ran, within, ran_by, ran_in, ran, marks}
 use Rattle.rept_slices.specs.Joins.{ran_rows}
-use Rattle.rept_slices.specs.Entries.{IsTold, AreTold}
+use Rattle.rept_slices.specs.Entries.{IsEntryOf, AreEntriesOf}
 use Rattle.rept_threads.specs.Kept.{AreRan, kept_by, AreKept}
 use Rattle.rept_slices.specs.Ends.{first_or}
 use Rattle.rept_slices.specs.declared.telling.Entry.{Entry}
@@ -45,23 +45,23 @@ use Rattle.rept_threads.proofs.Cutting.{kept_from}
 use Rattle.rept_threads.proofs.Gathering.{inner_slices, none_inner, told_back, gathered}
 
 -- slices of earlier packets than this one
-abbrev pub Earlier : ℕ → Told → Type 0
+abbrev pub Earlier : ℕ → ToldSlice → Type 0
 Earlier n t = t.number < n
 
-pub before_earlier : (before : List Told) (t : Told) (later : List Told) → Each Started (before ++ t ∷ later) → Following (before ++ t ∷ later) → Each (Earlier t.number) before
+pub before_earlier : (before : List ToldSlice) (t : ToldSlice) (later : List ToldSlice) → Each Started (before ++ t ∷ later) → Following (before ++ t ∷ later) → Each (Earlier t.number) before
 before_earlier [] t later s f = tt
 before_earlier (b ∷ before) t later s f =
     let le = each_middle (From (suc b.number)) before t later (later_numbers b (before ++ t ∷ later) s.0 f.0) in
     (omega (arith, le), before_earlier before t later s.1 f.1)
 
-pub follow_there : (before : List Told) (t : Told) (later : List Told) → Following (before ++ t ∷ later) → Follows t later
+pub follow_there : (before : List ToldSlice) (t : ToldSlice) (later : List ToldSlice) → Following (before ++ t ∷ later) → Follows t later
 follow_there [] t later f = f.0
 follow_there (b ∷ before) t later f = follow_there before t later f.1
 
-pub started_there : (before : List Told) (t : Told) (later : List Told) → Each Started (before ++ t ∷ later) → Started t
+pub started_there : (before : List ToldSlice) (t : ToldSlice) (later : List ToldSlice) → Each Started (before ++ t ∷ later) → Started t
 started_there before t later s = each_middle Started before t later s
 
-pub none_before : (w : Walked) (before xs : List Told) → Each (Earlier w.head.number) before → filter (within w) (before ++ xs) ≡ filter (within w) xs
+pub none_before : (w : Walked) (before xs : List ToldSlice) → Each (Earlier w.head.number) before → filter (within w) (before ++ xs) ≡ filter (within w) xs
 none_before w [] xs h = refl
 none_before w (b ∷ before) xs h = elim (leb_tells w.head.number b.number) [
   | inl x ↦ absurd (let le = x.1 in let lt = h.0 in omega (arith, le, lt))
@@ -91,7 +91,7 @@ ran_append all (v ∷ vs) ws [] rs a b = absurd a
 ran_append all (v ∷ vs) ws (q ∷ qs) rs a b = (a.0, ran_append all vs ws qs rs a.1 b)
 
 module _ (code : Code) where
-  walks_more : (count : ℕ) (hs : List Told) (ws : List Walked) (t : Told) (w : Walked) → AreWalks code count hs ws → w.head ≡ t → Goes code (count + sum_by (count_of code) ws) w → AreWalks code count (hs ++ t ∷ []) (ws ++ w ∷ [])
+  walks_more : (count : ℕ) (hs : List ToldSlice) (ws : List Walked) (t : ToldSlice) (w : Walked) → AreWalks code count hs ws → w.head ≡ t → Goes code (count + sum_by (count_of code) ws) w → AreWalks code count (hs ++ t ∷ []) (ws ++ w ∷ [])
   walks_more count [] ws t w a h g =
       let none : count + sum_by (count_of code) ws ≡ count = let e = ap (sum_by (count_of code)) a in omega (arith, e) in
       subst (λ (vs : List Walked). AreWalks code count (t ∷ []) (vs ++ w ∷ [])) (sym a) (h, subst (λ (n : ℕ). Goes code n w) none g, refl)
@@ -101,7 +101,7 @@ module _ (code : Code) where
       let e : count + sum_by (count_of code) (v ∷ ws) ≡ count + count_of code v + sum_by (count_of code) ws = omega (arith, s) in
       (a.0, a.1, walks_more (count + count_of code v) hs ws t w a.2 h (subst (λ (n : ℕ). Goes code n w) e g))
 
-  fault_after : (count : ℕ) (hs : List Told) (ws : List Walked) (t : Told) (others : List Told) (e : PathFault) → AreWalks code count hs ws → StopsAt code (origin_after (count + sum_by (count_of code) ws) t) (stretch t) e → WalksFault code count (hs ++ t ∷ others) e
+  fault_after : (count : ℕ) (hs : List ToldSlice) (ws : List Walked) (t : ToldSlice) (others : List ToldSlice) (e : PathFault) → AreWalks code count hs ws → StopsAt code (origin_after (count + sum_by (count_of code) ws) t) (stretch t) e → WalksFault code count (hs ++ t ∷ others) e
   fault_after count [] ws t others e a s =
       let none : count + sum_by (count_of code) ws ≡ count = let x = ap (sum_by (count_of code)) a in omega (arith, x) in
       inl (subst (λ (n : ℕ). StopsAt code (origin_after n t) (stretch t) e) none s)
@@ -111,40 +111,40 @@ module _ (code : Code) where
       let n : count + sum_by (count_of code) (v ∷ ws) ≡ count + count_of code v + sum_by (count_of code) ws = omega (arith, x) in
       inr (v, a.0, a.1, fault_after (count + count_of code v) hs ws t others e a.2 (subst (λ (m : ℕ). StopsAt code (origin_after m t) (stretch t) e) n s))
 
-abbrev is_head : Told → Bool
+abbrev is_head : ToldSlice → Bool
 is_head t = is_none t.inside
 
-heads_head : (before : List Told) (t : Told) (others : List Told) → t.inside ≡ None → heads (before ++ t ∷ others) ≡ heads before ++ t ∷ heads others
+heads_head : (before : List ToldSlice) (t : ToldSlice) (others : List ToldSlice) → t.inside ≡ None → heads (before ++ t ∷ others) ≡ heads before ++ t ∷ heads others
 heads_head before t others none = filter-append is_head before (t ∷ others) ∙ ap (λ (o : Option ℕ). heads before ++ cond (is_none o) (t ∷ heads others) (heads others)) none
 
-heads_other : (before : List Told) (t : Told) (thread : ℕ) → t.inside ≡ Some thread → heads (before ++ t ∷ []) ≡ heads before
+heads_other : (before : List ToldSlice) (t : ToldSlice) (thread : ℕ) → t.inside ≡ Some thread → heads (before ++ t ∷ []) ≡ heads before
 heads_other before t thread some = filter-append is_head before (t ∷ []) ∙ ap (λ (o : Option ℕ). heads before ++ cond (is_none o) (t ∷ []) []) some ∙ append-nil (heads before)
 
 -- A slice with which no stretch begins adds nothing.
-pub not_head : (code : Code) (ts before : List Told) (t : Told) (ws : List Walked) (walks : Walks) (thread : ℕ) → t.inside ≡ Some thread → AreWalks code 0 (heads before) ws → AreKept code ts ws walks
+pub not_head : (code : Code) (ts before : List ToldSlice) (t : ToldSlice) (ws : List Walked) (walks : Walks) (thread : ℕ) → t.inside ≡ Some thread → AreWalks code 0 (heads before) ws → AreKept code ts ws walks
     → (vs : List Walked) × AreWalks code 0 (heads (before ++ t ∷ [])) vs × AreKept code ts vs walks
-not_head code ts before t ws walks thread some a k = (ws, subst (λ (hs : List Told). AreWalks code 0 hs ws) (sym (heads_other before t thread some)) a, k)
+not_head code ts before t ws walks thread some a k = (ws, subst (λ (hs : List ToldSlice). AreWalks code 0 hs ws) (sym (heads_other before t thread some)) a, k)
 
 -- where a walk begins at a slice, as its entry has it
 abbrev pub origin_by : ℕ → Entry → Origin
 origin_by room e = record { number = e.number; room = room }
 
-pub stopped : (code : Code) (from : ℕ) (lists : List (List Packet)) (before later : List Told) (t : Told) (ws : List Walked) (walks : Walks) (e : Entry) (room : ℕ) (fault : PathFault)
-    → told (kept from lists) ≡ before ++ t ∷ later → IsTold e t → t.inside ≡ None → room ≡ 65536 - walks.rows → AreWalks code 0 (heads before) ws → AreKept code (told (kept from lists)) ws walks
-    → StopsAt code (origin_by room e) (e.start ∷ same_stretch false t.later) fault → WalksFault code 0 (heads (told (kept from lists))) fault
+pub stopped : (code : Code) (from : ℕ) (lists : List (List Packet)) (before later : List ToldSlice) (t : ToldSlice) (ws : List Walked) (walks : Walks) (e : Entry) (room : ℕ) (fault : PathFault)
+    → slices_told (kept from lists) ≡ before ++ t ∷ later → IsEntryOf e t → t.inside ≡ None → room ≡ 65536 - walks.rows → AreWalks code 0 (heads before) ws → AreKept code (slices_told (kept from lists)) ws walks
+    → StopsAt code (origin_by room e) (e.start ∷ same_stretch false t.later) fault → WalksFault code 0 (heads (slices_told (kept from lists))) fault
 stopped code from lists before later t ws walks e room fault whole is none room_is a k s =
     let count = k.count in
     let n : 65536 - walks.rows ≡ 65536 - (0 + sum_by (count_of code) ws) = omega (arith, count) in
     let one = subst (λ (p : Packet). StopsAt code (origin_by room e) (p ∷ same_stretch false t.later) fault) is.start s in
     let two = subst (λ (m : ℕ). StopsAt code (record { number = m; room = room }) (stretch t) fault) is.number one in
     let three = subst (λ (m : ℕ). StopsAt code (record { number = t.number; room = m }) (stretch t) fault) (room_is ∙ n) two in
-    subst (λ (hs : List Told). WalksFault code 0 hs fault) (sym (ap heads whole ∙ heads_head before t later none)) (fault_after code 0 (heads before) ws t (heads later) fault a three)
+    subst (λ (hs : List ToldSlice). WalksFault code 0 hs fault) (sym (ap heads whole ∙ heads_head before t later none)) (fault_after code 0 (heads before) ws t (heads later) fault a three)
 
 -- A stretch was walked.
-module _ (code : Code) (from : ℕ) (lists : List (List Packet)) (before later : List Told) (t : Told) (whole : told (kept from lists) ≡ before ++ t ∷ later) (none : t.inside ≡ None)
-    (ws : List Walked) (old : Walks) (a : AreWalks code 0 (heads before) ws) (k : AreKept code (told (kept from lists)) ws old) where
-  abbrev ts : List Told
-  ts = told (kept from lists)
+module _ (code : Code) (from : ℕ) (lists : List (List Packet)) (before later : List ToldSlice) (t : ToldSlice) (whole : slices_told (kept from lists) ≡ before ++ t ∷ later) (none : t.inside ≡ None)
+    (ws : List Walked) (old : Walks) (a : AreWalks code 0 (heads before) ws) (k : AreKept code (slices_told (kept from lists)) ws old) where
+  abbrev ts : List ToldSlice
+  ts = slices_told (kept from lists)
 
   parts : Each Started (before ++ t ∷ later) × Following (before ++ t ∷ later)
   parts = (subst (Each Started) whole (starts_told (kept from lists)), subst Following whole (kept_follow from lists))
@@ -183,7 +183,7 @@ module _ (code : Code) (from : ℕ) (lists : List (List Packet)) (before later :
         let spare = (s.counts).spare in
         subst Counts (sym walk_is) (record { enough = enough; few = omega arith; spare = spare; linked = tt })
 
-    added : (new : Walks) (e : Entry) (es : List Entry) (counts : List ℕ) → AreTold (e ∷ es) (t ∷ later) → counts ≡ marks code (reverse (stretch t)) legs
+    added : (new : Walks) (e : Entry) (es : List Entry) (counts : List ℕ) → AreEntriesOf (e ∷ es) (t ∷ later) → counts ≡ marks code (reverse (stretch t)) legs
         → new.slices.items ≡ old.slices.items ++ kept_by (length old.stretches.items) (length walk.steps) counts (e ∷ es) → new.stretches.items ≡ old.stretches.items ++ keeps ∷ [] → new.rows ≡ old.rows + length walk.steps
         → (vs : List Walked) × AreWalks code 0 (heads (before ++ t ∷ [])) vs × AreKept code ts vs new
     added new e es counts told_is counts_are slices stretches rows_are =
@@ -196,7 +196,7 @@ module _ (code : Code) (from : ℕ) (lists : List (List Packet)) (before later :
         let size_long = ap (length {A = Packet}) long in
         let rows_size = ap (length {A = StepRow}) (sym rows ∙ kept_rows) in
         let zero_is : t.number - t.number ≡ 0 = omega arith in
-        let told_here : AreTold (e ∷ es) (told_from t.stream t.number t.inside (t.start ∷ t.later) ++ f.others) = subst (λ (xs : List Told). AreTold (e ∷ es) xs) f.same told_is in
+        let told_here : AreEntriesOf (e ∷ es) (told_from t.stream t.number t.inside (t.start ∷ t.later) ++ f.others) = subst (λ (xs : List ToldSlice). AreEntriesOf (e ∷ es) xs) f.same told_is in
         let after = f.after in
         let got = kept_from code w all number total keeps (get_new old.stretches.items keeps) last bits_are (ap (length {A = StepRow}) rows) (ap (λ (v : Walk). v.steps) walk_is) counts_kept (t.start ∷ t.later) t.stream t.number 0 t.inside ([] ∷ sheet.later) (e ∷ es) f.others
         (record {
@@ -210,7 +210,7 @@ module _ (code : Code) (from : ℕ) (lists : List (List Packet)) (before later :
         (subst (λ (m : ℕ). Each (From m) f.others) (let m : t.number + 1 + length t.later ≡ t.number + suc (length t.later) = omega arith in m) after)
         told_here in
         let here_ran : map (ran_by code w) (filter (within w) (told_from t.stream t.number t.inside (t.start ∷ t.later) ++ f.others)) ≡ ran_in code ts w =
-        ap (λ (xs : List Told). map (ran_by code w) (filter (within w) xs)) (sym f.same) ∙ ap (map (ran_by code w)) (sym (none_before w before (t ∷ later) (before_earlier before t later parts.0 parts.1))) ∙ ap (λ (xs : List Told). map (ran_by code w) (filter (within w) xs)) (sym whole) in
+        ap (λ (xs : List ToldSlice). map (ran_by code w) (filter (within w) xs)) (sym f.same) ∙ ap (map (ran_by code w)) (sym (none_before w before (t ∷ later) (before_earlier before t later parts.0 parts.1))) ∙ ap (λ (xs : List ToldSlice). map (ran_by code w) (filter (within w) xs)) (sym whole) in
         let marked : counts_from 0 (same_stretch false (t.start ∷ t.later)) ([] ∷ sheet.later) ≡ counts = ap (λ (ps : List Packet). counts_from 0 ps ([] ∷ sheet.later)) long ∙ sym sheet.marked ∙ sym counts_are in
         let own : AreRan all (kept_by number total counts (e ∷ es)) (ran_in code ts w) = subst (λ (ms : List ℕ). AreRan all (kept_by number total ms (e ∷ es)) (ran_in code ts w)) marked (subst (λ (rs : List Ran). AreRan all (kept_by number total (counts_from 0 (same_stretch false (t.start ∷ t.later)) ([] ∷ sheet.later)) (e ∷ es)) rs) here_ran got.0) in
         let both : ran code ts (ws ++ w ∷ []) ≡ ran code ts ws ++ ran_in code ts w = flat_map-append (ran_in code ts) ws (w ∷ []) ∙ ap (λ (xs : List Ran). ran code ts ws ++ xs) (append-nil (ran_in code ts w)) in
@@ -231,7 +231,7 @@ module _ (code : Code) (from : ℕ) (lists : List (List Packet)) (before later :
         let room = s.room in
         let counted : 0 + sum_by (count_of code) ws ≡ old.rows = omega (arith, old_count) in (
           ws ++ w ∷ [],
-          subst (λ (hs : List Told). AreWalks code 0 hs (ws ++ w ∷ [])) (sym (heads_head before t [] none)) (walks_more code 0 (heads before) ws t w a refl (subst (λ (m : ℕ). Goes code m w) (sym counted) s.route)),
+          subst (λ (hs : List ToldSlice). AreWalks code 0 hs (ws ++ w ∷ [])) (sym (heads_head before t [] none)) (walks_more code 0 (heads before) ws t w a refl (subst (λ (m : ℕ). Goes code m w) (sym counted) s.route)),
           record {
             slices = subst (λ (xs : List Kept). AreRan xs new.slices.items (ran code ts (ws ++ w ∷ []))) (sym stretches) (subst (λ (xs : List WalkedSlice). AreRan all xs (ran code ts (ws ++ w ∷ []))) (sym slices) (subst (λ (rs : List Ran). AreRan all (old.slices.items ++ kept_by number total counts (e ∷ es)) rs) (sym both) joined));
             rows = omega (arith, rows_are, sums, sums_parts, old_rows, sum, sum_is, begins, at_zero);
@@ -241,11 +241,11 @@ module _ (code : Code) (from : ℕ) (lists : List (List Packet)) (before later :
         )
 
 -- by the entry of its first slice
-pub walked_on : (code : Code) (from : ℕ) (lists : List (List Packet)) (before later : List Told) (t : Told) (ws : List Walked) (old new : Walks) (e : Entry) (es : List Entry) (room : ℕ) (walk : Walk) (legs : List (List StepRow)) (counts : List ℕ) (keeps : Kept)
-    → told (kept from lists) ≡ before ++ t ∷ later → t.inside ≡ None → AreWalks code 0 (heads before) ws → AreKept code (told (kept from lists)) ws old → AreTold (e ∷ es) (t ∷ later) → room ≡ 65536 - old.rows
+pub walked_on : (code : Code) (from : ℕ) (lists : List (List Packet)) (before later : List ToldSlice) (t : ToldSlice) (ws : List Walked) (old new : Walks) (e : Entry) (es : List Entry) (room : ℕ) (walk : Walk) (legs : List (List StepRow)) (counts : List ℕ) (keeps : Kept)
+    → slices_told (kept from lists) ≡ before ++ t ∷ later → t.inside ≡ None → AreWalks code 0 (heads before) ws → AreKept code (slices_told (kept from lists)) ws old → AreEntriesOf (e ∷ es) (t ∷ later) → room ≡ 65536 - old.rows
     → Stands code (earlier_by (origin_by room e) (reverse (e.start ∷ same_stretch false t.later)) legs) walk → counts ≡ marks code (reverse (e.start ∷ same_stretch false t.later)) legs → keeps.rows ≡ walk.steps → keeps.walk ≡ record walk { steps = [] }
     → new.slices.items ≡ old.slices.items ++ kept_by (length old.stretches.items) (length walk.steps) counts (e ∷ es) → new.stretches.items ≡ old.stretches.items ++ keeps ∷ [] → new.rows ≡ old.rows + length walk.steps
-    → (vs : List Walked) × AreWalks code 0 (heads (before ++ t ∷ [])) vs × AreKept code (told (kept from lists)) vs new
+    → (vs : List Walked) × AreWalks code 0 (heads (before ++ t ∷ [])) vs × AreKept code (slices_told (kept from lists)) vs new
 walked_on code from lists before later t ws old new e es room walk legs counts keeps whole none a k told_is room_is s counts_are rows walk_is slices stretches rows_are =
     let one = subst (λ (p : Packet). Stands code (earlier_by (origin_by room e) (reverse (p ∷ same_stretch false t.later)) legs) walk) (told_is.0).start s in
     let two = subst (λ (m : ℕ). Stands code (earlier_by (record { number = m; room = room }) (reverse (stretch t)) legs) walk) (told_is.0).number one in
@@ -254,16 +254,16 @@ walked_on code from lists before later t ws old new e es room walk legs counts k
     added code from lists before later t whole none ws old a k walk legs three keeps rows walk_is new e es counts told_is marked slices stretches rows_are
 
 -- What was walked, and the slices that are left.
-pub record SoFar (code : Code) (ts : List Told) (es : List Entry) (walks : Walks) : Type 0 where
-  pub before : List Told
-  pub later : List Told
+pub record SoFar (code : Code) (ts : List ToldSlice) (es : List Entry) (walks : Walks) : Type 0 where
+  pub before : List ToldSlice
+  pub later : List ToldSlice
   pub same : ts ≡ before ++ later
-  pub are : AreTold es later
+  pub are : AreEntriesOf es later
   pub ws : List Walked
   pub walked : AreWalks code 0 (heads before) ws
   pub keeps : AreKept code ts ws walks
 
-pub none_walked : (code : Code) (ts : List Told) (es : List Entry) (walks : Walks) → AreTold es ts → walks.stretches.items ≡ [] → walks.slices.items ≡ [] → walks.rows ≡ 0 → SoFar code ts es walks
+pub none_walked : (code : Code) (ts : List ToldSlice) (es : List Entry) (walks : Walks) → AreEntriesOf es ts → walks.stretches.items ≡ [] → walks.slices.items ≡ [] → walks.rows ≡ 0 → SoFar code ts es walks
 none_walked code ts es walks a stretches slices rows = record {
   before = [];
   later = ts;
@@ -280,37 +280,37 @@ none_walked code ts es walks a stretches slices rows = record {
 }
 
 -- the first of the slices that are left
-pub record First (code : Code) (ts : List Told) (es rest : List Entry) (walks : Walks) : Type 0 where
-  pub before : List Told
-  pub t : Told
-  pub later : List Told
+pub record First (code : Code) (ts : List ToldSlice) (es rest : List Entry) (walks : Walks) : Type 0 where
+  pub before : List ToldSlice
+  pub t : ToldSlice
+  pub later : List ToldSlice
   pub same : ts ≡ before ++ t ∷ later
-  pub are : AreTold es (t ∷ later)
-  pub others : AreTold rest later
+  pub are : AreEntriesOf es (t ∷ later)
+  pub others : AreEntriesOf rest later
   pub ws : List Walked
   pub walked : AreWalks code 0 (heads before) ws
   pub keeps : AreKept code ts ws walks
 
-pub first_left : (code : Code) (ts : List Told) (es : List Entry) (i : ℕ) (walks : Walks) → i < length es → SoFar code ts (drop i es) walks → First code ts (drop i es) (drop (i + 1) es) walks
+pub first_left : (code : Code) (ts : List ToldSlice) (es : List Entry) (i : ℕ) (walks : Walks) → i < length es → SoFar code ts (drop i es) walks → First code ts (drop i es) (drop (i + 1) es) walks
 first_left code ts es i walks within s = go (drop i es) refl where
   go : (rest : List Entry) → drop i es ≡ rest → First code ts (drop i es) (drop (i + 1) es) walks
   go [] e = absurd (let n = ap (length {A = Entry}) e in let d = length-drop i es in omega (arith, n, d, within))
   go (e ∷ rest) h =
       let after : drop (i + 1) es ≡ rest = drop_next i es e rest h in
-      let p = split_told e rest s.later (subst (λ (xs : List Entry). AreTold xs s.later) h s.are) in
+      let p = split_told e rest s.later (subst (λ (xs : List Entry). AreEntriesOf xs s.later) h s.are) in
       record {
         before = s.before;
         t = p.0;
         later = p.1;
-        same = s.same ∙ ap (λ (ts : List Told). s.before ++ ts) p.2;
-        are = subst (λ (xs : List Entry). AreTold xs (p.0 ∷ p.1)) (sym h) (p.3, p.4);
-        others = subst (λ (xs : List Entry). AreTold xs p.1) (sym after) p.4;
+        same = s.same ∙ ap (λ (ts : List ToldSlice). s.before ++ ts) p.2;
+        are = subst (λ (xs : List Entry). AreEntriesOf xs (p.0 ∷ p.1)) (sym h) (p.3, p.4);
+        others = subst (λ (xs : List Entry). AreEntriesOf xs p.1) (sym after) p.4;
         ws = s.ws;
         walked = s.walked;
         keeps = s.keeps;
       }
 
-pub one_walked : (code : Code) (all : List Told) (es rest : List Entry) (old new : Walks) (f : First code all es rest old) → (vs : List Walked) × AreWalks code 0 (heads (f.before ++ f.t ∷ [])) vs × AreKept code all vs new → SoFar code all rest new
+pub one_walked : (code : Code) (all : List ToldSlice) (es rest : List Entry) (old new : Walks) (f : First code all es rest old) → (vs : List Walked) × AreWalks code 0 (heads (f.before ++ f.t ∷ [])) vs × AreKept code all vs new → SoFar code all rest new
 one_walked code all es rest old new f h = record {
   before = f.before ++ f.t ∷ [];
   later = f.later;
@@ -321,14 +321,14 @@ one_walked code all es rest old new f h = record {
   keeps = h.2;
 }
 
-pub all_walked : (code : Code) (ts : List Told) (es : List Entry) (i : ℕ) (walks : Walks) → length es ≤ i → SoFar code ts (drop i es) walks → (ws : List Walked) × AreWalks code 0 (heads ts) ws × AreKept code ts ws walks
+pub all_walked : (code : Code) (ts : List ToldSlice) (es : List Entry) (i : ℕ) (walks : Walks) → length es ≤ i → SoFar code ts (drop i es) walks → (ws : List Walked) × AreWalks code 0 (heads ts) ws × AreKept code ts ws walks
 all_walked code ts es i walks past s =
-    let none : s.later ≡ [] = subst (λ (xs : List Entry). AreTold xs s.later) (at_drop_all (λ (xs : List Entry). xs) es i past) s.are in
-    let e : ts ≡ s.before = s.same ∙ ap (λ (xs : List Told). s.before ++ xs) none ∙ append-nil s.before in
-    (s.ws, subst (λ (xs : List Told). AreWalks code 0 (heads xs) s.ws) (sym e) s.walked, s.keeps)
+    let none : s.later ≡ [] = subst (λ (xs : List Entry). AreEntriesOf xs s.later) (at_drop_all (λ (xs : List Entry). xs) es i past) s.are in
+    let e : ts ≡ s.before = s.same ∙ ap (λ (xs : List ToldSlice). s.before ++ xs) none ∙ append-nil s.before in
+    (s.ws, subst (λ (xs : List ToldSlice). AreWalks code 0 (heads xs) s.ws) (sym e) s.walked, s.keeps)
 
 -- what the walk of the first slice asks
-pub may_walk : (code : Code) (from : ℕ) (lists : List (List Packet)) (es rest : List Entry) (walks : Walks) → sum_by (λ packets. length packets) lists < 2 ^ 32 → (f : First code (told (kept from lists)) es rest walks) → (is_start (f.t).start ≡ true) × ((f.t).number + 1 + length (f.t).later < 2 ^ 32)
+pub may_walk : (code : Code) (from : ℕ) (lists : List (List Packet)) (es rest : List Entry) (walks : Walks) → sum_by (λ packets. length packets) lists < 2 ^ 32 → (f : First code (slices_told (kept from lists)) es rest walks) → (is_start (f.t).start ≡ true) × ((f.t).number + 1 + length (f.t).later < 2 ^ 32)
 may_walk code from lists es rest walks few f =
     let starts = each_middle Started f.before f.t f.later (subst (Each Started) f.same (starts_told (kept from lists))) in
     let n = 0 + sum_by (λ packets. length packets) lists in
@@ -345,8 +345,8 @@ none_left walked number total marks es now i h past =
     empty (m ∷ ms) = refl
 
 -- The slices of all stretches are all slices, in their order.
-module _ (code : Code) (ts : List Told) where
-  gather : (before later : List Told) (count : ℕ) (ws : List Walked) → ts ≡ before ++ later → Each Started (before ++ later) → Following (before ++ later) → AreWalks code count (heads later) ws → inner_slices later ++ map (λ (r : Ran). r.told) (ran code ts ws) ≡ later
+module _ (code : Code) (ts : List ToldSlice) where
+  gather : (before later : List ToldSlice) (count : ℕ) (ws : List Walked) → ts ≡ before ++ later → Each Started (before ++ later) → Following (before ++ later) → AreWalks code count (heads later) ws → inner_slices later ++ map (λ (r : Ran). r.told) (ran code ts ws) ≡ later
   gather before [] count ws e s f a = ap (λ (vs : List Walked). map (λ (r : Ran). r.told) (ran code ts vs)) a
   gather before (t ∷ later) count ws e s f a = go t.inside refl ws a (λ n vs b. gather (before ++ t ∷ []) later n vs (e ∙ sym shift) (subst (Each Started) (sym shift) s) (subst Following (sym shift) f) b) where
     shift : (before ++ t ∷ []) ++ later ≡ before ++ t ∷ later
@@ -356,35 +356,35 @@ module _ (code : Code) (ts : List Told) where
         → ((n : ℕ) (vs : List Walked) → AreWalks code n (heads later) vs → inner_slices later ++ map (λ (r : Ran). r.told) (ran code ts vs) ≡ later) → cond (is_none t.inside) [] (t ∷ inner_slices later) ++ map (λ (r : Ran). r.told) (ran code ts ws) ≡ t ∷ later
     go (Some x) is ws a more =
         let b = subst (λ (o : Option ℕ). AreWalks code count (cond (is_none o) (t ∷ heads later) (heads later)) ws) is a in
-        ap (λ (o : Option ℕ). cond (is_none o) [] (t ∷ inner_slices later) ++ map (λ (r : Ran). r.told) (ran code ts ws)) is ∙ ap (λ (us : List Told). t ∷ us) (more count ws b)
+        ap (λ (o : Option ℕ). cond (is_none o) [] (t ∷ inner_slices later) ++ map (λ (r : Ran). r.told) (ran code ts ws)) is ∙ ap (λ (us : List ToldSlice). t ∷ us) (more count ws b)
     go None is [] a more = absurd (subst (λ (o : Option ℕ). AreWalks code count (cond (is_none o) (t ∷ heads later) (heads later)) []) is a)
     go None is (w ∷ vs) a more =
         let b = subst (λ (o : Option ℕ). AreWalks code count (cond (is_none o) (t ∷ heads later) (heads later)) (w ∷ vs)) is a in
         let x = follow_there before t later f in
-        let number = ap (λ (u : Told). u.number) b.0 in
+        let number = ap (λ (u : ToldSlice). u.number) b.0 in
         let early = subst (λ (n : ℕ). Each (Earlier n) before) (sym number) (before_earlier before t later s f) in
         let own : filter (within w) ts ≡ t ∷ inner_slices later = ap (filter (within w)) e ∙ none_before w before (t ∷ later) early ∙ gathered w t later x.others b.0 (started_there before t later s) x.same x.after x.heads in
         let told : map (λ (r : Ran). r.told) (ran code ts (w ∷ vs)) ≡ (t ∷ inner_slices later) ++ map (λ (r : Ran). r.told) (ran code ts vs) =
-        map-append (λ (r : Ran). r.told) (ran_in code ts w) (ran code ts vs) ∙ ap (λ (us : List Told). us ++ map (λ (r : Ran). r.told) (ran code ts vs)) (told_back code w (filter (within w) ts) ∙ own) in
-        ap (λ (o : Option ℕ). cond (is_none o) [] (t ∷ inner_slices later) ++ map (λ (r : Ran). r.told) (ran code ts (w ∷ vs))) is ∙ told ∙ ap (λ (us : List Told). t ∷ us) (more (count + count_of code w) vs b.2)
+        map-append (λ (r : Ran). r.told) (ran_in code ts w) (ran code ts vs) ∙ ap (λ (us : List ToldSlice). us ++ map (λ (r : Ran). r.told) (ran code ts vs)) (told_back code w (filter (within w) ts) ∙ own) in
+        ap (λ (o : Option ℕ). cond (is_none o) [] (t ∷ inner_slices later) ++ map (λ (r : Ran). r.told) (ran code ts (w ∷ vs))) is ∙ told ∙ ap (λ (us : List ToldSlice). t ∷ us) (more (count + count_of code w) vs b.2)
 
-pub all_gathered : (code : Code) (from : ℕ) (lists : List (List Packet)) (ws : List Walked) → AreWalks code 0 (heads (told (kept from lists))) ws → map (λ (r : Ran). r.told) (ran code (told (kept from lists)) ws) ≡ told (kept from lists)
+pub all_gathered : (code : Code) (from : ℕ) (lists : List (List Packet)) (ws : List Walked) → AreWalks code 0 (heads (slices_told (kept from lists))) ws → map (λ (r : Ran). r.told) (ran code (slices_told (kept from lists)) ws) ≡ slices_told (kept from lists)
 all_gathered code from lists ws a =
-    let whole = told (kept from lists) in
-    sym (ap (λ (us : List Told). us ++ map (λ (r : Ran). r.told) (ran code whole ws)) (none_inner whole (kept_heads from lists))) ∙ gather code whole [] whole 0 ws refl (starts_told (kept from lists)) (kept_follow from lists) a
+    let whole = slices_told (kept from lists) in
+    sym (ap (λ (us : List ToldSlice). us ++ map (λ (r : Ran). r.told) (ran code whole ws)) (none_inner whole (kept_heads from lists))) ∙ gather code whole [] whole 0 ws refl (starts_told (kept from lists)) (kept_follow from lists) a
 
 -- the first one of slices, which is told first
-pub first_entry : (es : List Entry) (e : Entry) (t : Told) (later : List Told) → AreTold es (t ∷ later) → Some e ≡ slice_get es 0 → (rest : List Entry) × AreTold (e ∷ rest) (t ∷ later) × (es ≡ e ∷ rest)
+pub first_entry : (es : List Entry) (e : Entry) (t : ToldSlice) (later : List ToldSlice) → AreEntriesOf es (t ∷ later) → Some e ≡ slice_get es 0 → (rest : List Entry) × AreEntriesOf (e ∷ rest) (t ∷ later) × (es ≡ e ∷ rest)
 first_entry [] e t later a h = absurd (cc)
-first_entry (x ∷ es) e t later a h = let is : e ≡ x = cc in (es, subst (λ (y : Entry). AreTold (y ∷ es) (t ∷ later)) (sym is) a, ap (λ (y : Entry). y ∷ es) (sym is))
+first_entry (x ∷ es) e t later a h = let is : e ≡ x = cc in (es, subst (λ (y : Entry). AreEntriesOf (y ∷ es) (t ∷ later)) (sym is) a, ap (λ (y : Entry). y ∷ es) (sym is))
 
-pub none_inside : (e : Entry) (t : Told) → IsTold e t → is_some e.inside ≡ false → t.inside ≡ None
+pub none_inside : (e : Entry) (t : ToldSlice) → IsEntryOf e t → is_some e.inside ≡ false → t.inside ≡ None
 none_inside e t is h = go t.inside (ap is_some (sym is.inside) ∙ h) where
   go : (o : Option ℕ) → is_some o ≡ false → o ≡ None
   go None h = refl
   go (Some x) h = absurd (cc)
 
-pub some_inside : (e : Entry) (t : Told) → IsTold e t → is_some e.inside ≡ true → (thread : ℕ) × (t.inside ≡ Some thread)
+pub some_inside : (e : Entry) (t : ToldSlice) → IsEntryOf e t → is_some e.inside ≡ true → (thread : ℕ) × (t.inside ≡ Some thread)
 some_inside e t is h = go t.inside (ap is_some (sym is.inside) ∙ h) where
   go : (o : Option ℕ) → is_some o ≡ true → (thread : ℕ) × (o ≡ Some thread)
   go None h = absurd (cc)
@@ -393,23 +393,23 @@ some_inside e t is h = go t.inside (ap is_some (sym is.inside) ∙ h) where
 abbrev pub begins_at : Entry → Begin
 begins_at e = record { number = e.number; first = e.start; later = e.later }
 
-pub stopped_or : (code : Code) (from : ℕ) (lists : List (List Packet)) (before later : List Told) (t : Told) (ws : List Walked) (walks : Walks) (e : Entry) (room : ℕ) (b : Begin) (fault : PathFault)
-    → told (kept from lists) ≡ before ++ t ∷ later → IsTold e t → is_some e.inside ≡ false → room ≡ 65536 - walks.rows → AreWalks code 0 (heads before) ws → AreKept code (told (kept from lists)) ws walks → b ≡ begins_at e
-    → (fault ≡ OutOfMemory) ⊎ StopsAt code (record { number = b.number; room = room }) (b.first ∷ same_stretch false t.later) fault → (fault ≡ OutOfMemory) ⊎ WalksFault code 0 (heads (told (kept from lists))) fault
+pub stopped_or : (code : Code) (from : ℕ) (lists : List (List Packet)) (before later : List ToldSlice) (t : ToldSlice) (ws : List Walked) (walks : Walks) (e : Entry) (room : ℕ) (b : Begin) (fault : PathFault)
+    → slices_told (kept from lists) ≡ before ++ t ∷ later → IsEntryOf e t → is_some e.inside ≡ false → room ≡ 65536 - walks.rows → AreWalks code 0 (heads before) ws → AreKept code (slices_told (kept from lists)) ws walks → b ≡ begins_at e
+    → (fault ≡ OutOfMemory) ⊎ StopsAt code (record { number = b.number; room = room }) (b.first ∷ same_stretch false t.later) fault → (fault ≡ OutOfMemory) ⊎ WalksFault code 0 (heads (slices_told (kept from lists))) fault
 stopped_or code from lists before later t ws walks e room b fault whole is some room_is a k b_is h = elim h [
   | inl m ↦ inl m
   | inr s ↦ inr (stopped code from lists before later t ws walks e room fault whole is (none_inside e t is some) room_is a k (subst (λ (x : Begin). StopsAt code (record { number = x.number; room = room }) (x.first ∷ same_stretch false t.later) fault) b_is s))
 ]
 
-pub held_at : (e : Entry) (t : Told) (b : Begin) → IsTold e t → b ≡ begins_at e → Hold (rest_of b.later) t.later
+pub held_at : (e : Entry) (t : ToldSlice) (b : Begin) → IsEntryOf e t → b ≡ begins_at e → Hold (rest_of b.later) t.later
 held_at e t b is b_is = subst (λ (x : Begin). Hold (rest_of x.later) t.later) (sym b_is) is.later
 
-pub stretch_on_from : (code : Code) (from : ℕ) (lists : List (List Packet)) (before later : List Told) (t : Told) (ws : List Walked) (old new : Walks) (e : Entry) (es rest : List Entry) (room : ℕ) (b : Begin) (walk : Walk) (counts : List ℕ) (keeps : Kept)
-    → told (kept from lists) ≡ before ++ t ∷ later → AreWalks code 0 (heads before) ws → AreKept code (told (kept from lists)) ws old → AreTold (e ∷ rest) (t ∷ later) → es ≡ e ∷ rest → is_some e.inside ≡ false → room ≡ 65536 - old.rows → b ≡ begins_at e
+pub stretch_on_from : (code : Code) (from : ℕ) (lists : List (List Packet)) (before later : List ToldSlice) (t : ToldSlice) (ws : List Walked) (old new : Walks) (e : Entry) (es rest : List Entry) (room : ℕ) (b : Begin) (walk : Walk) (counts : List ℕ) (keeps : Kept)
+    → slices_told (kept from lists) ≡ before ++ t ∷ later → AreWalks code 0 (heads before) ws → AreKept code (slices_told (kept from lists)) ws old → AreEntriesOf (e ∷ rest) (t ∷ later) → es ≡ e ∷ rest → is_some e.inside ≡ false → room ≡ 65536 - old.rows → b ≡ begins_at e
     → ((legs : List (List StepRow)) × Stands code (earlier_by (record { number = b.number; room = room }) (reverse (b.first ∷ same_stretch false t.later)) legs) walk × (counts ≡ marks code (reverse (b.first ∷ same_stretch false t.later)) legs))
     → keeps.rows ≡ walk.steps → keeps.walk ≡ record walk { steps = [] } → (number : ℕ) → number ≡ length old.stretches.items → new.slices.items ≡ old.slices.items ++ kept_by number (length walk.steps) counts es → new.stretches.items ≡ old.stretches.items ++ keeps ∷ []
     → (n : ℕ) → n ≡ length walk.steps → new.rows ≡ old.rows + n
-    → (vs : List Walked) × AreWalks code 0 (heads (before ++ t ∷ [])) vs × AreKept code (told (kept from lists)) vs new
+    → (vs : List Walked) × AreWalks code 0 (heads (before ++ t ∷ [])) vs × AreKept code (slices_told (kept from lists)) vs new
 stretch_on_from code from lists before later t ws old new e es rest room b walk counts keeps whole a k told_is es_is some room_is b_is h rows walk_is number number_is slices stretches n n_is rows_are =
     let s = subst (λ (x : Begin). Stands code (earlier_by (record { number = x.number; room = room }) (reverse (x.first ∷ same_stretch false t.later)) h.0) walk) b_is h.1 in
     let m = h.2 ∙ ap (λ (x : Begin). marks code (reverse (x.first ∷ same_stretch false t.later)) h.0) b_is in

@@ -24,12 +24,12 @@ use Rattle.rept_slices.proofs.Sound.{is_sound}
 use Rattle.rept_slices.proofs.Only.{one_run, one_refusal, run_or_refusal}
 use Rattle.rept_slices.proofs.OneSurvey.{same_lists, held_or_refused, same_refused}
 use Rattle.rept_path.specs.Moves.{◌>>=◌}
-use Rattle.rept_slices.specs.Parts.{Told, told}
+use Rattle.rept_slices.specs.Parts.{ToldSlice, slices_told}
 use Rattle.rept_slices.specs.Skipping.{windows, greatest, ends_of, kept, skipped, dark}
 use Rattle.rept_slices.specs.Checks.{first_fault, check}
 use Rattle.rept_slices.specs.Stretches.{heads, Walked, Walks, WalksFault, ran}
 use Rattle.rept_slices.specs.Joins.{Note, ran_rows, threads}
-use Rattle.rept_slices.specs.Many.{Traces, processes, ground, overlap_fault, unmet, run_by, joined, IsRun, IsRefused}
+use Rattle.rept_slices.specs.Many.{Traces, processes, ground, overlap_fault, unmet, run_by, joined, IsRunOfStreams, IsRefused}
 use Rattle.rept_slices.specs.Raw.{streams_of, HoldEach, Files, code_in, traces, IsRunOf, HasNoRun, IsRefusedBefore, PassBefore, note_in, files_of}
 use Rattle.rept_threads.specs.Notes.{known_by}
 use Rattle.rept_slices.specs.Surveyed.{IsSurvey}
@@ -61,8 +61,8 @@ some_stream file from threads lists p = go file.streams refl where
       )
   go (s ∷ streams) e = let n = ap (length {A = List ℕ}) e in omega (arith, n)
 
-pub dark_is : (from : ℕ) (lists : List (List Packet)) (s : Survey) (d : Option ℕ) → IsSurvey from lists s → d ≡ cond s.several (Some (greatest (s.time ∷ ends_of s.time (told (windows from lists))))) None → d ≡ dark from lists
-dark_is from lists s d is h = h ∙ (λ i. cond (is.several i) (Some (greatest (is.time i ∷ ends_of (is.time i) (told (windows from lists))))) None)
+pub dark_is : (from : ℕ) (lists : List (List Packet)) (s : Survey) (d : Option ℕ) → IsSurvey from lists s → d ≡ cond s.several (Some (greatest (s.time ∷ ends_of s.time (slices_told (windows from lists))))) None → d ≡ dark from lists
+dark_is from lists s d is h = h ∙ (λ i. cond (is.several i) (Some (greatest (is.time i ∷ ends_of (is.time i) (slices_told (windows from lists))))) None)
 
 module _ (dump : Dump) (file : StreamFile) (descs : List (List ℕ)) (from : ℕ) (processes_are : List ℕ) (notes : List KeptNote) (lists : List (List Packet)) (p : Parts file descs from processes_are notes lists) where
   abbrev files : Files
@@ -71,8 +71,8 @@ module _ (dump : Dump) (file : StreamFile) (descs : List (List ℕ)) (from : ℕ
   abbrev all : Traces
   all = traces files lists
 
-  abbrev ts : List Told
-  ts = told (kept from lists)
+  abbrev ts : List ToldSlice
+  ts = slices_told (kept from lists)
 
   same_processes : processes_are ≡ processes all
   same_processes = p.processes ∙ known_processes notes ∙ ap (map (λ (n : Note). n.process)) p.noted
@@ -117,7 +117,7 @@ module _ (dump : Dump) (file : StreamFile) (descs : List (List ℕ)) (from : ℕ
         let apart = ap (λ (o : Option PathFault). unmet o >>= (λ none. by_threads >>= onward)) (found_is None unmet_is) in
         let result : joined all ws ≡ Ok (run_by all rows) = apart ∙ ap (λ (r : Result (List ThreadRows) PathFault). r >>= onward) (same_threads packets count (Ok rows) packets_are counted h) in
         let run_is : record { threads = rows; dark = d; skipped = n } ≡ run_by all rows = λ i. record { threads = rows; dark = dark_of i; skipped = skips i } in
-        (lists, p.passed.0, subst (λ (r : Run). IsRun all r) (sym run_is) (record { passed = passes; walked = ws; walks = walks_too; result = result }))
+        (lists, p.passed.0, subst (λ (r : Run). IsRunOfStreams all r) (sym run_is) (record { passed = passes; walked = ws; walks = walks_too; result = result }))
 
 -- A survey is refused as the whole is.
 pub refused_before : (dump : Dump) (file : StreamFile) (descs : List (List ℕ)) (from : ℕ) (processes_are : List ℕ) (notes : List KeptNote) (e : PathFault) → map known_by notes ≡ map note_in descs → processes_are ≡ map (λ (n : KeptNote). n.process) notes
@@ -154,11 +154,11 @@ file_sound f run x = is_sound (traces f x.0) run (all_clocks f.file.halves f.fil
 
 -- There is one answer.
 pub one_run_of : (f : Files) (a b : Run) → IsRunOf f a → IsRunOf f b → a ≡ b
-one_run_of f a b x y = one_run (traces f y.0) a b (subst (λ (ps : List (List Packet)). IsRun (traces f ps) a) (same_lists (streams_of f.file) x.0 y.0 x.1 y.1) x.2) y.2
+one_run_of f a b x y = one_run (traces f y.0) a b (subst (λ (ps : List (List Packet)). IsRunOfStreams (traces f ps) a) (same_lists (streams_of f.file) x.0 y.0 x.1 y.1) x.2) y.2
 
 pub run_or_none : (f : Files) (a : Run) (e : PathFault) → IsRunOf f a → HasNoRun f e → ⊥
 run_or_none f a e x (inl y) = held_or_refused 0 (streams_of f.file) x.0 y.0 x.1 y.1
-run_or_none f a e x (inr y) = run_or_refusal (traces f y.0) a e (subst (λ (ps : List (List Packet)). IsRun (traces f ps) a) (same_lists (streams_of f.file) x.0 y.0 x.1 y.1) x.2) y.2
+run_or_none f a e x (inr y) = run_or_refusal (traces f y.0) a e (subst (λ (ps : List (List Packet)). IsRunOfStreams (traces f ps) a) (same_lists (streams_of f.file) x.0 y.0 x.1 y.1) x.2) y.2
 
 pub one_refusal_of : (f : Files) (d e : PathFault) → HasNoRun f d → HasNoRun f e → d ≡ e
 one_refusal_of f d e (inl x) (inl y) = x.2 ∙ ap fault.Packet (same_refused 0 (streams_of f.file) x.0 y.0 x.1 y.1) ∙ sym y.2

@@ -4,7 +4,7 @@ use Rattle.std.specs.List.{filter}
 use Rattle.rept_path.specs.Program.{code_of}
 use Rattle.rept_path.specs.declared.fault.PathFault.TheVariants.{Gap, End}
 use Rattle.rept_slices.specs.Stamps.{address_of, context_of}
-use Rattle.rept_slices.specs.Joins.{Ending, Ground, Joined, of_thread}
+use Rattle.rept_slices.specs.Joins.{Ground, Joined, ThreadGround, of_thread}
 use Rattle.rept_slices.specs.Parts.{begin_of, end_before}
 use Rattle.rept_steps.specs.declared.slice.Slice.{Slice}
 use Rattle.rept_threads.specs.Kept.{AreRan}
@@ -20,7 +20,7 @@ abbrev pub onward : ℕ → ℕ → ℕ → Option Entry → Option Lead
 onward packets at pc None = Some (record { packet = packets; to = pc; otherwise = End at pc })
 onward packets at pc (Some e) = if is_none e.inside then Some (record { packet = e.number; to = address_of e.start; otherwise = Gap e.number at (address_of e.start) }) else None
 
-abbrev pub ending_of : Joins → ℕ → Ending
+abbrev pub ending_of : Joins → ℕ → ThreadGround
 ending_of j pc = record { code = code_of j.program; packets = j.packets; pc = pc }
 
 abbrev pub ground_of : Joins → Ground

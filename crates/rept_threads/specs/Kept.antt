@@ -3,10 +3,10 @@ use Rattle.std.specs.Prelude.{◌≡◌, ◌+◌, ◌-◌, ℕ, ◌≤◌, List,
 use Rattle.std.specs.List.{sum_by}
 use Rattle.rept_path.specs.Code.{Code}
 use Rattle.rept_path.specs.State.{here, Counts}
-use Rattle.rept_slices.specs.Parts.{Told}
+use Rattle.rept_slices.specs.Parts.{ToldSlice}
 use Rattle.rept_slices.specs.Stretches.{Ran, Walked as WalkedStretch, count_of, ran}
 use Rattle.rept_slices.specs.Joins.{ran_rows}
-use Rattle.rept_slices.specs.Entries.{IsTold}
+use Rattle.rept_slices.specs.Entries.{IsEntryOf}
 use Rattle.rept_slices.specs.declared.telling.Entry.{Entry}
 use Rattle.rept_threads.specs.declared.walks.Kept.{Kept}
 use Rattle.rept_threads.specs.declared.walks.Walked.{Walked}
@@ -16,7 +16,7 @@ use Rattle.rept_slices.specs.Ends.{first_or}
 -- A slice is kept as its entry, the number of its stretch, and which rows of the stretch it has; the stretch as its rows, and the walk
 -- as it ended, without them.
 pub record IsRan (kept : List Kept) (w : Walked) (r : Ran) : Type 0 where
-  pub told : IsTold w.slice r.told
+  pub told : IsEntryOf w.slice r.told
   pub stretch : Kept
   pub there : slice_get kept w.stretch ≡ Some stretch
   pub rows : take w.count (drop w.first stretch.rows) ≡ r.rows
@@ -39,7 +39,7 @@ kept_by number rows (m ∷ ms) [] = []
 kept_by number rows (m ∷ ms) (e ∷ es) = record { slice = e; stretch = number; first = m; count = first_or rows ms - m } ∷ kept_by number rows ms es
 
 -- Stretches of slices that were walked one after the other, as they are kept.
-pub record AreKept (code : Code) (ts : List Told) (ws : List WalkedStretch) (walks : Walks) : Type 0 where
+pub record AreKept (code : Code) (ts : List ToldSlice) (ws : List WalkedStretch) (walks : Walks) : Type 0 where
   pub slices : AreRan walks.stretches.items walks.slices.items (ran code ts ws)
   pub rows : walks.rows ≡ ran_rows (ran code ts ws)
   pub count : walks.rows ≡ sum_by (count_of code) ws

@@ -6,7 +6,7 @@ ghost use Rattle.std.specs.List.Sorted.{IsNonDecreasingBy};
 ghost use Rattle.rept_path.specs.Gap.{gap};
 ghost use Rattle.rept_path.specs.Program.{code_of};
 ghost use Rattle.rept_path.specs.State.{here, Counts};
-ghost use Rattle.rept_slices.specs.Entries.{IsTold};
+ghost use Rattle.rept_slices.specs.Entries.{IsEntryOf};
 ghost use Rattle.rept_isa.specs.declared.row.StepRow.{StepRow};
 ghost use Rattle.rept_threads.specs.Linking.{Goes, onward_to, Chained, Ready};
 ghost use Rattle.rept_slices.specs.Joins.{Joined, of_thread as slices_in_order, bridge, with_rows, join, thread, threads, rows_in, ran_rows};
@@ -14,7 +14,7 @@ ghost use Rattle.rept_slices.specs.Order.{head_of};
 ghost use Rattle.rept_threads.specs.Kept.{AreRan};
 ghost use Rattle.rept_threads.specs.Joining.{onward, ending_of, ground_of, AreRanInOrder, GoesOn, slice_before, begin_of_ran};
 ghost use Rattle.rept_threads.specs.Notes.{known_by};
-ghost use Rattle.rept_slices.specs.Parts.{Told, begin_of, end_before};
+ghost use Rattle.rept_slices.specs.Parts.{ToldSlice, begin_of, end_before};
 ghost use Rattle.rept_slices.specs.Stretches.{Ran};
 ghost use Rattle.rept_slices.specs.declared.telling.Entry.{Entry};
 ghost use Rattle.rept_threads.specs.declared.walks.Walked.{Walked};
@@ -177,8 +177,8 @@ fn slices_of<'a, 'b>(walked: &'b [Walked<'a>], note: &Note) -> &'b [Walked<'a>]
 
 /// A slice of so many rows from this one of its thread on.
 fn slice_of(slice: Entry<'_>, next: Option<Entry<'_>>, first: u32, count: u32) -> Slice
-    requires { (t : Told) × IsTold slice t }
-    ensures { (t : Told) → IsTold slice.entry t → result ≡ record { stream = t.stream; begin = begin_of t; end = end_before t (option_map (λ (e : Entry). clock_of e.start) next.entry); first = first; count = count } }
+    requires { (t : ToldSlice) × IsEntryOf slice t }
+    ensures { (t : ToldSlice) → IsEntryOf slice.entry t → result ≡ record { stream = t.stream; begin = begin_of t; end = end_before t (option_map (λ (e : Entry). clock_of e.start) next.entry); first = first; count = count } }
 {
     let begin = match next {
         None => None,

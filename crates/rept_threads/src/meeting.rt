@@ -6,13 +6,13 @@ ghost use Rattle.std.specs.List.Sorted.{IsNonDecreasingBy};
 ghost use Rattle.rept_trace.specs.declared.packet.Packet.{Packet};
 ghost use Rattle.rept_trace.specs.Packets.{rest_of};
 ghost use Rattle.rept_trace.specs.Stream.{Hold};
-ghost use Rattle.rept_slices.specs.Stamps.{time_of, is_past, context_of};
-ghost use Rattle.rept_slices.specs.Parts.{Told, thread_of, begin_of};
-ghost use Rattle.rept_slices.specs.Entries.{IsTold, AreTold};
+ghost use Rattle.rept_slices.specs.Stamps.{stamp_of, is_past, context_of};
+ghost use Rattle.rept_slices.specs.Parts.{ToldSlice, thread_of, begin_of};
+ghost use Rattle.rept_slices.specs.Entries.{IsEntryOf, AreEntriesOf};
 ghost use Rattle.rept_slices.specs.Order.{head_of, starts_past, lasts_past, meets, slices_of};
 ghost use Rattle.rept_slices.specs.Checks.{first_fault};
 ghost use Rattle.rept_slices.specs.Many.{overlap_fault};
-ghost use Rattle.rept_slices.specs.Ends.{IsBefore, InTurn, KeepTurn, met_next, first_met};
+ghost use Rattle.rept_slices.specs.Ends.{IsInTurn, InTurn, KeepTurn, met_next, first_met};
 ghost use Rattle.rept_threads.specs.declared.walks.Walked.{Walked};
 
 use crate::walks::{Walked, of_thread};
@@ -25,7 +25,7 @@ use rept_trace::{Packet, Packets};
 
 /// Whether a packet has a time, which is later than this one.
 fn is_past(packet: Packet, time: u64) -> bool
-    ensures { result ≡ is_past time (time_of packet) }
+    ensures { result ≡ is_past time (stamp_of packet) }
 {
     match time_of(packet) {
         None => false,
@@ -43,7 +43,7 @@ fn starts_past(packet: Packet, time: u64) -> bool
 /// Whether a slice lasts past a time, by the packets after its start packet: one of them, or the start packet that ends it, is of a later time.
 fn lasts_past(later: Packets<'_>, time: u64) -> bool
     requires { (list : List Packet) × Hold (rest_of later) list }
-    ensures { (t : Told) → Hold (rest_of later.entry) t.later → result ≡ lasts_past time t }
+    ensures { (t : ToldSlice) → Hold (rest_of later.entry) t.later → result ≡ lasts_past time t }
 {
     let mut rest = later;
     while let Some(packet) = next_packet(&mut rest) {
@@ -60,8 +60,8 @@ fn lasts_past(later: Packets<'_>, time: u64) -> bool
 /// Whether a slice meets one that stands after it among those of their thread, in order: they are of different streams, and begin at one time, or the former one
 /// lasts past the begin of the latter.
 fn meets(former: &Entry<'_>, latter: &Entry<'_>) -> bool
-    requires { (t : Told) × IsTold former.now t }
-    ensures { (t u : Told) → IsTold former.now t → IsTold latter.now u → thread_of t ≡ thread_of u → begin_of t ≤ begin_of u → result ≡ meets t u }
+    requires { (t : ToldSlice) × IsEntryOf former.now t }
+    ensures { (t u : ToldSlice) → IsEntryOf former.now t → IsEntryOf latter.now u → thread_of t ≡ thread_of u → begin_of t ≤ begin_of u → result ≡ meets t u }
 {
     if former.stream == latter.stream {
         return false;
@@ -72,8 +72,8 @@ fn meets(former: &Entry<'_>, latter: &Entry<'_>) -> bool
 
 /// The begin of the second one of slices of a thread, which stand in order, if the first one meets it.
 fn next_met(slices: &[Walked<'_>]) -> Option<u64>
-    requires { (ts : List Told) × AreTold (map (λ (w : Walked). w.slice) slices.now) ts }
-    ensures { (t : Told) (later : List Told) → AreTold (map (λ (w : Walked). w.slice) slices.now) (t ∷ later) → IsBefore t (head_of later) → result ≡ met_next t (head_of later) }
+    requires { (ts : List ToldSlice) × AreEntriesOf (map (λ (w : Walked). w.slice) slices.now) ts }
+    ensures { (t : ToldSlice) (later : List ToldSlice) → AreEntriesOf (map (λ (w : Walked). w.slice) slices.now) (t ∷ later) → IsInTurn t (head_of later) → result ≡ met_next t (head_of later) }
 {
     let (walked, later) = slices.split_first()?;
     let next = later.first()?;
@@ -86,8 +86,8 @@ fn next_met(slices: &[Walked<'_>]) -> Option<u64>
 
 /// The first time at which a slice of a thread is met by the one right before it, of slices that stand in order.
 fn first_met(slices: &[Walked<'_>]) -> Option<u64>
-    requires { (ts : List Told) × AreTold (map (λ (w : Walked). w.slice) slices.now) ts }
-    ensures { (ts : List Told) → AreTold (map (λ (w : Walked). w.slice) slices.now) ts → InTurn ts → result ≡ first_met ts }
+    requires { (ts : List ToldSlice) × AreEntriesOf (map (λ (w : Walked). w.slice) slices.now) ts }
+    ensures { (ts : List ToldSlice) → AreEntriesOf (map (λ (w : Walked). w.slice) slices.now) ts → InTurn ts → result ≡ first_met ts }
 {
     for i in 0..slices.len() {
         if let Some(time) = next_met(&slices[i..]) {
@@ -100,8 +100,8 @@ fn first_met(slices: &[Walked<'_>]) -> Option<u64>
 /// The first thread, of those that run as these processes, of which two streams tell at one time, with the least such time: the refusal, if there is one.
 pub fn overlap_fault(slices: &[Walked<'_>], processes: &[u32]) -> Option<PathFault>
     requires order { IsNonDecreasingBy (λ (w : Walked). context_of w.slice.start) slices.now }
-    requires told { (ts : List Told) × AreTold (map (λ (w : Walked). w.slice) slices.now) ts }
-    ensures { (ts : List Told) → ((process : ℕ) → AreTold (map (λ (w : Walked). w.slice) (filter (λ (w : Walked). context_of w.slice.start == process) slices.now)) (slices_of process ts)) → KeepTurn ts → result ≡ first_fault (overlap_fault ts) processes.now }
+    requires told { (ts : List ToldSlice) × AreEntriesOf (map (λ (w : Walked). w.slice) slices.now) ts }
+    ensures { (ts : List ToldSlice) → ((process : ℕ) → AreEntriesOf (map (λ (w : Walked). w.slice) (filter (λ (w : Walked). context_of w.slice.start == process) slices.now)) (slices_of process ts)) → KeepTurn ts → result ≡ first_fault (overlap_fault ts) processes.now }
 {
     for process in processes {
         if let Some(time) = first_met(of_thread(slices, *process)) {

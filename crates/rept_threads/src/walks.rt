@@ -6,12 +6,12 @@ ghost use Rattle.std.specs.List.Sorted.{IsPermutation, IsNonDecreasingBy};
 ghost use Rattle.rept_trace.specs.declared.packet.Packet.{Packet};
 ghost use Rattle.rept_path.specs.declared.fault.PathFault.TheVariants.{OutOfMemory};
 ghost use Rattle.rept_path.specs.Program.{code_of};
-ghost use Rattle.rept_slices.specs.Entries.{AreTold};
+ghost use Rattle.rept_slices.specs.Entries.{AreEntriesOf};
 ghost use Rattle.rept_threads.specs.Kept.{AreKept, kept_by};
 ghost use Rattle.rept_threads.specs.Turns.{in_turn};
 ghost use Rattle.rept_slices.specs.Ends.{first_or};
 ghost use Rattle.rept_slices.specs.Order.{by_time};
-ghost use Rattle.rept_slices.specs.Parts.{Told, told};
+ghost use Rattle.rept_slices.specs.Parts.{ToldSlice, slices_told};
 ghost use Rattle.rept_slices.specs.Skipping.{kept};
 ghost use Rattle.rept_slices.specs.Stamps.{clock_of, context_of, is_start};
 ghost use Rattle.rept_slices.specs.Stretches.{heads, Walked as WalkedStretch, Walks as AreWalks, WalksFault};
@@ -127,13 +127,13 @@ fn add_stretch<'a>(
     slices: &[Entry<'a>],
 ) -> Result<(), PathFault>
     requires few { walks.old.rows ≤ 65536 }
-    requires told { (t : Told) × (later : List Told) × AreTold slices.now (t ∷ later) × (is_start t.start ≡ true) × (t.number + 1 + length t.later < 2 ^ 32) }
-    ensures ok { (from : ℕ) (lists : List (List Packet)) (before later : List Told) (t : Told) (ws : List WalkedStretch) → told (kept from lists) ≡ before ++ t ∷ later → AreTold slices.now (t ∷ later) →
-        AreWalks (code_of program.now) 0 (heads before) ws → AreKept (code_of program.now) (told (kept from lists)) ws walks.old →
-        OnOk result ((vs : List WalkedStretch) × AreWalks (code_of program.now) 0 (heads (before ++ t ∷ [])) vs × AreKept (code_of program.now) (told (kept from lists)) vs walks.new) }
-    ensures err { (from : ℕ) (lists : List (List Packet)) (before later : List Told) (t : Told) (ws : List WalkedStretch) → told (kept from lists) ≡ before ++ t ∷ later → AreTold slices.now (t ∷ later) →
-        AreWalks (code_of program.now) 0 (heads before) ws → AreKept (code_of program.now) (told (kept from lists)) ws walks.old →
-        IfErr result (λ e. (e ≡ OutOfMemory) ⊎ WalksFault (code_of program.now) 0 (heads (told (kept from lists))) e) }
+    requires told { (t : ToldSlice) × (later : List ToldSlice) × AreEntriesOf slices.now (t ∷ later) × (is_start t.start ≡ true) × (t.number + 1 + length t.later < 2 ^ 32) }
+    ensures ok { (from : ℕ) (lists : List (List Packet)) (before later : List ToldSlice) (t : ToldSlice) (ws : List WalkedStretch) → slices_told (kept from lists) ≡ before ++ t ∷ later → AreEntriesOf slices.now (t ∷ later) →
+        AreWalks (code_of program.now) 0 (heads before) ws → AreKept (code_of program.now) (slices_told (kept from lists)) ws walks.old →
+        OnOk result ((vs : List WalkedStretch) × AreWalks (code_of program.now) 0 (heads (before ++ t ∷ [])) vs × AreKept (code_of program.now) (slices_told (kept from lists)) vs walks.new) }
+    ensures err { (from : ℕ) (lists : List (List Packet)) (before later : List ToldSlice) (t : ToldSlice) (ws : List WalkedStretch) → slices_told (kept from lists) ≡ before ++ t ∷ later → AreEntriesOf slices.now (t ∷ later) →
+        AreWalks (code_of program.now) 0 (heads before) ws → AreKept (code_of program.now) (slices_told (kept from lists)) ws walks.old →
+        IfErr result (λ e. (e ≡ OutOfMemory) ⊎ WalksFault (code_of program.now) 0 (heads (slices_told (kept from lists))) e) }
 {
     let Some(slice) = slices.first() else {
         return Ok(());
@@ -162,10 +162,10 @@ pub fn walk_all<'a>(
     program: &Program<'_>,
     slices: &[Entry<'a>],
 ) -> Result<Walks<'a>, PathFault>
-    requires { (from : ℕ) × (lists : List (List Packet)) × AreTold slices.now (told (kept from lists)) × (sum_by (λ packets. length packets) lists < 2 ^ 32) }
-    ensures ok { (from : ℕ) (lists : List (List Packet)) → AreTold slices.now (told (kept from lists)) →
-        IfOk result (λ walks. (ws : List WalkedStretch) × AreWalks (code_of program.now) 0 (heads (told (kept from lists))) ws × AreKept (code_of program.now) (told (kept from lists)) ws walks) }
-    ensures err { (from : ℕ) (lists : List (List Packet)) → AreTold slices.now (told (kept from lists)) → IfErr result (λ e. (e ≡ OutOfMemory) ⊎ WalksFault (code_of program.now) 0 (heads (told (kept from lists))) e) }
+    requires { (from : ℕ) × (lists : List (List Packet)) × AreEntriesOf slices.now (slices_told (kept from lists)) × (sum_by (λ packets. length packets) lists < 2 ^ 32) }
+    ensures ok { (from : ℕ) (lists : List (List Packet)) → AreEntriesOf slices.now (slices_told (kept from lists)) →
+        IfOk result (λ walks. (ws : List WalkedStretch) × AreWalks (code_of program.now) 0 (heads (slices_told (kept from lists))) ws × AreKept (code_of program.now) (slices_told (kept from lists)) ws walks) }
+    ensures err { (from : ℕ) (lists : List (List Packet)) → AreEntriesOf slices.now (slices_told (kept from lists)) → IfErr result (λ e. (e ≡ OutOfMemory) ⊎ WalksFault (code_of program.now) 0 (heads (slices_told (kept from lists))) e) }
 {
     let mut walks = Walks {
         stretches: Vec::new(alloc),

@@ -151,7 +151,7 @@ module _ {W : Type 0} (t : Trip W) (h : History) (sound : IsSound t.course) (x :
     over : (j : ℕ) → IsRow C (row_on C j) → RowWrites C D h (row_on C j) a → S.moments.past j m ≡ true → tick C h (after (row_on C j)) ≤ tick C h (last_on C m)
     over j its writes past = order_kept C D h x (after (row_on C j)) (last_on C m) its is_moment (told.past j m few its (stores_cover C D h (row_on C j) a its writes) past)
 
-    pub writer_so : (K : Knowledge) (w : Writer) → IsWriter S K (spot m a) w → WriterHolds S run (spot m a) w → order.WriterHolds C D h (spot_on C m a) (writer_on C w)
+    pub writer_so : (K : Knowledge) (w : Writer) → IsWriter S K (spot m a) w → WriterHolds S run (spot m a) w → order.WriterHoldsInHistory C D h (spot_on C m a) (writer_on C w)
     writer_so K (writers.TheVariants.Writes j) is holds = let its = step_row j a holds.0 in (its.1, over j its.0 its.1 holds.1, since j its.0 holds.2)
     writer_so K (writers.TheVariants.MayWrite j) is holds = since j (may_row K j a is.0.one.may) holds
     writer_so K writers.TheVariants.Several is holds = tt

@@ -8,7 +8,7 @@ use Rattle.rept_report.specs.declared.writer.Writer as writers
 use Rattle.rept_report.specs.Setting.{Setting}
 use Rattle.rept_report.specs.Spots.{Spot}
 use Rattle.rept_report.specs.Views.{registers_at, touched_by, may_write}
-use Rattle.rept_report.specs.Latest.{IsBefore}
+use Rattle.rept_report.specs.Latest.{IsEarlierRow}
 use Rattle.rept_report.specs.Writers.{IsCandidate, IsLastCandidate, HasNoCandidate, is_certain, IsWriter}
 use Rattle.rept_trip.specs.Last.{all_below, greatest_below, is_candidate, comes_after, is_last, has_none, said_of, writer_found}
 
@@ -83,10 +83,10 @@ module _ {W : Type 0} (S : Setting W) (K : Knowledge) (x : Spot) (legs : AreLegs
       let two = and_parts (not S.moments.is_dark || S.moments.dark_before j) (all_below (is_behind j) S.legs.count) one.1 in
       record { one = candidate_true j one.0; after = λ k its other. after_by k its other (all_true (is_behind j) S.legs.count two.1 k (may_below k its.may)); dark = dark_by two.0 }
     where
-      after_from : (k : ℕ) → comes_after S.moments j k ≡ true → IsBefore S.moments k j
+      after_from : (k : ℕ) → comes_after S.moments j k ≡ true → IsEarlierRow S.moments k j
       after_from k e = let parts = and_parts (S.moments.later j k) (not (S.moments.later k j)) e in record { later = parts.0; apart = not-true (S.moments.later k j) parts.1 }
 
-      after_by : (k : ℕ) → IsCandidate S K x k → (k ≡ j → ⊥) → is_behind j k ≡ true → IsBefore S.moments k j
+      after_by : (k : ℕ) → IsCandidate S K x k → (k ≡ j → ⊥) → is_behind j k ≡ true → IsEarlierRow S.moments k j
       after_by k its other e =
           elim (or_cases (eqb k j) (not (is_candidate S K x k) || comes_after S.moments j k) e) [
             | inl same ↦ absurd (other (eqb-true k j same))

@@ -4,7 +4,7 @@ use Rattle.rept_isa.specs.declared.row.StepRow.{StepRow}
 use Rattle.rept_steps.specs.Runs.{course_of, run_of_one, whole_slice, thread_of_one}
 use Rattle.rept_steps.specs.Course.{rows_of, slices_of, TakeRows, KeepTime, IsAlone, IsSound}
 use Rattle.rept_order.specs.Alone.{SavesOne}
-use Rattle.rept_report.specs.OneThread.{Path}
+use Rattle.rept_report.specs.OneThread.{ThreadPath}
 use Rattle.rept_trip.specs.Alone.{trip_of}
 
 pub is_alone : (rows : List StepRow) → IsAlone (course_of (run_of_one rows 0))
@@ -21,6 +21,6 @@ in_time rows (suc t) = tt
 pub is_sound : (rows : List StepRow) → IsSound (course_of (run_of_one rows 0))
 is_sound rows = record { taken = taken rows; in_time = in_time rows; calls = inl (is_alone rows) }
 
-pub saves_one : {W : Type 0} (P : Path W) → SavesOne (trip_of P).ending
+pub saves_one : {W : Type 0} (P : ThreadPath W) → SavesOne (trip_of P).ending
 saves_one P zero some = absurd (omega arith)
 saves_one P (suc t) some = refl

@@ -19,7 +19,7 @@ use Rattle.rept_order.specs.Points.{state_from}
 use Rattle.rept_order.specs.Times.{same_row}
 use Rattle.rept_order.specs.Legs.{points_before, point_in, point_at, number_of}
 use Rattle.rept_order.specs.Interleaved as interleaved
-use Rattle.rept_order.specs.Interleaved.{IsRun, run_of, leg_of, WritesIn}
+use Rattle.rept_order.specs.Interleaved.{IsCourseRun, run_of_history, leg_of, WritesIn}
 use Rattle.rept_order.specs.Writing.{WritesBy}
 use Rattle.rept_order.proofs.Between.{row_forward}
 use Rattle.rept_order.proofs.Decide.{row_true, row_self}
@@ -81,10 +81,10 @@ thread_here C p some few =
     cond-true (nat_lt (point_at C p).thread (length C.threads)) (point_at C p).thread 0 (lt-ltb (point_at C p).thread (length C.threads) inside)
 
 -- by points and numbers
-abbrev numbered_run : Course → interleaved.Run → Option (List StepRow) → Run
+abbrev numbered_run : Course → interleaved.CourseRun → Option (List StepRow) → Run
 numbered_run C run o = record { register = run.register; memory = λ m. run.memory (last_by C o m) }
 
-module _ {W : Type 0} (sets : Sets W) (moves : Moves W) (rules : Rules) (C : Course) (D : Ending) (run : interleaved.Run) (sound : IsSound C) (x : IsRun C D run) where
+module _ {W : Type 0} (sets : Sets W) (moves : Moves W) (rules : Rules) (C : Course) (D : Ending) (run : interleaved.CourseRun) (sound : IsSound C) (x : IsCourseRun C D run) where
   -- of one thread in one slice, all of which is told
   module _ (rows : List StepRow) (e : alone_by C.threads C.dark ≡ Some rows) where
     abbrev S : Setting W
@@ -200,4 +200,4 @@ module _ {W : Type 0} (sets : Sets W) (moves : Moves W) (rules : Rules) (C : Cou
 
 -- each execution is a run
 pub history_runs : {W : Type 0} (t : Trip W) (h : History) → IsSound t.course → 0 < length t.course.threads → IsHistoryOf t h → Runs (setting_on t) (run_on t.course h)
-history_runs t h sound some x = runs_by t.sets t.moves t.rules t.course t.ending (run_of t.course h) sound (execution_is_run t.course t.ending h x) some (alone_by t.course.threads t.course.dark) refl
+history_runs t h sound some x = runs_by t.sets t.moves t.rules t.course t.ending (run_of_history t.course h) sound (execution_is_run t.course t.ending h x) some (alone_by t.course.threads t.course.dark) refl

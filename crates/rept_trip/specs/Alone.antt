@@ -1,7 +1,7 @@
 -- A path of one thread as a trip: that thread in one slice, at no known time, all of which is told. This project's own.
 use Rattle.std.specs.Prelude.{ℕ, zero, suc, List, []}
 use Rattle.rept_steps.specs.Runs.{course_of, run_of_one}
-use Rattle.rept_report.specs.OneThread.{Path}
+use Rattle.rept_report.specs.OneThread.{ThreadPath}
 use Rattle.rept_trip.specs.Trip.{Trip}
 
 -- there is no other thread
@@ -9,7 +9,7 @@ abbrev pub registers_alone : List ℕ → ℕ → List ℕ
 registers_alone last zero = last
 registers_alone last (suc t) = []
 
-abbrev pub trip_of : {W : Type 0} → Path W → Trip W
+abbrev pub trip_of : {W : Type 0} → ThreadPath W → Trip W
 trip_of P = record {
   sets = P.sets;
   moves = P.moves;

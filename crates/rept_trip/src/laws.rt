@@ -15,7 +15,7 @@ ghost use Rattle.rept_reason.specs.Facts.{Knowledge};
 ghost use Rattle.rept_span.specs.Ranges.{AreLegs};
 ghost use Rattle.rept_report.specs.declared.writer.Writer.{Writer};
 ghost use Rattle.rept_report.specs.Setting.{Setting, Uses};
-ghost use Rattle.rept_report.specs.OneThread.{Path, along};
+ghost use Rattle.rept_report.specs.OneThread.{ThreadPath, along};
 ghost use Rattle.rept_report.specs.Spots.{spot};
 ghost use Rattle.rept_report.specs.Runs.{Runs};
 ghost use Rattle.rept_report.specs.Writers.{IsWriter};
@@ -33,15 +33,15 @@ use rept_view::RowRules;
 pub fn executions_are_runs<W: Transfer, R: RowRules>()
     ensures uses { (t : Trip W) → IsSound t.course → t.sets ≡ W.sets → t.moves ≡ W.moves → t.rules ≡ R.rules → Uses (setting_on t) W.sets W.moves R.rules }
     ensures runs { (t : Trip W) (h : History) → IsSound t.course → 0 < length t.course.threads → IsHistoryOf t h → Runs (setting_on t) (run_on t.course h) }
-    ensures writers { (t : Trip W) (K : Knowledge) (h : History) (m a : ℕ) (writer : Writer) → IsSound t.course → IsHistoryOf t h → m ≤ (setting_on t).moments.end → IsWriter (setting_on t) K (spot m a) writer → WriterHolds (setting_on t) (run_on t.course h) (spot m a) writer → order.WriterHolds t.course t.ending h (spot_on t.course m a) (writer_on t.course writer) }
+    ensures writers { (t : Trip W) (K : Knowledge) (h : History) (m a : ℕ) (writer : Writer) → IsSound t.course → IsHistoryOf t h → m ≤ (setting_on t).moments.end → IsWriter (setting_on t) K (spot m a) writer → WriterHolds (setting_on t) (run_on t.course h) (spot m a) writer → order.WriterHoldsInHistory t.course t.ending h (spot_on t.course m a) (writer_on t.course writer) }
 {}
 
 /// A path of one thread is the trip of that thread in one slice, all of which is told: both have one setting, and each execution of the path by itself is one of the trip, with
 /// the same states at points and moments.
 pub fn paths_are_trips<W: Transfer>()
-    ensures setting { (P : Path W) → setting_on (trip_of P) ≡ along P }
-    ensures sound { (P : Path W) → IsSound (trip_of P).course }
-    ensures shared { (P : Path W) (run : ℕ → State) → Execution P.given.image_end P.given.rows P.given.last P.given.dump run → IsShared (trip_of P).course (trip_of P).ending run }
+    ensures setting { (P : ThreadPath W) → setting_on (trip_of P) ≡ along P }
+    ensures sound { (P : ThreadPath W) → IsSound (trip_of P).course }
+    ensures shared { (P : ThreadPath W) (run : ℕ → State) → Execution P.given.image_end P.given.rows P.given.last P.given.dump run → IsShared (trip_of P).course (trip_of P).ending run }
 {}
 
 /// The number of the moment at a point of a thread stands for that moment: the one before the thread's row, or the end after its last one. The place by which a session names a

@@ -19,7 +19,7 @@ use Rattle.rept_order.specs.Events.IsBefore.{by_row, by_call, by_time}
 use Rattle.rept_order.specs.Moments.{Act}
 use Rattle.rept_order.specs.Moments.Moment.{before, after}
 use Rattle.rept_order.specs.Moments.Act.{row}
-use Rattle.rept_order.specs.History.{World, Move, move_at, Happening, History, Ending, IsExecution, tick, seen_by, Stays, OthersKeep, SameMemory, Occurs, Executes, Returns, CallChanges, Does}
+use Rattle.rept_order.specs.History.{World, Move, move_at, Happening, History, Ending, IsExecution, tick, seen_by, Stays, OthersKeep, SameMemory, Occurs, ExecutesRow, Returns, CallChanges, Does}
 use Rattle.rept_order.specs.History.Happening.{event, change, nothing}
 use Rattle.rept_order.proofs.Sequence.{part_of, first_is_event, first_whole, first_entry}
 use Rattle.rept_turns.specs.declared.turn.Turn.{Turn}
@@ -224,8 +224,8 @@ module _ (C : Course) (D : Ending) (x : Playing) (has : HasTurns C x.turns) (pla
   ran u i less =
       let own = stands u turns i less in
       let p = place_in u turns i in
-      let by_thread : Executes C D (row_of u (steps_before u turns (place_in u turns i))) (record { old = world (place_in u turns i); new = world (suc (place_in u turns i)) }) = subst (λ (t : ℕ). Executes C D (row_of t (steps_before t turns (place_in u turns i))) (record { old = world (place_in u turns i); new = world (suc (place_in u turns i)) })) own.own (play.executes (place_in u turns i) own.turn own.at) in
-      let does : Executes C D (row_of u i) (record { old = world (place_in u turns i); new = world (suc (place_in u turns i)) }) = subst (λ (j : ℕ). Executes C D (row_of u j) (record { old = world (place_in u turns i); new = world (suc (place_in u turns i)) })) (steps_there u turns i (omega arith)) by_thread in
+      let by_thread : ExecutesRow C D (row_of u (steps_before u turns (place_in u turns i))) (record { old = world (place_in u turns i); new = world (suc (place_in u turns i)) }) = subst (λ (t : ℕ). ExecutesRow C D (row_of t (steps_before t turns (place_in u turns i))) (record { old = world (place_in u turns i); new = world (suc (place_in u turns i)) })) own.own (play.executes (place_in u turns i) own.turn own.at) in
+      let does : ExecutesRow C D (row_of u i) (record { old = world (place_in u turns i); new = world (suc (place_in u turns i)) }) = subst (λ (j : ℕ). ExecutesRow C D (row_of u j) (record { old = world (place_in u turns i); new = world (suc (place_in u turns i)) })) (steps_there u turns i (omega arith)) by_thread in
       record {
         its_row = does.its_row;
         is_row = does.is_row;
@@ -317,7 +317,7 @@ module _ (C : Course) (D : Ending) (x : Playing) (has : HasTurns C x.turns) (pla
     memory = λ a. ap (λ (b : Bool). cond b (world k).memory (world (suc k)).memory a) call;
   }
 
-  runs : (k : ℕ) → k < count → calls C (row_on k) ≡ false → Executes C D (row_on k) (move_in k 1)
+  runs : (k : ℕ) → k < count → calls C (row_on k) ≡ false → ExecutesRow C D (row_on k) (move_in k 1)
   runs k below plain =
       let own = ran (who k) (now k) (few k below) in
       let place = placed k below in

@@ -3,7 +3,7 @@ use Rattle.std.proofs.Common.{◌≡◌, ℕ, suc, ◌-◌, ◌<◌, ◌≤◌, 
 use Rattle.std.proofs.lemmas.Bool.{cases_lt, le-ltb}
 use Rattle.std.proofs.lemmas.List.Elements.{All-nil, All-cons, All-head, All-tail}
 use Rattle.rept_steps.specs.Course.{Course, row_of}
-use Rattle.rept_order.specs.History.{Ending, Executes}
+use Rattle.rept_order.specs.History.{Ending, ExecutesRow}
 use Rattle.rept_turns.specs.declared.turn.Turn.{Turn}
 use Rattle.rept_turns.specs.Turns.{all_rows, rows_in, steps_before, turn_at, AreSome, AreInOrder, AreWider}
 use Rattle.rept_turns.specs.Play.{Playing, with_turns, IsPlay}
@@ -87,12 +87,12 @@ module _ (C : Course) (D : Ending) (x : Playing) (wide : List Turn) (play : IsPl
   all_same : all_rows wide ≡ all_rows x.turns
   all_same = wider_all x.turns wide wider
 
-  executes : (k : ℕ) (turn : Turn) → turn_at wide k ≡ Some turn → Executes C D (row_of turn.thread (steps_before turn.thread wide k)) (record { old = x.world k; new = x.world (suc k) })
+  executes : (k : ℕ) (turn : Turn) → turn_at wide k ≡ Some turn → ExecutesRow C D (row_of turn.thread (steps_before turn.thread wide k)) (record { old = x.world k; new = x.world (suc k) })
   executes k turn at =
       let own = narrower x.turns wide k turn wider at in
-      let narrow : Executes C D (row_of own.turn.thread (steps_before own.turn.thread x.turns k)) (record { old = x.world k; new = x.world (suc k) }) = play.executes k own.turn own.at in
-      let named : Executes C D (row_of turn.thread (steps_before turn.thread x.turns k)) (record { old = x.world k; new = x.world (suc k) }) = subst (λ (t : ℕ). Executes C D (row_of t (steps_before t x.turns k)) (record { old = x.world k; new = x.world (suc k) })) own.own narrow in
-      subst (λ (i : ℕ). Executes C D (row_of turn.thread i) (record { old = x.world k; new = x.world (suc k) })) (sym (wider_steps turn.thread x.turns wide k wider)) named
+      let narrow : ExecutesRow C D (row_of own.turn.thread (steps_before own.turn.thread x.turns k)) (record { old = x.world k; new = x.world (suc k) }) = play.executes k own.turn own.at in
+      let named : ExecutesRow C D (row_of turn.thread (steps_before turn.thread x.turns k)) (record { old = x.world k; new = x.world (suc k) }) = subst (λ (t : ℕ). ExecutesRow C D (row_of t (steps_before t x.turns k)) (record { old = x.world k; new = x.world (suc k) })) own.own narrow in
+      subst (λ (i : ℕ). ExecutesRow C D (row_of turn.thread i) (record { old = x.world k; new = x.world (suc k) })) (sym (wider_steps turn.thread x.turns wide k wider)) named
 
   pub wider_play : IsPlay C D (with_turns x wide)
   wider_play = record {

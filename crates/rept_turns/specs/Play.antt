@@ -3,7 +3,7 @@
 use Rattle.std.specs.Prelude.{◌≡◌, ℕ, suc, ◌<◌, ◌≤◌, List, Some, slice_get}
 use Rattle.rept_machine.specs.State.{IsState}
 use Rattle.rept_steps.specs.Course.{Course, Row, row_of}
-use Rattle.rept_order.specs.History.{World, seen_by, Stays, Executes, Ending, History, IsExecution}
+use Rattle.rept_order.specs.History.{World, seen_by, Stays, ExecutesRow, Ending, History, IsExecution}
 use Rattle.rept_turns.specs.declared.turn.Turn.{Turn}
 use Rattle.rept_turns.specs.Turns.{all_rows, steps_before, turn_at}
 
@@ -25,7 +25,7 @@ last_world x = x.world (all_rows x.turns)
 -- each world has states, each row is executed, a call too, and the last world has what was saved
 pub record IsPlay (C : Course) (D : Ending) (x : Playing) : Type 0 where
   pub states : (k t : ℕ) → k ≤ all_rows x.turns → IsState (seen_by t (x.world k))
-  pub executes : (k : ℕ) (turn : Turn) → turn_at x.turns k ≡ Some turn → Executes C D (row_played x.turns turn k) (record { old = x.world k; new = x.world (suc k) })
+  pub executes : (k : ℕ) (turn : Turn) → turn_at x.turns k ≡ Some turn → ExecutesRow C D (row_played x.turns turn k) (record { old = x.world k; new = x.world (suc k) })
   pub registers_end : (t s v : ℕ) → 0 < s → slice_get (D.registers t) s ≡ Some v → (last_world x).register t s ≡ v
   pub bytes_end : (a v : ℕ) → D.dump a ≡ Some v → (last_world x).memory a ≡ v
 

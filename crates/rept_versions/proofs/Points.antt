@@ -6,11 +6,11 @@ use Rattle.std.proofs.lemmas.Bool.{cases_lt}
 use Rattle.std.proofs.lemmas.Bool.Decides.{nat_tests}
 use Rattle.rept_versions.specs.Line.{Line, value_at}
 use Rattle.rept_versions.specs.Row.{AddsTo}
-use Rattle.rept_versions.specs.Facts.{Stays, change, Course, Between, Spreads, Stops, TracksOr}
+use Rattle.rept_versions.specs.Facts.{Stays, change, Carry, Between, Spreads, Stops, TracksOr}
 use Rattle.rept_versions.specs.Moves.{SpreadsOn, StopsOn}
 use Rattle.rept_versions.specs.OnLine.{Parts, store, fact_on, key}
 
-abbrev course : ℕ → ℕ → ℕ → ℕ → Course
+abbrev course : ℕ → ℕ → ℕ → ℕ → Carry
 course a from to v = record { address = a; from = from; to = to; value = v }
 
 pub fact_in : (line : Line) (p a : ℕ) → p < 4294967296 → fact_on line p a ≡ value_at line.spans (key p a)

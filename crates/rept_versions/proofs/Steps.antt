@@ -2,7 +2,7 @@
 use Rattle.std.proofs.Common.{◌≡◌, ◌≢◌, ℕ, ◌+◌, ◌≤◌, ◌⊎◌, Bool, true, false, Some, None, Result, Ok, Err, refl, sym, ◌∙◌, ap, subst, inl, inr, arith, true≢false}
 use Rattle.std.specs.declared.alloc.AllocError.{AllocError}
 use Rattle.rept_versions.specs.declared.facts.Learnt.TheVariants.{Old, New}
-use Rattle.rept_versions.specs.Facts.{Store, Stays, change, Course, ByteFact, Learns, Between, Spreads, Reaches, Fails, Carries, TracksOr}
+use Rattle.rept_versions.specs.Facts.{Store, Stays, change, Carry, ByteFact, Learns, Between, Spreads, Reaches, Fails, CarriesOr, TracksOr}
 use Rattle.std.specs.Result.{IsErr}
 use Rattle.std.specs.Prelude.{⊤}
 use Rattle.rept_versions.specs.declared.facts.Carried.{Carried}
@@ -10,7 +10,7 @@ use Rattle.rept_versions.specs.Row.{AddsTo}
 use Rattle.rept_versions.specs.Listed.{Toward, Plain, store, fact_in}
 use Rattle.rept_versions.proofs.Lines.{same_or}
 
-abbrev course : ℕ → ℕ → ℕ → ℕ → Course
+abbrev course : ℕ → ℕ → ℕ → ℕ → Carry
 course a from to v = record { address = a; from = from; to = to; value = v }
 
 abbrev fact : ℕ → ℕ → ℕ → ByteFact
@@ -143,7 +143,7 @@ module _ (old mid new : Store) (a from to point next v : ℕ) (way : Between fro
     spare = none;
   }
 
-pub failed : (old new : Store) (a from to v : ℕ) (r : Result Carried AllocError) → IsErr r → Fails (change false old new) (course a from to v) → Carries (change false old new) (course a from to v) r
+pub failed : (old new : Store) (a from to v : ℕ) (r : Result Carried AllocError) → IsErr r → Fails (change false old new) (course a from to v) → CarriesOr (change false old new) (course a from to v) r
 failed old new a from to v (Err e) is f = f
 failed old new a from to v (Ok c) is f = not_joins is
 

@@ -8,11 +8,11 @@ use Rattle.rept_versions.specs.declared.facts.Carried.TheVariants.{Same, More, S
 use Rattle.rept_versions.specs.declared.facts.Stretch.{Stretch}
 
 -- the value that is known at a point of an address
-abbrev pub Told : Type 0
-Told = ℕ → ℕ → Option ℕ
+abbrev pub KnownValues : Type 0
+KnownValues = ℕ → ℕ → Option ℕ
 
 pub record Store : Type 0 where
-  pub fact : Told
+  pub fact : KnownValues
   -- the tracked addresses, in the order of their first use
   pub tracked : List ℕ
   -- so many facts can be learnt without memory
@@ -36,14 +36,14 @@ pub record ByteFact : Type 0 where
   pub value : ℕ
 
 -- a value of an address that is carried from one point to another
-pub record Course : Type 0 where
+pub record Carry : Type 0 where
   pub address : ℕ
   pub from : ℕ
   pub to : ℕ
   pub value : ℕ
 
 -- the same, carried to this point
-abbrev pub as_far_as : Course → ℕ → Course
+abbrev pub as_far_as : Carry → ℕ → Carry
 as_far_as course point = record { address = course.address; from = course.from; to = point; value = course.value }
 
 -- the same facts, addresses and room
@@ -61,7 +61,7 @@ pub record Made (joins : Bool) (made : Store) (access_bytes : ℕ) : Type 0 wher
   pub spare : joins ≡ true → 2 * access_bytes + 1 ≤ made.spare
 
 -- the value of the fact is known at the point before or after it
-abbrev pub HasBeside : Told → ByteFact → Type 0
+abbrev pub HasBeside : KnownValues → ByteFact → Type 0
 HasBeside told f = (told (f.point + 1) f.address ≡ Some f.value) ⊎ ((q : ℕ) × (q + 1 ≡ f.point) × (told q f.address ≡ Some f.value))
 
 -- one fact more, where nothing was known
@@ -86,7 +86,7 @@ abbrev pub Between : ℕ → ℕ → ℕ → Type 0
 Between from to q = ((from ≤ q) × (q ≤ to)) ⊎ ((to ≤ q) × (q ≤ from))
 
 -- the value is known at each point of the course, where before it was that value or nothing; nothing else changed
-pub record Spreads (c : Change) (course : Course) : Type 0 where
+pub record Spreads (c : Change) (course : Carry) : Type 0 where
   pub here : (q : ℕ) → Between course.from course.to q → c.new.fact q course.address ≡ Some course.value
   pub free : (q w : ℕ) → Between course.from course.to q → c.old.fact q course.address ≡ Some w → w ≡ course.value
   pub others : (q b : ℕ) → (Between course.from course.to q → b ≡ course.address → ⊥) → c.new.fact q b ≡ c.old.fact q b
@@ -95,7 +95,7 @@ pub record Spreads (c : Change) (course : Course) : Type 0 where
   pub spare : c.joins ≡ true → c.old.spare ≤ c.new.spare
 
 -- the value was carried to a point of the course, and next to that one on the way stands `stop`
-pub record Reaches (c : Change) (course : Course) (stop : ℕ) : Type 0 where
+pub record Reaches (c : Change) (course : Carry) (stop : ℕ) : Type 0 where
   pub before : ℕ
   pub next : (before + 1 ≡ stop) ⊎ (stop + 1 ≡ before)
   pub toward : Between course.from course.to before
@@ -103,13 +103,13 @@ pub record Reaches (c : Change) (course : Course) (stop : ℕ) : Type 0 where
   pub spreads : Spreads c (as_far_as course before)
 
 -- the value was carried to the point next to one at which another value is known
-pub record Stops (c : Change) (course : Course) (stop found : ℕ) : Type 0 where
+pub record Stops (c : Change) (course : Carry) (stop found : ℕ) : Type 0 where
   pub reaches : Reaches c course stop
   pub other : c.old.fact stop course.address ≡ Some found
   pub differs : found ≢ course.value
 
 -- the value was carried to the point next to one at which nothing is known and that there is no room for
-pub record Fails (c : Change) (course : Course) : Type 0 where
+pub record Fails (c : Change) (course : Carry) : Type 0 where
   pub plain : c.joins ≡ false
   pub stop : ℕ
   pub reaches : Reaches c course stop
@@ -117,11 +117,11 @@ pub record Fails (c : Change) (course : Course) : Type 0 where
   pub spare : c.new.spare ≡ 0
 
 -- what `carry` of the value did, by its answer
-abbrev pub Carries : Change → Course → Result Carried AllocError → Type 0
-Carries c course (Err e) = Fails c course
-Carries c course (Ok Same) = Stays c.old c.new × Spreads c course
-Carries c course (Ok More) = Spreads c course × ((q : ℕ) × Between course.from course.to q × (c.old.fact q course.address ≡ None))
-Carries c course (Ok (Stop stop known found)) = (known ≡ course.value) × Stops c course stop found
+abbrev pub CarriesOr : Change → Carry → Result Carried AllocError → Type 0
+CarriesOr c course (Err e) = Fails c course
+CarriesOr c course (Ok Same) = Stays c.old c.new × Spreads c course
+CarriesOr c course (Ok More) = Spreads c course × ((q : ℕ) × Between course.from course.to q × (c.old.fact q course.address ≡ None))
+CarriesOr c course (Ok (Stop stop known found)) = (known ≡ course.value) × Stops c course stop found
 
 -- a is tracked too: where it wasn't, it goes last
 pub record Tracks (old new : Store) (a : ℕ) : Type 0 where
@@ -137,19 +137,19 @@ TracksOr c a (Ok u) = Tracks c.old c.new a
 TracksOr c a (Err e) = Stays c.old c.new × (Contains c.old.tracked a → ⊥) × (c.joins ≡ true → c.old.places ≤ length c.old.tracked)
 
 -- the value of the stretch is known from its first point to its last, and neither at the point before nor at the one after
-pub record IsRun (told : Told) (a : ℕ) (s : Stretch) : Type 0 where
+pub record IsWholeStretch (told : KnownValues) (a : ℕ) (s : Stretch) : Type 0 where
   pub ordered : s.first ≤ s.last
   pub value : (q : ℕ) → s.first ≤ q → q ≤ s.last → told q a ≡ Some s.value
   pub begins : (q : ℕ) → q + 1 ≡ s.first → told q a ≢ Some s.value
   pub ends : told (s.last + 1) a ≢ Some s.value
 
 -- the first stretch of one value that ends at p or later; between p and it nothing is known
-pub record IsNext (told : Told) (a p : ℕ) (s : Stretch) : Type 0 where
-  pub run : IsRun told a s
+pub record IsNextStretch (told : KnownValues) (a p : ℕ) (s : Stretch) : Type 0 where
+  pub run : IsWholeStretch told a s
   pub reaches : p ≤ s.last
   pub free : (q : ℕ) → p ≤ q → q < s.first → told q a ≡ None
 
 -- what `next_stretch` answers
-abbrev pub Nexts : Told → ℕ → ℕ → Option Stretch → Type 0
-Nexts told a p (Some s) = IsNext told a p s
+abbrev pub Nexts : KnownValues → ℕ → ℕ → Option Stretch → Type 0
+Nexts told a p (Some s) = IsNextStretch told a p s
 Nexts told a p None = (q : ℕ) → p ≤ q → told q a ≡ None

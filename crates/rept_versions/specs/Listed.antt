@@ -3,13 +3,13 @@ use Rattle.std.specs.Prelude.{◌≡◌, ◌≢◌, ℕ, ◌+◌, ◌<◌, ◌�
 use Rattle.std.specs.Map.{lookup}
 use Rattle.rept_versions.specs.OnLine.{key}
 use Rattle.rept_versions.specs.Row.{Row}
-use Rattle.rept_versions.specs.Facts.{Store, Told}
+use Rattle.rept_versions.specs.Facts.{KnownValues, Store}
 
 -- the value that is listed for a number
 abbrev pub listed : List (ℕ × ℕ) → ℕ → Option ℕ
 listed entries k = lookup (nat_eq k) entries
 
-abbrev pub fact_in : List (ℕ × ℕ) → Told
+abbrev pub fact_in : List (ℕ × ℕ) → KnownValues
 fact_in entries p a = if ltb p 4294967296 then listed entries (key p a) else None
 
 pub record Plain : Type 0 where
@@ -37,13 +37,13 @@ abbrev pub Toward : ℕ → ℕ → ℕ → Type 0
 Toward point to next = ((point < to) × (next ≡ point + 1)) ⊎ ((to < point) × (next + 1 ≡ point))
 
 -- v is known from one point to another, and not at the point after
-pub record EndsAt (told : Told) (a point last v : ℕ) : Type 0 where
+pub record EndsAt (told : KnownValues) (a point last v : ℕ) : Type 0 where
   pub ordered : point ≤ last
   pub value : (q : ℕ) → point ≤ q → q ≤ last → told q a ≡ Some v
   pub ends : told (last + 1) a ≢ Some v
 
 -- v is known from one point to another, and not at the point before
-pub record BeginsAt (told : Told) (a first point v : ℕ) : Type 0 where
+pub record BeginsAt (told : KnownValues) (a first point v : ℕ) : Type 0 where
   pub ordered : first ≤ point
   pub value : (q : ℕ) → first ≤ q → q ≤ point → told q a ≡ Some v
   pub begins : (q : ℕ) → q + 1 ≡ first → told q a ≢ Some v

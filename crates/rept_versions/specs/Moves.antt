@@ -22,7 +22,7 @@ pub record StopsOn (old new : Line) (from to v stop found : ℕ) : Type 0 where
   pub other : value_at old.spans stop ≡ Some found
   pub differs : found ≢ v
 
-abbrev pub Moves : Line → Line → ℕ → ℕ → ℕ → Spread → Type 0
-Moves old new from to v Same = (new ≡ old) × SpreadsOn old new from to v
-Moves old new from to v More = SpreadsOn old new from to v × ((q : ℕ) × Between from to q × (value_at old.spans q ≡ None))
-Moves old new from to v (Stop k known found) = (known ≡ v) × StopsOn old new from to v k found
+abbrev pub MovesOnLine : Line → Line → ℕ → ℕ → ℕ → Spread → Type 0
+MovesOnLine old new from to v Same = (new ≡ old) × SpreadsOn old new from to v
+MovesOnLine old new from to v More = SpreadsOn old new from to v × ((q : ℕ) × Between from to q × (value_at old.spans q ≡ None))
+MovesOnLine old new from to v (Stop k known found) = (known ≡ v) × StopsOn old new from to v k found

@@ -2,12 +2,12 @@
 use Rattle.std.specs.Prelude.{ℕ, ◌+◌, ◌-◌, ◌*◌, ltb, if◌then◌else◌, length, None}
 use Rattle.rept_versions.specs.Line.{Line, value_at}
 use Rattle.rept_versions.specs.Row.{Row}
-use Rattle.rept_versions.specs.Facts.{Store, Told}
+use Rattle.rept_versions.specs.Facts.{KnownValues, Store}
 
 abbrev pub key : ℕ → ℕ → ℕ
 key p a = a * 4294967296 + p
 
-abbrev pub fact_on : Line → Told
+abbrev pub fact_on : Line → KnownValues
 fact_on line p a = if ltb p 4294967296 then value_at line.spans (key p a) else None
 
 pub record Parts : Type 0 where

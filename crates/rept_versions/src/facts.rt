@@ -1,7 +1,7 @@
 //! The store of byte facts as a trait: what is known, what is learnt, what is tracked.
 
 ghost use Rattle.std.specs.Prelude.{◌≡◌, ℕ, ◌+◌, ◌*◌, ◌<◌, Bool, true, IfOk, IsSome, Some, length, slice_get};
-ghost use Rattle.rept_versions.specs.Facts.{Store, Made, change, Learns, Carries, TracksOr, Nexts};
+ghost use Rattle.rept_versions.specs.Facts.{Store, Made, change, Learns, CarriesOr, TracksOr, Nexts};
 
 use std::alloc::{AllocError as OutOfMemory, Global};
 
@@ -75,7 +75,7 @@ pub trait ByteFacts: Drop {
     /// comes at a point at which nothing is known, and what was learnt before it stays.
     fn carry(&mut self, a: u32, from: u32, to: u32) -> Result<Carried, OutOfMemory>
         requires { IsSome ((store self.old).fact from a) }
-        ensures { (v : ℕ) → (store self.old).fact from a ≡ Some v → Carries (change JOINS (store self.old) (store self.new)) (record { address = a; from = from; to = to; value = v }) result };
+        ensures { (v : ℕ) → (store self.old).fact from a ≡ Some v → CarriesOr (change JOINS (store self.old) (store self.new)) (record { address = a; from = from; to = to; value = v }) result };
 
     /// So many facts can be learnt without memory.
     fn spare(&self) -> u32

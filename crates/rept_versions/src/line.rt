@@ -1,7 +1,7 @@
 //! Stretches of a line of numbers that have a value each: what is read, put in one place, and carried on.
 
 ghost use Rattle.std.specs.Prelude.{◌≡◌, ◌≢◌, ℕ, suc, ◌+◌, ◌-◌, ◌<◌, ◌≤◌, length, Some, None, Option, [], insert, IfOk, IfErr, IsSome, MatchBool, MatchResult};
-ghost use Rattle.rept_versions.specs.Moves.{Moves};
+ghost use Rattle.rept_versions.specs.Moves.{MovesOnLine};
 ghost use Rattle.rept_versions.specs.Puts.{Puts, Ups, Downs, UpStep, DownStep};
 ghost use Rattle.rept_versions.specs.Line.{IsRising, IsJoined, IsJoinedBut, JoinedAt, Parts, Lies, Misses, Follows, Precedes, ReadsSame, Added, NextsOn, nth, value_at, raised, lowered, joined, filled, filled_down};
 
@@ -421,7 +421,7 @@ impl SpanLine {
         requires order { from ≤ to }
         requires rising { IsRising self.old.spans }
         requires joined { IsJoined self.old.spans }
-        ensures moves { Moves self.old self.new from to (nth self.old.spans i).value result }
+        ensures moves { MovesOnLine self.old self.new from to (nth self.old.spans i).value result }
         ensures joined { IsJoined self.new.spans }
     {
         let s = self.at(i);
@@ -443,7 +443,7 @@ impl SpanLine {
         requires order { to ≤ from }
         requires rising { IsRising self.old.spans }
         requires joined { IsJoined self.old.spans }
-        ensures moves { Moves self.old self.new from to (nth self.old.spans i).value result }
+        ensures moves { MovesOnLine self.old self.new from to (nth self.old.spans i).value result }
         ensures joined { IsJoined self.new.spans }
     {
         let s = self.at(i);
@@ -463,7 +463,7 @@ impl SpanLine {
     pub fn carry(&mut self, from: u64, to: u64) -> Spread
         requires some { IsSome (value_at self.old.spans from) }
         requires joined { IsJoined self.old.spans }
-        ensures moves { (v : ℕ) → value_at self.old.spans from ≡ Some v → Moves self.old self.new from to v result }
+        ensures moves { (v : ℕ) → value_at self.old.spans from ≡ Some v → MovesOnLine self.old self.new from to v result }
         ensures joined { IsJoined self.new.spans }
     {
         match self.place(from) {

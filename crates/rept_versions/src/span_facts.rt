@@ -9,6 +9,9 @@ use crate::tracked::Tracked;
 use std::alloc::{AllocError as OutOfMemory, Global};
 use std::marker::Model;
 
+/// So many places a point there are at least: of several threads a value may be known in many slices and not between them.
+const MORE: usize = 16;
+
 /// Byte facts as spans of points with one value. All memory is taken by `make`.
 #[derive(Drop)]
 pub struct SpanFacts {
@@ -39,8 +42,8 @@ impl ByteFacts for SpanFacts {
     ghost store = { λ s. store s };
 
     fn make(alloc: Global, points: u32, access_bytes: u32) -> Result<Self, OutOfMemory> {
-        let _points = points;
-        let line = SpanLine::new(alloc, 2 * access_bytes as usize + 1)?;
+        let slices = MORE * points.min(66_560) as usize;
+        let line = SpanLine::new(alloc, (2 * access_bytes as usize + 1).max(slices))?;
         let row = Tracked::new(alloc, access_bytes as usize)?;
         Ok(SpanFacts { line, row })
     }

@@ -9,7 +9,7 @@ use Rattle.rept_path.specs.Code.{Code}
 use Rattle.rept_path.specs.Packets.{waits_after, waiting, bits, reported}
 use Rattle.rept_path.specs.Moves.{Place}
 use Rattle.rept_path.specs.Route.{Origin, alone, Route, Leg, LegBy, Met, met_by, earlier_by, place, marked}
-use Rattle.rept_encode.specs.Encoded.{IsReport, AreReports, LeadsOver}
+use Rattle.rept_encode.specs.Encoded.{IsReporting, AreReporting, LeadsOver}
 use Rattle.rept_encode.proofs.Coding.{leg_after}
 use Rattle.rept_encode.proofs.Sending.{reports_on}
 
@@ -79,7 +79,7 @@ module _ (code : Code) (origin : Origin) (branch : Bool) (privilege a time conte
   route_same (q ∷ ps) [] h = h
   route_same (q ∷ ps) (leg ∷ legs) h = (leg_same q ps legs leg h.0, route_same ps legs h.1)
 
-report_waits : (q : Packet) (b : Bool) → IsReport q → waits_after q b ≡ b
+report_waits : (q : Packet) (b : Bool) → IsReporting q → waits_after q b ≡ b
 report_waits (Start branch privilege a time context) b h = absurd h
 report_waits (Context privilege time context) b h = absurd h
 report_waits (Support enabled NoChange) b h = absurd h
@@ -95,7 +95,7 @@ some_there [] p = omega arith
 some_there (q ∷ qs) p = omega arith
 
 -- After a start packet and reports the trace runs.
-runs : (ps : List Packet) (branch : Bool) (privilege a time context : ℕ) → AreReports ps → waiting (ps ++ Start branch privilege a time context ∷ []) ≡ false
+runs : (ps : List Packet) (branch : Bool) (privilege a time context : ℕ) → AreReporting ps → waiting (ps ++ Start branch privilege a time context ∷ []) ≡ false
 unfolding waiting
 runs [] branch privilege a time context h = refl
 runs (q ∷ ps) branch privilege a time context h = report_waits q (waiting (ps ++ Start branch privilege a time context ∷ [])) h.0 ∙ runs ps branch privilege a time context h.1
@@ -103,7 +103,7 @@ runs (q ∷ ps) branch privilege a time context h = report_waits q (waiting (ps 
 pub reverse_cons : (p : Packet) (ps : List Packet) → reverse (p ∷ ps) ≡ reverse ps ++ p ∷ []
 reverse_cons p ps = reverse-append (p ∷ []) ps
 
-reports_back : (ps : List Packet) → AreReports ps → AreReports (reverse ps)
+reports_back : (ps : List Packet) → AreReporting ps → AreReporting (reverse ps)
 reports_back [] h = tt
 reports_back (p ∷ ps) h = let e = reverse_cons p ps in rw e (reports_on (reverse ps) p (reports_back ps h.1) h.0)
 
@@ -132,7 +132,7 @@ module _ (code : Code) (e : List Packet) (legs : List (List StepRow)) (time cont
   closed_bits = append-nil _ ∙ append-nil _
 
 -- The packets of a stretch lead over its last row whatever their times are.
-pub leads_stamped : (code : Code) (ps : List Packet) (branch : Bool) (a time context until : ℕ) (rows : List StepRow) → AreReports ps → LeadsOver code (reverse (Start branch 0 a 0 0 ∷ ps)) rows → LeadsOver code (reverse (Start branch 0 a time context ∷ (ps ++ Support false EndedRep ∷ Context 0 until context ∷ []))) rows
+pub leads_stamped : (code : Code) (ps : List Packet) (branch : Bool) (a time context until : ℕ) (rows : List StepRow) → AreReporting ps → LeadsOver code (reverse (Start branch 0 a 0 0 ∷ ps)) rows → LeadsOver code (reverse (Start branch 0 a time context ∷ (ps ++ Support false EndedRep ∷ Context 0 until context ∷ []))) rows
 leads_stamped code ps branch a time context until rows told h =
     let plain : Packet = Start branch 0 a 0 0 in
     let start : Packet = Start branch 0 a time context in
@@ -140,7 +140,7 @@ leads_stamped code ps branch a time context until rows told h =
     let tail : reverse (Start branch 0 a time context ∷ (ps ++ Support false EndedRep ∷ Context 0 until context ∷ [])) ≡ Context 0 until context ∷ Support false EndedRep ∷ (reverse ps ++ Start branch 0 a time context ∷ []) = reverse-append (Start branch 0 a time context ∷ ps) (Support false EndedRep ∷ Context 0 until context ∷ []) ∙ ap (λ (xs : List Packet). Context 0 until context ∷ Support false EndedRep ∷ xs) (reverse_cons (Start branch 0 a time context) ps) in
     subst (λ (xs : List Packet). LeadsOver code xs rows) (sym tail) (go (reverse ps) (reports_back ps told) (subst (λ (xs : List Packet). LeadsOver code xs rows) from h))
   where
-    go : (qs : List Packet) → AreReports qs → LeadsOver code (qs ++ Start branch 0 a 0 0 ∷ []) rows → LeadsOver code (Context 0 until context ∷ Support false EndedRep ∷ (qs ++ Start branch 0 a time context ∷ [])) rows
+    go : (qs : List Packet) → AreReporting qs → LeadsOver code (qs ++ Start branch 0 a 0 0 ∷ []) rows → LeadsOver code (Context 0 until context ∷ Support false EndedRep ∷ (qs ++ Start branch 0 a time context ∷ [])) rows
     go qs all l =
         let e : List Packet = qs ++ Start branch 0 a time context ∷ [] in
         let running : waiting (qs ++ Start branch 0 a time context ∷ []) ≡ false = runs qs branch 0 a time context all in

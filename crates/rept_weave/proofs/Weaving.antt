@@ -15,7 +15,7 @@ use Rattle.rept_encode.specs.Walkable.{AreStraight}
 use Rattle.rept_encode.specs.Written.{AreWritten}
 use Rattle.rept_path.specs.Code.{Code}
 use Rattle.rept_encode.specs.Bits.{start_bit}
-use Rattle.rept_encode.specs.Encoded.{TellsAfter, LeadsOver, coded, IsReport, AreReports}
+use Rattle.rept_encode.specs.Encoded.{TellsAfter, LeadsOver, coded, IsReporting, AreReporting}
 use Rattle.rept_encode.proofs.Sending.{written_held}
 use Rattle.rept_weave.specs.declared.stretch.Stretch.{Stretch}
 use Rattle.rept_weave.specs.declared.fault.Place.{Place}
@@ -41,7 +41,7 @@ adds_on w old middle new ps qs x y = record {
 }
 
 -- Packets without times and contexts are sent in the same way by all encoders.
-report_timed : (halves : Bool) (payload : List ℕ) (p : Packet) → IsReport p → IsPacket (untimed halves) payload p → IsPacket (timed halves) payload p
+report_timed : (halves : Bool) (payload : List ℕ) (p : Packet) → IsReporting p → IsPacket (untimed halves) payload p → IsPacket (timed halves) payload p
 report_timed halves payload (Start branch privilege a time context) h x = absurd h
 report_timed halves payload (Context privilege time context) h x = absurd h
 report_timed halves payload (Support enabled status) h x = absurd h
@@ -49,7 +49,7 @@ report_timed halves payload (Address report) h x = record { format = x.format; f
 report_timed halves payload (Map map) h x = x
 report_timed halves payload (MapAddress count map report) h x = record { format = x.format; some = x.some; number = x.number; bits = x.bits; fields = record { address = x.fields.address; asked = x.fields.asked; discontinuity = x.fields.discontinuity; returned = x.fields.returned } }
 
-reports_timed : (halves : Bool) (bytes : List ℕ) (ps : List Packet) → AreReports ps → AreWritten (untimed halves) bytes ps → AreWritten (timed halves) bytes ps
+reports_timed : (halves : Bool) (bytes : List ℕ) (ps : List Packet) → AreReporting ps → AreWritten (untimed halves) bytes ps → AreWritten (timed halves) bytes ps
 reports_timed halves bytes [] h x = x
 reports_timed halves bytes (p ∷ ps) h x = (x.0, x.1, x.2, x.3, report_timed halves x.0 p h.0 x.4, reports_timed halves x.1 ps h.1 x.5)
 

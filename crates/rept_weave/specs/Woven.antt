@@ -11,7 +11,7 @@ use Rattle.rept_trace.specs.Streams.{AreStreams}
 use Rattle.rept_path.specs.Rows.{CarryCode}
 use Rattle.rept_encode.specs.Bits.{start_bit}
 use Rattle.rept_encode.specs.Walkable.{IsFirstJumpEnd}
-use Rattle.rept_encode.specs.Encoded.{coded, AreReports, LeadsOver}
+use Rattle.rept_encode.specs.Encoded.{coded, AreReporting, LeadsOver}
 use Rattle.rept_weave.specs.declared.stretch.Stretch.{Stretch}
 use Rattle.rept_weave.specs.declared.fault.Place.{Place}
 use Rattle.rept_weave.specs.declared.fault.WeaveFault.{WeaveFault}
@@ -33,7 +33,7 @@ pub record IsSent (halves : Bool) (s : Stretch) (packets : List Packet) : Type 0
   pub first : StepRow
   pub begins : slice_get s.steps 0 ≡ Some first
   pub reports : List Packet
-  pub told : AreReports reports
+  pub told : AreReporting reports
   pub order : packets ≡ start_of s first ∷ (reports ++ ended ∷ end_of s ∷ [])
   pub leads : (contents : Contents) → CarryCode (coded halves contents) s.steps → LeadsOver (coded halves contents) (reverse packets) s.steps
 

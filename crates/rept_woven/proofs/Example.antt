@@ -8,7 +8,7 @@ use Rattle.rept_path.specs.Rows.{CarriesCode, CarryCode}
 use Rattle.rept_encode.specs.Encoded.{coded}
 use Rattle.rept_slices.specs.Joins.{Note}
 use Rattle.rept_woven.specs.Told.{AreInTime}
-use Rattle.rept_woven.specs.Ordered.{Piece, on_hart, pieces, begins, thread_in, IsJoined, IsNoted, AreApart, AreOrdered, Carries}
+use Rattle.rept_woven.specs.Ordered.{Piece, on_hart, pieces, begins, thread_in, IsJoined, IsNoted, AreApart, AreOrdered, HasStretches}
 use Rattle.rept_woven.specs.Worked.{code, stretch, harts, notes, nothing, jump, call}
 
 abbrev here : Code
@@ -37,7 +37,7 @@ call_carries = record { instr = refl; short = refl }
 all_rows : (rows : List StepRow) → AllByRecursion (CarriesCode here) rows → CarryCode here rows
 all_rows rows h = All-from_recursion (CarriesCode here) rows h
 
-pub carries : Carries (coded false code) harts
+pub carries : HasStretches (coded false code) harts
 carries = All-from_recursion (λ (p : Piece). CarryCode here p.stretch.steps) (pieces harts) (
   all_rows (nothing 65536 ∷ []) (first_carries, tt),
   (

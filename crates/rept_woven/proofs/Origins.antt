@@ -13,7 +13,7 @@ use Rattle.rept_path.specs.declared.fault.PathFault.{PathFault}
 use Rattle.rept_path.specs.declared.fault.PathFault.TheVariants.{TooLong, Gap}
 use Rattle.rept_path.specs.Code.{Code, look, after_instruction, is_short, alignment, flow_of, is_call}
 use Rattle.rept_path.specs.Packets.{waiting}
-use Rattle.rept_path.specs.Moves.{Lead, course_by, Place, Stand, Site, site, along, successor, position, way_by, next_of, IsMove, ◌>>=◌}
+use Rattle.rept_path.specs.Moves.{Lead, heading_by, Place, Stand, Site, site, along, successor, position, way_by, next_of, IsMove, ◌>>=◌}
 use Rattle.rept_path.specs.Legs.{Passes, Reaches, PhaseLeg}
 use Rattle.rept_path.specs.Gap.{Goal, Edge, row, call_row, by_successor, by_flow, crossing, gap}
 use Rattle.rept_path.specs.Route.{Phase, PhaseLegs, lead_of, further, with_bits, phases_of, Met, met_by, stand_of, WaitingLeg, Leg, Origin, earlier_by, Route, place}
@@ -102,15 +102,15 @@ module _ (code : Code) (k room : ℕ) where
       let e = ap (length {A = StepRow}) (rows_along code past leg) in
       omega (arith, e, few, length-append leg past.rows)
 
-  passes_moved : (how : Lead) (aim : Aim) (past : Place) (leg : List StepRow) → Passes code (course_by how aim) past leg → length leg + length past.rows ≤ room → Passes code (course_by (led how) aim) past leg
+  passes_moved : (how : Lead) (aim : Aim) (past : Place) (leg : List StepRow) → Passes code (heading_by how aim) past leg → length leg + length past.rows ≤ room → Passes code (heading_by (led how) aim) past leg
   passes_moved how aim past [] h few = tt
   passes_moved how aim past (r ∷ leg) h few = (passes_moved how aim past leg h.0 (omega (arith, few)), move_moved how (along code past leg) r h.1 (few_along past leg (omega (arith, few))), h.2)
 
-  reaches_moved : (how : Lead) (aim : Aim) (past : Place) (leg : List StepRow) → Reaches code (course_by how aim) past leg → length leg + length past.rows ≤ room → Reaches code (course_by (led how) aim) past leg
+  reaches_moved : (how : Lead) (aim : Aim) (past : Place) (leg : List StepRow) → Reaches code (heading_by how aim) past leg → length leg + length past.rows ≤ room → Reaches code (heading_by (led how) aim) past leg
   reaches_moved how aim past [] h few = h
   reaches_moved how aim past (r ∷ leg) h few = (passes_moved how aim past leg h.0 (omega (arith, few)), move_moved how (along code past leg) r h.1 (few_along past leg (omega (arith, few))), h.2)
 
-  phase_moved : (how : Lead) (aim : Aim) (past : Place) (leg : List StepRow) → PhaseLeg code (course_by how aim) past leg → length leg + length past.rows ≤ room → PhaseLeg code (course_by (led how) aim) past leg
+  phase_moved : (how : Lead) (aim : Aim) (past : Place) (leg : List StepRow) → PhaseLeg code (heading_by how aim) past leg → length leg + length past.rows ≤ room → PhaseLeg code (heading_by (led how) aim) past leg
   phase_moved how aim past leg h few = record { reaches = reaches_moved how aim past leg h.reaches few; fits = h.fits }
 
   abbrev stood : Stand → Stand

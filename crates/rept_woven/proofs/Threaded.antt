@@ -15,10 +15,10 @@ use Rattle.rept_path.specs.declared.fault.PathFault.TheVariants.{Gap, End}
 use Rattle.rept_path.specs.Gap.{gap, gap_to_start}
 use Rattle.rept_path.specs.Moves.{◌>>=◌}
 use Rattle.rept_slices.specs.Stamps.{address_of}
-use Rattle.rept_slices.specs.Parts.{Told, thread_of, begin_of, beyond, first_time, lesser, never, end_before}
+use Rattle.rept_slices.specs.Parts.{ToldSlice, thread_of, begin_of, beyond, first_time, lesser, never, end_before}
 use Rattle.rept_slices.specs.Order.{put, by_time, head_of}
 use Rattle.rept_slices.specs.Stretches.{Ran}
-use Rattle.rept_slices.specs.Joins.{Note, Ending, Joined, stand_at, bridge, with_rows, join, slice_by, slices, thread, of_thread, ending, rows_in, ran_rows, threads}
+use Rattle.rept_slices.specs.Joins.{Note, ThreadGround, Joined, stand_at, bridge, with_rows, join, slice_by, slices, thread, of_thread, thread_ground, rows_in, ran_rows, threads}
 use Rattle.rept_slices.proofs.InTime.{Each, each_by_time, each_filter}
 use Rattle.rept_woven.specs.Ordered.{Piece, slices_from, thread_of as rows_of, of_thread as pieces_of, IsJoined, IsNoted}
 use Rattle.rept_woven.specs.Ordered as ordered
@@ -75,7 +75,7 @@ lesser_is a b le = elim (leb_tells b a) [
   | inr t ↦ ap (λ (c : Bool). cond c b a) t.0
 ]
 
-own_end : (t : Told) (end : ℕ) (next : Option ℕ) → first_time (beyond t) ≡ Some end → end < 2 ^ 64 → ((b : ℕ) → next ≡ Some b → end ≤ b) → end_before t next ≡ end
+own_end : (t : ToldSlice) (end : ℕ) (next : Option ℕ) → first_time (beyond t) ≡ Some end → end < 2 ^ 64 → ((b : ℕ) → next ≡ Some b → end ≤ b) → end_before t next ≡ end
 own_end t end None is fits late = ap (λ (o : Option ℕ). lesser never o) is ∙ lesser_is end never (omega (arith, fits))
 own_end t end (Some b) is fits late =
     ap (λ (o : Option ℕ). lesser (lesser never o) (Some b)) is
@@ -141,13 +141,13 @@ module _ (code : Code) where
       (zip_filter (IsRanOf code) (λ p. p.stretch.process == process) (λ (r : Ran). thread_of r.told == process) (λ p r i. ap (λ (n : ℕ). n == process) (sym i.thread)) ps rs h)
 
   -- What is left of a thread was joined.
-  pub record Joins (e : Ending) (count : ℕ) (ps : List Piece) (rs : List Ran) : Type 0 where
+  pub record Joins (e : ThreadGround) (count : ℕ) (ps : List Piece) (rs : List Ran) : Type 0 where
     pub js : List Joined
     pub is : join e count rs ≡ Ok js
     pub zip : AllZip IsJoinedOf ps js
     pub rows : rows_in js ≡ rows_before ps + length ps
 
-  module _ (e : Ending) (same : e.code ≡ code) where
+  module _ (e : ThreadGround) (same : e.code ≡ code) where
     bridged : (count : ℕ) (p : Piece) (r : Ran) (ps : List Piece) (rs : List Ran) (i : IsRanOf code p r) → AllZip (IsRanOf code) ps rs → count < 65536 → AreLinked (p.stretch.steps ++ steps ps) → EndBefore (p.stretch.steps ++ steps ps) e.pc → bridge e count r (head_of rs) ≡ Ok (i.last ∷ [])
     bridged count p r [] [] i h few linked ends =
         let at : i.last.next ≡ e.pc = last_ends r.rows i.last e.pc (subst (λ (xs : List StepRow). EndBefore xs e.pc) (append-nil p.stretch.steps ∙ i.rows) ends) in
@@ -202,7 +202,7 @@ module _ (code : Code) where
       let zip = in_order n.process ps rs h in
       let qs : List Piece = pieces_of n.process ps in
       let x = each.0 in
-      let own = joins (ending code packets n) refl count (pieces_of n.process ps) (of_thread n.process rs) zip (omega (arith, few)) x.linked x.ends in
+      let own = joins (thread_ground code packets n) refl count (pieces_of n.process ps) (of_thread n.process rs) zip (omega (arith, few)) x.linked x.ends in
       let before = ran_are (pieces_of n.process ps) (of_thread n.process rs) zip in
       let size = own.rows in
       let more : rows_in own.js - ran_rows (of_thread n.process rs) ≡ length (pieces_of n.process ps) = omega (arith, before, size) in

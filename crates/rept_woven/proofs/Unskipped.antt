@@ -10,7 +10,7 @@ use Rattle.rept_path.specs.declared.fault.PathFault.TheVariants.{SliceOverlap, U
 use Rattle.rept_weave.specs.declared.stretch.Stretch.{Stretch}
 use Rattle.rept_weave.specs.Woven.{start_of, ended, end_of, AreSent}
 use Rattle.rept_slices.specs.Stamps.{clock_of, is_start}
-use Rattle.rept_slices.specs.Parts.{Left, Told, thread_of, begin_of, told}
+use Rattle.rept_slices.specs.Parts.{Left, ToldSlice, thread_of, begin_of, slices_told}
 use Rattle.rept_slices.specs.Order.{end_of as end_at, meets, least, lasts_past}
 use Rattle.rept_slices.specs.Skipping.{numbered, whole, skip, window_of, windows, opening, greatest, full_from, from_time, kept, skipped, ends_of, dark}
 use Rattle.rept_slices.specs.Checks.{first_fault, time_back, startless, all_idle, stranger, while_other, check}
@@ -50,7 +50,7 @@ greatest_one time (n ∷ (m ∷ ns)) h some =
     go false r = h.0
 
 -- no slice begins before
-none_early : (time : ℕ) (ts : List Told) → Each (λ t. time ≤ begin_of t) ts → filter (λ t. nat_lt (begin_of t) time) ts ≡ []
+none_early : (time : ℕ) (ts : List ToldSlice) → Each (λ t. time ≤ begin_of t) ts → filter (λ t. nat_lt (begin_of t) time) ts ≡ []
 none_early time [] h = refl
 none_early time (t ∷ ts) h = elim (leb_tells (suc (begin_of t)) time) [
   | inl x ↦ absurd (let lt = x.1 in let le = h.0 in omega (arith, lt, le))
@@ -155,7 +155,7 @@ module _ (halves : Bool) (time : ℕ) where
   some_stream ((x ∷ xs) ∷ harts) (ps ∷ lists) h some = ap (λ (qs : List Packet). all_idle (qs ∷ lists)) (starts_at x xs ps h.0).2
 
   -- the threads of all slices
-  one_known : (notes : List Note) (p : Piece) (t : Told) → IsPieceOf halves p t → IsNoted notes p → stranger (map (λ (n : Note). n.process) notes) t ≡ None
+  one_known : (notes : List Note) (p : Piece) (t : ToldSlice) → IsPieceOf halves p t → IsNoted notes p → stranger (map (λ (n : Note). n.process) notes) t ≡ None
   one_known notes p t i noted =
       let known : list_any (λ thread. thread == thread_of t) (map (λ (n : Note). n.process) notes) ≡ true = any_map notes ∙ ap (λ (n : ℕ). list_any (λ (m : Note). m.process == n) notes) (thread_is halves p t i) ∙ noted in
       ap (λ (b : Bool). cond b (while_other t t.inside) (Some (UnknownThread t.number (thread_of t)))) known ∙ ap (λ (o : Option ℕ). while_other t o) i.waits
@@ -164,21 +164,21 @@ module _ (halves : Bool) (time : ℕ) where
       any_map [] = refl
       any_map (n ∷ ns) = ap (λ (b : Bool). (n.process == thread_of t) || b) (any_map ns)
 
-  all_known : (notes : List Note) (ps : List Piece) (ts : List Told) → AllZip (IsPieceOf halves) ps ts → Each (IsNoted notes) ps → Each (λ t. stranger (map (λ (n : Note). n.process) notes) t ≡ None) ts
+  all_known : (notes : List Note) (ps : List Piece) (ts : List ToldSlice) → AllZip (IsPieceOf halves) ps ts → Each (IsNoted notes) ps → Each (λ t. stranger (map (λ (n : Note). n.process) notes) t ≡ None) ts
   all_known notes [] [] h n = tt
   all_known notes [] (t ∷ ts) h n = absurd h
   all_known notes (p ∷ ps) [] h n = absurd h
   all_known notes (p ∷ ps) (t ∷ ts) h n = (one_known notes p t h.0 n.0, all_known notes ps ts h.1 n.1)
 
   -- begins
-  told_late : (ps : List Piece) (ts : List Told) → AllZip (IsPieceOf halves) ps ts → Each (λ (p : Piece). time ≤ p.stretch.begin) ps → Each (λ t. time ≤ begin_of t) ts
+  told_late : (ps : List Piece) (ts : List ToldSlice) → AllZip (IsPieceOf halves) ps ts → Each (λ (p : Piece). time ≤ p.stretch.begin) ps → Each (λ t. time ≤ begin_of t) ts
   told_late [] [] h late = tt
   told_late [] (t ∷ ts) h late = absurd h
   told_late (p ∷ ps) [] h late = absurd h
   told_late (p ∷ ps) (t ∷ ts) h late = (let e = begin_is halves p t h.0 in let le = late.0 in omega (arith, e, le), told_late ps ts h.1 late.1)
 
   -- no two slices meet
-  unmet : (p q : Piece) (t u : Told) → IsPieceOf halves p t → IsPieceOf halves q u → AreApart q p → meets t u ≡ false
+  unmet : (p q : Piece) (t u : ToldSlice) → IsPieceOf halves p t → IsPieceOf halves q u → AreApart q p → meets t u ≡ false
   unmet p q t u i j apart = elim (eqb_tells t.stream u.stream) [
     | inl x ↦ ap (λ (b : Bool). not b && thread_of t == thread_of u && (begin_of t == begin_of u || (nat_lt (begin_of t) (begin_of u) && lasts_past (begin_of u) t))) x.0
     | inr x ↦ elim (eqb_tells (thread_of t) (thread_of u)) [
@@ -199,14 +199,14 @@ module _ (halves : Bool) (time : ℕ) where
         let e : meets t u ≡ (nat_lt (begin_of t) (begin_of u) && false) = λ n. not (a n) && b n && (c n || (nat_lt (begin_of t) (begin_of u) && l n)) in
         e ∙ and_false (nat_lt (begin_of t) (begin_of u))
 
-  meets_none : (q : Piece) (u : Told) → IsPieceOf halves q u → (ps : List Piece) (ts : List Told) → AllZip (IsPieceOf halves) ps ts → Each (AreApart q) ps → Each (λ t. meets t u ≡ false) ts
+  meets_none : (q : Piece) (u : ToldSlice) → IsPieceOf halves q u → (ps : List Piece) (ts : List ToldSlice) → AllZip (IsPieceOf halves) ps ts → Each (AreApart q) ps → Each (λ t. meets t u ≡ false) ts
   meets_none q u j [] [] h a = tt
   meets_none q u j [] (t ∷ ts) h a = absurd h
   meets_none q u j (p ∷ ps) [] h a = absurd h
   meets_none q u j (p ∷ ps) (t ∷ ts) h a = (unmet p q t u h.0 j a.0, meets_none q u j ps ts h.1 a.1)
 
-  module _ (all : List Piece) (told_all : List Told) (zip : AllZip (IsPieceOf halves) all told_all) where
-    none_met : (process : ℕ) (qs : List Piece) (us : List Told) → AllZip (IsPieceOf halves) qs us → Each (λ (q : Piece). Each (AreApart q) all) qs → filter (λ u. thread_of u == process && list_any (λ t. meets t u) told_all) us ≡ []
+  module _ (all : List Piece) (told_all : List ToldSlice) (zip : AllZip (IsPieceOf halves) all told_all) where
+    none_met : (process : ℕ) (qs : List Piece) (us : List ToldSlice) → AllZip (IsPieceOf halves) qs us → Each (λ (q : Piece). Each (AreApart q) all) qs → filter (λ u. thread_of u == process && list_any (λ t. meets t u) told_all) us ≡ []
     none_met process [] [] h a = refl
     none_met process [] (u ∷ us) h a = absurd h
     none_met process (q ∷ qs) [] h a = absurd h
@@ -215,7 +215,7 @@ module _ (halves : Bool) (time : ℕ) where
         let rest = none_met process qs us h.1 a.1 in
         go (thread_of u == process) (list_any (λ t. meets t u) told_all) none rest
       where
-        any_none : (ts : List Told) → Each (λ t. meets t u ≡ false) ts → list_any (λ t. meets t u) ts ≡ false
+        any_none : (ts : List ToldSlice) → Each (λ t. meets t u ≡ false) ts → list_any (λ t. meets t u) ts ≡ false
         any_none [] k = refl
         any_none (t ∷ ts) k = (λ n. k.0 n || list_any (λ v. meets v u) ts) ∙ any_none ts k.1
 
@@ -229,7 +229,7 @@ module _ (halves : Bool) (time : ℕ) where
     none_overlap a processes = no_fault (overlap_fault told_all) processes (each processes) where
       each : (ns : List ℕ) → Each (λ n. overlap_fault told_all n ≡ None) ns
       each [] = tt
-      each (n ∷ ns) = (ap (λ (us : List Told). option_map (λ time. SliceOverlap n time) (least (map begin_of us))) (none_met n all told_all zip a), each ns)
+      each (n ∷ ns) = (ap (λ (us : List ToldSlice). option_map (λ time. SliceOverlap n time) (least (map begin_of us))) (none_met n all told_all zip a), each ns)
 
   -- where anything may have happened
   told_dark : (ns : List ℕ) → Each (λ n. n ≡ time) ns → cond (nat_lt 1 (length ns)) (Some (greatest (time ∷ []))) None ≡ dark_of ns
@@ -269,25 +269,25 @@ module _ (halves : Bool) (time : ℕ) where
         ∙ ap (λ (m : ℕ). sum_by (λ (ps : List Packet). length ps) lists - m) (sizes lists 0 0)
         ∙ (let z : sum_by (λ (ps : List Packet). length ps) lists - sum_by (λ (ps : List Packet). length ps) lists ≡ 0 = omega arith in z)
 
-    pub dark_is : Each (λ (p : Piece). time ≤ p.stretch.begin) (pieces_from 0 harts) → AllZip (IsPieceOf halves) (pieces_from 0 harts) (told (numbered 0 0 lists)) → dark 0 lists ≡ dark_of (begins harts)
+    pub dark_is : Each (λ (p : Piece). time ≤ p.stretch.begin) (pieces_from 0 harts) → AllZip (IsPieceOf halves) (pieces_from 0 harts) (slices_told (numbered 0 0 lists)) → dark 0 lists ≡ dark_of (begins harts)
     dark_is late zip =
-        let ts : List Told = told (numbered 0 0 lists) in
-        let none : ends_of time (told (numbered 0 0 lists)) ≡ [] = ap (map (end_at (told (numbered 0 0 lists)))) (none_early time (told (numbered 0 0 lists)) (told_late (pieces_from 0 harts) (told (numbered 0 0 lists)) zip late)) in
+        let ts : List ToldSlice = slices_told (numbered 0 0 lists) in
+        let none : ends_of time (slices_told (numbered 0 0 lists)) ≡ [] = ap (map (end_at (slices_told (numbered 0 0 lists)))) (none_early time (slices_told (numbered 0 0 lists)) (told_late (pieces_from 0 harts) (slices_told (numbered 0 0 lists)) zip late)) in
         let opened = opens harts lists 0 0 sent in
-        let a : dark 0 lists ≡ cond (nat_lt 1 (length (filter_map opening (numbered 0 0 lists)))) (Some (greatest (full_from (numbered 0 0 lists) ∷ ends_of (full_from (numbered 0 0 lists)) (told (numbered 0 0 lists))))) None =
-        ap (λ (ws : List Left). cond (nat_lt 1 (length (filter_map opening ws))) (Some (greatest (full_from ws ∷ ends_of (full_from ws) (told ws)))) None) windows_are in
-        let b : cond (nat_lt 1 (length (filter_map opening (numbered 0 0 lists)))) (Some (greatest (full_from (numbered 0 0 lists) ∷ ends_of (full_from (numbered 0 0 lists)) (told (numbered 0 0 lists))))) None ≡ cond (nat_lt 1 (length (begins harts))) (Some (greatest (time ∷ ends_of time (told (numbered 0 0 lists))))) None =
-        λ n. cond (nat_lt 1 (length (opened n))) (Some (greatest (full_is n ∷ ends_of (full_is n) (told (numbered 0 0 lists))))) None in
+        let a : dark 0 lists ≡ cond (nat_lt 1 (length (filter_map opening (numbered 0 0 lists)))) (Some (greatest (full_from (numbered 0 0 lists) ∷ ends_of (full_from (numbered 0 0 lists)) (slices_told (numbered 0 0 lists))))) None =
+        ap (λ (ws : List Left). cond (nat_lt 1 (length (filter_map opening ws))) (Some (greatest (full_from ws ∷ ends_of (full_from ws) (slices_told ws)))) None) windows_are in
+        let b : cond (nat_lt 1 (length (filter_map opening (numbered 0 0 lists)))) (Some (greatest (full_from (numbered 0 0 lists) ∷ ends_of (full_from (numbered 0 0 lists)) (slices_told (numbered 0 0 lists))))) None ≡ cond (nat_lt 1 (length (begins harts))) (Some (greatest (time ∷ ends_of time (slices_told (numbered 0 0 lists))))) None =
+        λ n. cond (nat_lt 1 (length (opened n))) (Some (greatest (full_is n ∷ ends_of (full_is n) (slices_told (numbered 0 0 lists))))) None in
         a ∙ b ∙ ap (λ (ns : List ℕ). cond (nat_lt 1 (length (begins harts))) (Some (greatest (time ∷ ns))) None) none ∙ told_dark (begins harts) starts
 
-    pub passes : (notes : List Note) → Each (AreInTime 0) harts → Each (IsNoted notes) (pieces_from 0 harts) → AllZip (IsPieceOf halves) (pieces_from 0 harts) (told (numbered 0 0 lists)) → check 0 (map (λ (n : Note). n.process) notes) lists ≡ None
+    pub passes : (notes : List Note) → Each (AreInTime 0) harts → Each (IsNoted notes) (pieces_from 0 harts) → AllZip (IsPieceOf halves) (pieces_from 0 harts) (slices_told (numbered 0 0 lists)) → check 0 (map (λ (n : Note). n.process) notes) lists ≡ None
     passes notes times noted zip =
         let processes : List ℕ = map (λ (n : Note). n.process) notes in
         let a : first_fault time_back (whole lists) ≡ None = no_fault time_back (numbered 0 0 lists) (times_pass harts lists 0 0 sent times) in
         let b : first_fault (startless 0) (whole lists) ≡ None = no_fault (startless 0) (numbered 0 0 lists) (all_start harts lists 0 0 sent) in
         let c : all_idle lists ≡ None = some_stream harts lists sent some in
-        let d : first_fault (stranger (map (λ (n : Note). n.process) notes)) (told (kept 0 lists)) ≡ None =
-        ap (λ (ls : List Left). first_fault (stranger (map (λ (n : Note). n.process) notes)) (told ls)) kept_is ∙ no_fault (stranger (map (λ (n : Note). n.process) notes)) (told (numbered 0 0 lists)) (all_known notes (pieces_from 0 harts) (told (numbered 0 0 lists)) zip noted) in
+        let d : first_fault (stranger (map (λ (n : Note). n.process) notes)) (slices_told (kept 0 lists)) ≡ None =
+        ap (λ (ls : List Left). first_fault (stranger (map (λ (n : Note). n.process) notes)) (slices_told ls)) kept_is ∙ no_fault (stranger (map (λ (n : Note). n.process) notes)) (slices_told (numbered 0 0 lists)) (all_known notes (pieces_from 0 harts) (slices_told (numbered 0 0 lists)) zip noted) in
         λ i. first_fault (λ found. found) (a i ∷ b i ∷ c i ∷ d i ∷ [])
 
 -- No stretch begins before the time.

@@ -15,7 +15,7 @@ use Rattle.rept_path.specs.Rows.{CarryCode}
 use Rattle.rept_encode.specs.Encoded.{coded, LeadsOver}
 use Rattle.rept_weave.specs.Woven.{ended, end_of}
 use Rattle.rept_slices.specs.Stamps.{address_of}
-use Rattle.rept_slices.specs.Parts.{Told, thread_of, begin_of, inner, beyond, first_time}
+use Rattle.rept_slices.specs.Parts.{ToldSlice, thread_of, begin_of, inner, beyond, first_time}
 use Rattle.rept_slices.specs.Stretches.{same_stretch, stretch, heads, Walked, last_place, count_of, origin_after, Walks, Ran, within, rows_of, ran_by, ran_in, ran}
 use Rattle.rept_slices.specs.Joins.{stand_at}
 use Rattle.rept_slices.proofs.InTime.{Each}
@@ -68,7 +68,7 @@ module _ (halves : Bool) (contents : Contents) where
   abbrev Carried : Piece → Type 0
   Carried p = CarryCode (coded halves contents) p.stretch.steps
 
-  leads_of : (p : Piece) (t : Told) → IsPieceOf halves p t → Carried p → LeadsOver (coded halves contents) (reverse (stretch t)) p.stretch.steps
+  leads_of : (p : Piece) (t : ToldSlice) → IsPieceOf halves p t → Carried p → LeadsOver (coded halves contents) (reverse (stretch t)) p.stretch.steps
   leads_of p t i carried = subst (λ (ps : List Packet). LeadsOver (coded halves contents) (reverse ps) p.stretch.steps) (sym (packets_are halves p t i)) (i.sent.leads contents carried)
 
   module _ (p : Piece) (w : Walked) (way : IsWay halves contents p w) where
@@ -119,7 +119,7 @@ module _ (halves : Bool) (contents : Contents) where
     }
 
   -- All stretches are walked, one after the other.
-  pub ways : (ps : List Piece) (ts : List Told) (count : ℕ) → AllZip (IsPieceOf halves) ps ts → Each Carried ps → count + rows_before ps ≤ 65536 → (ws : List Walked) × Walks code count ts ws × AllZip (IsWay halves contents) ps ws
+  pub ways : (ps : List Piece) (ts : List ToldSlice) (count : ℕ) → AllZip (IsPieceOf halves) ps ts → Each Carried ps → count + rows_before ps ≤ 65536 → (ws : List Walked) × Walks code count ts ws × AllZip (IsWay halves contents) ps ws
   ways [] [] count h carried few = ([], refl, tt)
   ways [] (t ∷ ts) count h carried few = absurd h
   ways (p ∷ ps) [] count h carried few = absurd h
@@ -132,20 +132,20 @@ module _ (halves : Bool) (contents : Contents) where
       let goes : Route code (origin_after count t) (reverse (stretch t)) w.legs = route_moved code (alone 0) (origin_after count t) (reverse (stretch t)) w.legs (route_is p w way) (omega (arith, few, size)) in
       (w ∷ rest.0, (refl, goes, rest.1), (way, rest.2))
 
-  pub all_heads : (ps : List Piece) (ts : List Told) → AllZip (IsPieceOf halves) ps ts → heads ts ≡ ts
+  pub all_heads : (ps : List Piece) (ts : List ToldSlice) → AllZip (IsPieceOf halves) ps ts → heads ts ≡ ts
   all_heads [] [] h = refl
   all_heads [] (t ∷ ts) h = absurd h
   all_heads (p ∷ ps) [] h = absurd h
-  all_heads (p ∷ ps) (t ∷ ts) h = ap (λ (o : Option ℕ). cond (is_none o) (t ∷ heads ts) (heads ts)) h.0.waits ∙ ap (λ (us : List Told). t ∷ us) (all_heads ps ts h.1)
+  all_heads (p ∷ ps) (t ∷ ts) h = ap (λ (o : Option ℕ). cond (is_none o) (t ∷ heads ts) (heads ts)) h.0.waits ∙ ap (λ (us : List ToldSlice). t ∷ us) (all_heads ps ts h.1)
 
-  head_waits : (ps : List Piece) (ts : List Told) → AllZip (IsPieceOf halves) ps ts → HeadFirst ts
+  head_waits : (ps : List Piece) (ts : List ToldSlice) → AllZip (IsPieceOf halves) ps ts → HeadFirst ts
   head_waits [] [] h = tt
   head_waits [] (t ∷ ts) h = absurd h
   head_waits (p ∷ ps) [] h = absurd h
   head_waits (p ∷ ps) (t ∷ ts) h = h.0.waits
 
   -- each slice is all of its stretch
-  pub all_ran : (ts before later : List Told) (count : ℕ) (ps : List Piece) (ws : List Walked) → ts ≡ before ++ later → Each Started (before ++ later) → Following (before ++ later)
+  pub all_ran : (ts before later : List ToldSlice) (count : ℕ) (ps : List Piece) (ws : List Walked) → ts ≡ before ++ later → Each Started (before ++ later) → Following (before ++ later)
       → AllZip (IsPieceOf halves) ps later → Walks code count later ws → AllZip (IsWay halves contents) ps ws → AllZip (IsRanOf code) ps (ran code ts ws)
   all_ran ts before [] count [] ws e s f h a y = subst (λ (vs : List Walked). AllZip (IsRanOf code) [] (ran code ts vs)) (sym a) tt
   all_ran ts before [] count (p ∷ ps) ws e s f h a y = absurd h
@@ -155,11 +155,11 @@ module _ (halves : Bool) (contents : Contents) where
       let shift : (before ++ t ∷ []) ++ later ≡ before ++ t ∷ later = append_assoc before (t ∷ []) later in
       let rest = all_ran ts (before ++ t ∷ []) later (count + count_of code w) ps ws (e ∙ sym shift) (subst (Each Started) (sym shift) s) (subst Following (sym shift) f) h.1 a.2 y.1 in
       let x = follow_there before t later f in
-      let number = ap (λ (u : Told). u.number) a.0 in
+      let number = ap (λ (u : ToldSlice). u.number) a.0 in
       let early = subst (λ (n : ℕ). Each (Earlier n) before) (sym number) (before_earlier before t later s f) in
       let starts : Started t = started_there before t later s in
       let own : filter (within w) ts ≡ t ∷ inner_slices later = ap (filter (within w)) e ∙ none_before w before (t ∷ later) early ∙ gathered w t later x.others a.0 starts x.same x.after x.heads in
-      let alone_in : filter (within w) ts ≡ w.head ∷ [] = own ∙ ap (λ (us : List Told). t ∷ us) (none_inner later (head_waits ps later h.1)) ∙ ap (λ (u : Told). u ∷ []) (sym a.0) in
+      let alone_in : filter (within w) ts ≡ w.head ∷ [] = own ∙ ap (λ (us : List ToldSlice). t ∷ us) (none_inner later (head_waits ps later h.1)) ∙ ap (λ (u : ToldSlice). u ∷ []) (sym a.0) in
       let here : ran_in code ts w ≡ ran_by code w w.head ∷ [] = ap (map (ran_by code w)) alone_in in
       let is : IsRanOf code p (ran_by code w w.head) = ran_is p w y.0 (subst Started (sym a.0) starts) in
       subst (λ (rs : List Ran). AllZip (IsRanOf code) (p ∷ ps) (rs ++ ran code ts ws)) (sym here) (is, rest)

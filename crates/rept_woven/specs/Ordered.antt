@@ -64,8 +64,8 @@ dark_of (time ∷ []) = None
 dark_of (time ∷ (other ∷ times)) = Some time
 
 -- The run of the harts: the threads of the notes, in their order. No packet is skipped.
-abbrev pub run_of : List (List Stretch) → List Note → Run
-run_of harts notes = record { threads = map (thread_in harts) notes; dark = dark_of (begins harts); skipped = 0 }
+abbrev pub run_of_harts : List (List Stretch) → List Note → Run
+run_of_harts harts notes = record { threads = map (thread_in harts) notes; dark = dark_of (begins harts); skipped = 0 }
 
 -- A thread's steps follow one another up to where it stopped, and so do its slices in time.
 pub record IsJoined (t : ThreadRows) (pc : ℕ) : Type 0 where
@@ -98,5 +98,5 @@ pub record AreOrdered (harts : List (List Stretch)) (notes : List Note) : Type 0
   pub few : sum_by (λ (n : Note). length (thread_in harts n).steps) notes ≤ 65536
 
 -- The code has the instructions of all stretches.
-abbrev pub Carries : Code → List (List Stretch) → Type 0
-Carries code harts = All (λ (p : Piece). CarryCode code p.stretch.steps) (pieces harts)
+abbrev pub HasStretches : Code → List (List Stretch) → Type 0
+HasStretches code harts = All (λ (p : Piece). CarryCode code p.stretch.steps) (pieces harts)

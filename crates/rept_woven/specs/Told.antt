@@ -2,12 +2,12 @@
 use Rattle.std.specs.Prelude.{⊤, ◌≡◌, ℕ, ◌≤◌, Bool, List, [], ◌∷◌, Some, None}
 use Rattle.rept_weave.specs.declared.stretch.Stretch.{Stretch}
 use Rattle.rept_weave.specs.Woven.{IsSent}
-use Rattle.rept_slices.specs.Parts.{Told, thread_of, begin_of, beyond, first_time}
+use Rattle.rept_slices.specs.Parts.{ToldSlice, thread_of, begin_of, beyond, first_time}
 use Rattle.rept_slices.specs.Stretches.{stretch}
 
 -- The slice of a stream is that of a stretch: it begins while the trace waits, of the same thread and at the same time; the first time that its stream tells once it has ended is the stretch's end; and the
 -- packets along which it is walked are those of the stretch.
-pub record IsSliceOf (halves : Bool) (s : ℕ) (x : Stretch) (t : Told) : Type 0 where
+pub record IsSliceOf (halves : Bool) (s : ℕ) (x : Stretch) (t : ToldSlice) : Type 0 where
   pub stream : t.stream ≡ s
   pub thread : thread_of t ≡ x.process
   pub begin : begin_of t ≡ x.begin
@@ -16,7 +16,7 @@ pub record IsSliceOf (halves : Bool) (s : ℕ) (x : Stretch) (t : Told) : Type 0
   pub packets : IsSent halves x (stretch t)
 
 -- one slice for each stretch, in order
-abbrev pub AreSlicesOf : Bool → ℕ → List Stretch → List Told → Type 0
+abbrev pub AreSlicesOf : Bool → ℕ → List Stretch → List ToldSlice → Type 0
 AreSlicesOf halves s [] ts = ts ≡ []
 AreSlicesOf halves s (x ∷ xs) [] = ⊥
 AreSlicesOf halves s (x ∷ xs) (t ∷ ts) = IsSliceOf halves s x t × AreSlicesOf halves s xs ts

@@ -10,11 +10,11 @@ use Rattle.rept_slices.specs.Joins.{Note}
 use Rattle.rept_weave.specs.declared.stretch.Stretch.{Stretch}
 
 -- The code stands at 65536: two instructions that do nothing, a jump to where x6 points, a call, and one that does nothing.
-abbrev pub word_at : ℕ → Option ℕ
-word_at a = if a == 65544 then Some 0x30067 else if a == 65548 then Some 0x73 else Some 0x13
+abbrev pub code_word : ℕ → Option ℕ
+code_word a = if a == 65544 then Some 0x30067 else if a == 65548 then Some 0x73 else Some 0x13
 
 abbrev pub code : Contents
-code = record { word = word_at; half = λ a. None; kept = λ a. None; symbol = λ a. None; end = 0 }
+code = record { word = code_word; half = λ a. None; kept = λ a. None; symbol = λ a. None; end = 0 }
 
 abbrev pub nothing : ℕ → StepRow
 nothing a = record { at = a; instr = Imm Addi 0 0 (pos 0); next = a + 4; call = false; short = false }

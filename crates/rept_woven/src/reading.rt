@@ -10,7 +10,7 @@ ghost use Rattle.rept_encode.specs.Encoded.{coded};
 ghost use Rattle.rept_weave.specs.declared.stretch.Stretch.{Stretch};
 ghost use Rattle.rept_weave.specs.Woven.{IsWoven};
 ghost use Rattle.rept_slices.specs.Raw.{files_of, note_in, IsRunOf, HasNoRun};
-ghost use Rattle.rept_woven.specs.Ordered.{run_of, AreOrdered, Carries};
+ghost use Rattle.rept_woven.specs.Ordered.{run_of_harts, AreOrdered, HasStretches};
 
 use rept_dump::Dump;
 use rept_path::PathFault;
@@ -25,7 +25,7 @@ use std::alloc::Global;
 /// Of a trace that `weave` wrote this is the run of its harts, unless memory runs out: where the program has the instructions of their stretches, and the stretches and the notes of the threads are in order.
 pub fn rebuild_trace(alloc: Global, trace: &[u8], dump: &Dump<'_>) -> Result<Run, PathFault>
     requires { length trace.now < 2 ^ 32 }
-    ensures woven { (halves : Bool) (harts : List (List Stretch)) (descs : List (List ℕ)) → IsWoven halves harts trace.now → HasThreads dump.now descs → threads_of dump.now ≡ length descs → Carries (coded halves (contents (exe_of dump.now))) harts → AreOrdered harts (map note_in descs) → MatchResult result (λ run. run ≡ run_of harts (map note_in descs)) (λ e. e ≡ OutOfMemory) }
+    ensures woven { (halves : Bool) (harts : List (List Stretch)) (descs : List (List ℕ)) → IsWoven halves harts trace.now → HasThreads dump.now descs → threads_of dump.now ≡ length descs → HasStretches (coded halves (contents (exe_of dump.now))) harts → AreOrdered harts (map note_in descs) → MatchResult result (λ run. run ≡ run_of_harts harts (map note_in descs)) (λ e. e ≡ OutOfMemory) }
     ensures read { (file : StreamFile) (descs : List (List ℕ)) → AreStreams trace.now file → HasThreads dump.now descs → threads_of dump.now ≡ length descs → MatchResult result (λ run. IsRunOf (files_of dump.now file descs 0) run) (λ e. (e ≡ OutOfMemory) ⊎ HasNoRun (files_of dump.now file descs 0) e) }
     ensures refused { (fault : TraceFault) → AreNoStreams trace.now fault → result ≡ Err (Packet fault) }
 {

@@ -1,7 +1,7 @@
 //! What an analysis answers of ranges, bytes, writers and numbers.
 
 ghost use Rattle.std.specs.Prelude.{◌≡◌, ◌+◌, ◌<◌, ◌≤◌, ◌==◌, if◌then◌else◌, ℕ, length, true, false, Some, None, IfSome, IsSome, slice_get, is_some};
-ghost use Rattle.rept_dump.specs.Memory.{byte_at};
+ghost use Rattle.rept_dump.specs.Memory.{crash_byte};
 ghost use Rattle.rept_dump.specs.Program.{contents};
 ghost use Rattle.rept_reason.specs.declared.fact.Cell.TheVariants.{Byte};
 ghost use Rattle.rept_reason.specs.Facts.{told, register_fact};
@@ -211,7 +211,7 @@ impl<'a, P: Paths + Drop, L: LastValues + Drop, B: ByteFacts, W: Transfer, R: Ro
 
     /// The byte of the dump at the end.
     fn end_byte(&self, point: u32, a: u32) -> Option<u8>
-        ensures { result ≡ (if point == (P.timeline self.now.paths).moments.end then byte_at (contents self.now.exe) self.now.core a else None) }
+        ensures { result ≡ (if point == (P.timeline self.now.paths).moments.end then crash_byte (contents self.now.exe) self.now.core a else None) }
     {
         if point == self.end() {
             self.dump_byte(a)

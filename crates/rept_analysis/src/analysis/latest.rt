@@ -5,7 +5,7 @@ ghost use Rattle.rept_reason.specs.Facts.{told};
 ghost use Rattle.rept_report.specs.Log.{oldest};
 ghost use Rattle.rept_analysis.specs.State.{setting_of, state_of, reader};
 ghost use Rattle.rept_analysis.specs.Drawing.{IsFitted};
-ghost use Rattle.rept_report.specs.Latest.{IsBefore, IsLatest};
+ghost use Rattle.rept_report.specs.Latest.{IsEarlierRow, IsLatest};
 ghost use Rattle.rept_analysis.specs.Latest.{IsBegun, IsSought, IsGreatest, IsPossibleWriter};
 
 use super::Analysis;
@@ -56,7 +56,7 @@ impl<'a, P: Paths + Drop, L: LastValues + Drop, B: ByteFacts, W: Transfer, R: Ro
     fn is_before(&self, row: u32, other: u32) -> bool
         requires first { IsSome ((P.timeline self.now.paths).legs.row row) }
         requires second { IsSome ((P.timeline self.now.paths).legs.row other) }
-        ensures { (result ≡ true) ↔ IsBefore (P.timeline self.now.paths).moments row other }
+        ensures { (result ≡ true) ↔ IsEarlierRow (P.timeline self.now.paths).moments row other }
     {
         if self.is_later(other, row) {
             !self.is_later(row, other)
@@ -142,8 +142,8 @@ impl<'a, P: Paths + Drop, L: LastValues + Drop, B: ByteFacts, W: Transfer, R: Ro
         requires inside { i < (P.timeline self.now.paths).legs.count }
         requires best { IsSome ((P.timeline self.now.paths).legs.row best) }
         requires fitted { (a : ℕ) → sought.address ≡ Some a → IsFitted (state_of (reader P.timeline L.values) W.sets W.moves R.rules B.store self.now) }
-        ensures rival { result ≡ true → IsSought (setting_of (reader P.timeline L.values) W.sets W.moves R.rules self.now) (told (oldest self.now.filled self.now.known.log)) sought i × (i ≢ best) × (IsBefore (P.timeline self.now.paths).moments i best → ⊥) }
-        ensures other { result ≡ false → IsSought (setting_of (reader P.timeline L.values) W.sets W.moves R.rules self.now) (told (oldest self.now.filled self.now.known.log)) sought i → i ≢ best → IsBefore (P.timeline self.now.paths).moments i best }
+        ensures rival { result ≡ true → IsSought (setting_of (reader P.timeline L.values) W.sets W.moves R.rules self.now) (told (oldest self.now.filled self.now.known.log)) sought i × (i ≢ best) × (IsEarlierRow (P.timeline self.now.paths).moments i best → ⊥) }
+        ensures other { result ≡ false → IsSought (setting_of (reader P.timeline L.values) W.sets W.moves R.rules self.now) (told (oldest self.now.filled self.now.known.log)) sought i → i ≢ best → IsEarlierRow (P.timeline self.now.paths).moments i best }
     {
         match self.row(i) {
             None => false,

@@ -4,7 +4,7 @@ ghost use Rattle.std.specs.Prelude.{◌≡◌, ◌<◌, ◌≤◌, min, IsSome, 
 ghost use Rattle.rept_reason.specs.Facts.{told, register_known};
 ghost use Rattle.rept_isa.specs.Operands.{first_read};
 ghost use Rattle.rept_log.specs.Fronts.{basis_of, front_of, seen_in};
-ghost use Rattle.rept_log.specs.RowBytes.{row_byte, bytes_from, bytes_at, base_seen, row_bytes};
+ghost use Rattle.rept_log.specs.RowBytes.{row_byte, bytes_from, bytes_from_base, base_seen, row_bytes};
 
 use super::Front;
 use crate::last::LastValues;

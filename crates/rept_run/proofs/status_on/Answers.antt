@@ -4,7 +4,7 @@ use Rattle.rept_ports.specs.Port.{move}
 use Rattle.rept_ports.specs.declared.arguments.Unreadable.{Unreadable}
 use Rattle.rept_app.specs.Delivered.{Delivers}
 use Rattle.rept_app.specs.Promise.{Promise}
-use Rattle.rept_app.specs.Told.{Writes, given}
+use Rattle.rept_app.specs.Told.{CallWrites, call_input}
 use Rattle.rept_app.specs.Top.{EndsByFiles, FaultsEnd, ShelfCauses}
 use Rattle.rept_app.specs.declared.status.Status.TheVariants as ends
 use Rattle.rept_words.specs.Words.{meaning_of}
@@ -23,7 +23,7 @@ returns-in-Ok-clause-promise g c read =
     let shelf = move (g.H.Shelf.port c.args.shelf.now) (g.H.Shelf.port c.rept.new.shelf) in
     let source = move (g.S.Source.port c.args.input.now) (g.S.Source.port c.rept.new.input) in
     let sink = move (g.K.Sink.port c.args.out.now) (g.K.Sink.port c.rept.new.out) in
-    on_words _ (map string_bytes c.in-Ok.words.items) (map string_bytes c.as_slice.result.now) (λ (ws : List (List ℕ)). IfSome shelf.before.files (λ files. IfSome source.before.bytes (λ left. Promise (given ws files shelf (record { input = left; left = source.after.bytes })) sink c.rept.result)))
+    on_words _ (map string_bytes c.in-Ok.words.items) (map string_bytes c.as_slice.result.now) (λ (ws : List (List ℕ)). IfSome shelf.before.files (λ files. IfSome source.before.bytes (λ left. Promise (call_input ws files shelf (record { input = left; left = source.after.bytes })) sink c.rept.result)))
     (ap (result_map_both (λ v. map string_bytes v.items) (λ e. e)) c.in-Ok.is) (ap (map string_bytes) c.as_slice.ensures.value) c.rept.ensures.promise
 
 pub returns-in-Ok-clause-once : goal.returns-in-Ok-clause-once
@@ -48,7 +48,7 @@ returns-in-Ok-clause-text g c read =
     let shelf = move (g.H.Shelf.port c.args.shelf.now) (g.H.Shelf.port c.rept.new.shelf) in
     let source = move (g.S.Source.port c.args.input.now) (g.S.Source.port c.rept.new.input) in
     let sink = move (g.K.Sink.port c.args.out.now) (g.K.Sink.port c.rept.new.out) in
-    on_words _ (map string_bytes c.in-Ok.words.items) (map string_bytes c.as_slice.result.now) (λ (ws : List (List ℕ)). IfSome shelf.before.files (λ files. IfSome source.before.bytes (λ left. Delivers (Writes (given ws files shelf (record { input = left; left = source.after.bytes }))) sink c.rept.result)))
+    on_words _ (map string_bytes c.in-Ok.words.items) (map string_bytes c.as_slice.result.now) (λ (ws : List (List ℕ)). IfSome shelf.before.files (λ files. IfSome source.before.bytes (λ left. Delivers (CallWrites (call_input ws files shelf (record { input = left; left = source.after.bytes }))) sink c.rept.result)))
     (ap (result_map_both (λ v. map string_bytes v.items) (λ e. e)) c.in-Ok.is) (ap (map string_bytes) c.as_slice.ensures.value) c.rept.ensures.text
 
 pub returns-in-Err-NotText-clause-promise : goal.returns-in-Err-NotText-clause-promise
@@ -56,7 +56,7 @@ returns-in-Err-NotText-clause-promise g c read =
     let shelf = move (g.H.Shelf.port c.args.shelf.now) (g.H.Shelf.port c.rept-in-Err-NotText.new.shelf) in
     let source = move (g.S.Source.port c.args.input.now) (g.S.Source.port c.rept-in-Err-NotText.new.input) in
     let sink = move (g.K.Sink.port c.args.out.now) (g.K.Sink.port c.rept-in-Err-NotText.new.out) in
-    on_none _ _ (λ (ws : List (List ℕ)). IfSome shelf.before.files (λ files. IfSome source.before.bytes (λ left. Promise (given ws files shelf (record { input = left; left = source.after.bytes })) sink c.rept-in-Err-NotText.result)))
+    on_none _ _ (λ (ws : List (List ℕ)). IfSome shelf.before.files (λ files. IfSome source.before.bytes (λ left. Promise (call_input ws files shelf (record { input = left; left = source.after.bytes })) sink c.rept-in-Err-NotText.result)))
     (ap (result_map_both (λ v. map string_bytes v.items) (λ e. e)) c.in-Err-NotText.is) c.rept-in-Err-NotText.ensures.promise
 
 pub returns-in-Err-NotText-clause-once : goal.returns-in-Err-NotText-clause-once
@@ -81,5 +81,5 @@ returns-in-Err-NotText-clause-text g c read =
     let shelf = move (g.H.Shelf.port c.args.shelf.now) (g.H.Shelf.port c.rept-in-Err-NotText.new.shelf) in
     let source = move (g.S.Source.port c.args.input.now) (g.S.Source.port c.rept-in-Err-NotText.new.input) in
     let sink = move (g.K.Sink.port c.args.out.now) (g.K.Sink.port c.rept-in-Err-NotText.new.out) in
-    on_none _ _ (λ (ws : List (List ℕ)). IfSome shelf.before.files (λ files. IfSome source.before.bytes (λ left. Delivers (Writes (given ws files shelf (record { input = left; left = source.after.bytes }))) sink c.rept-in-Err-NotText.result)))
+    on_none _ _ (λ (ws : List (List ℕ)). IfSome shelf.before.files (λ files. IfSome source.before.bytes (λ left. Delivers (CallWrites (call_input ws files shelf (record { input = left; left = source.after.bytes }))) sink c.rept-in-Err-NotText.result)))
     (ap (result_map_both (λ v. map string_bytes v.items) (λ e. e)) c.in-Err-NotText.is) c.rept-in-Err-NotText.ensures.text

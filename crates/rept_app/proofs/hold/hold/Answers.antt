@@ -1,6 +1,6 @@
 use Rattle.std.proofs.Common.{◌≡◌, inl, inr, refl}
 use Rattle.rept_ports.specs.Port.{move}
-use Rattle.rept_session.specs.Shown.{Told, told}
+use Rattle.rept_session.specs.Shown.{SessionTold, session_told}
 use Rattle.rept_serve.specs.Serving.{Serves}
 use Rattle.rept_serve.specs.declared.serving.Served.TheVariants as served
 use Rattle.rept_app.specs.Delivered.{Delivers}
@@ -13,35 +13,35 @@ use Rattle.rept_app.proofs.hold.hold.Goals as goal
 
 pub returns-in-Ended-clause-text : goal.returns-in-Ended-clause-text
 returns-in-Ended-clause-text g c =
-    let t : Told = told (g.F.Findings.shown c.args.findings.now) c.args.skipped (g.F.Findings.reasons c.args.findings.now) in
+    let t : SessionTold = session_told (g.F.Findings.shown c.args.findings.now) c.args.skipped (g.F.Findings.reasons c.args.findings.now) in
     over (g.S.Source.port c.args.input.now).bytes (g.S.Source.port c.args.input.now).bytes (λ bytes. Serves t (reading_here bytes (g.S.Source.port c.serve.new.input)) (move (g.K.Sink.port c.args.out.now) (g.K.Sink.port c.serve.new.out)) served.Ended)
     (λ bytes. Delivers (IsHeldSession t (reading_here bytes (g.S.Source.port c.serve.new.input))) (move (g.K.Sink.port c.args.out.now) (g.K.Sink.port c.serve.new.out)) ends.Ok) refl c.in-Ended.ensures.text
     (λ bytes h. ended t (reading_here bytes (g.S.Source.port c.serve.new.input)) (g.K.Sink.port c.args.out.now) (g.K.Sink.port c.serve.new.out) h (calm_out (move (g.S.Source.port c.args.input.now) (g.S.Source.port c.serve.new.input)) (move (g.K.Sink.port c.args.out.now) (g.K.Sink.port c.serve.new.out)) served.Ended (λ (e : served.Ended ≡ served.OutputFault). cc) c.in-Ended.ensures.causes))
 
 pub returns-in-OutputFault-clause-text : goal.returns-in-OutputFault-clause-text
 returns-in-OutputFault-clause-text g c =
-    let t : Told = told (g.F.Findings.shown c.args.findings.now) c.args.skipped (g.F.Findings.reasons c.args.findings.now) in
+    let t : SessionTold = session_told (g.F.Findings.shown c.args.findings.now) c.args.skipped (g.F.Findings.reasons c.args.findings.now) in
     over (g.S.Source.port c.args.input.now).bytes (g.S.Source.port c.args.input.now).bytes (λ bytes. Serves t (reading_here bytes (g.S.Source.port c.serve.new.input)) (move (g.K.Sink.port c.args.out.now) (g.K.Sink.port c.serve.new.out)) served.OutputFault)
     (λ bytes. Delivers (IsHeldSession t (reading_here bytes (g.S.Source.port c.serve.new.input))) (move (g.K.Sink.port c.args.out.now) (g.K.Sink.port c.serve.new.out)) ends.OutputFault) refl c.in-OutputFault.ensures.text
     (λ bytes h. failed t (reading_here bytes (g.S.Source.port c.serve.new.input)) (g.K.Sink.port c.args.out.now) (g.K.Sink.port c.serve.new.out) h (fault_out (move (g.S.Source.port c.args.input.now) (g.S.Source.port c.serve.new.input)) (move (g.K.Sink.port c.args.out.now) (g.K.Sink.port c.serve.new.out)) c.in-OutputFault.ensures.causes))
 
 pub returns-in-ReadFault-clause-text : goal.returns-in-ReadFault-clause-text
 returns-in-ReadFault-clause-text g c =
-    let t : Told = told (g.F.Findings.shown c.args.findings.now) c.args.skipped (g.F.Findings.reasons c.args.findings.now) in
+    let t : SessionTold = session_told (g.F.Findings.shown c.args.findings.now) c.args.skipped (g.F.Findings.reasons c.args.findings.now) in
     over (g.S.Source.port c.args.input.now).bytes (g.S.Source.port c.args.input.now).bytes (λ bytes. Serves t (reading_here bytes (g.S.Source.port c.serve.new.input)) (move (g.K.Sink.port c.args.out.now) (g.K.Sink.port c.serve.new.out)) served.ReadFault)
     (λ bytes. Delivers (IsHeldSession t (reading_here bytes (g.S.Source.port c.serve.new.input))) (move (g.K.Sink.port c.args.out.now) (g.K.Sink.port c.deliver.new.out)) c.deliver.result) refl c.in-ReadFault.ensures.text
     (λ bytes h. cut_off t (reading_here bytes (g.S.Source.port c.serve.new.input)) (g.K.Sink.port c.args.out.now) (g.K.Sink.port c.serve.new.out) (calm_out (move (g.S.Source.port c.args.input.now) (g.S.Source.port c.serve.new.input)) (move (g.K.Sink.port c.args.out.now) (g.K.Sink.port c.serve.new.out)) served.ReadFault (λ (e : served.ReadFault ≡ served.OutputFault). cc) c.in-ReadFault.ensures.causes) (g.K.Sink.port c.deliver.new.out) c.deliver.result h c.deliver.ensures)
 
 pub returns-in-TooMuchInput-clause-text : goal.returns-in-TooMuchInput-clause-text
 returns-in-TooMuchInput-clause-text g c =
-    let t : Told = told (g.F.Findings.shown c.args.findings.now) c.args.skipped (g.F.Findings.reasons c.args.findings.now) in
+    let t : SessionTold = session_told (g.F.Findings.shown c.args.findings.now) c.args.skipped (g.F.Findings.reasons c.args.findings.now) in
     over (g.S.Source.port c.args.input.now).bytes (g.S.Source.port c.args.input.now).bytes (λ bytes. Serves t (reading_here bytes (g.S.Source.port c.serve.new.input)) (move (g.K.Sink.port c.args.out.now) (g.K.Sink.port c.serve.new.out)) served.TooMuchInput)
     (λ bytes. Delivers (IsHeldSession t (reading_here bytes (g.S.Source.port c.serve.new.input))) (move (g.K.Sink.port c.args.out.now) (g.K.Sink.port c.deliver-in-TooMuchInput.new.out)) c.deliver-in-TooMuchInput.result) refl c.in-TooMuchInput.ensures.text
     (λ bytes h. overran t (reading_here bytes (g.S.Source.port c.serve.new.input)) (g.K.Sink.port c.args.out.now) (g.K.Sink.port c.serve.new.out) (calm_out (move (g.S.Source.port c.args.input.now) (g.S.Source.port c.serve.new.input)) (move (g.K.Sink.port c.args.out.now) (g.K.Sink.port c.serve.new.out)) served.TooMuchInput (λ (e : served.TooMuchInput ≡ served.OutputFault). cc) c.in-TooMuchInput.ensures.causes) (g.K.Sink.port c.deliver-in-TooMuchInput.new.out) c.deliver-in-TooMuchInput.result h c.deliver-in-TooMuchInput.ensures)
 
 pub returns-in-OutOfMemory-clause-text : goal.returns-in-OutOfMemory-clause-text
 returns-in-OutOfMemory-clause-text g c =
-    let t : Told = told (g.F.Findings.shown c.args.findings.now) c.args.skipped (g.F.Findings.reasons c.args.findings.now) in
+    let t : SessionTold = session_told (g.F.Findings.shown c.args.findings.now) c.args.skipped (g.F.Findings.reasons c.args.findings.now) in
     over (g.S.Source.port c.args.input.now).bytes (g.S.Source.port c.args.input.now).bytes (λ bytes. Serves t (reading_here bytes (g.S.Source.port c.serve.new.input)) (move (g.K.Sink.port c.args.out.now) (g.K.Sink.port c.serve.new.out)) served.OutOfMemory)
     (λ bytes. Delivers (IsHeldSession t (reading_here bytes (g.S.Source.port c.serve.new.input))) (move (g.K.Sink.port c.args.out.now) (g.K.Sink.port c.deliver-in-OutOfMemory.new.out)) c.deliver-in-OutOfMemory.result) refl c.in-OutOfMemory.ensures.text
     (λ bytes h. ran_out t (reading_here bytes (g.S.Source.port c.serve.new.input)) (g.K.Sink.port c.args.out.now) (g.K.Sink.port c.serve.new.out) (calm_out (move (g.S.Source.port c.args.input.now) (g.S.Source.port c.serve.new.input)) (move (g.K.Sink.port c.args.out.now) (g.K.Sink.port c.serve.new.out)) served.OutOfMemory (λ (e : served.OutOfMemory ≡ served.OutputFault). cc) c.in-OutOfMemory.ensures.causes) (g.K.Sink.port c.deliver-in-OutOfMemory.new.out) c.deliver-in-OutOfMemory.result h c.deliver-in-OutOfMemory.ensures)

@@ -6,7 +6,7 @@ use Rattle.rept_app.specs.Ends.{EndsSession}
 use Rattle.rept_app.specs.Forms.{core_image_fault}
 use Rattle.rept_app.specs.Loading.{core_bytes}
 use Rattle.rept_app.specs.Mapped.{mapped_crash}
-use Rattle.rept_app.specs.MappedEnds.{ExaminesMapped, IsExaminedMapped, MappedExcludes, MappedHolds, mapped_call, moves}
+use Rattle.rept_app.specs.MappedEnds.{ExaminesMapped, IsExaminedMapped, MappedExcludes, MappedHolds, mapped_call, port_moves}
 use Rattle.rept_app.specs.declared.refusal.Refusal.TheVariants as refusal
 use Rattle.rept_app.specs.declared.status.Status.TheVariants as ends
 use Rattle.rept_app.proofs.DeliveredLemmas.{delivers_as, ends_told, not_yielded, told_ports}
@@ -90,7 +90,7 @@ returns-in-Ok-read-clause-text g c =
 pub returns-in-Ok-read-clause-causes : goal.returns-in-Ok-read-clause-causes
 returns-in-Ok-read-clause-causes g c =
     let f = c.args.files.now in
-    subst (λ (core : List ℕ). IsExaminedMapped (core_bytes core f.trace.items f.manner) (moves (move (g.H.Shelf.port c.args.shelf.now) (g.H.Shelf.port c.study_mapped.new.shelf)) (move (g.S.Source.port c.args.input.now) (g.S.Source.port c.study_mapped.new.input)) (move (g.K.Sink.port c.args.out.now) (g.K.Sink.port c.study_mapped.new.out))) c.study_mapped.result)
+    subst (λ (core : List ℕ). IsExaminedMapped (core_bytes core f.trace.items f.manner) (port_moves (move (g.H.Shelf.port c.args.shelf.now) (g.H.Shelf.port c.study_mapped.new.shelf)) (move (g.S.Source.port c.args.input.now) (g.S.Source.port c.study_mapped.new.input)) (move (g.K.Sink.port c.args.out.now) (g.K.Sink.port c.study_mapped.new.out))) c.study_mapped.result)
     (c.in-Ok.ensures.image ∙ c.as_slice.ensures.value) c.study_mapped.ensures.causes
 
 pub returns-in-Ok-read-clause-stays : goal.returns-in-Ok-read-clause-stays

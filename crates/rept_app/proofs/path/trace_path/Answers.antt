@@ -10,7 +10,7 @@ use Rattle.rept_path.specs.Traced.{RawRun, IsTraced, IsUntraced, raw_of}
 use Rattle.rept_path.specs.declared.fault.PathFault.{PathFault}
 use Rattle.rept_path.specs.declared.fault.PathFault.TheVariants.{OutOfMemory}
 use Rattle.rept_found.specs.Crash.{Crash, crash_of, end_pc}
-use Rattle.rept_app.specs.Path.{TraceFile, file_bytes, run_of, IsTracePath, HasNoPath}
+use Rattle.rept_app.specs.Path.{TraceFile, file_bytes, raw_run_of, IsTracePath, HasNoPath}
 use Rattle.rept_app.proofs.PathLemmas.{traced_after, untraced_after, same_path}
 use Rattle.rept_app.proofs.path.trace_path.Goals as goal
 
@@ -23,11 +23,11 @@ abbrev run_by : Dump → ℕ → Stream → RawRun
 run_by dump from stream = record { code = record { contents = contents (exe_of dump); halves = stream.widths.halves }; stream = stream; from = from; pc = end_pc (registers_of dump) }
 
 -- what is said of the bytes is said of what is left of them
-untraced_in : (dump : Dump) (packets : Packets) (from : ℕ) (fault : PathFault) (file : TraceFile) → plain file.halves file.bytes ≡ rest_of packets → 0 ≡ number_of packets → IsUntraced (run_of (crash_alone dump) file from) 0 fault → IsUntraced (raw_of packets dump from) (number_of packets) fault
+untraced_in : (dump : Dump) (packets : Packets) (from : ℕ) (fault : PathFault) (file : TraceFile) → plain file.halves file.bytes ≡ rest_of packets → 0 ≡ number_of packets → IsUntraced (raw_run_of (crash_alone dump) file from) 0 fault → IsUntraced (raw_of packets dump from) (number_of packets) fault
 untraced_in dump packets from fault file stream number h =
     subst (λ n. IsUntraced (raw_of packets dump from) n fault) number (subst (λ (s : Stream). IsUntraced (run_by dump from s) 0 fault) stream h)
 
-untraced_from : (dump : Dump) (packets : Packets) (from : ℕ) (fault : PathFault) (file : TraceFile) → rest_of packets ≡ plain file.halves file.bytes → number_of packets ≡ 0 → IsUntraced (raw_of packets dump from) (number_of packets) fault → IsUntraced (run_of (crash_alone dump) file from) 0 fault
+untraced_from : (dump : Dump) (packets : Packets) (from : ℕ) (fault : PathFault) (file : TraceFile) → rest_of packets ≡ plain file.halves file.bytes → number_of packets ≡ 0 → IsUntraced (raw_of packets dump from) (number_of packets) fault → IsUntraced (raw_run_of (crash_alone dump) file from) 0 fault
 untraced_from dump packets from fault file stream number h =
     subst (λ (s : Stream). IsUntraced (run_by dump from s) 0 fault) stream (subst (λ n. IsUntraced (raw_of packets dump from) n fault) number h)
 

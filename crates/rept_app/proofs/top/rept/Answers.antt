@@ -14,7 +14,7 @@ use Rattle.rept_app.proofs.WordsLemmas.{asks_few}
 use Rattle.rept_app.proofs.MappedTop.{as_before, both_asks, both_at, both_loads, both_mean, both_named, mapped_causes, mapped_ends, mapped_excludes, mapped_holds, mapped_loads, mapped_once, mapped_stays, mapped_usage, mapped_writes}
 use Rattle.rept_app.specs.Claims.{BitsKnowMore, ComeToReport, ReportHolds, NoExecution}
 use Rattle.rept_app.specs.Domains.{means_of}
-use Rattle.rept_app.specs.Told.{Writes, given}
+use Rattle.rept_app.specs.Told.{CallWrites, call_input}
 use Rattle.rept_app.specs.Top.{EndsByFiles}
 use Rattle.rept_words.specs.Words.{meaning_of}
 use Rattle.rept_app.specs.declared.status.Status.TheVariants as ends
@@ -65,7 +65,7 @@ returns-in-Ok-Files-clause-text g c =
     let loaded : loading words files ≡ Loaded (crash_bytes c.in-Ok-Files.files.exe.items c.in-Ok-Files.files.core.items c.in-Ok-Files.files.trace.items c.in-Ok-Files.files.manner) =
     at_some (g.H.Shelf.port c.args.shelf.now).files files (λ fs. loading words fs ≡ Loaded (crash_bytes c.in-Ok-Files.files.exe.items c.in-Ok-Files.files.core.items c.in-Ok-Files.files.trace.items c.in-Ok-Files.files.manner)) told (ok_at c.load_files.result c.in-Ok-Files.field-0 (asked.Files c.in-Ok-Files.files) (λ a. IfSome (g.H.Shelf.port c.args.shelf.now).files (λ fs. loading words fs ≡ asked_for a)) c.in-Ok-Files.is c.in-Ok-Files.field-0-is c.load_files.ensures.loaded) in
     let here = loaded_at _ _ _ _ _ _ _ _ loaded c.as_slice-exe.ensures.value c.as_slice-core.ensures.value c.as_slice-trace.ensures.value in
-    delivers_as (Examines (crash_bytes c.as_slice-exe.result.now c.as_slice-core.result.now c.as_slice-trace.result.now c.in-Ok-Files.files.manner) (reading_of left source.after.bytes)) (Writes (given words files shelf (reading_of left source.after.bytes))) sink c.examine.result
+    delivers_as (Examines (crash_bytes c.as_slice-exe.result.now c.as_slice-core.result.now c.as_slice-trace.result.now c.in-Ok-Files.files.manner) (reading_of left source.after.bytes)) (CallWrites (call_input words files shelf (reading_of left source.after.bytes))) sink c.examine.result
     (λ text status. examined_writes words files shelf source left text status (crash_bytes c.as_slice-exe.result.now c.as_slice-core.result.now c.as_slice-trace.result.now c.in-Ok-Files.files.manner) here)
     (at_some (g.S.Source.port c.args.input.now).bytes left
     (λ input. Delivers (Examines (crash_bytes c.as_slice-exe.result.now c.as_slice-core.result.now c.as_slice-trace.result.now c.in-Ok-Files.files.manner) (reading_of input source.after.bytes)) sink c.examine.result)
@@ -78,8 +78,8 @@ returns-in-Ok-Files-clause-complete g c =
     let source = move (g.S.Source.port c.args.input.now) (g.S.Source.port c.examine.new.input) in
     let sink = move (g.K.Sink.port c.args.out.now) (g.K.Sink.port c.examine.new.out) in
     both (g.H.Shelf.port c.args.shelf.now).files (g.S.Source.port c.args.input.now).bytes _ (λ files told left told_left.
-    completed (given words files shelf (reading_of left source.after.bytes)) shelf source sink c.examine.result (returns-in-Ok-Files-clause-causes g c)
-    (of_both (g.H.Shelf.port c.args.shelf.now).files (g.S.Source.port c.args.input.now).bytes (λ fs input. Delivers (Writes (given words fs shelf (reading_of input source.after.bytes))) sink c.examine.result) files left told told_left
+    completed (call_input words files shelf (reading_of left source.after.bytes)) shelf source sink c.examine.result (returns-in-Ok-Files-clause-causes g c)
+    (of_both (g.H.Shelf.port c.args.shelf.now).files (g.S.Source.port c.args.input.now).bytes (λ fs input. Delivers (CallWrites (call_input words fs shelf (reading_of input source.after.bytes))) sink c.examine.result) files left told told_left
     (returns-in-Ok-Files-clause-text g c)))
 
 pub returns-in-Ok-Files-clause-sound : goal.returns-in-Ok-Files-clause-sound
@@ -152,7 +152,7 @@ returns-in-Err-clause-text g c =
     let new = g.H.Shelf.port c.load_files.new.shelf in
     let source = move (g.S.Source.port c.args.input.now) (g.S.Source.port c.args.input.now) in
     both old.files (g.S.Source.port c.args.input.now).bytes _ (λ files at left at_left.
-    delivers_as _ (Writes (given words files (move old new) (reading_of left source.after.bytes))) _ _ (λ text status. refused_writes words files (move old new) source left text status c.in-Err.refusal (stops words files old new c.in-Err.refusal at c.in-Err.ensures.refused)) c.tell.ensures)
+    delivers_as _ (CallWrites (call_input words files (move old new) (reading_of left source.after.bytes))) _ _ (λ text status. refused_writes words files (move old new) source left text status c.in-Err.refusal (stops words files old new c.in-Err.refusal at c.in-Err.ensures.refused)) c.tell.ensures)
 
 pub returns-in-Err-clause-complete : goal.returns-in-Err-clause-complete
 returns-in-Err-clause-complete g c =
@@ -161,8 +161,8 @@ returns-in-Err-clause-complete g c =
     let source = move (g.S.Source.port c.args.input.now) (g.S.Source.port c.args.input.now) in
     let sink = move (g.K.Sink.port c.args.out.now) (g.K.Sink.port c.tell.new.out) in
     both (g.H.Shelf.port c.args.shelf.now).files (g.S.Source.port c.args.input.now).bytes _ (λ files at left at_left.
-    completed (given words files shelf (reading_of left source.after.bytes)) shelf source sink c.tell.result (returns-in-Err-clause-causes g c)
-    (of_both (g.H.Shelf.port c.args.shelf.now).files (g.S.Source.port c.args.input.now).bytes (λ fs input. Delivers (Writes (given words fs shelf (reading_of input source.after.bytes))) sink c.tell.result) files left at at_left
+    completed (call_input words files shelf (reading_of left source.after.bytes)) shelf source sink c.tell.result (returns-in-Err-clause-causes g c)
+    (of_both (g.H.Shelf.port c.args.shelf.now).files (g.S.Source.port c.args.input.now).bytes (λ fs input. Delivers (CallWrites (call_input words fs shelf (reading_of input source.after.bytes))) sink c.tell.result) files left at at_left
     (returns-in-Err-clause-text g c)))
 
 pub returns-in-Err-clause-sound : goal.returns-in-Err-clause-sound
@@ -242,7 +242,7 @@ returns-in-Ok-Made-clause-text g c =
     let shelf = move (g.H.Shelf.port c.args.shelf.now) (g.H.Shelf.port c.load_files.new.shelf) in
     let source = move (g.S.Source.port c.args.input.now) (g.S.Source.port c.args.input.now) in
     both (g.H.Shelf.port c.args.shelf.now).files (g.S.Source.port c.args.input.now).bytes _ (λ files told left told_left.
-    delivers_as (Sums c.in-Ok-Made.seed c.in-Ok-Made.steps) (Writes (given words files shelf (reading_of left source.after.bytes))) _ c.tell_made_run.result
+    delivers_as (Sums c.in-Ok-Made.seed c.in-Ok-Made.steps) (CallWrites (call_input words files shelf (reading_of left source.after.bytes))) _ c.tell_made_run.result
     (λ text status. made_writes words files shelf source left text status c.in-Ok-Made.seed c.in-Ok-Made.steps
     (at_some (g.H.Shelf.port c.args.shelf.now).files files (λ fs. loading words fs ≡ MadeRun c.in-Ok-Made.seed c.in-Ok-Made.steps) told (ok_at c.load_files.result c.in-Ok-Made.field-0 (asked.Made c.in-Ok-Made.seed c.in-Ok-Made.steps) (λ a. IfSome (g.H.Shelf.port c.args.shelf.now).files (λ fs. loading words fs ≡ asked_for a)) c.in-Ok-Made.is c.in-Ok-Made.field-0-is c.load_files.ensures.loaded)) (made_at c.load_files.result c.in-Ok-Made.field-0 c.in-Ok-Made.seed c.in-Ok-Made.steps (meaning_of (map string_bytes c.args.words.now)) (g.H.Shelf.port c.args.shelf.now) (g.H.Shelf.port c.load_files.new.shelf) c.in-Ok-Made.is c.in-Ok-Made.field-0-is c.load_files.ensures.asked)) c.tell_made_run.ensures.text)
 
@@ -253,8 +253,8 @@ returns-in-Ok-Made-clause-complete g c =
     let source = move (g.S.Source.port c.args.input.now) (g.S.Source.port c.args.input.now) in
     let sink = move (g.K.Sink.port c.args.out.now) (g.K.Sink.port c.tell_made_run.new.out) in
     both (g.H.Shelf.port c.args.shelf.now).files (g.S.Source.port c.args.input.now).bytes _ (λ files told left told_left.
-    completed (given words files shelf (reading_of left source.after.bytes)) shelf source sink c.tell_made_run.result (returns-in-Ok-Made-clause-causes g c)
-    (of_both (g.H.Shelf.port c.args.shelf.now).files (g.S.Source.port c.args.input.now).bytes (λ fs input. Delivers (Writes (given words fs shelf (reading_of input source.after.bytes))) sink c.tell_made_run.result) files left told told_left
+    completed (call_input words files shelf (reading_of left source.after.bytes)) shelf source sink c.tell_made_run.result (returns-in-Ok-Made-clause-causes g c)
+    (of_both (g.H.Shelf.port c.args.shelf.now).files (g.S.Source.port c.args.input.now).bytes (λ fs input. Delivers (CallWrites (call_input words fs shelf (reading_of input source.after.bytes))) sink c.tell_made_run.result) files left told told_left
     (returns-in-Ok-Made-clause-text g c)))
 
 pub returns-in-Ok-Files-clause-promise : goal.returns-in-Ok-Files-clause-promise
@@ -264,8 +264,8 @@ returns-in-Ok-Files-clause-promise g c =
     let source = move (g.S.Source.port c.args.input.now) (g.S.Source.port c.examine.new.input) in
     let sink = move (g.K.Sink.port c.args.out.now) (g.K.Sink.port c.examine.new.out) in
     both shelf.before.files source.before.bytes _ (λ files told left told_left.
-    promised (true_in_both (true_of (means_of domain.Ranges) c.trips_are_true.ensures.report c.reports_are_true.ensures.report) (true_of (means_of domain.KnownBits) c.trips_are_true-2.ensures.report c.reports_are_true-2.ensures.report)) (given words files shelf (reading_of left source.after.bytes)) sink c.examine.result
-    (of_both shelf.before.files source.before.bytes (λ fs input. Delivers (Writes (given words fs shelf (reading_of input source.after.bytes))) sink c.examine.result) files left told told_left (returns-in-Ok-Files-clause-text g c))
+    promised (true_in_both (true_of (means_of domain.Ranges) c.trips_are_true.ensures.report c.reports_are_true.ensures.report) (true_of (means_of domain.KnownBits) c.trips_are_true-2.ensures.report c.reports_are_true-2.ensures.report)) (call_input words files shelf (reading_of left source.after.bytes)) sink c.examine.result
+    (of_both shelf.before.files source.before.bytes (λ fs input. Delivers (CallWrites (call_input words fs shelf (reading_of input source.after.bytes))) sink c.examine.result) files left told told_left (returns-in-Ok-Files-clause-text g c))
     (at_some shelf.before.files files (λ fs. EndsByFiles words fs c.examine.result) told (returns-in-Ok-Files-clause-files g c))
     (at_some shelf.before.files files (λ fs. c.examine.result ≡ ends.Inconsistent → NoExecution words fs) told (returns-in-Ok-Files-clause-impossible g c)))
 
@@ -276,8 +276,8 @@ returns-in-Ok-Made-clause-promise g c =
     let source = move (g.S.Source.port c.args.input.now) (g.S.Source.port c.args.input.now) in
     let sink = move (g.K.Sink.port c.args.out.now) (g.K.Sink.port c.tell_made_run.new.out) in
     both shelf.before.files source.before.bytes _ (λ files told left told_left.
-    promised (true_in_both (true_of (means_of domain.Ranges) c.trips_are_true.ensures.report c.reports_are_true.ensures.report) (true_of (means_of domain.KnownBits) c.trips_are_true-2.ensures.report c.reports_are_true-2.ensures.report)) (given words files shelf (reading_of left source.after.bytes)) sink c.tell_made_run.result
-    (of_both shelf.before.files source.before.bytes (λ fs input. Delivers (Writes (given words fs shelf (reading_of input source.after.bytes))) sink c.tell_made_run.result) files left told told_left (returns-in-Ok-Made-clause-text g c))
+    promised (true_in_both (true_of (means_of domain.Ranges) c.trips_are_true.ensures.report c.reports_are_true.ensures.report) (true_of (means_of domain.KnownBits) c.trips_are_true-2.ensures.report c.reports_are_true-2.ensures.report)) (call_input words files shelf (reading_of left source.after.bytes)) sink c.tell_made_run.result
+    (of_both shelf.before.files source.before.bytes (λ fs input. Delivers (CallWrites (call_input words fs shelf (reading_of input source.after.bytes))) sink c.tell_made_run.result) files left told told_left (returns-in-Ok-Made-clause-text g c))
     (at_some shelf.before.files files (λ fs. EndsByFiles words fs c.tell_made_run.result) told (returns-in-Ok-Made-clause-files g c))
     (at_some shelf.before.files files (λ fs. c.tell_made_run.result ≡ ends.Inconsistent → NoExecution words fs) told (returns-in-Ok-Made-clause-impossible g c)))
 
@@ -288,8 +288,8 @@ returns-in-Err-clause-promise g c =
     let source = move (g.S.Source.port c.args.input.now) (g.S.Source.port c.args.input.now) in
     let sink = move (g.K.Sink.port c.args.out.now) (g.K.Sink.port c.tell.new.out) in
     both shelf.before.files source.before.bytes _ (λ files told left told_left.
-    promised (true_in_both (true_of (means_of domain.Ranges) c.trips_are_true.ensures.report c.reports_are_true.ensures.report) (true_of (means_of domain.KnownBits) c.trips_are_true-2.ensures.report c.reports_are_true-2.ensures.report)) (given words files shelf (reading_of left source.after.bytes)) sink c.tell.result
-    (of_both shelf.before.files source.before.bytes (λ fs input. Delivers (Writes (given words fs shelf (reading_of input source.after.bytes))) sink c.tell.result) files left told told_left (returns-in-Err-clause-text g c))
+    promised (true_in_both (true_of (means_of domain.Ranges) c.trips_are_true.ensures.report c.reports_are_true.ensures.report) (true_of (means_of domain.KnownBits) c.trips_are_true-2.ensures.report c.reports_are_true-2.ensures.report)) (call_input words files shelf (reading_of left source.after.bytes)) sink c.tell.result
+    (of_both shelf.before.files source.before.bytes (λ fs input. Delivers (CallWrites (call_input words fs shelf (reading_of input source.after.bytes))) sink c.tell.result) files left told told_left (returns-in-Err-clause-text g c))
     (at_some shelf.before.files files (λ fs. EndsByFiles words fs c.tell.result) told (returns-in-Err-clause-files g c))
     (at_some shelf.before.files files (λ fs. c.tell.result ≡ ends.Inconsistent → NoExecution words fs) told (returns-in-Err-clause-impossible g c)))
 
@@ -479,7 +479,7 @@ returns-in-Ok-Maps-clause-text g c =
     let loads = both_at c.load_files.result c.in-Ok-Maps.field-0 c.in-Ok-Maps.files (meaning_of words) old mid c.in-Ok-Maps.is c.in-Ok-Maps.field-0-is c.load_files.ensures.asked in
     let at : IfSome old.files (λ fs. loading words fs ≡ LoadedCore bytes) = ok_at c.load_files.result c.in-Ok-Maps.field-0 (asked.Maps c.in-Ok-Maps.files) (λ a. IfSome old.files (λ fs. loading words fs ≡ asked_for a)) c.in-Ok-Maps.is c.in-Ok-Maps.field-0-is c.load_files.ensures.loaded in
     both old.files source.before.bytes _ (λ files told left told_left.
-    delivers_as (ExaminesMapped (mapped_call (mapped_crash files bytes) (move mid.loads new.loads) (reading_of left source.after.bytes))) (Writes (given words files (move old new) (reading_of left source.after.bytes))) sink c.examine_mapped.result
+    delivers_as (ExaminesMapped (mapped_call (mapped_crash files bytes) (move mid.loads new.loads) (reading_of left source.after.bytes))) (CallWrites (call_input words files (move old new) (reading_of left source.after.bytes))) sink c.examine_mapped.result
     (λ text status. mapped_writes words files bytes (at_some old.files files (λ fs. loading words fs ≡ LoadedCore bytes) told at) (move old new) mid.loads (reading_of left source.after.bytes) text status (both_loads (meaning_of words) bytes.core old mid loads))
     (of_both old.files source.before.bytes (λ fs input. Delivers (ExaminesMapped (mapped_call (mapped_crash fs bytes) (move mid.loads new.loads) (reading_of input source.after.bytes))) sink c.examine_mapped.result) files left told told_left
     (as_before old.files mid.files (λ fs. IfSome source.before.bytes (λ input. Delivers (ExaminesMapped (mapped_call (mapped_crash fs bytes) (move mid.loads new.loads) (reading_of input source.after.bytes))) sink c.examine_mapped.result)) f.files c.examine_mapped.ensures.text)))
@@ -497,8 +497,8 @@ returns-in-Ok-Maps-clause-complete g c =
     let calm = done_at c.load_files.result c.in-Ok-Maps.field-0 c.in-Ok-Maps.is f.calm in
     let loads = both_at c.load_files.result c.in-Ok-Maps.field-0 c.in-Ok-Maps.files (meaning_of words) old mid c.in-Ok-Maps.is c.in-Ok-Maps.field-0-is c.load_files.ensures.asked in
     both old.files source.before.bytes _ (λ files told left told_left.
-    completed (given words files (move old new) (reading_of left source.after.bytes)) (move old new) source sink c.examine_mapped.result (returns-in-Ok-Maps-clause-causes g c)
-    (of_both old.files source.before.bytes (λ fs input. Delivers (Writes (given words fs (move old new) (reading_of input source.after.bytes))) sink c.examine_mapped.result) files left told told_left (returns-in-Ok-Maps-clause-text g c)))
+    completed (call_input words files (move old new) (reading_of left source.after.bytes)) (move old new) source sink c.examine_mapped.result (returns-in-Ok-Maps-clause-causes g c)
+    (of_both old.files source.before.bytes (λ fs input. Delivers (CallWrites (call_input words fs (move old new) (reading_of input source.after.bytes))) sink c.examine_mapped.result) files left told told_left (returns-in-Ok-Maps-clause-text g c)))
 
 pub returns-in-Ok-Maps-clause-sound : goal.returns-in-Ok-Maps-clause-sound
 returns-in-Ok-Maps-clause-sound g c =
@@ -555,7 +555,7 @@ returns-in-Ok-Maps-clause-promise g c =
     let calm = done_at c.load_files.result c.in-Ok-Maps.field-0 c.in-Ok-Maps.is f.calm in
     let loads = both_at c.load_files.result c.in-Ok-Maps.field-0 c.in-Ok-Maps.files (meaning_of words) old mid c.in-Ok-Maps.is c.in-Ok-Maps.field-0-is c.load_files.ensures.asked in
     both old.files source.before.bytes _ (λ files told left told_left.
-    promised (true_in_both (true_of (means_of domain.Ranges) c.trips_are_true.ensures.report c.reports_are_true.ensures.report) (true_of (means_of domain.KnownBits) c.trips_are_true-2.ensures.report c.reports_are_true-2.ensures.report)) (given words files (move old new) (reading_of left source.after.bytes)) sink c.examine_mapped.result
-    (of_both old.files source.before.bytes (λ fs input. Delivers (Writes (given words fs (move old new) (reading_of input source.after.bytes))) sink c.examine_mapped.result) files left told told_left (returns-in-Ok-Maps-clause-text g c))
+    promised (true_in_both (true_of (means_of domain.Ranges) c.trips_are_true.ensures.report c.reports_are_true.ensures.report) (true_of (means_of domain.KnownBits) c.trips_are_true-2.ensures.report c.reports_are_true-2.ensures.report)) (call_input words files (move old new) (reading_of left source.after.bytes)) sink c.examine_mapped.result
+    (of_both old.files source.before.bytes (λ fs input. Delivers (CallWrites (call_input words fs (move old new) (reading_of input source.after.bytes))) sink c.examine_mapped.result) files left told told_left (returns-in-Ok-Maps-clause-text g c))
     (at_some old.files files (λ fs. EndsByFiles words fs c.examine_mapped.result) told (returns-in-Ok-Maps-clause-files g c))
     (at_some old.files files (λ fs. c.examine_mapped.result ≡ ends.Inconsistent → NoExecution words fs) told (returns-in-Ok-Maps-clause-impossible g c)))

@@ -3,7 +3,7 @@ use Rattle.std.specs.Io.KnownBytes.{Appends}
 use Rattle.rept_ports.specs.Causes.{AppendsPrefix}
 use Rattle.rept_ports.specs.Port.{move}
 use Rattle.rept_remote.specs.Frames.{arrived}
-use Rattle.rept_session.specs.Shown.{told}
+use Rattle.rept_session.specs.Shown.{session_told}
 use Rattle.rept_stub.specs.Standing.{IsStanding}
 use Rattle.rept_dialog.specs.Converse.{Parties, parties_over}
 use Rattle.rept_dialog.specs.Dialog.{IsTurn}
@@ -22,18 +22,18 @@ dialog-init g c =
       read = [];
       counted = ap (λ r. r.count) c.new-packets.ensures;
       few = omega (arith, ap (λ r. r.count) c.new-packets.ensures);
-      progress = starts (parties_over (told s c.args.setting.skipped (g.F.Findings.reasons c.args.findings.now)) c.args.setting.signal) c.args.start _ _ c.requires.start;
+      progress = starts (parties_over (session_told s c.args.setting.skipped (g.F.Findings.reasons c.args.findings.now)) c.args.setting.signal) c.args.start _ _ c.requires.start;
     }
 
 pub dialog-preserved : goal.dialog-preserved
 dialog-preserved g c =
     let s = g.F.Findings.shown c.args.findings.now in
     let here = c.dialog.invariant in
-    let parties : Parties = parties_over (told s c.args.setting.skipped (g.F.Findings.reasons c.args.findings.now)) c.args.setting.signal in
+    let parties : Parties = parties_over (session_told s c.args.setting.skipped (g.F.Findings.reasons c.args.findings.now)) c.args.setting.signal in
     let what = arrived c.in-Ok.arrival c.next.new.self.carried in
     let taken = opened c.dialog.packets c.next.new.self (g.S.Source.port c.dialog.input) (g.S.Source.port c.next.new.source) (Ok c.in-Ok.arrival) here.going c.in-Ok.ensures in
-    let told_so : IsTurn (told (g.F.Findings.shown c.dialog.findings) c.args.setting.skipped (g.F.Findings.reasons c.dialog.findings)) c.args.setting.signal c.dialog.dialog what c.in-Ok-take_turn.text c.take_turn.new.dialog =
-    subst (λ (bytes : List ℕ). IsTurn (told (g.F.Findings.shown c.dialog.findings) c.args.setting.skipped (g.F.Findings.reasons c.dialog.findings)) c.args.setting.signal c.dialog.dialog (arrived c.in-Ok.arrival bytes) c.in-Ok-take_turn.text c.take_turn.new.dialog) c.carried.ensures c.in-Ok-take_turn.ensures.turn in
+    let told_so : IsTurn (session_told (g.F.Findings.shown c.dialog.findings) c.args.setting.skipped (g.F.Findings.reasons c.dialog.findings)) c.args.setting.signal c.dialog.dialog what c.in-Ok-take_turn.text c.take_turn.new.dialog =
+    subst (λ (bytes : List ℕ). IsTurn (session_told (g.F.Findings.shown c.dialog.findings) c.args.setting.skipped (g.F.Findings.reasons c.dialog.findings)) c.args.setting.signal c.dialog.dialog (arrived c.in-Ok.arrival bytes) c.in-Ok-take_turn.text c.take_turn.new.dialog) c.carried.ensures c.in-Ok-take_turn.ensures.turn in
     let turned : IsTurn parties.told parties.signal c.dialog.dialog what c.in-Ok-take_turn.text c.take_turn.new.dialog =
     turn_stays s (g.F.Findings.shown c.dialog.findings) c.args.setting.skipped (g.F.Findings.reasons c.args.findings.now) (g.F.Findings.reasons c.dialog.findings) here.shown_stays here.reasons_stay c.args.setting.signal c.dialog.dialog what c.in-Ok-take_turn.text c.take_turn.new.dialog told_so in
     let wrote = subst (λ (bytes : List ℕ). Appends (g.K.Sink.port c.dialog.out).bytes (g.K.Sink.port c.write_all.new.sink).bytes bytes) c.bytes.ensures c.in-Ok-write_all.ensures.ok in
@@ -58,11 +58,11 @@ pub returns-then-dialog-clause-talk : goal.returns-then-dialog-clause-talk
 returns-then-dialog-clause-talk g c =
     let s = g.F.Findings.shown c.args.findings.now in
     let here = c.dialog.invariant in
-    let parties : Parties = parties_over (told s c.args.setting.skipped (g.F.Findings.reasons c.args.findings.now)) c.args.setting.signal in
+    let parties : Parties = parties_over (session_told s c.args.setting.skipped (g.F.Findings.reasons c.args.findings.now)) c.args.setting.signal in
     let what = arrived c.in-Ok.arrival c.next.new.self.carried in
     let taken = opened c.dialog.packets c.next.new.self (g.S.Source.port c.dialog.input) (g.S.Source.port c.next.new.source) (Ok c.in-Ok.arrival) here.going c.in-Ok.ensures in
-    let told_so : IsTurn (told (g.F.Findings.shown c.dialog.findings) c.args.setting.skipped (g.F.Findings.reasons c.dialog.findings)) c.args.setting.signal c.dialog.dialog what c.in-Ok-take_turn.text c.take_turn.new.dialog =
-    subst (λ (bytes : List ℕ). IsTurn (told (g.F.Findings.shown c.dialog.findings) c.args.setting.skipped (g.F.Findings.reasons c.dialog.findings)) c.args.setting.signal c.dialog.dialog (arrived c.in-Ok.arrival bytes) c.in-Ok-take_turn.text c.take_turn.new.dialog) c.carried.ensures c.in-Ok-take_turn.ensures.turn in
+    let told_so : IsTurn (session_told (g.F.Findings.shown c.dialog.findings) c.args.setting.skipped (g.F.Findings.reasons c.dialog.findings)) c.args.setting.signal c.dialog.dialog what c.in-Ok-take_turn.text c.take_turn.new.dialog =
+    subst (λ (bytes : List ℕ). IsTurn (session_told (g.F.Findings.shown c.dialog.findings) c.args.setting.skipped (g.F.Findings.reasons c.dialog.findings)) c.args.setting.signal c.dialog.dialog (arrived c.in-Ok.arrival bytes) c.in-Ok-take_turn.text c.take_turn.new.dialog) c.carried.ensures c.in-Ok-take_turn.ensures.turn in
     let turned : IsTurn parties.told parties.signal c.dialog.dialog what c.in-Ok-take_turn.text c.take_turn.new.dialog =
     turn_stays s (g.F.Findings.shown c.dialog.findings) c.args.setting.skipped (g.F.Findings.reasons c.args.findings.now) (g.F.Findings.reasons c.dialog.findings) here.shown_stays here.reasons_stay c.args.setting.signal c.dialog.dialog what c.in-Ok-take_turn.text c.take_turn.new.dialog told_so in
     let wrote = subst (λ (bytes : List ℕ). Appends (g.K.Sink.port c.dialog.out).bytes (g.K.Sink.port c.write_all.new.sink).bytes bytes) c.bytes.ensures c.in-Ok-write_all.ensures.ok in
@@ -72,11 +72,11 @@ pub returns-in-Err-write_all-clause-talk : goal.returns-in-Err-write_all-clause-
 returns-in-Err-write_all-clause-talk g c =
     let s = g.F.Findings.shown c.args.findings.now in
     let here = c.dialog.invariant in
-    let parties : Parties = parties_over (told s c.args.setting.skipped (g.F.Findings.reasons c.args.findings.now)) c.args.setting.signal in
+    let parties : Parties = parties_over (session_told s c.args.setting.skipped (g.F.Findings.reasons c.args.findings.now)) c.args.setting.signal in
     let what = arrived c.in-Ok.arrival c.next.new.self.carried in
     let taken = opened c.dialog.packets c.next.new.self (g.S.Source.port c.dialog.input) (g.S.Source.port c.next.new.source) (Ok c.in-Ok.arrival) here.going c.in-Ok.ensures in
-    let told_so : IsTurn (told (g.F.Findings.shown c.dialog.findings) c.args.setting.skipped (g.F.Findings.reasons c.dialog.findings)) c.args.setting.signal c.dialog.dialog what c.in-Ok-take_turn.text c.take_turn.new.dialog =
-    subst (λ (bytes : List ℕ). IsTurn (told (g.F.Findings.shown c.dialog.findings) c.args.setting.skipped (g.F.Findings.reasons c.dialog.findings)) c.args.setting.signal c.dialog.dialog (arrived c.in-Ok.arrival bytes) c.in-Ok-take_turn.text c.take_turn.new.dialog) c.carried.ensures c.in-Ok-take_turn.ensures.turn in
+    let told_so : IsTurn (session_told (g.F.Findings.shown c.dialog.findings) c.args.setting.skipped (g.F.Findings.reasons c.dialog.findings)) c.args.setting.signal c.dialog.dialog what c.in-Ok-take_turn.text c.take_turn.new.dialog =
+    subst (λ (bytes : List ℕ). IsTurn (session_told (g.F.Findings.shown c.dialog.findings) c.args.setting.skipped (g.F.Findings.reasons c.dialog.findings)) c.args.setting.signal c.dialog.dialog (arrived c.in-Ok.arrival bytes) c.in-Ok-take_turn.text c.take_turn.new.dialog) c.carried.ensures c.in-Ok-take_turn.ensures.turn in
     let turned : IsTurn parties.told parties.signal c.dialog.dialog what c.in-Ok-take_turn.text c.take_turn.new.dialog =
     turn_stays s (g.F.Findings.shown c.dialog.findings) c.args.setting.skipped (g.F.Findings.reasons c.args.findings.now) (g.F.Findings.reasons c.dialog.findings) here.shown_stays here.reasons_stay c.args.setting.signal c.dialog.dialog what c.in-Ok-take_turn.text c.take_turn.new.dialog told_so in
     let wrote = subst (λ (bytes : List ℕ). AppendsPrefix (g.K.Sink.port c.dialog.out).bytes (g.K.Sink.port c.write_all.new.sink).bytes bytes) c.bytes.ensures c.in-Err-write_all.ensures.err in
@@ -87,7 +87,7 @@ pub returns-in-Err-take_turn-clause-talk : goal.returns-in-Err-take_turn-clause-
 returns-in-Err-take_turn-clause-talk g c =
     let s = g.F.Findings.shown c.args.findings.now in
     let here = c.dialog.invariant in
-    let parties : Parties = parties_over (told s c.args.setting.skipped (g.F.Findings.reasons c.args.findings.now)) c.args.setting.signal in
+    let parties : Parties = parties_over (session_told s c.args.setting.skipped (g.F.Findings.reasons c.args.findings.now)) c.args.setting.signal in
     let taken = opened c.dialog.packets c.next.new.self (g.S.Source.port c.dialog.input) (g.S.Source.port c.next.new.source) (Ok c.in-Ok.arrival) here.going c.in-Ok.ensures in
     inl (came parties (g.S.Source.port c.args.input.now) (g.S.Source.port c.dialog.input) (g.S.Source.port c.next.new.source) (g.K.Sink.port c.args.out.now) (g.K.Sink.port c.dialog.out) here.read c.dialog.dialog here.progress c.dialog.packets.count c.next.new.self.count taken.0 (arrived c.in-Ok.arrival c.next.new.self.carried) taken.1 taken.2)
 

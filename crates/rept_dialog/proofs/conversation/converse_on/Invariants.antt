@@ -1,7 +1,7 @@
 use Rattle.std.proofs.Common.{◌≡◌, ◌≤◌, ◌-◌, ℕ, List, length, None}
 use Rattle.rept_ports.specs.Port.{move}
 use Rattle.rept_remote.specs.Reading.{most_input}
-use Rattle.rept_session.specs.Shown.{SameReasons, told}
+use Rattle.rept_session.specs.Shown.{SameReasons, session_told}
 use Rattle.rept_stub.specs.Standing.{IsStanding}
 use Rattle.rept_dialog.specs.Converse.{Progress, parties_over}
 use Rattle.rept_dialog.proofs.conversation.converse_on.Given as goal
@@ -20,7 +20,7 @@ invariant-dialog g l =
       read : List ℕ;
       counted : l.packets.count ≡ length read;
       few : l.packets.count ≤ most_input;
-      progress : Progress (parties_over (told (shown l.fn.findings) l.setting.skipped (reasons l.fn.findings)) l.setting.signal) (move (source l.fn.input) (source l.input)) (move (sink l.fn.out) (sink l.out)) read l.dialog;
+      progress : Progress (parties_over (session_told (shown l.fn.findings) l.setting.skipped (reasons l.fn.findings)) l.setting.signal) (move (source l.fn.input) (source l.input)) (move (sink l.fn.out) (sink l.out)) read l.dialog;
     }
 
 abbrev pub decreases-dialog : goal.decreases-dialog

@@ -1,7 +1,7 @@
 use Rattle.std.proofs.Common.{Ok, Some, length, refl, ap, ◌∙◌, arith, rules}
 use Rattle.rept_ports.specs.Port.{move}
 use Rattle.rept_ports.specs.declared.lines.limits.LineFault.TheVariants.{ReadFault, TooMuchInput}
-use Rattle.rept_session.specs.Shown.{Told, told}
+use Rattle.rept_session.specs.Shown.{SessionTold, session_told}
 use Rattle.rept_serve.specs.Replies.{said_of_line}
 use Rattle.rept_serve.specs.declared.serving.Next.TheVariants as next
 use Rattle.rept_serve.specs.declared.serving.Served.TheVariants as served
@@ -26,13 +26,13 @@ session-init g c = record {
   within = c.last_of-cursor.ensures.within;
   read_calm = refl;
   write_calm = refl;
-  so_far = starts (told (g.F.Findings.shown c.args.findings.now) c.args.skipped (g.F.Findings.reasons c.args.findings.now)) (g.S.Source.port c.new-lines.result.source.now).bytes c.new-lines.result.intake c.last_of-cursor.result (g.K.Sink.port c.args.out.now).bytes c.new-lines.ensures.none c.last_of-cursor.ensures.value;
+  so_far = starts (session_told (g.F.Findings.shown c.args.findings.now) c.args.skipped (g.F.Findings.reasons c.args.findings.now)) (g.S.Source.port c.new-lines.result.source.now).bytes c.new-lines.result.intake c.last_of-cursor.result (g.K.Sink.port c.args.out.now).bytes c.new-lines.ensures.none c.last_of-cursor.ensures.value;
 }
 
 pub session-preserved : goal.session-preserved
 session-preserved g c =
     let line = came g (goal.at.session-preserved g c).In-Ok-Some in
-    let t : Told = told (g.F.Findings.shown c.args.findings.now) c.args.skipped (g.F.Findings.reasons c.args.findings.now) in
+    let t : SessionTold = session_told (g.F.Findings.shown c.args.findings.now) c.args.skipped (g.F.Findings.reasons c.args.findings.now) in
     let h = replies_stay (g.F.Findings.shown c.args.findings.now) (g.F.Findings.shown c.session.findings) c.args.skipped (g.F.Findings.reasons c.args.findings.now) (g.F.Findings.reasons c.session.findings) c.session.invariant.shown_stays c.session.invariant.reasons_stay
     c.session.cursor (said_of_line c.in-Ok-Some.line) (move (g.K.Sink.port c.session.out) (g.K.Sink.port c.reply.new.out)) (next.Line c.in-Line.next) c.in-Line.ensures.came in
     record {
@@ -52,7 +52,7 @@ session-preserved g c =
 
 pub returns-in-Ok-None-clause-text : goal.returns-in-Ok-None-clause-text
 returns-in-Ok-None-clause-text g c =
-    let t : Told = told (g.F.Findings.shown c.args.findings.now) c.args.skipped (g.F.Findings.reasons c.args.findings.now) in
+    let t : SessionTold = session_told (g.F.Findings.shown c.args.findings.now) c.args.skipped (g.F.Findings.reasons c.args.findings.now) in
     let e = end_came g.S.Source.port c.session.lines c.next_line.follows.lender-at-none c.session.invariant.none _ (end_said c.next_line.result c.in-Ok-None.field-0 c.in-Ok-None.is c.in-Ok-None.field-0-is) c.next_line.follows.holds-at-none.1 in
     served_so g.S.Source.port t (g.S.Source.port c.new-lines.result.source.now).bytes (g.S.Source.port c.args.input.now).bytes (g.S.Source.port c.session.lines.source.now).bytes c.next_line.follows.lender-at-none.source.now c.next_line.follows.lender-at-none.source.now c.session.lines.intake c.session.cursor (g.K.Sink.port c.args.out.now) (g.K.Sink.port c.session.out) (g.K.Sink.port c.session.out) served.Ended
     (ap (λ s. (g.S.Source.port s).bytes) c.new-lines.ensures.source) refl c.session.invariant.so_far
@@ -60,7 +60,7 @@ returns-in-Ok-None-clause-text g c =
 
 pub returns-in-OutputFault-clause-text : goal.returns-in-OutputFault-clause-text
 returns-in-OutputFault-clause-text g c =
-    let t : Told = told (g.F.Findings.shown c.args.findings.now) c.args.skipped (g.F.Findings.reasons c.args.findings.now) in
+    let t : SessionTold = session_told (g.F.Findings.shown c.args.findings.now) c.args.skipped (g.F.Findings.reasons c.args.findings.now) in
     let line = came g (goal.at.returns-in-OutputFault-clause-text g c).In-Ok-Some in
     let h = replies_stay (g.F.Findings.shown c.args.findings.now) (g.F.Findings.shown c.session.findings) c.args.skipped (g.F.Findings.reasons c.args.findings.now) (g.F.Findings.reasons c.session.findings) c.session.invariant.shown_stays c.session.invariant.reasons_stay
     c.session.cursor (said_of_line c.in-Ok-Some.line) (move (g.K.Sink.port c.session.out) (g.K.Sink.port c.reply.new.out)) next.OutputFault c.in-OutputFault.ensures.came in
@@ -70,7 +70,7 @@ returns-in-OutputFault-clause-text g c =
 
 pub returns-in-Quit-clause-text : goal.returns-in-Quit-clause-text
 returns-in-Quit-clause-text g c =
-    let t : Told = told (g.F.Findings.shown c.args.findings.now) c.args.skipped (g.F.Findings.reasons c.args.findings.now) in
+    let t : SessionTold = session_told (g.F.Findings.shown c.args.findings.now) c.args.skipped (g.F.Findings.reasons c.args.findings.now) in
     let line = came g (goal.at.returns-in-Quit-clause-text g c).In-Ok-Some in
     let h = replies_stay (g.F.Findings.shown c.args.findings.now) (g.F.Findings.shown c.session.findings) c.args.skipped (g.F.Findings.reasons c.args.findings.now) (g.F.Findings.reasons c.session.findings) c.session.invariant.shown_stays c.session.invariant.reasons_stay
     c.session.cursor (said_of_line c.in-Ok-Some.line) (move (g.K.Sink.port c.session.out) (g.K.Sink.port c.reply.new.out)) next.Quit c.in-Quit.ensures.came in
@@ -80,7 +80,7 @@ returns-in-Quit-clause-text g c =
 
 pub returns-in-OutOfMemory-clause-text : goal.returns-in-OutOfMemory-clause-text
 returns-in-OutOfMemory-clause-text g c =
-    let t : Told = told (g.F.Findings.shown c.args.findings.now) c.args.skipped (g.F.Findings.reasons c.args.findings.now) in
+    let t : SessionTold = session_told (g.F.Findings.shown c.args.findings.now) c.args.skipped (g.F.Findings.reasons c.args.findings.now) in
     let line = came g (goal.at.returns-in-OutOfMemory-clause-text g c).In-Ok-Some in
     let h = replies_stay (g.F.Findings.shown c.args.findings.now) (g.F.Findings.shown c.session.findings) c.args.skipped (g.F.Findings.reasons c.args.findings.now) (g.F.Findings.reasons c.session.findings) c.session.invariant.shown_stays c.session.invariant.reasons_stay
     c.session.cursor (said_of_line c.in-Ok-Some.line) (move (g.K.Sink.port c.session.out) (g.K.Sink.port c.reply.new.out)) next.OutOfMemory c.in-OutOfMemory.ensures.came in
@@ -90,7 +90,7 @@ returns-in-OutOfMemory-clause-text g c =
 
 pub returns-in-Err-ReadFault-clause-text : goal.returns-in-Err-ReadFault-clause-text
 returns-in-Err-ReadFault-clause-text g c =
-    let t : Told = told (g.F.Findings.shown c.args.findings.now) c.args.skipped (g.F.Findings.reasons c.args.findings.now) in
+    let t : SessionTold = session_told (g.F.Findings.shown c.args.findings.now) c.args.skipped (g.F.Findings.reasons c.args.findings.now) in
     let f = fault_came g.S.Source.port c.session.lines c.next_line.follows.lender-at-none c.session.invariant.none _ ReadFault (fault_said c.next_line.result c.in-Err-ReadFault.field-0 ReadFault c.in-Err-ReadFault.is c.in-Err-ReadFault.field-0-is) c.next_line.follows.holds-at-none.1 in
     served_so g.S.Source.port t (g.S.Source.port c.new-lines.result.source.now).bytes (g.S.Source.port c.args.input.now).bytes (g.S.Source.port c.session.lines.source.now).bytes c.next_line.follows.lender-at-none.source.now _ c.session.lines.intake c.session.cursor (g.K.Sink.port c.args.out.now) (g.K.Sink.port c.session.out) (g.K.Sink.port c.session.out) served.ReadFault
     (ap (λ s. (g.S.Source.port s).bytes) c.new-lines.ensures.source) (search rules) c.session.invariant.so_far
@@ -98,7 +98,7 @@ returns-in-Err-ReadFault-clause-text g c =
 
 pub returns-in-Err-TooMuchInput-clause-text : goal.returns-in-Err-TooMuchInput-clause-text
 returns-in-Err-TooMuchInput-clause-text g c =
-    let t : Told = told (g.F.Findings.shown c.args.findings.now) c.args.skipped (g.F.Findings.reasons c.args.findings.now) in
+    let t : SessionTold = session_told (g.F.Findings.shown c.args.findings.now) c.args.skipped (g.F.Findings.reasons c.args.findings.now) in
     let f = fault_came g.S.Source.port c.session.lines c.next_line.follows.lender-at-none c.session.invariant.none _ TooMuchInput (fault_said c.next_line.result c.in-Err-TooMuchInput.field-0 TooMuchInput c.in-Err-TooMuchInput.is c.in-Err-TooMuchInput.field-0-is) c.next_line.follows.holds-at-none.1 in
     served_so g.S.Source.port t (g.S.Source.port c.new-lines.result.source.now).bytes (g.S.Source.port c.args.input.now).bytes (g.S.Source.port c.session.lines.source.now).bytes c.next_line.follows.lender-at-none.source.now c.next_line.follows.lender-at-none.source.now c.session.lines.intake c.session.cursor (g.K.Sink.port c.args.out.now) (g.K.Sink.port c.session.out) (g.K.Sink.port c.session.out) served.TooMuchInput
     (ap (λ s. (g.S.Source.port s).bytes) c.new-lines.ensures.source) refl c.session.invariant.so_far

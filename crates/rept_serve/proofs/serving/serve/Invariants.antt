@@ -1,6 +1,6 @@
 use Rattle.std.proofs.Common.{◌≡◌, None, IfSome}
 use Rattle.rept_ports.specs.Lines.{to_come}
-use Rattle.rept_session.specs.Shown.{IsAt, SameReasons, told}
+use Rattle.rept_session.specs.Shown.{IsAt, SameReasons, session_told}
 use Rattle.rept_serve.proofs.ServeLemmas.{SoFar}
 use Rattle.rept_serve.proofs.serving.serve.Given as goal
 
@@ -18,7 +18,7 @@ invariant-session g l =
       within : IsAt (shown l.initial.findings) l.cursor;
       read_calm : (source l.lines.source.now).faults ≡ (source l.initial.lines.source.now).faults;
       write_calm : (sink l.out).faults ≡ (sink l.initial.out).faults;
-      so_far : IfSome (source l.initial.lines.source.now).bytes (λ input. SoFar (told (shown l.initial.findings) l.skipped (reasons l.initial.findings)) input (source l.lines.source.now).bytes l.lines.intake l.cursor (sink l.initial.out).bytes (sink l.out).bytes);
+      so_far : IfSome (source l.initial.lines.source.now).bytes (λ input. SoFar (session_told (shown l.initial.findings) l.skipped (reasons l.initial.findings)) input (source l.lines.source.now).bytes l.lines.intake l.cursor (sink l.initial.out).bytes (sink l.out).bytes);
     }
 
 abbrev pub decreases-session : goal.decreases-session

@@ -1,8 +1,8 @@
 use Rattle.std.proofs.Common.{◌∙◌, List, ap, arith, inr, refl, Some, None}
 use Rattle.std.specs.List.{sum_by}
-use Rattle.rept_slices.specs.Entries.{AreTold}
+use Rattle.rept_slices.specs.Entries.{AreEntriesOf}
 use Rattle.rept_slices.specs.Lefts.{AreLeft}
-use Rattle.rept_slices.specs.Parts.{told}
+use Rattle.rept_slices.specs.Parts.{slices_told}
 use Rattle.rept_slices.specs.Raw.{streams_of}
 use Rattle.rept_slices.specs.Skipping.{windows, kept}
 use Rattle.rept_slices.specs.Windows.{AreAll}
@@ -45,11 +45,11 @@ returns-in-Some-refused_by_threads-clause-err c =
     let l = rw c.deref.ensures.value at (c.in_default.ensures.left c.args.from (streams_of c.args.streams.now) w.0 a refl) in
     let seen : AreLeft c.deref-2.result.now (windows c.args.from w.0) = rw c.deref-2.ensures.value l in
     let t = c.in_ok-told.ensures.ok (windows c.args.from w.0) seen in
-    let slices : AreTold c.deref-3.result.now (told (kept c.args.from w.0)) = rw c.deref-3.ensures.value t.3 in
+    let slices : AreEntriesOf c.deref-3.result.now (slices_told (kept c.args.from w.0)) = rw c.deref-3.ensures.value t.3 in
     inr (inr (
       w.0,
       hold_each 0 0 c.args.from (streams_of c.args.streams.now) w.0 c.in_ok-windows.windows.items w.1,
-      checks_last c.args.from c.args.processes.now w.0 (Some c.in-Some-refused_by_threads.fault) (c.in_default.ensures.refusal c.args.from (streams_of c.args.streams.now) w.0 a) (c.in-Some-refused_by_threads.ensures (told (kept c.args.from w.0)) slices),
+      checks_last c.args.from c.args.processes.now w.0 (Some c.in-Some-refused_by_threads.fault) (c.in_default.ensures.refusal c.args.from (streams_of c.args.streams.now) w.0 a) (c.in-Some-refused_by_threads.ensures (slices_told (kept c.args.from w.0)) slices),
     ))
 
 pub returns-clause-ok : goal.returns-clause-ok
@@ -59,13 +59,13 @@ returns-clause-ok c =
     let l = rw c.deref.ensures.value at (c.in_default.ensures.left c.args.from (streams_of c.args.streams.now) w.0 a refl) in
     let seen : AreLeft c.deref-2.result.now (windows c.args.from w.0) = rw c.deref-2.ensures.value l in
     let t = c.in_ok-told.ensures.ok (windows c.args.from w.0) seen in
-    let slices : AreTold c.deref-3.result.now (told (kept c.args.from w.0)) = rw c.deref-3.ensures.value t.3 in
+    let slices : AreEntriesOf c.deref-3.result.now (slices_told (kept c.args.from w.0)) = rw c.deref-3.ensures.value t.3 in
     let counted = all_counted 0 0 c.args.from (streams_of c.args.streams.now) w.0 c.in_ok-windows.windows.items w.1 in
     let seen_all = ap (λ (ws : List Window). sum_by (λ (v : Window). v.count) ws) c.deref-2.ensures.value in
     let packets = c.in_ok-told.ensures.packets in
     let skips = c.in_ok-told.ensures.skipped (windows c.args.from w.0) seen in (
       w.0,
-      (hold_each 0 0 c.args.from (streams_of c.args.streams.now) w.0 c.in_ok-windows.windows.items w.1, checks_last c.args.from c.args.processes.now w.0 None (c.in_default.ensures.refusal c.args.from (streams_of c.args.streams.now) w.0 a) (c.in_default-refused_by_threads.ensures (told (kept c.args.from w.0)) slices)),
+      (hold_each 0 0 c.args.from (streams_of c.args.streams.now) w.0 c.in_ok-windows.windows.items w.1, checks_last c.args.from c.args.processes.now w.0 None (c.in_default.ensures.refusal c.args.from (streams_of c.args.streams.now) w.0 a) (c.in_default-refused_by_threads.ensures (slices_told (kept c.args.from w.0)) slices)),
       record {
         windows = t.0;
         time = t.1;

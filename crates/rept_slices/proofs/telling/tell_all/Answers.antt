@@ -1,7 +1,7 @@
 use Rattle.std.proofs.Common.{drop, ◌+◌, List, subst}
-use Rattle.rept_slices.specs.Parts.{Left, Told, told_in}
+use Rattle.rept_slices.specs.Parts.{Left, ToldSlice, told_in}
 use Rattle.rept_slices.specs.Skipping.{from_time}
-use Rattle.rept_slices.specs.Entries.{AreTold, entries_from}
+use Rattle.rept_slices.specs.Entries.{AreEntriesOf, entries_from}
 use Rattle.rept_slices.proofs.WindowLemmas.{one_told, tells_at, all_told}
 use Rattle.rept_slices.proofs.Leaving.{left_are, all_left}
 use Rattle.rept_slices.proofs.telling.tell_all.Goals as goal
@@ -19,4 +19,4 @@ loop-window-preserved c = λ lefts a.
 
 pub returns-clause-left : goal.returns-clause-left
 returns-clause-left c = λ lefts a.
-    subst (λ (ts : List Told). AreTold c.loop-window.both.slices.items ts) (all_left c.args.time lefts) (all_told (λ (k : Left). told_in (from_time c.args.time k)) lefts c.args.windows.now c.loop-window.window-index c.loop-window.both.slices.items c.loop-window-test.false ((c.loop-window.invariant lefts a).1))
+    subst (λ (ts : List ToldSlice). AreEntriesOf c.loop-window.both.slices.items ts) (all_left c.args.time lefts) (all_told (λ (k : Left). told_in (from_time c.args.time k)) lefts c.args.windows.now c.loop-window.window-index c.loop-window.both.slices.items c.loop-window-test.false ((c.loop-window.invariant lefts a).1))

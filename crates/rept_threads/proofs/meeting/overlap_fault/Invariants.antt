@@ -1,16 +1,16 @@
 use Rattle.std.proofs.Common.{◌≡◌, ◌==◌, ℕ, List, map, drop}
 use Rattle.std.specs.List.{filter}
 use Rattle.rept_slices.specs.Stamps.{context_of}
-use Rattle.rept_slices.specs.Parts.{Told}
+use Rattle.rept_slices.specs.Parts.{ToldSlice}
 use Rattle.rept_slices.specs.Order.{slices_of}
 use Rattle.rept_slices.specs.Checks.{first_fault}
 use Rattle.rept_slices.specs.Many.{overlap_fault}
-use Rattle.rept_slices.specs.Entries.{AreTold}
+use Rattle.rept_slices.specs.Entries.{AreEntriesOf}
 use Rattle.rept_slices.specs.Ends.{KeepTurn}
 use Rattle.rept_threads.specs.declared.walks.Walked.{Walked}
 use Rattle.rept_threads.proofs.meeting.overlap_fault.Given as goal
 
 abbrev pub invariant-loop-process : goal.invariant-loop-process
 invariant-loop-process l =
-    (ts : List Told) → ((process : ℕ) → AreTold (map (λ (w : Walked). w.slice) (filter (λ (w : Walked). context_of w.slice.start == process) l.slices)) (slices_of process ts)) → KeepTurn ts
+    (ts : List ToldSlice) → ((process : ℕ) → AreEntriesOf (map (λ (w : Walked). w.slice) (filter (λ (w : Walked). context_of w.slice.start == process) l.slices)) (slices_of process ts)) → KeepTurn ts
     → first_fault (overlap_fault ts) l.processes ≡ first_fault (overlap_fault ts) (drop l.process-index l.processes)

@@ -4,7 +4,7 @@ use Rattle.rept_path.specs.Program.{code_of}
 use Rattle.rept_dump.specs.Dump.{exe_of}
 use Rattle.rept_dump.specs.Program.{contents}
 use Rattle.rept_slices.specs.Checks.{first_fault}
-use Rattle.rept_slices.specs.Entries.{AreTold}
+use Rattle.rept_slices.specs.Entries.{AreEntriesOf}
 use Rattle.rept_threads.specs.Joining.{AreRanInOrder}
 use Rattle.rept_slices.specs.Joins.{threads}
 use Rattle.rept_slices.specs.Many.{overlap_fault}
@@ -13,7 +13,7 @@ use Rattle.std.specs.List.{filter}
 use Rattle.std.specs.List.Sorted.{IsNonDecreasingBy}
 use Rattle.rept_slices.specs.Order.{slices_of}
 use Rattle.rept_slices.specs.Stamps.{context_of}
-use Rattle.rept_slices.specs.Parts.{told}
+use Rattle.rept_slices.specs.Parts.{slices_told}
 use Rattle.rept_slices.specs.Raw.{code_in, files_of}
 use Rattle.rept_slices.specs.Skipping.{kept}
 use Rattle.rept_slices.specs.Stretches.{ran}
@@ -44,11 +44,11 @@ returns-in-Err-walk_all-clause-err c = λ descs h e.
     let processes_is : processes ≡ map (λ (n : KeptNote). n.process) notes = c.deref-2.ensures.value ∙ c.in_ok-processes.ensures.ok ∙ ap (map (λ (n : KeptNote). n.process)) c.deref.ensures.value in
     let s = c.in-Ok.ensures.ok in
     let lists = s.0 in
-    let ts = told (kept c.args.from lists) in
+    let ts = slices_told (kept c.args.from lists) in
     let parts : Parts c.args.streams descs c.args.from processes notes lists = record { passed = s.1; noted = c.in_ok-notes.ensures.ok descs h e; processes = processes_is } in
     let code_is : code_of c.new-program.result ≡ code_in (files_of c.args.dump.now c.args.streams descs c.args.from) =
     ap code_of c.new-program.ensures ∙ (λ i. record { contents = contents (exe_of c.args.dump.now); halves = c.halves_of.ensures (some_stream c.args.streams c.args.from processes lists s.1) i }) in
-    let told_is : AreTold c.deref-3.result.now ts = rw c.deref-3.ensures.value s.2.slices in
+    let told_is : AreEntriesOf c.deref-3.result.now ts = rw c.deref-3.ensures.value s.2.slices in
     elim (c.in-Err-walk_all.ensures.err c.args.from lists told_is) [
       | inl m ↦ inl m
       | inr f ↦ inr (no_walk c.args.dump.now c.args.streams descs c.args.from processes notes lists parts (code_of c.new-program.result) c.in-Err-walk_all.fault code_is f)
@@ -58,8 +58,8 @@ pub overlap_fault-requires-clause-told : goal.overlap_fault-requires-clause-told
 overlap_fault-requires-clause-told c =
     let s = c.in-Ok.ensures.ok in
     let lists = s.0 in
-    let ts = told (kept c.args.from lists) in
-    let told_is : AreTold c.deref-3.result.now ts = rw c.deref-3.ensures.value s.2.slices in
+    let ts = slices_told (kept c.args.from lists) in
+    let told_is : AreEntriesOf c.deref-3.result.now ts = rw c.deref-3.ensures.value s.2.slices in
     let w = c.in-Ok-walk_all.ensures.ok c.args.from lists told_is in
     let rs = ran (code_of c.new-program.result) ts w.0 in
     let old = c.in-Ok-walk_all.walks.slices.items in
@@ -75,11 +75,11 @@ returns-in-Some-clause-err c = λ descs h e.
     let processes_is : processes ≡ map (λ (n : KeptNote). n.process) notes = c.deref-2.ensures.value ∙ c.in_ok-processes.ensures.ok ∙ ap (map (λ (n : KeptNote). n.process)) c.deref.ensures.value in
     let s = c.in-Ok.ensures.ok in
     let lists = s.0 in
-    let ts = told (kept c.args.from lists) in
+    let ts = slices_told (kept c.args.from lists) in
     let parts : Parts c.args.streams descs c.args.from processes notes lists = record { passed = s.1; noted = c.in_ok-notes.ensures.ok descs h e; processes = processes_is } in
     let code_is : code_of c.new-program.result ≡ code_in (files_of c.args.dump.now c.args.streams descs c.args.from) =
     ap code_of c.new-program.ensures ∙ (λ i. record { contents = contents (exe_of c.args.dump.now); halves = c.halves_of.ensures (some_stream c.args.streams c.args.from processes lists s.1) i }) in
-    let told_is : AreTold c.deref-3.result.now ts = rw c.deref-3.ensures.value s.2.slices in
+    let told_is : AreEntriesOf c.deref-3.result.now ts = rw c.deref-3.ensures.value s.2.slices in
     let w = c.in-Ok-walk_all.ensures.ok c.args.from lists told_is in
     let rs = ran (code_of c.new-program.result) ts w.0 in
     let old = c.in-Ok-walk_all.walks.slices.items in
@@ -87,7 +87,7 @@ returns-in-Some-clause-err c = λ descs h e.
     let all = c.in-Ok-walk_all.walks.stretches.items in
     let same_processes : c.deref-5.result.now ≡ processes = c.deref-5.ensures.value ∙ sym c.deref-2.ensures.value in
     let times = told_in_order all old new rs ts w.2.slices (all_gathered (code_of c.new-program.result) c.args.from lists w.0 w.1) c.in_ok-put_in_order.ensures.times in
-    let seen = subst (λ (ws : List Walked). (n : ℕ) → AreTold (map (λ (v : Walked). v.slice) (filter (λ (v : Walked). context_of v.slice.start == n) ws)) (slices_of n ts)) (sym c.deref-4.ensures.value) times in
+    let seen = subst (λ (ws : List Walked). (n : ℕ) → AreEntriesOf (map (λ (v : Walked). v.slice) (filter (λ (v : Walked). context_of v.slice.start == n) ws)) (slices_of n ts)) (sym c.deref-4.ensures.value) times in
     let found = c.overlap_fault.ensures ts seen (keeps_turn c.args.from processes lists s.1.1) ∙ ap (first_fault (overlap_fault ts)) same_processes in
     inr (no_turn c.args.dump.now c.args.streams descs c.args.from processes notes lists parts (code_of c.new-program.result) code_is w.0 w.1 c.in-Some.fault (sym c.in-Some.is ∙ found))
 
@@ -95,8 +95,8 @@ pub threads-requires-clause-ran : goal.threads-requires-clause-ran
 threads-requires-clause-ran c =
     let s = c.in-Ok.ensures.ok in
     let lists = s.0 in
-    let ts = told (kept c.args.from lists) in
-    let told_is : AreTold c.deref-3.result.now ts = rw c.deref-3.ensures.value s.2.slices in
+    let ts = slices_told (kept c.args.from lists) in
+    let told_is : AreEntriesOf c.deref-3.result.now ts = rw c.deref-3.ensures.value s.2.slices in
     let w = c.in-Ok-walk_all.ensures.ok c.args.from lists told_is in
     let rs = ran (code_of c.new-program.result) ts w.0 in
     let old = c.in-Ok-walk_all.walks.slices.items in
@@ -106,7 +106,7 @@ threads-requires-clause-ran c =
     let gathered = all_gathered (code_of c.new-program.result) c.args.from lists w.0 w.1 in
     let same_processes : c.deref-5.result.now ≡ processes = c.deref-5.ensures.value ∙ sym c.deref-2.ensures.value in
     let times = told_in_order all old new rs ts w.2.slices gathered c.in_ok-put_in_order.ensures.times in
-    let seen = subst (λ (ws : List Walked). (n : ℕ) → AreTold (map (λ (v : Walked). v.slice) (filter (λ (v : Walked). context_of v.slice.start == n) ws)) (slices_of n ts)) (sym c.deref-4.ensures.value) times in
+    let seen = subst (λ (ws : List Walked). (n : ℕ) → AreEntriesOf (map (λ (v : Walked). v.slice) (filter (λ (v : Walked). context_of v.slice.start == n) ws)) (slices_of n ts)) (sym c.deref-4.ensures.value) times in
     let found = c.overlap_fault.ensures ts seen (keeps_turn c.args.from processes lists s.1.1) ∙ ap (first_fault (overlap_fault ts)) same_processes in
     let none = sym found ∙ c.in_default.is in (
       rs,
@@ -121,11 +121,11 @@ returns-in-Ok-threads-clause-ok c = λ descs h e.
     let processes_is : processes ≡ map (λ (n : KeptNote). n.process) notes = c.deref-2.ensures.value ∙ c.in_ok-processes.ensures.ok ∙ ap (map (λ (n : KeptNote). n.process)) c.deref.ensures.value in
     let s = c.in-Ok.ensures.ok in
     let lists = s.0 in
-    let ts = told (kept c.args.from lists) in
+    let ts = slices_told (kept c.args.from lists) in
     let parts : Parts c.args.streams descs c.args.from processes notes lists = record { passed = s.1; noted = c.in_ok-notes.ensures.ok descs h e; processes = processes_is } in
     let code_is : code_of c.new-program.result ≡ code_in (files_of c.args.dump.now c.args.streams descs c.args.from) =
     ap code_of c.new-program.ensures ∙ (λ i. record { contents = contents (exe_of c.args.dump.now); halves = c.halves_of.ensures (some_stream c.args.streams c.args.from processes lists s.1) i }) in
-    let told_is : AreTold c.deref-3.result.now ts = rw c.deref-3.ensures.value s.2.slices in
+    let told_is : AreEntriesOf c.deref-3.result.now ts = rw c.deref-3.ensures.value s.2.slices in
     let w = c.in-Ok-walk_all.ensures.ok c.args.from lists told_is in
     let rs = ran (code_of c.new-program.result) ts w.0 in
     let old = c.in-Ok-walk_all.walks.slices.items in
@@ -133,7 +133,7 @@ returns-in-Ok-threads-clause-ok c = λ descs h e.
     let all = c.in-Ok-walk_all.walks.stretches.items in
     let same_processes : c.deref-5.result.now ≡ processes = c.deref-5.ensures.value ∙ sym c.deref-2.ensures.value in
     let times = told_in_order all old new rs ts w.2.slices (all_gathered (code_of c.new-program.result) c.args.from lists w.0 w.1) c.in_ok-put_in_order.ensures.times in
-    let seen = subst (λ (ws : List Walked). (n : ℕ) → AreTold (map (λ (v : Walked). v.slice) (filter (λ (v : Walked). context_of v.slice.start == n) ws)) (slices_of n ts)) (sym c.deref-4.ensures.value) times in
+    let seen = subst (λ (ws : List Walked). (n : ℕ) → AreEntriesOf (map (λ (v : Walked). v.slice) (filter (λ (v : Walked). context_of v.slice.start == n) ws)) (slices_of n ts)) (sym c.deref-4.ensures.value) times in
     let found = c.overlap_fault.ensures ts seen (keeps_turn c.args.from processes lists s.1.1) ∙ ap (first_fault (overlap_fault ts)) same_processes in
     let joins = c.in-Ok-threads.ensures.ok rs (subst (λ (ws : List Walked). AreRanInOrder all ws rs) (sym c.deref-6.ensures.value) (ran_in_order all old new rs w.2.slices c.in_ok-put_in_order.ensures.times)) in
     let joined = subst (λ (ns : List KeptNote). threads (record { code = code_of c.new-program.result; packets = c.in-Ok.survey.packets }) c.in-Ok-walk_all.walks.rows (map known_by ns) rs ≡ Ok c.in-Ok-threads.threads) c.deref-7.ensures.value joins in
@@ -147,11 +147,11 @@ returns-clause-err c = λ descs h e.
     let processes_is : processes ≡ map (λ (n : KeptNote). n.process) notes = c.deref-2.ensures.value ∙ c.in_ok-processes.ensures.ok ∙ ap (map (λ (n : KeptNote). n.process)) c.deref.ensures.value in
     let s = c.in-Ok.ensures.ok in
     let lists = s.0 in
-    let ts = told (kept c.args.from lists) in
+    let ts = slices_told (kept c.args.from lists) in
     let parts : Parts c.args.streams descs c.args.from processes notes lists = record { passed = s.1; noted = c.in_ok-notes.ensures.ok descs h e; processes = processes_is } in
     let code_is : code_of c.new-program.result ≡ code_in (files_of c.args.dump.now c.args.streams descs c.args.from) =
     ap code_of c.new-program.ensures ∙ (λ i. record { contents = contents (exe_of c.args.dump.now); halves = c.halves_of.ensures (some_stream c.args.streams c.args.from processes lists s.1) i }) in
-    let told_is : AreTold c.deref-3.result.now ts = rw c.deref-3.ensures.value s.2.slices in
+    let told_is : AreEntriesOf c.deref-3.result.now ts = rw c.deref-3.ensures.value s.2.slices in
     let w = c.in-Ok-walk_all.ensures.ok c.args.from lists told_is in
     let rs = ran (code_of c.new-program.result) ts w.0 in
     let old = c.in-Ok-walk_all.walks.slices.items in
@@ -159,7 +159,7 @@ returns-clause-err c = λ descs h e.
     let all = c.in-Ok-walk_all.walks.stretches.items in
     let same_processes : c.deref-5.result.now ≡ processes = c.deref-5.ensures.value ∙ sym c.deref-2.ensures.value in
     let times = told_in_order all old new rs ts w.2.slices (all_gathered (code_of c.new-program.result) c.args.from lists w.0 w.1) c.in_ok-put_in_order.ensures.times in
-    let seen = subst (λ (ws : List Walked). (n : ℕ) → AreTold (map (λ (v : Walked). v.slice) (filter (λ (v : Walked). context_of v.slice.start == n) ws)) (slices_of n ts)) (sym c.deref-4.ensures.value) times in
+    let seen = subst (λ (ws : List Walked). (n : ℕ) → AreEntriesOf (map (λ (v : Walked). v.slice) (filter (λ (v : Walked). context_of v.slice.start == n) ws)) (slices_of n ts)) (sym c.deref-4.ensures.value) times in
     let found = c.overlap_fault.ensures ts seen (keeps_turn c.args.from processes lists s.1.1) ∙ ap (first_fault (overlap_fault ts)) same_processes in
     let failed = c.in-Err-threads.ensures.err rs (subst (λ (ws : List Walked). AreRanInOrder all ws rs) (sym c.deref-6.ensures.value) (ran_in_order all old new rs w.2.slices c.in_ok-put_in_order.ensures.times)) in
     let fault = c.in-Err-threads.fault in

@@ -5,7 +5,7 @@ use Rattle.rept_trace.specs.declared.fault.TraceFault.{TraceFault}
 use Rattle.rept_path.specs.declared.fault.PathFault.TheVariants.{Packet, OutOfMemory}
 use Rattle.rept_slices.specs.Raw.{files_of, note_in, IsRunOf, HasNoRun}
 use Rattle.rept_threads.proofs.Fitting.{file_fits}
-use Rattle.rept_woven.specs.Ordered.{run_of}
+use Rattle.rept_woven.specs.Ordered.{run_of_harts}
 use Rattle.rept_woven.proofs.Whole.{rebuilt, either_way}
 use Rattle.rept_woven.proofs.reading.rebuild_trace.Goals as goal
 
@@ -18,7 +18,7 @@ rebuild_many-requires c =
 pub returns-in-Ok-clause-woven : goal.returns-in-Ok-clause-woven
 returns-in-Ok-clause-woven c = λ halves harts descs woven threads count carries ordered.
     let same = c.in-Ok.ensures.only (Ok (record { halves = halves; streams = woven.streams })) woven.file in
-    c.rebuild_many.ensures.only_run descs (run_of harts (map note_in descs)) threads count (rebuilt c.args.dump.now c.in-Ok.streams descs halves harts c.args.trace.now woven same carries ordered)
+    c.rebuild_many.ensures.only_run descs (run_of_harts harts (map note_in descs)) threads count (rebuilt c.args.dump.now c.in-Ok.streams descs halves harts c.args.trace.now woven same carries ordered)
 
 pub returns-in-Ok-clause-read : goal.returns-in-Ok-clause-read
 returns-in-Ok-clause-read c = λ file descs opens threads count.

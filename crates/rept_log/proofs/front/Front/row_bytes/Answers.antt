@@ -4,7 +4,7 @@ use Rattle.std.proofs.lemmas.Result.{IfOk-weaker}
 use Rattle.rept_isa.specs.Numbers.{plus}
 use Rattle.rept_view.specs.Rules.{offset_of}
 use Rattle.rept_log.specs.Fronts.{basis_of, front_of, seen_in}
-use Rattle.rept_log.specs.RowBytes.{bytes_from, bytes_at}
+use Rattle.rept_log.specs.RowBytes.{bytes_from, bytes_from_base}
 use Rattle.rept_log.proofs.front.Front.row_bytes.Goals as goal
 
 pub returns-in-Some : goal.returns-in-Some
@@ -15,5 +15,5 @@ returns-in-Some g c =
     let at = first ∙ ap (plus c.in-Some.base) c.offset_of.ensures in
     let many = c.min-count.ensures ∙ ap (λ (n : ℕ). min n 4) c.places.ensures.value in
     IfOk-weaker c.bytes_from.result _ _
-    (λ v h. h ∙ ap (λ (n : ℕ). bytes_from s n c.min-count.result) at ∙ ap (λ (n : ℕ). bytes_from s (plus c.in-Some.base (offset_of c.args.row.now.instr)) n) many ∙ ap (λ (b : Option ℕ). bytes_at g.R.RowRules.rules c.args.row.now s b) c.in-Some.ensures)
+    (λ v h. h ∙ ap (λ (n : ℕ). bytes_from s n c.min-count.result) at ∙ ap (λ (n : ℕ). bytes_from s (plus c.in-Some.base (offset_of c.args.row.now.instr)) n) many ∙ ap (λ (b : Option ℕ). bytes_from_base g.R.RowRules.rules c.args.row.now s b) c.in-Some.ensures)
     c.bytes_from.ensures

@@ -1,7 +1,7 @@
 use Rattle.std.proofs.Common.{◌≡◌, ◌⊎◌, ◌+◌, ℕ, Ok, Err, length, drop, refl, sym, subst, arith}
 use Rattle.rept_path.specs.declared.fault.PathFault.TheVariants.{OutOfMemory}
 use Rattle.rept_slices.specs.Order.{head_of}
-use Rattle.rept_slices.specs.Joins.{Ending, bridge}
+use Rattle.rept_slices.specs.Joins.{ThreadGround, bridge}
 use Rattle.rept_threads.specs.Joining.{ending_of}
 use Rattle.rept_threads.proofs.MeetLemmas.{rest_whole}
 use Rattle.rept_threads.proofs.Joinery.{Joining, none_joined, next_join, one_joined, one_unjoined, all_joined, asked_slice, same_ending, goes_on, goes_to}
@@ -34,7 +34,7 @@ returns-in-Err-clause-err c = λ rs a.
     let n = next_join (ending_of j c.args.pc) j.count rs j.stretches.items ws i c.loop-i.self.count c.loop-i.rows c.loop-i-test.true (c.loop-i.invariant.0 rs a) in
     let h = c.in-Err.ensures.err n.r n.later (asked_slice j c.loop-i.self c.loop-i.self.count (drop i ws) _ n.r n.later g (rest_whole ws i) n.are) in
     one_unjoined (ending_of j c.args.pc) j.count rs j.stretches.items (drop i ws) (drop (i + 1) ws) c.loop-i.self.count c.loop-i.rows n f
-    (subst (λ (e : Ending). (f ≡ OutOfMemory) ⊎ (bridge e c.loop-i.self.count n.r (head_of n.later) ≡ Err f)) (same_ending j c.loop-i.self c.loop-i.self.count c.args.pc g) h)
+    (subst (λ (e : ThreadGround). (f ≡ OutOfMemory) ⊎ (bridge e c.loop-i.self.count n.r (head_of n.later) ≡ Err f)) (same_ending j c.loop-i.self c.loop-i.self.count c.args.pc g) h)
 
 pub loop-i-preserved : goal.loop-i-preserved
 loop-i-preserved c =
@@ -49,7 +49,7 @@ loop-i-preserved c =
       (λ rs a.
           let n = next_join (ending_of j c.args.pc) j.count rs j.stretches.items ws i c.loop-i.self.count c.loop-i.rows c.loop-i-test.true (c.loop-i.invariant.0 rs a) in
           let h = c.in_default.ensures.ok n.r n.later (asked_slice j c.loop-i.self c.loop-i.self.count (drop i ws) _ n.r n.later g (rest_whole ws i) n.are) in
-          let b = subst (λ (e : Ending). bridge e c.loop-i.self.count n.r (head_of n.later) ≡ Ok h.0) (same_ending j c.loop-i.self c.loop-i.self.count c.args.pc g) h.1 in
+          let b = subst (λ (e : ThreadGround). bridge e c.loop-i.self.count n.r (head_of n.later) ≡ Ok h.0) (same_ending j c.loop-i.self c.loop-i.self.count c.args.pc g) h.1 in
           subst (λ (m : ℕ). Joining (ending_of j c.args.pc) j.count rs j.stretches.items (drop (i + 1) ws) m new.thread) (sym h.2.count)
           (one_joined (ending_of j c.args.pc) j.count rs j.stretches.items (drop i ws) (drop (i + 1) ws) c.loop-i.self.count c.loop-i.rows new.thread n h.0 b h.4 (λ k. (let x = n.ready k in c.in_default.ensures.ready n.r n.later (asked_slice j c.loop-i.self c.loop-i.self.count (drop i ws) _ n.r n.later g (rest_whole ws i) n.are) x.1 (x.0).0)))),
       goes_on j c.loop-i.self new.self c.loop-i.self.count (c.loop-i.self.count + length there.0) g there.2,
