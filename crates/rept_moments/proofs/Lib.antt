@@ -8,13 +8,14 @@ pub mod Numbering
 pub mod Places
 pub mod Told
 pub mod Falls
-pub mod Nearest
 pub mod Sooner
 pub mod Keeping
-pub mod Halving
+pub mod Turns
+pub mod Beginning
 pub mod Offers
 pub mod Neighbours
 pub mod Offering
+pub mod Choosing
+pub mod Reaching
 pub mod Alone
-pub mod Former
 pub mod Standing

@@ -22,14 +22,14 @@ use Rattle.rept_moments.specs.Numbers.{numbers_of, numbered, unless}
 use Rattle.rept_moments.specs.Numbering.{at_place, Numbered}
 use Rattle.rept_moments.specs.Seen.{IsNextFrom}
 use Rattle.rept_moments.specs.Tables.{moments_at}
-use Rattle.rept_moments.specs.Nexts.{nexts_of, merged_nexts, point_nexts, side_nexts, last_nexts, ends_to, numbers_next, lower, offered, offered_all}
+use Rattle.rept_moments.specs.Nexts.{nexts_of, merged_nexts, point_nexts, side_nexts, last_nexts, ends_to, numbers_next, lower, offered, offered_all, Member}
 use Rattle.rept_moments.proofs.Places.{row_there, there_row, point_of_row, row_point, next_row}
 use Rattle.rept_moments.proofs.Listing.{are_listed, row_at_side}
 use Rattle.rept_moments.proofs.Numbering.{count_same, told}
 use Rattle.rept_moments.proofs.Told.{told_is}
 use Rattle.rept_moments.proofs.Falls.{row_placed, name_placed}
 use Rattle.rept_moments.proofs.Apart.{are_numbers}
-use Rattle.rept_moments.proofs.Offers.{Member, member_left, member_right, member_parts, next_has, has_next}
+use Rattle.rept_moments.proofs.Offers.{member_left, member_right, member_parts, next_has, has_next}
 
 not_so : (b : Bool) → (b ≡ true → ⊥) → b ≡ false
 not_so true k = absurd (k refl)
@@ -242,7 +242,7 @@ module _ (C : Course) (sound : IsSound C) where
   merged_by : (b : Bool) (g n v : ℕ) → merged_at C g ≡ b → (merged_at C g ≡ true → (numbers_of C).name (after (row_on C g)) ≡ n) → Member (cond b (nexts_of C (after (row_on C g))) []) v → IsStep n v
   merged_by true g n v e name h =
       let is = there_row C (row_on C g) (still_at g e).0 in
-      let its = has_next C sound (after (row_on C g)) is v after_end h in
+      let its = has_next C sound (after (row_on C g)) is v h in
       record { from = after (row_on C g); from_is = is; from_name = name e; to = its.moment; to_is = its.is_one; to_name = its.name; next = its.next }
   merged_by false g n v e name h = absurd h
 
@@ -251,12 +251,8 @@ module _ (C : Course) (sound : IsSound C) where
 
   own_step : (s : Side) (v : ℕ) → IsRow C (row_on C s.point) → Member (nexts_of C (moment_at C s)) v → IsStep ((numbers_of C).name (moment_at C s)) v
   own_step s v is h =
-      let its = has_next C sound (moment_at C s) (row_at_side C s.is_after (row_on C s.point) is) v (not_end s.is_after) h in
+      let its = has_next C sound (moment_at C s) (row_at_side C s.is_after (row_on C s.point) is) v h in
       record { from = moment_at C s; from_is = row_at_side C s.is_after (row_on C s.point) is; from_name = refl; to = its.moment; to_is = its.is_one; to_name = its.name; next = its.next }
-    where
-      not_end : (b : Bool) → beside_by (row_on C s.point) b ≢ at_end
-      not_end false = before_end
-      not_end true = after_end
 
   point_step : (p v : ℕ) → IsRow C (row_on C p) → Member (point_nexts C p) v → IsStep ((numbers_of C).name (before (row_on C p))) v
   point_step zero v is h = absurd h

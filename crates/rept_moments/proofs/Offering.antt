@@ -13,16 +13,14 @@ use Rattle.rept_order.specs.Legs.{points_before, number_of, leg_row}
 use Rattle.rept_course.specs.Numbered.{row_on}
 use Rattle.rept_moments.specs.declared.side.Side.{Side}
 use Rattle.rept_moments.specs.declared.search.Search.{Search}
-use Rattle.rept_moments.specs.declared.search.Later.{Later}
 use Rattle.rept_moments.specs.Points.{points_in}
 use Rattle.rept_moments.specs.Ordering.{moment_at, event_at}
 use Rattle.rept_moments.specs.Writers.{not_past}
 use Rattle.rept_moments.specs.Merging.{merged_at}
 use Rattle.rept_moments.specs.Numbers.{numbers_of}
-use Rattle.rept_moments.specs.Nexts.{first_later, later_to, offers_at, offers_to, nexts_by, nexts_of, merged_nexts, point_nexts, side_nexts, last_nexts, ends_to, offered, offered_all}
-use Rattle.rept_moments.proofs.Places.{row_there, there_row, row_before, next_thread, points_most}
-use Rattle.rept_moments.proofs.Listing.{at_row, row_at_side}
-use Rattle.rept_moments.proofs.Offers.{first_at}
+use Rattle.rept_moments.specs.Nexts.{offers_at, nexts_of, merged_nexts, point_nexts, side_nexts, last_nexts, ends_to, offered, offered_all}
+use Rattle.rept_moments.proofs.Places.{there_row, next_thread, points_most}
+use Rattle.rept_moments.proofs.Listing.{row_at_side}
 
 pub offered_more : (s : Search) (xs ys : List ℕ) → offered_all s (xs ++ ys) ≡ offered_all (offered_all s xs) ys
 offered_more s [] ys = refl
@@ -31,18 +29,6 @@ offered_more s (x ∷ xs) ys = offered_more (offered s x) xs ys
 -- a loop's step
 pub offered_step : (start old new : Search) (xs ys : List ℕ) → old ≡ offered_all start xs → new ≡ offered_all old ys → new ≡ offered_all start (xs ++ ys)
 offered_step start old new xs ys was e = e ∙ ap (λ (s : Search). offered_all s ys) was ∙ sym (offered_more start xs ys)
-
--- the first later moment is one of a row
-pub first_row : (C : Course) → IsSound C → (m : Moment) → IsMoment C m → (t : ℕ) (s : Side) → first_later C m t ≡ Some s → IsRow C (row_on C s.point)
-first_row C sound m is t s e = at_row C s.is_after (row_on C s.point) (first_at C sound m is t s e).is
-
-pub first_leads : (C : Course) → IsSound C → (m : Moment) → IsMoment C m → (t : ℕ) (o : Option Side) → o ≡ first_later C m t → IfSome o (λ s. IsSome (leg_row C s.point))
-first_leads C sound m is t None e = tt
-first_leads C sound m is t (Some s) e = row_there C (row_on C s.point) (first_row C sound m is t s (sym e))
-
-pub first_inside_points : (C : Course) → IsSound C → (m : Moment) → IsMoment C m → (t : ℕ) (o : Option Side) → o ≡ first_later C m t → IfSome o (λ s. s.point < points_in C)
-first_inside_points C sound m is t None e = tt
-first_inside_points C sound m is t (Some s) e = let less = row_before C s.point (first_row C sound m is t s (sym e)) in omega arith
 
 -- a thread's last row is one of all points
 pub rows_inside : (C : Course) (t n : ℕ) → t < length C.threads → n ≡ length (rows_of C t) → points_before C.threads t + n < points_in C
@@ -64,17 +50,6 @@ pub in_time_else : (C : Course) (s : Search) (last : Option ℕ) (x : Side) (b :
 in_time_else C s last x b p begin is fails =
     let test : not_past last (begin_of C (event_at C x)) ≡ false = sym (is ∙ ap (not_past last) begin) ∙ fails in
     sym (ap (λ (q : Bool). offered_all s (cond q ((numbers_of C).name (moment_at C x) ∷ []) [])) test)
-
-pub nexts_some : (C : Course) (m : Moment) (later : Later) (s new : Search) → later ≡ later_to C m (length C.threads) → later.some ≡ true → new ≡ offered_all s (offers_to C m later.last (length C.threads)) → new ≡ offered_all s (nexts_of C m)
-nexts_some C m later s new is some e = e ∙ sym (ap (λ (b : Bool). offered_all s (cond b (offers_to C m later.last (length C.threads)) ((numbers_of C).end ∷ []))) some) ∙ ap (λ (l : Later). offered_all s (nexts_by C m l)) is
-
-pub nexts_none : (C : Course) (m : Moment) (later : Later) (s new : Search) (n : ℕ) → later ≡ later_to C m (length C.threads) → later.some ≡ false → n ≡ (numbers_of C).end → new ≡ offered s n → new ≡ offered_all s (nexts_of C m)
-nexts_none C m later s new n is none end e = e ∙ ap (offered s) end ∙ sym (ap (λ (b : Bool). offered_all s (cond b (offers_to C m later.last (length C.threads)) ((numbers_of C).end ∷ []))) none) ∙ ap (λ (l : Later). offered_all s (nexts_by C m l)) is
-
-pub firsts_step : (C : Course) (m : Moment) (last : Option ℕ) (start old new : Search) (t : ℕ) (o : Option Side) → old ≡ offered_all start (offers_to C m last t) → o ≡ first_later C m t → new ≡ offered_all old (offers_at C last o) → new ≡ offered_all start (offers_to C m last (t + 1))
-firsts_step C m last start old new t o was first e =
-    let one : suc t ≡ t + 1 = omega arith in
-    offered_step start old new (offers_to C m last t) (offers_at C last (first_later C m t)) was (e ∙ ap (λ (x : Option Side). offered_all old (offers_at C last x)) first) ∙ ap (λ (k : ℕ). offered_all start (offers_to C m last k)) one
 
 pub ends_more : (C : Course) (start old new : Search) (t : ℕ) → old ≡ offered_all start (ends_to C t) → new ≡ offered_all old (last_nexts C t (length (rows_of C t))) → new ≡ offered_all start (ends_to C (t + 1))
 ends_more C start old new t was e =

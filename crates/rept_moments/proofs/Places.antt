@@ -1,5 +1,5 @@
 -- Points, their rows, and what a function says of each of them.
-use Rattle.std.proofs.Common.{◌≡◌, ℕ, zero, suc, ◌+◌, ◌<◌, ◌≤◌, true, List, [], ◌∷◌, ◌++◌, length, Option, Some, None, slice_get, get_or, nat_lt, unwrap_or, inl, inr, refl, sym, ap, ◌∙◌, subst, arith, length-append}
+use Rattle.std.proofs.Common.{◌≡◌, ℕ, zero, suc, ◌+◌, ◌<◌, ◌≤◌, Bool, true, false, List, [], ◌∷◌, ◌++◌, length, Option, Some, None, slice_get, get_or, nat_lt, unwrap_or, inl, inr, refl, sym, ap, ◌∙◌, subst, arith, length-append}
 use Rattle.std.specs.Option.{is_some, IsSome}
 use Rattle.std.proofs.lemmas.Bool.{cases_order, ltb-true}
 use Rattle.std.proofs.lemmas.Option.{slice_get_past, slice_get_cases, slice_get_within, slice_get_read, slice_get-get_or, unwrap_or-slice_get}
@@ -11,8 +11,11 @@ use Rattle.rept_order.specs.Legs.{Point, points_before, number_of, row_from, leg
 use Rattle.rept_order.proofs.Legs.{point_number, thread_inside, leg_leads}
 use Rattle.rept_course.specs.Numbered.{row_on}
 use Rattle.rept_course.proofs.Naming.{some_is, row_inside, are_legs}
+use Rattle.rept_moments.specs.declared.points.Edges.{Edges}
 use Rattle.rept_moments.specs.declared.side.Place.{Place}
-use Rattle.rept_moments.specs.Points.{points_in, place_on, by_point, ArePoints}
+use Rattle.rept_moments.specs.declared.side.Side.{Side}
+use Rattle.rept_moments.specs.Points.{points_in, place_on, by_point}
+use Rattle.rept_moments.specs.Edges.{edges_in, edges_at, times_at, ArePoints}
 
 some_none : {A : Type 0} {x : A} → Some x ≡ None → ⊥
 some_none e = cc
@@ -74,7 +77,7 @@ next_thread (thread ∷ threads) zero below = omega arith
 next_thread (thread ∷ threads) (suc t) below = let rest = next_thread threads t (omega arith) in omega arith
 
 -- what the table of points says
-module _ (C : Course) (list : List Place) (firsts : List ℕ) (its : ArePoints C list firsts) where
+module _ (C : Course) (list : List Place) (firsts : List ℕ) (all : List Edges) (its : ArePoints C list firsts all) where
   pub places_count : length list ≡ points_in C
   places_count = ap (λ (xs : List Place). length xs) its.places ∙ by_point_length (place_on C) (points_in C)
 
@@ -128,6 +131,25 @@ module _ (C : Course) (list : List Place) (firsts : List ℕ) (its : ArePoints C
     where
       some_same : {x y : Place} → Some x ≡ Some y → x ≡ y
       some_same k = cc
+
+  pub edges_count : length all ≡ points_in C
+  edges_count = ap (λ (xs : List Edges). length xs) its.edges ∙ by_point_length (edges_at C) (points_in C)
+
+  edges_here : (V : Course) (g : ℕ) (d : Edges) (xs : List Edges) → C ≡ V → xs ≡ all → g < points_in V → get_or xs g d ≡ edges_at V g
+  edges_here V g d xs view same less =
+      let count = edges_count in
+      let whole : points_in C ≡ points_in V = ap (λ (D : Course). points_in D) view in
+      let long : length xs ≡ length all = ap (λ (ys : List Edges). length ys) same in
+      some_same (sym (slice_get-get_or xs g d (omega arith)) ∙ ap (λ (ys : List Edges). slice_get ys g) (same ∙ its.edges) ∙ by_point_get (edges_at C) (points_in C) g (omega arith)) ∙ ap (λ (D : Course). edges_at D g) view
+    where
+      some_same : {x y : Edges} → Some x ≡ Some y → x ≡ y
+      some_same k = cc
+
+  pub times_after : (V : Course) (s : Side) (d : Edges) (xs : List Edges) → C ≡ V → xs ≡ all → s.point < points_in V → s.is_after ≡ true → (get_or xs s.point d).after ≡ times_at V s
+  times_after V s d xs view same less e = ap (λ (x : Edges). x.after) (edges_here V s.point d xs view same less) ∙ ap (λ (b : Bool). times_at V (record { point = s.point; is_after = b })) (sym e)
+
+  pub times_before : (V : Course) (s : Side) (d : Edges) (xs : List Edges) → C ≡ V → xs ≡ all → s.point < points_in V → s.is_after ≡ false → (get_or xs s.point d).before ≡ times_at V s
+  times_before V s d xs view same less e = ap (λ (x : Edges). x.before) (edges_here V s.point d xs view same less) ∙ ap (λ (b : Bool). times_at V (record { point = s.point; is_after = b })) (sym e)
 
 -- one more point of a thread
 pub add_place : (C : Course) (t i : ℕ) (xs ys : List Place) → t < length C.threads → i ≤ length (rows_of C t) → xs ≡ by_point (place_on C) (points_before C.threads t + i) → ys ≡ xs ++ record { thread = t; step = i } ∷ [] → ys ≡ by_point (place_on C) (points_before C.threads t + (i + 1))
@@ -211,3 +233,20 @@ start_at C V t xs d view are less =
   where
     some_number : {x y : ℕ} → Some x ≡ Some y → x ≡ y
     some_number e = cc
+
+-- one more point's times
+pub edges_more : (C : Course) (places : List Place) (i : ℕ) (d : Place) (xs ys : List Edges) (x : Edges) → places ≡ by_point (place_on C) (points_in C) → i < length places → xs ≡ by_point (edges_at C) i → x ≡ edges_in C (get_or places i d) → ys ≡ xs ++ x ∷ [] → ys ≡ by_point (edges_at C) (i + 1)
+edges_more C places i d xs ys x are less before its e =
+    let long : length places ≡ points_in C = ap (λ (ps : List Place). length ps) are ∙ by_point_length (place_on C) (points_in C) in
+    let here : get_or places i d ≡ place_on C i = some_place (sym (slice_get-get_or places i d less) ∙ ap (λ (ps : List Place). slice_get ps i) are ∙ by_point_get (place_on C) (points_in C) i (omega arith)) in
+    let next : suc i ≡ i + 1 = omega arith in
+    e ∙ ap (λ (zs : List Edges). zs ++ x ∷ []) before ∙ ap (λ (z : Edges). by_point (edges_at C) i ++ z ∷ []) (its ∙ ap (edges_in C) here) ∙ ap (by_point (edges_at C)) next
+  where
+    some_place : {x y : Place} → Some x ≡ Some y → x ≡ y
+    some_place k = cc
+
+pub edges_all : (C : Course) (places : List Place) (i : ℕ) (xs : List Edges) → places ≡ by_point (place_on C) (points_in C) → length places ≤ i → i ≤ length places → xs ≡ by_point (edges_at C) i → xs ≡ by_point (edges_at C) (points_in C)
+edges_all C places i xs are past within e =
+    let long : length places ≡ points_in C = ap (λ (ps : List Place). length ps) are ∙ by_point_length (place_on C) (points_in C) in
+    let same : i ≡ points_in C = omega arith in
+    e ∙ ap (by_point (edges_at C)) same

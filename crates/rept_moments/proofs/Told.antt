@@ -1,12 +1,13 @@
 -- What the tables of several threads tell.
-use Rattle.std.proofs.Common.{◌≡◌, ℕ, suc, ◌+◌, ◌<◌, ◌&&◌, nat_lt, cond, Bool, true, false, List, ◌∷◌, length, Option, Some, None, slice_get, unwrap_or, get_or, refl, sym, ap, ◌∙◌, subst, arith}
+use Rattle.std.proofs.Common.{◌≡◌, ℕ, suc, ◌+◌, ◌<◌, ◌&&◌, ◌||◌, not, nat_lt, cond, Bool, true, false, List, ◌∷◌, length, Option, Some, None, slice_get, unwrap_or, get_or, refl, sym, ap, ◌∙◌, subst, arith}
 use Rattle.std.specs.Option.{is_some, IsSome}
 use Rattle.std.proofs.lemmas.Bool.{ltb-true, ltb-false}
 use Rattle.std.proofs.lemmas.Option.{slice_get_past, slice_get-get_or}
 use Rattle.rept_isa.specs.declared.row.StepRow.{StepRow}
 use Rattle.rept_steps.specs.Course.{Course, Row, row_of, rows_of, IsRow, row_at}
-use Rattle.rept_order.specs.Moments.{Moment, stretch}
+use Rattle.rept_order.specs.Moments.{Moment, stretch, stores}
 use Rattle.rept_order.specs.Moments.Moment.{before, after, at_end}
+use Rattle.rept_order.specs.Times.{not_later}
 use Rattle.rept_order.specs.Legs.{leg_row}
 use Rattle.rept_course.specs.Making.{is_still, next_point, lasts, rank, ranked}
 use Rattle.rept_course.specs.Numbered.{row_on}
@@ -30,6 +31,19 @@ end_is C V n k view kept e = e ∙ sym (count_same C n.list) ∙ ap (λ (ms : Li
 
 pub told_is : (C V : Course) (n : Numbered) (k : ℕ) (o : Option Side) (m : Moment) → C ≡ V → moments_at C n.list ≡ lasts C (in_order C) → o ≡ at_place n.list k → m ≡ told C o → m ≡ (numbers_of V).last k
 told_is C V n k o m view kept e its = its ∙ ap (told C) e ∙ sym (last_is C n.list k) ∙ ap (λ (ms : List Moment). ranked (at_end ∷ ms) k) kept ∙ ap (λ (D : Course). (numbers_of D).last k) view
+
+pub past_told : (C V : Course) (n : Numbered) (k i : ℕ) (o : Option Side) (b r : Bool) → C ≡ V → moments_at C n.list ≡ lasts C (in_order C) → o ≡ at_place n.list k → b ≡ stores C (row_on C i) → b ≡ true → r ≡ not_later C (after (row_on C i)) (told C o) → r ≡ (numbered V).past i k
+past_told C V n k i o b r view kept place writes holds e =
+    let last = told_is C C n k o (told C o) refl kept place refl in
+    e
+    ∙ ap (not_later C (after (row_on C i))) last
+    ∙ sym (ap (λ (c : Bool). not c || not_later C (after (row_on C i)) ((numbers_of C).last k)) (sym writes ∙ holds))
+    ∙ ap (λ (D : Course). (numbered D).past i k) view
+
+pub ahead_told : (C V : Course) (n : Numbered) (k i : ℕ) (o : Option Side) (r : Bool) → C ≡ V → moments_at C n.list ≡ lasts C (in_order C) → o ≡ at_place n.list k → r ≡ not_later C (told C o) (before (row_on C i)) → r ≡ (numbered V).ahead i k
+ahead_told C V n k i o r view kept place e =
+    let last = told_is C C n k o (told C o) refl kept place refl in
+    e ∙ ap (λ (m : Moment). not_later C m (before (row_on C i))) last ∙ ap (λ (D : Course). (numbered D).ahead i k) view
 
 pub merged_here : (C V : Course) (merged xs : List Bool) (g : ℕ) (b d : Bool) → C ≡ V → merged ≡ by_point (merged_at C) (points_in C) → xs ≡ merged → g < points_in V → b ≡ get_or xs g d → b ≡ merged_at V g
 merged_here C V merged xs g b d view are same less read =

@@ -1,3 +1,5 @@
+pub mod Edges
+pub mod Begins
 pub mod Points
 pub mod Ordering
 pub mod Numbers
@@ -6,7 +8,6 @@ pub mod Writers
 pub mod Latest
 pub mod Merging
 pub mod Numbering
-pub mod Halves
 pub mod Nexts
 pub mod Tables
 pub mod Between

@@ -1,59 +1,29 @@
--- The moments that are next to one, found thread by thread, and their numbers. This project's own.
-use Rattle.std.specs.Prelude.{ℕ, zero, suc, ◌==◌, ◌||◌, nat_lt, nat_le, if◌then◌else◌, true, false, List, [], ◌∷◌, ◌++◌, length, Option, Some, None}
+-- The moments that are next to one, and their numbers; and how these are found among the slices in the order of their begins. This project's own.
+use Rattle.std.specs.Prelude.{◌≡◌, ◌≢◌, ◌⊎◌, ℕ, zero, suc, ◌==◌, ◌&&◌, ◌||◌, not, nat_lt, nat_le, if◌then◌else◌, Bool, true, false, List, [], ◌∷◌, ◌++◌, length, Option, Some, None}
+use Rattle.std.specs.Option.{IsSome}
 use Rattle.rept_steps.specs.Course.{Course, rows_of}
-use Rattle.rept_order.specs.Events.{event_slice}
-use Rattle.rept_order.specs.Moments.{Moment}
-use Rattle.rept_order.specs.Moments.Moment.{before, after}
-use Rattle.rept_order.specs.Legs.{points_before, number_of}
-use Rattle.rept_order.specs.Times.{begin_of, is_earlier}
+use Rattle.rept_order.specs.Moments.{Moment, Earlier, stretch}
+use Rattle.rept_order.specs.Moments.Moment.{after}
+use Rattle.rept_order.specs.Legs.{number_of, leg_row}
+use Rattle.rept_course.specs.Making.{is_next, moments_in}
 use Rattle.rept_course.specs.Numbered.{row_on}
 use Rattle.rept_moments.specs.declared.side.Side.{Side}
 use Rattle.rept_moments.specs.declared.search.Search.{Search}
 use Rattle.rept_moments.specs.declared.search.Later.{Later}
-use Rattle.rept_moments.specs.Ordering.{side, moment_at, event_at}
-use Rattle.rept_moments.specs.Writers.{end_of, not_past}
+use Rattle.rept_moments.specs.Ordering.{moment_at}
+use Rattle.rept_moments.specs.Edges.{begin_at, end_at}
+use Rattle.rept_moments.specs.Begins.{former_at, sooner_end, IsBy}
+use Rattle.rept_moments.specs.Writers.{not_past}
 use Rattle.rept_moments.specs.Merging.{merged_at}
 use Rattle.rept_moments.specs.Numbers.{numbers_of}
 
--- the first later moment of so many rows from a point on
-abbrev pub later_in : Course → Moment → ℕ → ℕ → Option Side
-later_in C m g zero = None
-later_in C m g (suc n) = if is_earlier C m (before (row_on C g)) then Some (side g false) else (if is_earlier C m (after (row_on C g)) then Some (side g true) else later_in C m (suc g) n)
+-- the numbers of those of a list that are next to a moment
+abbrev pub nexts_among : Course → Moment → List Moment → List ℕ
+nexts_among C m [] = []
+nexts_among C m (w ∷ ws) = if is_next C (stretch m w) then (numbers_of C).name w ∷ nexts_among C m ws else nexts_among C m ws
 
--- of a thread
-abbrev pub first_later : Course → Moment → ℕ → Option Side
-first_later C m t = later_in C m (points_before C.threads t) (length (rows_of C t))
-
--- the sooner one of two times, where none is none known
-abbrev pub sooner_end : Option ℕ → Option ℕ → Option ℕ
-sooner_end None other = other
-sooner_end (Some known) None = Some known
-sooner_end (Some known) (Some time) = if nat_lt time known then Some time else Some known
-
-abbrev pub end_with : Course → Option Side → Later → Later
-end_with C None later = later
-end_with C (Some s) later = record { some = true; last = sooner_end later.last (end_of (event_slice C (event_at C s))) }
-
--- whether one of so many threads has a later moment, and the least end of the slices of the first ones
-abbrev pub later_to : Course → Moment → ℕ → Later
-later_to C m zero = record { some = false; last = None }
-later_to C m (suc t) = end_with C (first_later C m t) (later_to C m t)
-
--- the number of a first one, if it may come by a time
-abbrev pub offers_at : Course → Option ℕ → Option Side → List ℕ
-offers_at C last None = []
-offers_at C last (Some s) = if not_past last (begin_of C (event_at C s)) then (numbers_of C).name (moment_at C s) ∷ [] else []
-
-abbrev pub offers_to : Course → Moment → Option ℕ → ℕ → List ℕ
-offers_to C m last zero = []
-offers_to C m last (suc t) = offers_to C m last t ++ offers_at C last (first_later C m t)
-
-abbrev pub nexts_by : Course → Moment → Later → List ℕ
-nexts_by C m later = if later.some then offers_to C m later.last (length C.threads) else (numbers_of C).end ∷ []
-
--- the numbers of the moments that are next to a moment of a row
 abbrev pub nexts_of : Course → Moment → List ℕ
-nexts_of C m = nexts_by C m (later_to C m (length C.threads))
+nexts_of C m = nexts_among C m (moments_in C)
 
 -- of the moment after the row that leads from a point, if that one is one with the thread's next one
 abbrev pub merged_nexts : Course → ℕ → List ℕ
@@ -92,3 +62,64 @@ offered s n = if (n == s.own) || nat_lt n s.least then s else record { own = s.o
 abbrev pub offered_all : Search → List ℕ → Search
 offered_all s [] = s
 offered_all s (n ∷ ns) = offered_all (offered s n) ns
+
+-- the number is in the list
+abbrev pub Member : List ℕ → ℕ → Type 0
+Member [] v = ⊥
+Member (n ∷ ns) v = (n ≡ v) ⊎ Member ns v
+
+-- a search goes on with numbers, of which it is said which ones they are
+pub record IsOffered (Is : ℕ → Type 0) (old new : Search) : Type 0 where
+  pub numbers : List ℕ
+  pub only : (v : ℕ) → Member numbers v → Is v
+  pub all : (v : ℕ) → Is v → Member numbers v
+  pub found : new ≡ offered_all old numbers
+
+-- a moment of a row that is later than one of a row
+pub record IsAfter (C : Course) (s u : Side) : Type 0 where
+  pub row : IsSome (leg_row C u.point)
+  pub later : Earlier C (moment_at C s) (moment_at C u)
+
+-- the same in another thread
+pub record IsOther (C : Course) (s u : Side) : Type 0 where
+  pub row : IsSome (leg_row C u.point)
+  pub apart : (row_on C s.point).thread ≢ (row_on C u.point).thread
+  pub later : Earlier C (moment_at C s) (moment_at C u)
+
+-- with the end of one more moment, if there is one
+abbrev pub end_with : Course → Option Side → Later → Later
+end_with C None later = later
+end_with C (Some s) later = record { some = true; last = sooner_end later.last (end_at C s) }
+
+-- It tells whether a moment is later than one, and the least end of the slices of all later ones of other threads, and of one more moment.
+pub record IsLaterBy (C : Course) (s : Side) (own : Option Side) (later : Later) : Type 0 where
+  pub each : (u : Side) → IsOther C s u ⊎ (own ≡ Some u) → later.some ≡ true
+  pub some : later.some ≡ true → (u : Side) × IsAfter C s u
+  pub most : (u : Side) (e : ℕ) → IsOther C s u ⊎ (own ≡ Some u) → end_at C u ≡ Some e → IsBy later.last e
+  pub one : (e : ℕ) → later.last ≡ Some e → (u : Side) × IsAfter C s u × (end_at C u ≡ Some e)
+
+-- the number of a moment, if it may come by a time
+abbrev pub offers_at : Course → Option ℕ → Option Side → List ℕ
+offers_at C last None = []
+offers_at C last (Some s) = if not_past last (begin_at C s) then (numbers_of C).name (moment_at C s) ∷ [] else []
+
+-- a moment of another thread, if there is one, doesn't begin after the slice of one of a row ends
+abbrev pub none_late : Course → Side → Option Side → Bool
+none_late C s None = true
+none_late C s (Some u) = not_past (end_at C s) (begin_at C u)
+
+-- of another thread, and the moment before it isn't later than the one
+abbrev pub is_first_later : Course → Side → Side → Bool
+is_first_later C s u = not ((row_on C s.point).thread == (row_on C u.point).thread) && none_late C s (former_at C u)
+
+abbrev pub first_offer : Course → Side → Side → List ℕ
+first_offer C s u = if is_first_later C s u then (numbers_of C).name (moment_at C u) ∷ [] else []
+
+-- the number is that of the first moment of another thread that is later than one, and it may come by a time
+pub record IsOffer (C : Course) (s : Side) (last : Option ℕ) (v : ℕ) : Type 0 where
+  pub first : Side
+  pub row : IsSome (leg_row C first.point)
+  pub late : not_past (end_at C s) (begin_at C first) ≡ false
+  pub is : is_first_later C s first ≡ true
+  pub in_time : not_past last (begin_at C first) ≡ true
+  pub name : (numbers_of C).name (moment_at C first) ≡ v

@@ -1,6 +1,6 @@
 -- The points of all threads, one after the other. This project's own.
-use Rattle.std.specs.Prelude.{◌≡◌, ◌≤◌, ℕ, zero, suc, List, [], ◌∷◌, ◌++◌, length}
-use Rattle.rept_steps.specs.Course.{Course, IsSound}
+use Rattle.std.specs.Prelude.{ℕ, zero, suc, List, [], ◌∷◌, ◌++◌, length}
+use Rattle.rept_steps.specs.Course.{Course}
 use Rattle.rept_order.specs.Legs.{points_before, point_at}
 use Rattle.rept_moments.specs.declared.side.Place.{Place}
 
@@ -16,9 +16,3 @@ place_on C g = record { thread = (point_at C g).thread; step = (point_at C g).nu
 abbrev pub by_point : {A : Type 0} → (ℕ → A) → ℕ → List A
 by_point f zero = []
 by_point f (suc g) = by_point f g ++ f g ∷ []
-
-pub record ArePoints (C : Course) (list : List Place) (firsts : List ℕ) : Type 0 where
-  pub sound : IsSound C
-  pub few : points_in C ≤ 66560
-  pub places : list ≡ by_point (place_on C) (points_in C)
-  pub starts : firsts ≡ by_point (points_before C.threads) (length C.threads)

@@ -3,7 +3,9 @@ use Rattle.std.specs.Prelude.{◌≡◌, ◌<◌, ◌≤◌, ◌^◌, Bool, List
 use Rattle.rept_steps.specs.Course.{Course, IsSound}
 use Rattle.rept_order.specs.Moments.{Moment}
 use Rattle.rept_course.specs.Making.{lasts}
+use Rattle.rept_moments.specs.declared.begins.Begun.{Begun}
 use Rattle.rept_moments.specs.declared.side.Side.{Side}
+use Rattle.rept_moments.specs.Begins.{AreBegins}
 use Rattle.rept_moments.specs.Points.{points_in, by_point}
 use Rattle.rept_moments.specs.Ordering.{moment_at, in_order}
 use Rattle.rept_moments.specs.Merging.{merged_at}
@@ -14,9 +16,10 @@ abbrev pub moments_at : Course → List Side → List Moment
 moments_at C [] = []
 moments_at C (s ∷ list) = moment_at C s ∷ moments_at C list
 
-pub record AreTables (C : Course) (numbers : Numbered) (merged : List Bool) : Type 0 where
+pub record AreTables (C : Course) (slices : List Begun) (numbers : Numbered) (merged : List Bool) : Type 0 where
   pub sound : IsSound C
   pub small : points_in C ≤ 66560
+  pub begins : AreBegins C slices
   pub table : merged ≡ by_point (merged_at C) (points_in C)
   pub points : numbers.points ≡ points_in C
   pub kept : moments_at C numbers.list ≡ lasts C (in_order C)

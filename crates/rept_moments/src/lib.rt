@@ -1,6 +1,7 @@
 //! The numbers of the moments of a run: of one thread those of its points, of several those of the moments in the order in which slices begin.
 #![tactic(auto)]
 
+mod begins;
 mod course;
 pub mod laws;
 mod many;

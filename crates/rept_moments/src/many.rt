@@ -16,11 +16,13 @@ ghost use Rattle.rept_moments.specs.Numbers.{numbers_of};
 ghost use Rattle.rept_moments.specs.Numbering.{kept_with};
 ghost use Rattle.rept_moments.specs.Between.{own_to, IsBetween};
 ghost use Rattle.rept_moments.specs.Seen.{moment_in, IsNextFrom, IsRowAt, IsLastFrom};
-ghost use Rattle.rept_moments.specs.Nexts.{first_later, later_to, offers_at, offers_to, nexts_of, merged_nexts, point_nexts, side_nexts, last_nexts, ends_to, offered_all};
+ghost use Rattle.rept_moments.specs.Begins.{following_at, former_at, AreBegins};
+ghost use Rattle.rept_moments.specs.Nexts.{is_first_later, none_late, first_offer, offers_at, nexts_of, merged_nexts, point_nexts, side_nexts, last_nexts, ends_to, offered_all, IsLaterBy, IsOffer, IsOffered};
 ghost use Rattle.rept_moments.specs.Tables.{moments_at};
 
+use crate::begins::{Begins, following, former};
 use crate::merging::merged;
-use crate::nexts::{first_later, is_not_past, later_of};
+use crate::nexts::{is_not_past, with_end};
 use crate::numbers::Numbers;
 use crate::ordering::in_time;
 use crate::points::Points;
@@ -40,6 +42,7 @@ use std::marker::Model;
 #[derive(Drop)]
 pub struct Many<'a> {
     points: Points<'a>,
+    begins: Begins,
     /// of the moments that are the last of those that are one with them, but the end
     numbers: Numbers,
     /// by points, whether the moment after the row is one with the thread's next one
@@ -54,7 +57,7 @@ impl<'a> Model for Many<'a> {
 
     ghost view = { λ m. m.points };
 
-    ghost invariant = { λ m. AreTables m.points m.numbers m.merged.items };
+    ghost invariant = { λ m. AreTables m.points m.begins m.numbers m.merged.items };
 }
 
 /// Gives each moment that is the last of those that are one with it the next number, in this order.
@@ -105,8 +108,10 @@ impl<'a> Many<'a> {
         let writers = Writers::new(alloc, &points)?;
         let merged = merged(alloc, &points, &writers)?;
         let numbers = number(alloc, &points, moments.as_slice(), merged.as_slice())?;
+        let begins = Begins::new(alloc, &points)?;
         Ok(Many {
             points,
+            begins,
             numbers,
             merged,
         })
@@ -284,12 +289,19 @@ impl<'a> Many<'a> {
         requires { IsSome ((seen_of self.now).legs.row row) }
         ensures { result ≡ (seen_of self.now).moments.past row m }
     {
-        let stores = self.points.stores(row);
-        let before = self
-            .points
-            .order()
-            .is_wholly_before(self.points.act(row), self.last(m));
-        !stores || before
+        if !self.points.stores(row) {
+            return true;
+        }
+        match self.numbers.at(m) {
+            Some(side) => self.points.is_not_later(
+                Side {
+                    point: row,
+                    is_after: true,
+                },
+                side,
+            ),
+            None => true,
+        }
     }
 
     /// Whether the row lies wholly after the moment.
@@ -297,9 +309,16 @@ impl<'a> Many<'a> {
         requires { IsSome ((seen_of self.now).legs.row row) }
         ensures { result ≡ (seen_of self.now).moments.ahead row m }
     {
-        self.points
-            .order()
-            .is_wholly_after(self.points.act(row), self.last(m))
+        match self.numbers.at(m) {
+            Some(side) => self.points.is_not_later(
+                side,
+                Side {
+                    point: row,
+                    is_after: false,
+                },
+            ),
+            None => false,
+        }
     }
 
     /// Whether the first row lies wholly after the second.
@@ -308,15 +327,15 @@ impl<'a> Many<'a> {
         requires second { IsSome ((seen_of self.now).legs.row j) }
         ensures { result ≡ (seen_of self.now).moments.later i j }
     {
-        let after = self.points.moment(Side {
+        let after = Side {
             point: j,
             is_after: true,
-        });
-        let before = self.points.moment(Side {
+        };
+        let before = Side {
             point: i,
             is_after: false,
-        });
-        self.points.order().is_not_later(after, before)
+        };
+        self.points.is_not_later(after, before)
     }
 
     /// Whether there are writers that aren't told.
@@ -390,22 +409,21 @@ impl<'a> Many<'a> {
         }
     }
 
-    /// The first moment of a thread that is later than one of a row.
-    fn first_later(&self, side: Side, thread: u32) -> Option<Side>
-        requires row { IsSome ((seen_of self.now).legs.row side.point) }
-        requires thread { thread < length self.now.threads }
-        ensures value { result ≡ first_later self.now (moment_at self.now side) thread }
-        ensures row { IfSome result (λ s. IsSome ((seen_of self.now).legs.row s.point)) }
+    /// What the slices of other threads leave to be next to a moment of a row.
+    fn later_of_others(&self, side: Side) -> Later
+        requires { IsSome ((seen_of self.now).legs.row side.point) }
+        ensures { IsLaterBy self.now side None result }
     {
-        first_later(&self.points, self.points.moment(side), thread)
+        self.begins.from(self.begins.after(self.points.end(side)))
     }
 
-    /// What the first moments of all threads that are later than one of a row leave to be next to it.
+    /// What the next moment of its thread and the slices of other threads leave to be next to it.
     fn later(&self, side: Side) -> Later
         requires { IsSome ((seen_of self.now).legs.row side.point) }
-        ensures { result ≡ later_to self.now (moment_at self.now side) (length self.now.threads) }
+        ensures { IsLaterBy self.now side (following_at self.now side) result }
     {
-        later_of(&self.points, self.points.moment(side))
+        let own = following(&self.points, side);
+        with_end(&self.points, own, self.later_of_others(side))
     }
 
     /// The time before which a moment of a row doesn't come.
@@ -447,21 +465,61 @@ impl<'a> Many<'a> {
     {
         let later = self.later(side);
         if later.some {
-            self.offer_firsts(search, side, later.last)
+            let own = following(&self.points, side);
+            let found = self.offer_first(search, later.last, own);
+            self.offer_begun(&self.begins, found, side, later.last)
         } else {
             offer(search, self.end())
         }
     }
 
-    /// Offers the numbers of the first moments of all threads that are later than one of a row, of those that may come by a time.
-    fn offer_firsts(&self, search: Search, side: Side, last: Option<u64>) -> Search
-        requires { IsSome ((seen_of self.now).legs.row side.point) }
-        ensures { result ≡ offered_all search (offers_to self.now (moment_at self.now side) last (length self.now.threads)) }
+    /// Whether a moment of another thread that is later than one of a row is the first such one of its thread.
+    fn is_first_later(&self, side: Side, first: Side) -> bool
+        requires side { IsSome ((seen_of self.now).legs.row side.point) }
+        requires first { IsSome ((seen_of self.now).legs.row first.point) }
+        ensures { result ≡ is_first_later self.now side first }
+    {
+        let own = self.points.thread(side.point) == self.points.thread(first.point);
+        let early = self.is_none_late(side, former(&self.points, first));
+        !own && early
+    }
+
+    /// Whether the slice of a moment, if there is one, begins before that of one of a row ends.
+    fn is_none_late(&self, side: Side, before: Option<Side>) -> bool
+        requires side { IsSome ((seen_of self.now).legs.row side.point) }
+        requires before { IfSome before (λ s. IsSome ((seen_of self.now).legs.row s.point)) }
+        ensures { result ≡ none_late self.now side before }
+    {
+        match before {
+            Some(before) => is_not_past(self.points.end(side), self.begin(before)),
+            None => true,
+        }
+    }
+
+    /// Offers the number of a moment that is later than one of a row, if it is the first such one of another thread.
+    fn offer_later(&self, search: Search, side: Side, first: Side) -> Search
+        requires side { IsSome ((seen_of self.now).legs.row side.point) }
+        requires first { IsSome ((seen_of self.now).legs.row first.point) }
+        ensures { result ≡ offered_all search (first_offer self.now side first) }
+    {
+        if self.is_first_later(side, first) {
+            offer(search, self.name(first))
+        } else {
+            search
+        }
+    }
+
+    /// Offers the numbers of the first moments of other threads that are later than one of a row, of those that may come by a time.
+    fn offer_begun(&self, begins: &Begins, search: Search, side: Side, last: Option<u64>) -> Search
+        requires row { IsSome ((seen_of self.now).legs.row side.point) }
+        requires begins { AreBegins self.now begins.now }
+        ensures { IsOffered (IsOffer self.now side last) search result }
     {
         let mut found = search;
-        for thread in 0..self.threads() {
-            let first = self.first_later(side, thread);
-            found = self.offer_first(found, last, first);
+        let start = begins.after(self.points.end(side));
+        let end = begins.after(last);
+        for place in start..end {
+            found = self.offer_later(found, side, begins.first(place));
         }
         found
     }

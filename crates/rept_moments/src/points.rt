@@ -1,17 +1,18 @@
 //! The points of a run, their rows, and the times of these.
 
-ghost use Rattle.std.specs.Prelude.{◌≡◌, ◌+◌, ◌<◌, ◌≤◌, ◌↔◌, length, IfOk, IsTrue, OnOk};
-ghost use Rattle.std.specs.Option.{is_some};
+ghost use Rattle.std.specs.Prelude.{◌≡◌, ◌+◌, ◌<◌, ◌≤◌, length, IfOk, OnOk};
+ghost use Rattle.std.specs.Option.{is_some, IsSome};
 ghost use Rattle.rept_steps.specs.Course.{row_at, row_of, rows_of, IsSound};
 ghost use Rattle.rept_steps.specs.Runs.{course_of};
 ghost use Rattle.rept_order.specs.Events.{event_slice};
 ghost use Rattle.rept_order.specs.Legs.{points_before, leg_row};
-ghost use Rattle.rept_order.specs.Moments.{IsMoment, Earlier, stores};
-ghost use Rattle.rept_order.specs.Moments.Act.{row as row_act};
+ghost use Rattle.rept_order.specs.Moments.{stores};
 ghost use Rattle.rept_order.specs.Ordered.{course_in};
-ghost use Rattle.rept_order.specs.Runs.{act_named, edge_event, moment_named};
-ghost use Rattle.rept_order.specs.Times.{begin_of};
+ghost use Rattle.rept_order.specs.Runs.{edge_event, moment_named};
+ghost use Rattle.rept_order.specs.Times.{begin_of, not_later};
 ghost use Rattle.rept_course.specs.Numbered.{row_on};
+ghost use Rattle.rept_moments.specs.Begins.{stands_by};
+ghost use Rattle.rept_moments.specs.Edges.{edges_at, edges_in, times_at};
 ghost use Rattle.rept_moments.specs.Merging.{dark_from};
 ghost use Rattle.rept_moments.specs.Ordering.{event_at, moment_at};
 ghost use Rattle.rept_moments.specs.Points.{by_point, place_on, points_in};
@@ -20,7 +21,7 @@ ghost use Rattle.rept_moments.specs.Writers.{end_of};
 use crate::side::{Place, Side};
 use crate::writing::writes_memory;
 use rept_isa::StepRow;
-use rept_order::{Act, Edge, Moment, Order};
+use rept_order::{Edge, Moment, Order};
 use rept_steps::Run;
 use std::alloc::{AllocError as OutOfMemory, Global};
 use std::marker::Model;
@@ -32,18 +33,34 @@ pub struct Points<'a> {
     places: Vec<Place>,
     /// the first point of each thread
     starts: Vec<u32>,
+    /// of each point
+    edges: Vec<Edges>,
+}
+
+/// The time before which a moment of a row doesn't come, and the end of its slice, where it is in one.
+#[derive(Clone, Copy)]
+pub struct Times {
+    pub begin: u64,
+    pub end: Option<u64>,
+}
+
+/// The times of the moment before a row, and of that after it.
+#[derive(Clone, Copy)]
+pub struct Edges {
+    pub before: Times,
+    pub after: Times,
 }
 
 impl<'a> Model for Points<'a> {
     ghost use Rattle.rept_steps.specs.Course.{Course};
     ghost use Rattle.rept_steps.specs.Runs.{course_of};
-    ghost use Rattle.rept_moments.specs.Points.{ArePoints};
+    ghost use Rattle.rept_moments.specs.Edges.{ArePoints};
 
     ghost Value = { Course };
 
     ghost view = { λ p. course_of p.run.now };
 
-    ghost invariant = { λ p. ArePoints (course_of p.run.now) p.places.items p.starts.items };
+    ghost invariant = { λ p. ArePoints (course_of p.run.now) p.places.items p.starts.items p.edges.items };
 }
 
 /// How many rows a thread has.
@@ -112,6 +129,71 @@ fn row_from(run: &Run, place: Place) -> Option<StepRow>
     }
 }
 
+/// The times of a row's first event, or of its last one.
+fn times_of(order: Order<'_>, edge: Edge) -> Times
+    requires { IsSound (course_in order) }
+    ensures begin { result.begin ≡ begin_of (course_in order.entry) (edge_event (course_in order.entry) edge) }
+    ensures end { result.end ≡ end_of (event_slice (course_in order.entry) (edge_event (course_in order.entry) edge)) }
+{
+    Times {
+        begin: order.begin(edge),
+        end: match order.slice(edge) {
+            Some(slice) => Some(slice.end),
+            None => None,
+        },
+    }
+}
+
+/// The times of both moments of the row that leads from a point.
+fn edges_of(order: Order<'_>, place: Place) -> Edges
+    requires { IsSound (course_in order) }
+    ensures { result ≡ edges_in (course_in order.entry) place }
+{
+    let Place { thread, step } = place;
+    Edges {
+        before: times_of(
+            order,
+            Edge {
+                thread,
+                step,
+                last: false,
+            },
+        ),
+        after: times_of(
+            order,
+            Edge {
+                thread,
+                step,
+                last: true,
+            },
+        ),
+    }
+}
+
+/// The times of all moments of rows, by points.
+fn edge_times(alloc: Global, order: Order<'_>, places: &[Place]) -> Result<Vec<Edges>, OutOfMemory>
+    requires sound { IsSound (course_in order) }
+    requires places { places.now ≡ by_point (place_on (course_in order)) (points_in (course_in order)) }
+    ensures { IfOk result (λ v. v.items ≡ by_point (edges_at (course_in order.entry)) (points_in (course_in order.entry))) }
+{
+    let mut edges = Vec::new(alloc);
+    for place in places {
+        edges.push(edges_of(order, *place))?;
+    }
+    Ok(edges)
+}
+
+/// Whether the one moment of a thread is the other one, or comes before it.
+fn stands_by(one: Side, other: Side) -> bool
+    ensures { result ≡ stands_by one other }
+{
+    if one.point == other.point {
+        other.is_after || !one.is_after
+    } else {
+        one.point < other.point
+    }
+}
+
 impl<'a> Points<'a> {
     /// The points of a sound run that has at most 65,536 rows and 1,024 threads. It takes memory for one entry a point.
     pub fn new(alloc: Global, run: &'a Run) -> Result<Points<'a>, OutOfMemory>
@@ -121,10 +203,12 @@ impl<'a> Points<'a> {
     {
         let places = places(alloc, run)?;
         let starts = starts(alloc, run)?;
+        let edges = edge_times(alloc, Order::new(run), places.as_slice())?;
         Ok(Points {
             run,
             places,
             starts,
+            edges,
         })
     }
 
@@ -209,6 +293,15 @@ impl<'a> Points<'a> {
         self.row(point).is_some()
     }
 
+    /// The point after one from which a row leads.
+    pub fn next(&self, point: u32) -> u32
+        requires { IsSome (leg_row self.now point) }
+        ensures { result ≡ point + 1 }
+    {
+        let _ = &self.places;
+        point + 1
+    }
+
     /// Whether the row that leads from the point, if one does, writes memory, whatever is known of it.
     pub fn stores(&self, point: u32) -> bool
         ensures { result ≡ stores self.now (row_on self.now point) }
@@ -216,19 +309,6 @@ impl<'a> Points<'a> {
         match self.row(point) {
             Some(row) => writes_memory(row.instr),
             None => false,
-        }
-    }
-
-    /// The row's first event, or its last one.
-    fn edge(&self, side: Side) -> Edge
-        requires { side.point < points_in self.now }
-        ensures { edge_event self.now result ≡ event_at self.now side }
-    {
-        let Place { thread, step } = self.place(side.point);
-        Edge {
-            thread,
-            step,
-            last: side.is_after,
         }
     }
 
@@ -245,24 +325,14 @@ impl<'a> Points<'a> {
         }
     }
 
-    /// The row's act.
-    pub fn act(&self, point: u32) -> Act
-        requires { point < points_in self.now }
-        ensures { act_named result ≡ row_act (row_on self.now point) }
+    /// The times of a moment.
+    fn times(&self, side: Side) -> Times
+        requires { side.point < points_in self.now }
+        ensures { result ≡ times_at self.now side }
     {
-        let Place { thread, step } = self.place(point);
-        Act::Row { thread, step }
-    }
-
-    /// Whether a moment is earlier than one of a row.
-    pub fn is_earlier(&self, m: Moment, side: Side) -> bool
-        requires moment { IsMoment self.now (moment_named m) }
-        requires inside { side.point < points_in self.now }
-        requires row { IsMoment self.now (moment_at self.now side) }
-        ensures { IsTrue result ↔ Earlier self.now (moment_named m) (moment_at self.now side) }
-    {
-        let other = self.moment(side);
-        self.order().earlier(m, other)
+        let edges = self.edges.as_slice();
+        let its = edges[side.point as usize];
+        if side.is_after { its.after } else { its.before }
     }
 
     /// The time before which the moment doesn't come.
@@ -270,8 +340,7 @@ impl<'a> Points<'a> {
         requires { side.point < points_in self.now }
         ensures { result ≡ begin_of self.now (event_at self.now side) }
     {
-        let edge = self.edge(side);
-        self.order().begin(edge)
+        self.times(side).begin
     }
 
     /// The end of its slice, where it is in one.
@@ -279,10 +348,22 @@ impl<'a> Points<'a> {
         requires { side.point < points_in self.now }
         ensures { result ≡ end_of (event_slice self.now (event_at self.now side)) }
     {
-        let edge = self.edge(side);
-        match self.order().slice(edge) {
-            Some(slice) => Some(slice.end),
-            None => None,
+        self.times(side).end
+    }
+
+    /// Whether a moment of a row isn't later than another one: of one thread by their places, of two by the times of their slices.
+    pub fn is_not_later(&self, one: Side, other: Side) -> bool
+        requires one { IsSome (leg_row self.now one.point) }
+        requires other { IsSome (leg_row self.now other.point) }
+        ensures { result ≡ not_later self.now (moment_at self.now one) (moment_at self.now other) }
+    {
+        let _ = &self.edges;
+        if self.thread(one.point) == self.thread(other.point) {
+            return stands_by(one, other);
+        }
+        match self.end(one) {
+            Some(end) => end < self.begin(other),
+            None => false,
         }
     }
 

@@ -7,7 +7,7 @@ use Rattle.rept_moments.proofs.many.Many.is_dark_between.Goals as goal
 
 pub returns : goal.returns
 returns c =
-    let t : AreTables c.args.self.now c.self.inside.numbers c.self.inside.merged.items = subst (λ (D : Course). AreTables D c.self.inside.numbers c.self.inside.merged.items) c.self.view_is c.self.invariant in
+    let t : AreTables c.args.self.now c.self.inside.begins c.self.inside.numbers c.self.inside.merged.items = subst (λ (D : Course). AreTables D c.self.inside.begins c.self.inside.numbers c.self.inside.merged.items) c.self.view_is c.self.invariant in
     let own : c.is_some-own.result ≡ is_some c.row_between.result = cc in
     c.neither.ensures
     ∙ ap (λ (b : Bool). not b && not c.is_dark_past-past.result) own

@@ -1,19 +1,18 @@
-use Rattle.std.proofs.Common.{length, ap, sym, subst, ◌∙◌}
-use Rattle.std.specs.Option.{IsSome}
+use Rattle.std.proofs.Common.{◌≡◌, Option, sym, ap, subst, ◌∙◌}
 use Rattle.rept_steps.specs.Course.{Course}
-use Rattle.rept_order.specs.Moments.{Moment, IsMoment}
-use Rattle.rept_order.specs.Legs.{leg_row}
-use Rattle.rept_moments.specs.Ordering.{moment_at}
-use Rattle.rept_moments.specs.Nexts.{later_to}
-use Rattle.rept_moments.proofs.Places.{below_in}
-use Rattle.rept_moments.proofs.Offering.{side_is}
+use Rattle.rept_course.specs.Numbered.{row_on}
+use Rattle.rept_moments.specs.declared.search.Later.{Later}
+use Rattle.rept_moments.specs.declared.side.Side.{Side}
+use Rattle.rept_moments.specs.Begins.{following_at}
+use Rattle.rept_moments.specs.Nexts.{end_with, IsLaterBy}
+use Rattle.rept_moments.specs.Tables.{AreTables}
+use Rattle.rept_moments.proofs.Places.{there_row}
+use Rattle.rept_moments.proofs.Reaching.{own_later}
 use Rattle.rept_moments.proofs.many.Many.later.Goals as goal
 
-pub moment-requires : goal.moment-requires
-moment-requires c = below_in c.self.inside.points c.args.self.now c.args.side.point c.self.view_is c.requires
-
-pub later_of-requires : goal.later_of-requires
-later_of-requires c = subst (λ (m : Moment). IsMoment c.self.inside.points m) (sym c.moment.ensures) (side_is c.self.inside.points c.args.side (subst (λ (D : Course). IsSome (leg_row D c.args.side.point)) (sym c.self.view_is) c.requires))
-
 pub returns : goal.returns
-returns c = c.later_of.ensures ∙ ap (λ (m : Moment). later_to c.self.inside.points m (length c.self.inside.points.threads)) c.moment.ensures ∙ ap (λ (D : Course). later_to D (moment_at D c.args.side) (length D.threads)) c.self.view_is
+returns c =
+    let t : AreTables c.args.self.now c.self.inside.begins c.self.inside.numbers c.self.inside.merged.items = subst (λ (D : Course). AreTables D c.self.inside.begins c.self.inside.numbers c.self.inside.merged.items) c.self.view_is c.self.invariant in
+    let own : c.following-own.result ≡ following_at c.args.self.now c.args.side = c.following-own.ensures.value ∙ ap (λ (D : Course). following_at D c.args.side) c.self.view_is in
+    let is : c.with_end.result ≡ end_with c.args.self.now c.following-own.result c.later_of_others.result = c.with_end.ensures ∙ ap (λ (D : Course). end_with D c.following-own.result c.later_of_others.result) c.self.view_is in
+    subst (λ (o : Option Side). IsLaterBy c.args.self.now c.args.side o c.with_end.result) own (subst (λ (l : Later). IsLaterBy c.args.self.now c.args.side c.following-own.result l) (sym is) (own_later c.args.self.now t.sound c.args.side (there_row c.args.self.now (row_on c.args.self.now c.args.side.point) c.requires) c.following-own.result (sym own) c.later_of_others.result c.later_of_others.ensures))

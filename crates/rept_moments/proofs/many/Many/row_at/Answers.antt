@@ -15,15 +15,15 @@ is_on false e = absurd (false≢true (sym e))
 
 pub returns-in-Some : goal.returns-in-Some
 returns-in-Some c =
-    let t : AreTables c.args.self.now c.self.inside.numbers c.self.inside.merged.items = subst (λ (D : Course). AreTables D c.self.inside.numbers c.self.inside.merged.items) c.self.view_is c.self.invariant in
+    let t : AreTables c.args.self.now c.self.inside.begins c.self.inside.numbers c.self.inside.merged.items = subst (λ (D : Course). AreTables D c.self.inside.begins c.self.inside.numbers c.self.inside.merged.items) c.self.view_is c.self.invariant in
     row_here c.args.self.now t.sound c.self.inside.numbers t.kept c.args.number c.in-Some.side (sym c.at.ensures.is ∙ c.in-Some.is) (is_off c.in-Some.side.is_after c.if-not-side.true)
 
 pub returns-in_default : goal.returns-in_default
 returns-in_default c =
-    let t : AreTables c.args.self.now c.self.inside.numbers c.self.inside.merged.items = subst (λ (D : Course). AreTables D c.self.inside.numbers c.self.inside.merged.items) c.self.view_is c.self.invariant in
+    let t : AreTables c.args.self.now c.self.inside.begins c.self.inside.numbers c.self.inside.merged.items = subst (λ (D : Course). AreTables D c.self.inside.begins c.self.inside.numbers c.self.inside.merged.items) c.self.view_is c.self.invariant in
     no_row_after c.args.self.now t.sound c.self.inside.numbers t.kept c.args.number c.in-Some.side (sym c.at.ensures.is ∙ c.in-Some.is) (is_on c.in-Some.side.is_after c.if-not-side.false)
 
 pub returns-in_default-2 : goal.returns-in_default-2
 returns-in_default-2 c =
-    let t : AreTables c.args.self.now c.self.inside.numbers c.self.inside.merged.items = subst (λ (D : Course). AreTables D c.self.inside.numbers c.self.inside.merged.items) c.self.view_is c.self.invariant in
+    let t : AreTables c.args.self.now c.self.inside.begins c.self.inside.numbers c.self.inside.merged.items = subst (λ (D : Course). AreTables D c.self.inside.begins c.self.inside.numbers c.self.inside.merged.items) c.self.view_is c.self.invariant in
     no_row_end c.args.self.now t.sound c.self.inside.numbers t.kept c.args.number (sym c.at.ensures.is ∙ c.in_default.is)
