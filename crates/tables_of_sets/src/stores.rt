@@ -78,9 +78,9 @@ fn track<B: ByteFacts>(
 }
 
 /// Learns facts on the byte at 0x20000 in spans with three places, one after another: whether there was room for the last one, and the
-/// room that is left.
+/// room that is left. Places that go by points aren't asked for, so that there are no more.
 pub fn room(alloc: Global, n: &Numbers) -> Result<String, AllocError> {
-    let mut facts = SpanFacts::make(alloc, 10, 1)?;
+    let mut facts = SpanFacts::make(alloc, 0, 1)?;
     let mut had_room = true;
     for k in 0..12usize {
         if let Some(point) = n.known(2 * k) {
