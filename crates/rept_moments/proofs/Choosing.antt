@@ -1,6 +1,6 @@
 -- The least of some numbers depends on which they are alone, whatever their order and however often each is offered.
-use Rattle.std.proofs.Common.{◌≡◌, ◌≢◌, ℕ, ◌<◌, ◌≤◌, ◌⊎◌, ◌||◌, eqb, nat_lt, nat_le, cond, Bool, true, false, List, [], ◌∷◌, ◌++◌, Option, Some, None, inl, inr, refl, sym, ap, ◌∙◌, subst, arith}
-use Rattle.std.proofs.lemmas.Bool.{cases_Bool, cases_lt, le-leb, leb-true}
+use Rattle.std.proofs.Common.{◌≡◌, ℕ, ◌<◌, ◌≤◌, ◌||◌, eqb, nat_lt, nat_le, cond, Bool, true, false, List, [], ◌∷◌, Option, Some, None, inl, inr, refl, sym, ap, ◌∙◌, subst, arith}
+use Rattle.std.proofs.lemmas.Bool.{cases_lt, le-leb, leb-true}
 use Rattle.rept_moments.specs.declared.search.Search.{Search}
 use Rattle.rept_moments.specs.Nexts.{lower, offered, offered_all, Member}
 
@@ -31,25 +31,15 @@ low_right k n less = ap (λ (b : Bool). cond b k n) (high k n less)
 low_same : (n : ℕ) → low n n ≡ n
 low_same n = low_left n n (omega arith)
 
--- what the lower one is
-record IsLow (k n x : ℕ) : Type 0 where
-  left : x ≤ k
-  right : x ≤ n
-  one : (x ≡ k) ⊎ (x ≡ n)
-
-low_is : (k n : ℕ) → IsLow k n (low k n)
-low_is k n =
+low_most : (k n : ℕ) → low k n ≤ n
+low_most k n =
     elim (cases_lt n k) [
-      | inl less ↦ subst (IsLow k n) (sym (low_right k n less)) (record { left = omega arith; right = omega arith; one = inr refl })
-      | inr past ↦ subst (IsLow k n) (sym (low_left k n past)) (record { left = omega arith; right = omega arith; one = inl refl })
+      | inl less ↦ subst (λ (x : ℕ). x ≤ n) (sym (low_right k n less)) (omega arith)
+      | inr past ↦ subst (λ (x : ℕ). x ≤ n) (sym (low_left k n past)) past
     ]
 
 low_swap : (k a b : ℕ) → low (low k a) b ≡ low (low k b) a
 low_swap k a b =
-    let ka = low_is k a in
-    let kb = low_is k b in
-    let kab = low_is (low k a) b in
-    let kba = low_is (low k b) a in
     elim (cases_lt b k) [
       | inl bk ↦
           elim (cases_lt a k) [
@@ -92,7 +82,7 @@ lower_swap (Some k) a b =
 
 lower_twice : (o : Option ℕ) (n : ℕ) → lower (lower o n) n ≡ lower o n
 lower_twice None n = lower_is n n ∙ ap (λ (k : ℕ). Some k) (low_same n)
-lower_twice (Some k) n = ap (λ (o : Option ℕ). lower o n) (lower_is k n) ∙ lower_is (low k n) n ∙ ap (λ (i : ℕ). Some i) (let its = low_is k n in let less = its.right in low_left (low k n) n less) ∙ sym (lower_is k n)
+lower_twice (Some k) n = ap (λ (o : Option ℕ). lower o n) (lower_is k n) ∙ lower_is (low k n) n ∙ ap (λ (i : ℕ). Some i) (low_left (low k n) n (low_most k n)) ∙ sym (lower_is k n)
 
 -- a search with one more number, by whether that is left out
 abbrev with_one : Bool → Search → ℕ → Search

@@ -1,10 +1,9 @@
 -- One offer after the other.
-use Rattle.std.proofs.Common.{◌≡◌, ◌≢◌, ℕ, zero, suc, ◌+◌, ◌-◌, ◌<◌, cond, Bool, true, false, List, [], ◌∷◌, ◌++◌, length, Option, Some, None, refl, sym, ap, ◌∙◌, arith}
+use Rattle.std.proofs.Common.{◌≡◌, ◌≢◌, ℕ, zero, suc, ◌+◌, ◌-◌, ◌<◌, cond, Bool, true, false, List, [], ◌∷◌, ◌++◌, length, Option, Some, refl, sym, ap, ◌∙◌, arith}
 use Rattle.std.specs.Option.{is_some, IsSome}
-use Rattle.std.specs.Prelude.{IfSome}
 use Rattle.std.proofs.lemmas.Bool.{and_parts}
-use Rattle.rept_steps.specs.Course.{Course, rows_of, IsRow, IsSound}
-use Rattle.rept_order.specs.Moments.{Moment, IsMoment, stretch}
+use Rattle.rept_steps.specs.Course.{Course, rows_of}
+use Rattle.rept_order.specs.Moments.{stretch}
 use Rattle.rept_order.specs.Moments.Moment.{before, after}
 use Rattle.rept_order.specs.Runs.{beside_by}
 use Rattle.rept_order.specs.Times.{begin_of}
@@ -19,8 +18,7 @@ use Rattle.rept_moments.specs.Writers.{not_past}
 use Rattle.rept_moments.specs.Merging.{merged_at}
 use Rattle.rept_moments.specs.Numbers.{numbers_of}
 use Rattle.rept_moments.specs.Nexts.{offers_at, nexts_of, merged_nexts, point_nexts, side_nexts, last_nexts, ends_to, offered, offered_all}
-use Rattle.rept_moments.proofs.Places.{there_row, next_thread, points_most}
-use Rattle.rept_moments.proofs.Listing.{row_at_side}
+use Rattle.rept_moments.proofs.Places.{next_thread, points_most}
 
 pub offered_more : (s : Search) (xs ys : List ℕ) → offered_all s (xs ++ ys) ≡ offered_all (offered_all s xs) ys
 offered_more s [] ys = refl
@@ -87,6 +85,3 @@ name_then C x k is e = e ∙ sym (ap (λ (b : Bool). (numbers_of C).name (beside
 
 pub name_else : (C : Course) (x : Side) (k : ℕ) → x.is_after ≡ false → k ≡ (numbers_of C).name (before (row_on C x.point)) → k ≡ (numbers_of C).name (moment_at C x)
 name_else C x k is e = e ∙ sym (ap (λ (b : Bool). (numbers_of C).name (beside_by (row_on C x.point) b)) is)
-
-pub side_is : (C : Course) (x : Side) → IsSome (leg_row C x.point) → IsMoment C (moment_at C x)
-side_is C x e = row_at_side C x.is_after (row_on C x.point) (there_row C (row_on C x.point) e)

@@ -1,11 +1,10 @@
--- The moments that are next to one are found among the slices' first moments: the next one of its thread, and of each other thread the first later one, where they may come by the least end of
--- the later slices.
-use Rattle.std.proofs.Common.{◌≡◌, ◌≢◌, ℕ, zero, suc, ◌+◌, ◌<◌, ◌≤◌, ◌⊎◌, ◌&&◌, not, eqb, nat_le, cond, Bool, true, false, List, [], ◌∷◌, ◌++◌, length, get_or, Option, Some, None, slice_get, inl, inr, refl, sym, ap, ◌∙◌, subst, arith, append-nil}
-use Rattle.std.specs.Option.{is_some, IsSome}
-use Rattle.std.proofs.lemmas.Bool.{false≢true, cases_Bool, cases_lt, cases_eq, cases_order, and_parts, and_from, eqb-true, eq-eqb, ne_eqb, le-leb, leb-true}
-use Rattle.std.proofs.lemmas.Option.{slice_get_past, slice_get_within, slice_get-get_or}
+-- The moments that are next to one are the next one of its thread, and of each other thread the first later one, where they may come by the least end of the later slices.
+use Rattle.std.proofs.Common.{◌≡◌, ◌≢◌, ℕ, zero, suc, ◌+◌, ◌<◌, ◌≤◌, ◌⊎◌, not, eqb, Bool, true, false, List, [], ◌∷◌, ◌++◌, length, get_or, Option, Some, None, slice_get, inl, inr, refl, sym, ap, ◌∙◌, subst, arith}
+use Rattle.std.specs.Option.{IsSome}
+use Rattle.std.proofs.lemmas.Bool.{false≢true, cases_Bool, cases_lt, cases_eq, and_parts, and_from, eqb-true, eq-eqb, ne_eqb, le-leb, leb-true}
+use Rattle.std.proofs.lemmas.Option.{slice_get_within, slice_get-get_or}
 use Rattle.rept_steps.specs.Course.{Course, Row, IsRow, IsSound}
-use Rattle.rept_order.specs.Moments.{Moment, IsMoment, NotLater, Earlier, IsNext}
+use Rattle.rept_order.specs.Moments.{Moment, IsMoment, Earlier, IsNext}
 use Rattle.rept_order.specs.Moments.Moment.{before, after, at_end}
 use Rattle.rept_order.specs.Runs.{beside_by}
 use Rattle.rept_order.specs.Legs.{leg_row}
@@ -17,13 +16,13 @@ use Rattle.rept_moments.specs.declared.search.Search.{Search}
 use Rattle.rept_moments.specs.declared.side.Side.{Side}
 use Rattle.rept_moments.specs.Ordering.{moment_at}
 use Rattle.rept_moments.specs.Edges.{begin_at, end_at}
-use Rattle.rept_moments.specs.Begins.{former_at, following_at, same_end, is_alike, is_first_by, is_first_at, sooner_end, later_from, IsBy, IsLeastEnd, AreBegins}
+use Rattle.rept_moments.specs.Begins.{former_at, following_at, same_end, is_alike, is_first_by, is_first_at, sooner_end, later_from, IsBy, AreBegins}
 use Rattle.rept_moments.specs.Writers.{not_past}
 use Rattle.rept_moments.specs.Numbers.{numbers_of}
 use Rattle.rept_moments.specs.Nexts.{nexts_of, offered, offered_all, Member, IsOffered, IsAfter, IsOther, end_with, IsLaterBy, offers_at, none_late, is_first_later, first_offer, IsOffer}
 use Rattle.rept_moments.proofs.Places.{row_there, there_row}
 use Rattle.rept_moments.proofs.Apart.{are_numbers}
-use Rattle.rept_moments.proofs.Turns.{turn, turn_same, past_parts, past_from, is_moment, in_turn, turn_order, never, late_earlier, earlier_late, side_from, IsDirect, following_is, following_none, former_is, former_row, former_none}
+use Rattle.rept_moments.proofs.Turns.{turn, turn_same, past_parts, past_from, is_moment, in_turn, turn_order, late_earlier, earlier_late, side_from, following_is, following_none, former_is, former_row, former_none}
 use Rattle.rept_moments.proofs.Beginning.{by_left, by_right, one_of}
 use Rattle.rept_moments.proofs.Offers.{IsNeighbour, has_next, neighbour_has, member_left, member_right, member_parts, one_by, held_by}
 use Rattle.rept_moments.proofs.Offering.{offered_step}
@@ -175,7 +174,7 @@ module _ (C : Course) (sound : IsSound C) where
     }
 
     module _ (later : Later) (its : IsLaterBy C s (following_at C s) later) where
-      -- two moments with one number of turns are one
+      -- what is later than a moment is later than those before it in its thread
       up_to : (a b : Side) → IsRow C (row_on C a.point) → IsRow C (row_on C b.point) → (row_on C a.point).thread ≡ (row_on C b.point).thread → turn a ≤ turn b → (w : Moment) → Earlier C (moment_at C b) w → Earlier C (moment_at C a) w
       up_to a b ia ib same order w e =
           elim (cases_lt (turn a) (turn b)) [
@@ -226,7 +225,7 @@ module _ (C : Course) (sound : IsSound C) where
           ]
 
       -- the first later moment of another thread
-      module _ (u : Side) (iu : IsRow C (row_on C u.point)) (apart : (row_on C s.point).thread ≢ (row_on C u.point).thread) (later_u : Earlier C (moment_at C s) (moment_at C u)) (in_time : not_past later.last (begin_at C u) ≡ true) where
+      module _ (u : Side) (iu : IsRow C (row_on C u.point)) (apart : (row_on C s.point).thread ≢ (row_on C u.point).thread) (in_time : not_past later.last (begin_at C u) ≡ true) where
         same_none : (o : Option Side) → former_at C u ≡ o → none_late C s o ≡ true → (w : Side) → IsRow C (row_on C w.point) → (row_on C w.point).thread ≡ (row_on C u.point).thread → Earlier C (moment_at C s) (moment_at C w) → Earlier C (moment_at C w) (moment_at C u) → ⊥
         same_none None e none w iw same one other = former_none C sound u w iu e same (turn_order C sound w u iw iu same other)
         same_none (Some p) e none w iw same one other =
@@ -296,8 +295,7 @@ module _ (C : Course) (sound : IsSound C) where
           let iu = leads o.first o.row in
           let parts = and_parts (not (eqb (row_on C s.point).thread (row_on C o.first.point).thread)) (none_late C s (former_at C o.first)) o.is in
           let apart = apart_by (row_on C s.point).thread (row_on C o.first.point).thread parts.0 in
-          let later_u = late_earlier C sound s o.first is iu o.late in
-          neighbour o.first iu v o.name (next_by o.first iu later_u (first_none o.first iu apart later_u o.in_time parts.1))
+          neighbour o.first iu v o.name (next_by o.first iu (late_earlier C sound s o.first is iu o.late) (first_none o.first iu apart o.in_time parts.1))
 
       -- each next moment is one of these
       module _ (u : Side) (iu : IsRow C (row_on C u.point)) (next : IsNext C (moment_at C s) (moment_at C u)) where

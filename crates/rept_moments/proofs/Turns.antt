@@ -7,9 +7,9 @@ use Rattle.rept_steps.specs.Course.{Course, Row, row_of, rows_of, IsRow, IsSound
 use Rattle.rept_order.specs.Events.{event_slice}
 use Rattle.rept_order.specs.Moments.{Moment, IsMoment, NotLater, Earlier}
 use Rattle.rept_order.specs.Moments.Moment.{before, after, at_end}
-use Rattle.rept_order.specs.Times.{begin_of, ends_by, not_later}
+use Rattle.rept_order.specs.Times.{ends_by, not_later}
 use Rattle.rept_order.specs.Runs.{beside_by}
-use Rattle.rept_order.specs.Legs.{points_before, number_of, leg_row}
+use Rattle.rept_order.specs.Legs.{points_before, leg_row}
 use Rattle.rept_order.proofs.Decide.{not_later_true, not_later_from}
 use Rattle.rept_order.proofs.Legs.{number_point}
 use Rattle.rept_order.proofs.Nexts.{earlier_trans}
@@ -17,7 +17,7 @@ use Rattle.rept_course.specs.Numbered.{row_on}
 use Rattle.rept_moments.specs.declared.side.Side.{Side}
 use Rattle.rept_moments.specs.Ordering.{side, moment_at, event_at}
 use Rattle.rept_moments.specs.Edges.{begin_at, end_at}
-use Rattle.rept_moments.specs.Begins.{stands_by, former_by, former_at, following_at}
+use Rattle.rept_moments.specs.Begins.{stands_by, former_at, following_at}
 use Rattle.rept_moments.specs.Writers.{end_of, not_past}
 use Rattle.rept_moments.proofs.Places.{row_there, there_row, point_of_row, row_point, next_row}
 use Rattle.rept_moments.proofs.Listing.{row_at_side}

@@ -1,6 +1,6 @@
 //! The slices of all threads in the order of their begins.
 
-ghost use Rattle.std.specs.Prelude.{◌≡◌, ◌≤◌, ◌<◌, ◌++◌, ℕ, true, false, length, IfOk, IfSome, IsSome, OnOk, Some, slice_get, slice_index_or};
+ghost use Rattle.std.specs.Prelude.{◌≡◌, ◌≤◌, ◌<◌, ◌++◌, ℕ, true, false, length, IfOk, IfSome, IsSome, OnOk, Some, slice_get};
 ghost use Rattle.std.specs.List.Sorted.{IsPermutation, IsNonDecreasingBy};
 ghost use Rattle.rept_order.specs.Legs.{leg_row};
 ghost use Rattle.rept_moments.specs.Begins.{entry, first_of, firsts_at, firsts_to, following_at, former_at, is_alike, is_first_at, later_from, lowered, same_end, AreBegins};

@@ -1,6 +1,6 @@
 //! The numbers of the moments of several threads.
 
-ghost use Rattle.std.specs.Prelude.{◌≡◌, ◌≤◌, ◌<◌, ◌^◌, [], ◌+◌, Some, true, length, IfOk, IfSome, IsSome, OnOk};
+ghost use Rattle.std.specs.Prelude.{◌≡◌, ◌≤◌, ◌<◌, ◌^◌, ◌+◌, Some, true, length, IfOk, IfSome, IsSome, OnOk};
 ghost use Rattle.rept_steps.specs.Course.{rows_of, IsSound};
 ghost use Rattle.rept_steps.specs.Runs.{course_of};
 ghost use Rattle.rept_order.specs.Legs.{points_before};
@@ -16,7 +16,7 @@ ghost use Rattle.rept_moments.specs.Numbers.{numbers_of};
 ghost use Rattle.rept_moments.specs.Numbering.{kept_with};
 ghost use Rattle.rept_moments.specs.Between.{own_to, IsBetween};
 ghost use Rattle.rept_moments.specs.Seen.{moment_in, IsNextFrom, IsRowAt, IsLastFrom};
-ghost use Rattle.rept_moments.specs.Begins.{following_at, former_at, AreBegins};
+ghost use Rattle.rept_moments.specs.Begins.{following_at, AreBegins};
 ghost use Rattle.rept_moments.specs.Nexts.{is_first_later, none_late, first_offer, offers_at, nexts_of, merged_nexts, point_nexts, side_nexts, last_nexts, ends_to, offered_all, IsLaterBy, IsOffer, IsOffered};
 ghost use Rattle.rept_moments.specs.Tables.{moments_at};
 
@@ -409,7 +409,7 @@ impl<'a> Many<'a> {
         }
     }
 
-    /// What the slices of other threads leave to be next to a moment of a row.
+    /// Whether slices begin after that of a moment of a row ends, and the least end of those.
     fn later_of_others(&self, side: Side) -> Later
         requires { IsSome ((seen_of self.now).legs.row side.point) }
         ensures { IsLaterBy self.now side None result }
@@ -417,7 +417,7 @@ impl<'a> Many<'a> {
         self.begins.from(self.begins.after(self.points.end(side)))
     }
 
-    /// What the next moment of its thread and the slices of other threads leave to be next to it.
+    /// Whether a moment is later than one of a row, and by which time one must be able to come to be next to it.
     fn later(&self, side: Side) -> Later
         requires { IsSome ((seen_of self.now).legs.row side.point) }
         ensures { IsLaterBy self.now side (following_at self.now side) result }
@@ -484,7 +484,7 @@ impl<'a> Many<'a> {
         !own && early
     }
 
-    /// Whether the slice of a moment, if there is one, begins before that of one of a row ends.
+    /// Whether a moment of another thread, if there is one, isn't later than one of a row: its slice doesn't begin after the other one's ends.
     fn is_none_late(&self, side: Side, before: Option<Side>) -> bool
         requires side { IsSome ((seen_of self.now).legs.row side.point) }
         requires before { IfSome before (λ s. IsSome ((seen_of self.now).legs.row s.point)) }

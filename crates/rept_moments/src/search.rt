@@ -14,8 +14,8 @@ pub struct Search {
     pub found: Option<u32>,
 }
 
-/// Whether some thread has a later moment than one, and by which time one must be able to come to be next to it: the least end of the slices of the first ones
-/// of each thread, where it is known.
+/// Whether a moment is later than one, and by which time one must be able to come to be next to it: the least end of the slices of the later ones, where one is
+/// known.
 #[derive(Clone, Copy)]
 pub struct Later {
     /// Whether there is one.

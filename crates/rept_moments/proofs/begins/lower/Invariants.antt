@@ -1,4 +1,3 @@
-use Rattle.std.proofs.Common.{ℕ}
 use Rattle.rept_moments.proofs.Beginning.{IsLowering}
 use Rattle.rept_moments.proofs.begins.lower.Given as goal
 

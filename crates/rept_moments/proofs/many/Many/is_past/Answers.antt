@@ -1,8 +1,4 @@
-use Rattle.std.proofs.Common.{Some, None, refl, sym, ap, subst, ◌∙◌}
-use Rattle.std.specs.Option.{IsSome}
-use Rattle.rept_steps.specs.Course.{Course}
-use Rattle.rept_order.specs.Legs.{leg_row}
-use Rattle.rept_moments.specs.Tables.{AreTables}
+use Rattle.std.proofs.Common.{Some, None, refl, sym, ◌∙◌}
 use Rattle.rept_moments.proofs.Falls.{leads_placed}
 use Rattle.rept_moments.proofs.Told.{past_told}
 use Rattle.rept_moments.proofs.many.Many.is_past.Goals as goal

@@ -1,4 +1,4 @@
-use Rattle.std.proofs.Common.{◌≤◌, ap, subst, arith}
+use Rattle.std.proofs.Common.{◌≤◌, subst, arith}
 use Rattle.rept_steps.specs.Course.{Course}
 use Rattle.rept_moments.specs.Points.{points_in}
 use Rattle.rept_moments.proofs.Places.{leg_below}
