@@ -44,18 +44,18 @@ abbrev pub word_stored : ℕ → ℕ → WordDrawn
 word_stored base word = record { rule = 24; when = After; base = base; word = word; place = 0 }
 
 -- it reads its word into its register: all but SC
-abbrev pub Reads : AmoOp → Type 0
-Reads atomic.Lr = Unit {0}
-Reads atomic.Sc = ⊥
-Reads atomic.Swap = Unit {0}
-Reads atomic.Add = Unit {0}
-Reads atomic.Xor = Unit {0}
-Reads atomic.And = Unit {0}
-Reads atomic.Or = Unit {0}
-Reads atomic.Min = Unit {0}
-Reads atomic.Max = Unit {0}
-Reads atomic.Minu = Unit {0}
-Reads atomic.Maxu = Unit {0}
+abbrev pub ReadsWord : AmoOp → Type 0
+ReadsWord atomic.Lr = Unit {0}
+ReadsWord atomic.Sc = ⊥
+ReadsWord atomic.Swap = Unit {0}
+ReadsWord atomic.Add = Unit {0}
+ReadsWord atomic.Xor = Unit {0}
+ReadsWord atomic.And = Unit {0}
+ReadsWord atomic.Or = Unit {0}
+ReadsWord atomic.Min = Unit {0}
+ReadsWord atomic.Max = Unit {0}
+ReadsWord atomic.Minu = Unit {0}
+ReadsWord atomic.Maxu = Unit {0}
 
 -- it combines its word with its source: an atomic memory operation
 abbrev pub IsOperation : AmoOp → Type 0
@@ -87,11 +87,11 @@ undone atomic.Maxu written one = Unknown
 
 pub data Concludes (row : StepRow) (s : Seen) (d : Drawn) : Type 0 where
   -- 19: the register takes the word that was there
-  read : (x : Access) (m : ℕ → ℕ) → IsAccess row s x → Reads x.form.op → AreKnown s Before x.base 4 m → Says d 19 After x.form.rd (word_at m x.base) → Concludes row s d
+  read : (x : Access) (m : ℕ → ℕ) → IsAccess row s x → ReadsWord x.form.op → AreKnown s Before x.base 4 m → Says d 19 After x.form.rd (word_at m x.base) → Concludes row s d
   -- 20: an atomic memory operation on a known word and a known source gives each byte after it
   written : (x : Access) (m : ℕ → ℕ) (v k : ℕ) → IsAccess row s x → IsOperation x.form.op → IsKnown s Before x.form.rs2 v → AreKnown s Before x.base 4 m → k < 4 → d ≡ byte_drawn (word_after x.base (combined x.form.op (word_at m x.base) v)) k → Concludes row s d
   -- 21: the bytes that were read are those of the value in the register
-  read_back : (x : Access) (v k : ℕ) → IsAccess row s x → Reads x.form.op → x.form.rd ≢ 0 → IsKnown s After x.form.rd v → k < 4 → d ≡ byte_drawn (word_before 21 x.base v) k → Concludes row s d
+  read_back : (x : Access) (v k : ℕ) → IsAccess row s x → ReadsWord x.form.op → x.form.rd ≢ 0 → IsKnown s After x.form.rd v → k < 4 → d ≡ byte_drawn (word_before 21 x.base v) k → Concludes row s d
   -- 22: the source of a swap is the word after it
   swapped : (x : Access) (m : ℕ → ℕ) → IsAccess row s x → x.form.op ≡ atomic.Swap → AreKnown s After x.base 4 m → Says d 22 Before x.form.rs2 (word_at m x.base) → Concludes row s d
   -- 22: the source of an ADD or XOR from the words before and after it

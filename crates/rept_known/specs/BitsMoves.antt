@@ -23,7 +23,7 @@ use Rattle.rept_isa.specs.Rows.{Addresses, from_of, addresses_of}
 use Rattle.rept_machine.specs.Arithmetic.{computed, computed_imm, register_form, branch_holds, beside, loaded, signed_word, below_signed}
 use Rattle.rept_machine.specs.State.{State, IsState}
 use Rattle.rept_machine.specs.Step.{HasEffect}
-use Rattle.rept_machine.specs.Ways.{Tells, way_tells}
+use Rattle.rept_machine.specs.Ways.{TurnTells, way_tells}
 use Rattle.rept_partial.specs.Sets.{IsWithin}
 use Rattle.rept_span.specs.Laws.RangeBounds.{word_small}
 use Rattle.rept_span.specs.Laws.RangeMoves.{named_target}
@@ -232,7 +232,7 @@ not_false true e = refl
 not_false false e = absurd (lies (sym e))
 
 -- the operands of a branch whose way tells that they are equal
-told_equal : (op : BranchOp) (x y : ℕ) (turn : Turn) → Tells turn (branch_holds op x y) → tells_equal op turn ≡ true → x ≡ y
+told_equal : (op : BranchOp) (x y : ℕ) (turn : Turn) → TurnTells turn (branch_holds op x y) → tells_equal op turn ≡ true → x ≡ y
 told_equal Beq x y Taken told e = eqb-true x y told
 told_equal Bne x y NotTaken told e = eqb-true x y (not_false (x == y) told)
 told_equal Beq x y NotTaken told e = absurd (lies e)

@@ -11,7 +11,7 @@ use Rattle.rept_machine.specs.declared.machine.Machine.{Machine}
 use Rattle.rept_machine.specs.Machine.{state_of, pc_of, code_of, base_of, word_of_code, IsNext}
 use Rattle.rept_machine.specs.State.{State, IsState}
 use Rattle.rept_machine.specs.Step.{IsStep}
-use Rattle.rept_machine.specs.Runs.{LeadFrom, IsSpelled, IsRun}
+use Rattle.rept_machine.specs.Runs.{LeadFrom, IsSpelled, RunsOwnCode}
 
 -- The states that a machine has gone through, each of them a state, each step lawful.
 pub record Ran (old new : Machine) (rows : List StepRow) : Type 0 where
@@ -38,7 +38,7 @@ ran_none old state = record {
   steps = λ e i row h. absurd (cc);
 }
 
-pub ran_is_run : (old new : Machine) (rows : List StepRow) → Ran old new rows → IsRun old new rows
+pub ran_is_run : (old new : Machine) (rows : List StepRow) → Ran old new rows → RunsOwnCode old new rows
 ran_is_run old new rows ran = record {
   leads = ran.leads;
   spelled = ran.spelled;

@@ -23,7 +23,7 @@ pub record IsSaved (saved : List ℕ) (dump : ℕ → Option ℕ) (s : State) : 
 
 -- The machine comes from its state in old to that in new along these rows, of its own code. The states between are an execution
 -- of the rows that ends in each dump that may be saved of the last state, wherever the program's image ends.
-pub record IsRun (old new : Machine) (rows : List StepRow) : Type 0 where
+pub record RunsOwnCode (old new : Machine) (rows : List StepRow) : Type 0 where
   pub leads : LeadFrom (pc_of old) rows (pc_of new)
   pub spelled : All (IsSpelled old) rows
   pub states : ℕ → State

@@ -7,28 +7,28 @@ use Rattle.rept_isa.specs.Numbers.{following}
 use Rattle.rept_isa.specs.Operands.{way}
 
 -- A branch that was taken had a condition that holds, and one that wasn't had none. Where both ways lead to one place nothing is told, and no branch leads elsewhere.
-abbrev pub Tells : Turn → Bool → Type 0
-Tells Taken holds = holds ≡ true
-Tells NotTaken holds = holds ≡ false
-Tells Either holds = Unit {0}
-Tells NoBranch holds = ⊥
+abbrev pub TurnTells : Turn → Bool → Type 0
+TurnTells Taken holds = holds ≡ true
+TurnTells NotTaken holds = holds ≡ false
+TurnTells Either holds = Unit {0}
+TurnTells NoBranch holds = ⊥
 
-pub way_tells : (holds : Bool) (from target next : ℕ) → next ≡ cond holds target (following from) → Tells (way from target next) holds
+pub way_tells : (holds : Bool) (from target next : ℕ) → next ≡ cond holds target (following from) → TurnTells (way from target next) holds
 way_tells true from target next went =
     elim (cases_eq target (following from)) [
       | inl same ↦
           let is : way from target next ≡ Either = rw (eq-eqb target (following from) same) refl in
-          subst (λ (t : Turn). Tells t true) (sym is) tt
+          subst (λ (t : Turn). TurnTells t true) (sym is) tt
       | inr apart ↦
           let is : way from target next ≡ Taken = rw (ne_eqb target (following from) apart, went, eq-eqb target target refl) refl in
-          subst (λ (t : Turn). Tells t true) (sym is) refl
+          subst (λ (t : Turn). TurnTells t true) (sym is) refl
     ]
 way_tells false from target next went =
     elim (cases_eq target (following from)) [
       | inl same ↦
           let is : way from target next ≡ Either = rw (eq-eqb target (following from) same) refl in
-          subst (λ (t : Turn). Tells t false) (sym is) tt
+          subst (λ (t : Turn). TurnTells t false) (sym is) tt
       | inr apart ↦
           let is : way from target next ≡ NotTaken = rw (ne_eqb target (following from) apart, went, ne_eqb (following from) target (λ x. apart (sym x)), eq-eqb (following from) (following from) refl) refl in
-          subst (λ (t : Turn). Tells t false) (sym is) refl
+          subst (λ (t : Turn). TurnTells t false) (sym is) refl
     ]

@@ -40,7 +40,7 @@ pub struct Machine<'a> {
 
 impl<'a> Machine<'a> {
     ghost use Rattle.rept_machine.specs.Machine.{state_of, pc_of, code_of, base_of, next_word, word_of_code, IsNext, IsUnchanged, IsNotRunnable, Halts};
-    ghost use Rattle.rept_machine.specs.Runs.{IsRun};
+    ghost use Rattle.rept_machine.specs.Runs.{RunsOwnCode};
     ghost use Rattle.rept_machine.specs.declared.machine.Machine.{Machine};
     ghost use Rattle.rept_isa.specs.declared.row.StepRow.{StepRow};
 
@@ -106,8 +106,8 @@ impl<'a> Machine<'a> {
     /// Makes so many steps, unless the machine halts before. The steps that it makes are an execution of the path of their rows, whatever
     /// of the last registers and bytes a dump has.
     pub fn run(&mut self, count: u32) -> Result<(), Halt>
-        ensures ran { OnOk result ((rows : List StepRow) × (length rows ≡ count) × IsRun self.old self.new rows) }
-        ensures halted { IfErr result (λ halt. (rows : List StepRow) × (mid : Machine) × (length rows < count) × IsRun self.old mid rows × Halts mid halt × IsUnchanged mid self.new) }
+        ensures ran { OnOk result ((rows : List StepRow) × (length rows ≡ count) × RunsOwnCode self.old self.new rows) }
+        ensures halted { IfErr result (λ halt. (rows : List StepRow) × (mid : Machine) × (length rows < count) × RunsOwnCode self.old mid rows × Halts mid halt × IsUnchanged mid self.new) }
     {
         for _ in 0..count {
             if let Err(halt) = self.step() {

@@ -67,7 +67,8 @@ abbrev pub Comes : Reader → Reader → Move Port → Result Arrival Ending →
 Comes old new source (Ok what) = (got : List ℕ) × Passed (taking (record { before = old.count; after = new.count }) source got) × Arrives got (arrived what new.carried) × (new.over ≡ None)
 Comes old new source (Err why) = (got : List ℕ) × Stops (taking (record { before = old.count; after = new.count }) source got) why × (new.over ≡ Some why)
 
-abbrev pub Reads : Reader → Reader → Move Port → Result Arrival Ending → Type 0
-Reads old new source result =
+-- what a call of the reader gives: the next arrival or why there is none; after a reason, the same one again, with nothing read
+abbrev pub ReadsNext : Reader → Reader → Move Port → Result Arrival Ending → Type 0
+ReadsNext old new source result =
     MatchOption old.over (Comes old new source result)
     (λ why. (result ≡ Err why) × (new ≡ old) × (source.after ≡ source.before))

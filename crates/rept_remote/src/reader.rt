@@ -35,7 +35,7 @@ impl Model for Packets {
 }
 
 impl Packets {
-    ghost use Rattle.rept_remote.specs.Reading.{Reads};
+    ghost use Rattle.rept_remote.specs.Reading.{ReadsNext};
 
     /// No byte was taken yet.
     pub fn new() -> Packets
@@ -62,7 +62,7 @@ impl Packets {
     /// source counted one fault in this call, and `TooMuchInput` where 1,099,511,627,776 bytes were taken and another one came; nothing
     /// arrived in the bytes that were taken then. After a refusal each call answers the same again, and nothing is read.
     pub fn next<S: Source>(&mut self, source: &mut S) -> Result<Arrival, Ending>
-        ensures { Reads self.old self.new (move (S.port source.old) (S.port source.new)) result }
+        ensures { ReadsNext self.old self.new (move (S.port source.old) (S.port source.new)) result }
     {
         if let Some(why) = self.over {
             return Err(why);

@@ -22,7 +22,7 @@ use Rattle.rept_rules.specs.Laws.ListLemmas.{nothing, single, has_single, flat_s
 use Rattle.rept_amo.specs.declared.form.WordDrawn.{WordDrawn}
 use Rattle.rept_amo.specs.declared.form.Form.{Form}
 use Rattle.rept_amo.specs.declared.form.Access.{Access}
-use Rattle.rept_amo.specs.Conclusions.{IsAccess, Reads, IsOperation, form_of, byte_drawn, word_before, word_after, word_stored, undone, Concludes}
+use Rattle.rept_amo.specs.Conclusions.{IsAccess, ReadsWord, IsOperation, form_of, byte_drawn, word_before, word_after, word_stored, undone, Concludes}
 use Rattle.rept_amo.specs.Conclusions as rules
 use Rattle.rept_amo.specs.Listing.{bytes_drawn, word_drawn, from_both, word_there, word_left, source_of, answer_of, read_drawn, written_drawn, source_back, source_drawn, word_back_drawn, operation_drawn, if_success, stored_drawn, drawn_by, access_drawn}
 
@@ -94,7 +94,7 @@ undone_operation atomic.Maxu a b v e = absurd (unknown e)
 -- ---- from the list to the relation
 
 module _ (row : StepRow) (s : Seen) (d : Drawn) (x : Access) (acc : IsAccess row s x) where
-  read_listed : Reads x.form.op → Contains (read_drawn x s) d → Concludes row s d
+  read_listed : ReadsWord x.form.op → Contains (read_drawn x s) d → Concludes row s d
   read_listed reads has = elim (Contains-append_cases (register_drawn 19 After x.form.rd (word_there x s)) (word_drawn (word_before 21 x.base) (answer_of x s)) d has) [
     | inl h ↦
         let i = in_register 19 After x.form.rd (word_there x s) d h in
@@ -136,7 +136,7 @@ module _ (row : StepRow) (s : Seen) (d : Drawn) (x : Access) (acc : IsAccess row
       let w = word_is (s.byte After) x.base p.0 p.2 in
       rules.word_back x (memory_of (s.byte After)) p.1 i.0 i.1 acc (flat_some (s.register Before x.form.rs2) p.1 p.3) w.0 (ap (λ (n : ℕ). undone x.form.op n p.1) (sym w.1) ∙ p.4) i.3 i.4
 
-  operation_listed : Reads x.form.op → IsOperation x.form.op → Contains (operation_drawn x s) d → Concludes row s d
+  operation_listed : ReadsWord x.form.op → IsOperation x.form.op → Contains (operation_drawn x s) d → Concludes row s d
   operation_listed reads operation has = elim (Contains-append_cases (read_drawn x s ++ written_drawn x s ++ source_drawn x s) (word_back_drawn x s) d has) [
     | inr h ↦ word_back_listed h
     | inl g ↦ elim (Contains-append_cases (read_drawn x s ++ written_drawn x s) (source_drawn x s) d g) [
@@ -157,17 +157,17 @@ module _ (row : StepRow) (s : Seen) (d : Drawn) (x : Access) (acc : IsAccess row
       rules.stored x i.0 i.1 acc sc to.1 (flat_some (s.register Before x.form.rs2) i.0 p.1) (subst (λ (r : ℕ). IsKnown s After r 0) (sym to.0) a.2) i.3 i.4
 
   listed_by : (op : AmoOp) → x.form.op ≡ op → Contains (drawn_by op x s) d → Concludes row s d
-  listed_by atomic.Lr e has = read_listed (subst Reads (sym e) tt) has
+  listed_by atomic.Lr e has = read_listed (subst ReadsWord (sym e) tt) has
   listed_by atomic.Sc e has = stored_listed e has
-  listed_by atomic.Swap e has = operation_listed (subst Reads (sym e) tt) (subst IsOperation (sym e) tt) has
-  listed_by atomic.Add e has = operation_listed (subst Reads (sym e) tt) (subst IsOperation (sym e) tt) has
-  listed_by atomic.Xor e has = operation_listed (subst Reads (sym e) tt) (subst IsOperation (sym e) tt) has
-  listed_by atomic.And e has = operation_listed (subst Reads (sym e) tt) (subst IsOperation (sym e) tt) has
-  listed_by atomic.Or e has = operation_listed (subst Reads (sym e) tt) (subst IsOperation (sym e) tt) has
-  listed_by atomic.Min e has = operation_listed (subst Reads (sym e) tt) (subst IsOperation (sym e) tt) has
-  listed_by atomic.Max e has = operation_listed (subst Reads (sym e) tt) (subst IsOperation (sym e) tt) has
-  listed_by atomic.Minu e has = operation_listed (subst Reads (sym e) tt) (subst IsOperation (sym e) tt) has
-  listed_by atomic.Maxu e has = operation_listed (subst Reads (sym e) tt) (subst IsOperation (sym e) tt) has
+  listed_by atomic.Swap e has = operation_listed (subst ReadsWord (sym e) tt) (subst IsOperation (sym e) tt) has
+  listed_by atomic.Add e has = operation_listed (subst ReadsWord (sym e) tt) (subst IsOperation (sym e) tt) has
+  listed_by atomic.Xor e has = operation_listed (subst ReadsWord (sym e) tt) (subst IsOperation (sym e) tt) has
+  listed_by atomic.And e has = operation_listed (subst ReadsWord (sym e) tt) (subst IsOperation (sym e) tt) has
+  listed_by atomic.Or e has = operation_listed (subst ReadsWord (sym e) tt) (subst IsOperation (sym e) tt) has
+  listed_by atomic.Min e has = operation_listed (subst ReadsWord (sym e) tt) (subst IsOperation (sym e) tt) has
+  listed_by atomic.Max e has = operation_listed (subst ReadsWord (sym e) tt) (subst IsOperation (sym e) tt) has
+  listed_by atomic.Minu e has = operation_listed (subst ReadsWord (sym e) tt) (subst IsOperation (sym e) tt) has
+  listed_by atomic.Maxu e has = operation_listed (subst ReadsWord (sym e) tt) (subst IsOperation (sym e) tt) has
 
 pub listed : (row : StepRow) (s : Seen) (d : Drawn) (form : Form) → form_of row.instr ≡ Some form → Contains (access_drawn form (known_at s Before form.rs1) s) d → Concludes row s d
 listed row s d form is has = go (s.register Before form.rs1) refl has
@@ -178,7 +178,7 @@ listed row s d form is has = go (s.register Before form.rs1) refl has
 
 -- ---- from the relation to the list
 
-reads_in : (op : AmoOp) (x : Access) (s : Seen) (d : Drawn) → Reads op → Contains (read_drawn x s) d → Contains (drawn_by op x s) d
+reads_in : (op : AmoOp) (x : Access) (s : Seen) (d : Drawn) → ReadsWord op → Contains (read_drawn x s) d → Contains (drawn_by op x s) d
 reads_in atomic.Lr x s d reads has = has
 reads_in atomic.Sc x s d reads has = absurd reads
 reads_in atomic.Swap x s d reads has = Contains-append_left (read_drawn x s ++ written_drawn x s ++ source_drawn x s) (word_back_drawn x s) d (Contains-append_left (read_drawn x s ++ written_drawn x s) (source_drawn x s) d (Contains-append_left (read_drawn x s) (written_drawn x s) d has))

@@ -21,7 +21,7 @@ use Rattle.rept_rules.specs.Laws.Own.{not_byte}
 use Rattle.rept_amo.specs.declared.form.WordDrawn.{WordDrawn}
 use Rattle.rept_amo.specs.declared.form.Form.{Form}
 use Rattle.rept_amo.specs.declared.form.Access.{Access}
-use Rattle.rept_amo.specs.Conclusions.{IsAccess, Reads, IsOperation, form_of, byte_drawn, word_before, word_after, word_stored, undone, Concludes}
+use Rattle.rept_amo.specs.Conclusions.{IsAccess, ReadsWord, IsOperation, form_of, byte_drawn, word_before, word_after, word_stored, undone, Concludes}
 use Rattle.rept_amo.specs.Conclusions as rules
 use Rattle.rept_amo.specs.Writes.{places_by, places_of}
 use Rattle.rept_amo.specs.Atomic.{atomic_rules}
@@ -96,7 +96,7 @@ first_place atomic.Minu After = 4
 first_place atomic.Maxu Before = 0
 first_place atomic.Maxu After = 4
 
-read_place : (op : AmoOp) → Reads op → first_place op Before ≡ 0
+read_place : (op : AmoOp) → ReadsWord op → first_place op Before ≡ 0
 read_place atomic.Lr h = refl
 read_place atomic.Sc h = absurd h
 read_place atomic.Swap h = refl
@@ -109,7 +109,7 @@ read_place atomic.Max h = refl
 read_place atomic.Minu h = refl
 read_place atomic.Maxu h = refl
 
-operation_reads : (op : AmoOp) → IsOperation op → Reads op
+operation_reads : (op : AmoOp) → IsOperation op → ReadsWord op
 operation_reads atomic.Lr h = tt
 operation_reads atomic.Sc h = h
 operation_reads atomic.Swap h = tt

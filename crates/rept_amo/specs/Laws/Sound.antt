@@ -25,7 +25,7 @@ use Rattle.rept_rules.specs.Laws.Sound.{Holds, says_holds, word_back, byte_back,
 use Rattle.rept_amo.specs.declared.form.WordDrawn.{WordDrawn}
 use Rattle.rept_amo.specs.declared.form.Form.{Form}
 use Rattle.rept_amo.specs.declared.form.Access.{Access}
-use Rattle.rept_amo.specs.Conclusions.{IsAccess, Reads, IsOperation, form_of, byte_drawn, word_before, word_after, word_stored, undone, Concludes}
+use Rattle.rept_amo.specs.Conclusions.{IsAccess, ReadsWord, IsOperation, form_of, byte_drawn, word_before, word_after, word_stored, undone, Concludes}
 use Rattle.rept_amo.specs.Conclusions as rules
 use Rattle.rept_amo.specs.Laws.Listed.{undone_operation}
 
@@ -36,7 +36,7 @@ form_is _ form e = absurd (no_some e)
 -- ---- what an atomic instruction does, by its kind
 
 module _ (rd value base : ℕ) (a : Addresses) (s t : State) where
-  reads_word : (op : AmoOp) → Acts op rd value base a s t → Reads op → rd ≢ 0 → t.register rd ≡ word_at s.memory base
+  reads_word : (op : AmoOp) → Acts op rd value base a s t → ReadsWord op → rd ≢ 0 → t.register rd ≡ word_at s.memory base
   reads_word atomic.Lr h reads named = h.result.written named
   reads_word atomic.Sc h reads named = absurd reads
   reads_word atomic.Swap h reads named = h.result.written named

@@ -19,7 +19,7 @@ use Rattle.rept_partial.specs.declared.flat.Flat.TheVariants.{Known}
 use Rattle.rept_machine.specs.Arithmetic.{beside, loaded, word_at, byte_of, extended, branch_holds}
 use Rattle.rept_machine.specs.State.{State, IsState}
 use Rattle.rept_machine.specs.Step.{HasEffect, IsStep}
-use Rattle.rept_machine.specs.Ways.{Tells, way_tells}
+use Rattle.rept_machine.specs.Ways.{TurnTells, way_tells}
 use Rattle.rept_reason.specs.Facts.{flat}
 use Rattle.rept_view.specs.declared.drawn.When.{When}
 use Rattle.rept_view.specs.declared.drawn.When.TheVariants.{Before, After}
@@ -120,13 +120,13 @@ equal_not a b e = elim (either_way (a == b)) [ inl t ↦ equal a b t | inr f ↦
 -- a branch that went the way of equal operands had equal ones
 went_equal : (op : BranchOp) (from target next a b : ℕ) → next ≡ (if branch_holds op a b then target else following from) → equates op (way from target next) ≡ true → a ≡ b
 went_equal op from target next a b effect t =
-    let tells : Tells (way from target next) (branch_holds op a b) = way_tells (branch_holds op a b) from target next effect in
+    let tells : TurnTells (way from target next) (branch_holds op a b) = way_tells (branch_holds op a b) from target next effect in
     elim (equates_is op (way from target next) t) [
       | inl (is, went) ↦
-          let holds : branch_holds op a b ≡ true = subst (λ (w : Turn). Tells w (branch_holds op a b)) went tells in
+          let holds : branch_holds op a b ≡ true = subst (λ (w : Turn). TurnTells w (branch_holds op a b)) went tells in
           equal a b (subst (λ (o : BranchOp). branch_holds o a b ≡ true) is holds)
       | inr (is, went) ↦
-          let fails : branch_holds op a b ≡ false = subst (λ (w : Turn). Tells w (branch_holds op a b)) went tells in
+          let fails : branch_holds op a b ≡ false = subst (λ (w : Turn). TurnTells w (branch_holds op a b)) went tells in
           equal_not a b (subst (λ (o : BranchOp). branch_holds o a b ≡ false) is fails)
     ]
 
