@@ -31,17 +31,17 @@ pub record StepOfPathWrites {W : Type 0} (P : ThreadPath W) (run : ℕ → State
   pub is_row : slice_get P.given.rows j ≡ Some row
   pub writes : Writes P.given.image_end row (run j) (run (j + 1)) a
 
--- no step after step j and before the point writes the byte
+-- no step after step j and before the point writes the byte: the moments of one path are its points
 abbrev pub NoneAfter : {W : Type 0} → ThreadPath W → (ℕ → State) → Spot → ℕ → Type 0
-NoneAfter P run x j = (k : ℕ) → j < k → k < x.point → StepOfPathWrites P run k x.address → ⊥
+NoneAfter P run x j = (k : ℕ) → j < k → k < x.moment → StepOfPathWrites P run k x.address → ⊥
 
 -- Of an execution: step j, which is before the point, writes the byte, and no later step before the point does; or no step after step j, which is before the point, and before the point
 -- does; or no step before the point does. Of several nothing is said, nor are they told of one path.
 abbrev pub WriterHoldsOnPath : {W : Type 0} → ThreadPath W → (ℕ → State) → Spot → Writer → Type 0
-WriterHoldsOnPath P run x (writers.TheVariants.Writes j) = (j < x.point) × StepOfPathWrites P run j x.address × NoneAfter P run x j
-WriterHoldsOnPath P run x (writers.TheVariants.MayWrite j) = (j < x.point) × NoneAfter P run x j
+WriterHoldsOnPath P run x (writers.TheVariants.Writes j) = (j < x.moment) × StepOfPathWrites P run j x.address × NoneAfter P run x j
+WriterHoldsOnPath P run x (writers.TheVariants.MayWrite j) = (j < x.moment) × NoneAfter P run x j
 WriterHoldsOnPath P run x writers.TheVariants.Several = ⊤
-WriterHoldsOnPath P run x writers.TheVariants.None = (k : ℕ) → k < x.point → StepOfPathWrites P run k x.address → ⊥
+WriterHoldsOnPath P run x writers.TheVariants.None = (k : ℕ) → k < x.moment → StepOfPathWrites P run k x.address → ⊥
 
 -- Of one execution: each value of a register and each byte that is told is the one that it has, each register lies between the
 -- bounds that are told and has the bits that are noted, and what is told of the step that last wrote a byte is so: that step came before the point, wrote it and no later one did; it came before and no later

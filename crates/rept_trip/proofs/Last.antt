@@ -68,11 +68,11 @@ module _ {W : Type 0} (S : Setting W) (K : Knowledge) (x : Spot) (legs : AreLegs
 
   candidate_true : (i : ℕ) → is_candidate S K x i ≡ true → IsCandidate S K x i
   candidate_true i e =
-      let parts = and_parts (may_write S K i x.address) (not (S.moments.ahead i x.point)) e in
-      record { may = parts.0; reaches = not-true (S.moments.ahead i x.point) parts.1 }
+      let parts = and_parts (may_write S K i x.address) (not (S.moments.ahead i x.moment)) e in
+      record { may = parts.0; reaches = not-true (S.moments.ahead i x.moment) parts.1 }
 
   candidate_from : (i : ℕ) → IsCandidate S K x i → is_candidate S K x i ≡ true
-  candidate_from i h = and_from (may_write S K i x.address) (not (S.moments.ahead i x.point)) h.may (not_from_false (S.moments.ahead i x.point) h.reaches)
+  candidate_from i h = and_from (may_write S K i x.address) (not (S.moments.ahead i x.moment)) h.may (not_from_false (S.moments.ahead i x.moment) h.reaches)
 
   abbrev is_behind : ℕ → ℕ → Bool
   is_behind j k = eqb k j || (not (is_candidate S K x k) || comes_after S.moments j k)

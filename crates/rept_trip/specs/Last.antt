@@ -20,7 +20,7 @@ greatest_below test (suc n) = if test n then Some n else greatest_below test n
 
 -- whether a row may write the byte, and doesn't lie wholly after the moment
 abbrev pub is_candidate : {W : Type 0} → Setting W → Knowledge → Spot → ℕ → Bool
-is_candidate S K x i = may_write S K i x.address && not (S.moments.ahead i x.point)
+is_candidate S K x i = may_write S K i x.address && not (S.moments.ahead i x.moment)
 
 -- whether the first row lies wholly after the second, and not the other way round as well
 abbrev pub comes_after : Moments → ℕ → ℕ → Bool
