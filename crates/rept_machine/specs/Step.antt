@@ -115,7 +115,8 @@ abbrev pub far_target : ℕ → ℤ → ℕ
 far_target base imm = plus base imm / 2 * 2
 
 -- The effect of the instruction at the first of these addresses, which leads to the last one. Targets are reckoned from its own address, and what follows
--- it from the second: so a compressed one is followed by the instruction two bytes on (chapter 16.1). EBREAK has no effect.
+-- it from the second: so a compressed one is followed by the instruction two bytes on (chapter 16.1). AUIPC adds to its own address (chapter 2.4), which is the
+-- second one too, since no compressed instruction expands to AUIPC. EBREAK has no step: no two states are those before and after one.
 abbrev pub HasEffect : Instr → ℕ → Addresses → State → State → Type 0
 HasEffect (Lui rd imm) image_end a s t = Computes rd imm a s t
 HasEffect (Auipc rd imm) image_end a s t = Computes rd (beside a.from imm) a s t
