@@ -18,6 +18,9 @@ pub some_row : (o : Option StepRow) → IsSome o → (row : StepRow) × (o ≡ S
 some_row None some = cc
 some_row (Some row) some = (row, refl)
 
+pub there_inside : (t : Timeline) → AreLegs t.legs → (i : ℕ) → IsSome (t.legs.row i) → i < t.legs.count
+there_inside t laws i some = let its = some_row (t.legs.row i) some in laws.inside i its.0 its.1
+
 pub moment_early : (t : Timeline) → IsTimeline t → (i : ℕ) (w : When) → IsSome (t.legs.row i) → moment_of t.moments i w ≤ t.moments.end
 moment_early t laws i Before some = let its = some_row (t.legs.row i) some in laws.moments.rows_before i its.0 its.1
 moment_early t laws i After some = let its = some_row (t.legs.row i) some in laws.moments.rows_after i its.0 its.1

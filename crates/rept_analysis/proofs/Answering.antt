@@ -24,7 +24,7 @@ use Rattle.rept_report.proofs.Told.{none_some}
 use Rattle.rept_report.proofs.Places.{oldest_all}
 use Rattle.rept_report.proofs.Registers.{range_same, may_write_same, is_sure_same}
 use Rattle.rept_report.proofs.Implied.{ImpliedAt, implied_at, implied_next, implied_carries}
-use Rattle.rept_analysis.specs.State.{State, all_known, Path, along}
+use Rattle.rept_analysis.specs.State.{State, all_known, Subject, along}
 use Rattle.rept_analysis.specs.Moments.{moment}
 use Rattle.rept_report.specs.Why.{fact_of}
 use Rattle.rept_analysis.specs.Drawing.{Knows, IsTracked, IsFitted, IsSettled}
@@ -79,7 +79,7 @@ module _ {W : Type 0} (S : Setting W) (K L : Knowledge) (same : SameRegisters K 
   writer_same writers.TheVariants.Several h = (λ j last. h.0 j (same_last j last), λ none. h.1 (record { rows = λ k c. none.rows k (candidate_same k c); light = none.light }))
   writer_same writers.TheVariants.None h = record { rows = λ k c. h.rows k (same_candidate k c); light = h.light }
 
-pub implied_same : {W : Type 0} (P : Path W) (K L : Knowledge) → SameRegisters K L → (p a : ℕ) → implied (along P) K p a ≡ implied (along P) L p a
+pub implied_same : {W : Type 0} (P : Subject W) (K L : Knowledge) → SameRegisters K L → (p a : ℕ) → implied (along P) K p a ≡ implied (along P) L p a
 implied_same P K L same p a = ap (λ (may : ℕ → ℕ → Bool). if nat_lt a (2 ^ 32) && nat_le p P.given.moments.end && (P.given.moments.dark_past p && all_past P.given.moments may (spot p a) P.given.legs.count) then P.given.dump a else None) (fun_ext (λ i. fun_ext (λ b. may_write_same (along P) K L same i b)))
 
 module _ {W : Type 0} (s : State W) (settled : IsSettled s) where

@@ -5,9 +5,11 @@ use Rattle.std.proofs.lemmas.Bool.{cases_eq}
 use Rattle.std.proofs.lemmas.List.{length-set}
 use Rattle.std.proofs.lemmas.Option.{slice_get-get_or, slice_get_within}
 use Rattle.rept_alias.specs.Accesses.{call_hits}
+use Rattle.rept_alias.specs.declared.addresses.CallAccess.{CallAccess}
 use Rattle.rept_reason.specs.declared.fact.Cell.{Cell}
 use Rattle.rept_reason.specs.declared.fact.Cell.TheVariants.{Register}
 use Rattle.rept_span.proofs.Filling.{set_here, set_elsewhere}
+use Rattle.rept_reach.specs.Reaching.{IsExtent}
 use Rattle.rept_writing.specs.Hits.{AreInOrder}
 use Rattle.rept_writing.specs.declared.list.Writing.{Writing}
 use Rattle.rept_report.specs.Setting.{HasLaws}
@@ -17,14 +19,14 @@ use Rattle.rept_report.specs.Conflicts.{IsQuiet}
 use Rattle.rept_report.specs.Log.{oldest}
 use Rattle.rept_report.proofs.Monotony.{quiet_less, spared_more}
 use Rattle.rept_analysis.specs.Work.{number_past}
-use Rattle.rept_analysis.specs.State.{State, all_known, with_writing, Path, along}
+use Rattle.rept_analysis.specs.State.{State, all_known, with_writing, Subject, along}
 use Rattle.rept_analysis.specs.Drawing.{Knows, IsSilent, IsSpared, IsSparedNow, IsListed, past, IsBarrier, AreBarriers, AreWritings, Grows, IsUncut}
 
 module _ {W : Type 0} (s t : State W) (laws : HasLaws (along s.path)) (words : HasWords (all_known t)) (setting : t.path ≡ s.path) (older : oldest t.filled t.known.log ≡ oldest s.filled s.known.log) (more : (p : ℕ) (c : Cell) (v : ℕ) → Knows p c v s → Knows p c v t) where
   -- a row that may not write a byte may not where more is known
   pub spared_still : (i a : ℕ) → a < 2 ^ 32 → IsSpared i a s → IsSpared i a t
   spared_still i a small (inl old) = inl (rw (setting, older) old)
-  spared_still i a small (inr now) = inr (subst (λ (P : Path W). IsQuiet (along P) (all_known t) → may_write (along P) (all_known t) i a ≡ false) (sym setting) (λ quiet.
+  spared_still i a small (inr now) = inr (subst (λ (P : Subject W). IsQuiet (along P) (all_known t) → may_write (along P) (all_known t) i a ≡ false) (sym setting) (λ quiet.
       spared_more (along s.path) laws (all_known s) (all_known t) (λ p r v e. more p (Register r) v e) words quiet i a small (now (quiet_less (along s.path) laws (all_known s) (all_known t) (λ p r v e. more p (Register r) v e) quiet))))
 
   silent_still : (i : ℕ) → IsSilent i s → IsSilent i t
@@ -32,10 +34,17 @@ module _ {W : Type 0} (s t : State W) (laws : HasLaws (along s.path)) (words : H
 
   pub barriers_still : (list : List Writing) → AreBarriers list s → AreBarriers list t
   barriers_still list h = record {
-    each = λ k w at. let x = h.each k w at in record { there = rw setting x.there; time = rw setting x.time; others = λ a small miss. spared_still w.row a small (x.others a small miss) };
+    each = λ k w at.
+        let x = h.each k w at in
+        record {
+          there = rw setting x.there;
+          time = rw setting x.time;
+          extent = subst (λ (P : Subject W). IsExtent P.given.moments w.row (record { from = w.from; to = w.to })) (sym setting) x.extent;
+          others = λ a small miss. spared_still w.row a small (x.others a small miss);
+        };
     order = h.order;
     all = λ i there.
-        elim (h.all i (subst (λ (P : Path W). IsSome (P.given.legs.row i)) setting there)) [
+        elim (h.all i (subst (λ (P : Subject W). IsSome (P.given.legs.row i)) setting there)) [
           | inl listed ↦ inl listed
           | inr silent ↦ inr (silent_still i silent)
         ];
@@ -43,7 +52,7 @@ module _ {W : Type 0} (s t : State W) (laws : HasLaws (along s.path)) (words : H
 
 pub writings_still : {W : Type 0} (s t : State W) → t.path ≡ s.path → t.spans ≡ s.spans → oldest t.filled t.known.log ≡ oldest s.filled s.known.log → ((p : ℕ) (c : Cell) (v : ℕ) → Knows p c v s → Knows p c v t) → t.work.writing ≡ s.work.writing → (HasWords (all_known s) → HasWords (all_known t)) → AreWritings s → AreWritings t
 writings_still s t setting spans older more same words h = record {
-  laws = subst (λ (P : Path _). HasLaws (along P)) (sym setting) h.laws;
+  laws = subst (λ (P : Subject _). HasLaws (along P)) (sym setting) h.laws;
   words = words h.words;
   fitted = rw (setting, spans, older) h.fitted;
   barriers = subst (λ (list : List Writing). AreBarriers list t) (sym same) (barriers_still s t h.laws (words h.words) setting older more s.work.writing h.barriers);
@@ -96,11 +105,16 @@ module _ (list : List Writing) (k : ℕ) (w x : Writing) (found : slice_get list
         let second = at_set j d (omega (arith, lt, long)) in
         omega (arith, before, first, second)
 
-  module _ {W : Type 0} (s : State W) (free : (a : ℕ) → a < 2 ^ 32 → call_hits x.access a ≡ false → IsSparedNow w.row a s) (time : x.at ≡ s.path.given.moments.before w.row) (h : AreBarriers list s) where
+  module _ {W : Type 0} (s : State W) (free : (a : ℕ) → a < 2 ^ 32 → call_hits x.access a ≡ false → IsSparedNow w.row a s) (time : x.at ≡ s.path.given.moments.before w.row) (extent : IsExtent s.path.given.moments w.row (record { from = x.from; to = x.to })) (h : AreBarriers list s) where
     anew_here : IsBarrier x s
     anew_here =
         let old = h.each k w found in
-        record { there = rw row old.there; time = rw row time; others = λ a small miss. rw row (inr (free a small miss)) }
+        record {
+          there = rw row old.there;
+          time = rw row time;
+          extent = subst (λ (i : ℕ). IsExtent s.path.given.moments i (record { from = x.from; to = x.to })) (sym row) extent;
+          others = λ a small miss. rw row (inr (free a small miss));
+        }
 
     anew_each : (j : ℕ) (y : Writing) → slice_get (set list k x) j ≡ Some y → IsBarrier y s
     anew_each j y at =
@@ -122,18 +136,18 @@ module _ (list : List Writing) (k : ℕ) (w x : Writing) (found : slice_get list
 
 barriers_listed : {W : Type 0} (s : State W) (rows list : List Writing) → AreBarriers rows s → AreBarriers rows (with_writing s list)
 barriers_listed s rows list h = record {
-  each = λ k w at. let x = h.each k w at in record { there = x.there; time = x.time; others = x.others };
+  each = λ k w at. let x = h.each k w at in record { there = x.there; time = x.time; extent = x.extent; others = x.others };
   order = h.order;
   all = h.all;
 }
 
 -- a row of the list was put in it anew, with what it may write by all that is known by now
-pub put_writings : {W : Type 0} (s t : State W) (k : ℕ) (w x : Writing) → slice_get s.work.writing k ≡ Some w → x.row ≡ w.row → ((a : ℕ) → a < 2 ^ 32 → call_hits x.access a ≡ false → IsSparedNow w.row a s) → x.at ≡ s.path.given.moments.before w.row → t ≡ with_writing s (set s.work.writing k x) → AreWritings s → AreWritings t
-put_writings s t k w x found row free time is h = subst (λ (y : State _). AreWritings y) (sym is) (record {
+pub put_writings : {W : Type 0} (s t : State W) (k : ℕ) (w x : Writing) → slice_get s.work.writing k ≡ Some w → x.row ≡ w.row → ((a : ℕ) → a < 2 ^ 32 → call_hits x.access a ≡ false → IsSparedNow w.row a s) → x.at ≡ s.path.given.moments.before w.row → IsExtent s.path.given.moments w.row (record { from = x.from; to = x.to }) → t ≡ with_writing s (set s.work.writing k x) → AreWritings s → AreWritings t
+put_writings s t k w x found row free time extent is h = subst (λ (y : State _). AreWritings y) (sym is) (record {
   laws = h.laws;
   words = h.words;
   fitted = h.fitted;
-  barriers = barriers_listed s (set s.work.writing k x) (set s.work.writing k x) (barriers_anew s.work.writing k w x found row s free time h.barriers);
+  barriers = barriers_listed s (set s.work.writing k x) (set s.work.writing k x) (barriers_anew s.work.writing k w x found row s free time extent h.barriers);
 })
 
 -- only the list differs
@@ -143,13 +157,21 @@ put_grows s t list is keeps = subst (λ (y : State _). (AreWritings s → AreWri
 pub put_uncut : {W : Type 0} (s t : State W) (list : List Writing) → t ≡ with_writing s list → IsUncut s → IsUncut t
 put_uncut s t list is u = subst (λ (y : State _). IsUncut y) (sym is) u
 
--- a row of the list was put in it anew, and all else stayed
-module _ {W : Type 0} (s t : State W) (k : ℕ) (x : Writing) (within : k < length s.work.writing) (listed : (w : Writing) → slice_get s.work.writing k ≡ Some w → w.row ≡ x.row) (free : (a : ℕ) → a < 2 ^ 32 → call_hits x.access a ≡ false → IsSparedNow x.row a s) (time : x.at ≡ s.path.given.moments.before x.row) (is : t ≡ with_writing s (set s.work.writing k x)) where
+-- row i of the list was put in it anew, with what it may write by all that is known by now, and all else stayed
+module _ {W : Type 0} (s t : State W) (k i : ℕ) (x : Writing) (access : CallAccess) (row : x.row ≡ i) (its : x.access ≡ access) (within : k < length s.work.writing) (listed : (w : Writing) → slice_get s.work.writing k ≡ Some w → w.row ≡ i) where
   abbrev former : Writing
   former = get_or s.work.writing k x
 
   found : slice_get s.work.writing k ≡ Some former
   found = slice_get-get_or s.work.writing k x within
 
-  pub anew_grows : Grows s t
-  anew_grows = put_grows s t (set s.work.writing k x) is (put_writings s t k former x found (sym (listed former found)) (λ a small miss. subst (λ (i : ℕ). IsSparedNow i a s) (sym (listed former found)) (free a small miss)) (subst (λ (i : ℕ). x.at ≡ s.path.given.moments.before i) (sym (listed former found)) time) is)
+  same : i ≡ former.row
+  same = sym (listed former found)
+
+  pub anew_grows : ((a : ℕ) → a < 2 ^ 32 → call_hits access a ≡ false → IsSparedNow i a s) → x.at ≡ s.path.given.moments.before i → IsExtent s.path.given.moments i (record { from = x.from; to = x.to }) → t ≡ with_writing s (set s.work.writing k x) → Grows s t
+  anew_grows free time extent is =
+      put_grows s t (set s.work.writing k x) is (put_writings s t k former x found (row ∙ same)
+      (λ a small miss. subst (λ (j : ℕ). IsSparedNow j a s) same (free a small (subst (λ (y : CallAccess). call_hits y a ≡ false) its miss)))
+      (subst (λ (j : ℕ). x.at ≡ s.path.given.moments.before j) same time)
+      (subst (λ (j : ℕ). IsExtent s.path.given.moments j (record { from = x.from; to = x.to })) same extent)
+      is)

@@ -17,7 +17,7 @@ use Rattle.rept_report.proofs.Told.{told_in, none_some, same_some}
 use Rattle.rept_report.proofs.Places.{oldest_all, oldest_more}
 use Rattle.rept_report.proofs.Standing.{oldest_up}
 use Rattle.rept_report.proofs.Monotony.{quiet_less}
-use Rattle.rept_analysis.specs.State.{State, Path, along}
+use Rattle.rept_analysis.specs.State.{State, Subject, along}
 use Rattle.rept_analysis.specs.Drawing.{Knows, Grows, LastKnownAt, LastPointKnown, LastKnownBelow}
 use Rattle.rept_analysis.specs.Kept.{IsKept}
 use Rattle.rept_analysis.proofs.Following.{LastsBelow}
@@ -153,17 +153,17 @@ module _ {W : Type 0} (s : State W) where
 module _ {W : Type 0} (old new : State W) where
   -- what is so of the path and the log alone
   pub begun_like : new.path ≡ old.path → new.known.log ≡ old.known.log → HasEndsFirst old → HasEndsFirst new
-  begun_like path log first = subst (λ (P : Path W). BeginsWithEnds (along P) new.known.log) (sym path) (subst (λ (fs : List Fact). BeginsWithEnds (along old.path) fs) (sym log) first)
+  begun_like path log first = subst (λ (P : Subject W). BeginsWithEnds (along P) new.known.log) (sym path) (subst (λ (fs : List Fact). BeginsWithEnds (along old.path) fs) (sym log) first)
 
   pub alone_like : new.path ≡ old.path → new.known.log ≡ old.known.log → HasEndsAlone old → HasEndsAlone new
-  alone_like path log alone = subst (λ (P : Path W). AreEnds (along P) new.known.log) (sym path) (subst (λ (fs : List Fact). AreEnds (along old.path) fs) (sym log) alone)
+  alone_like path log alone = subst (λ (P : Subject W). AreEnds (along P) new.known.log) (sym path) (subst (λ (fs : List Fact). AreEnds (along old.path) fs) (sym log) alone)
 
   pub begins_like : new.path ≡ old.path → new.known.log ≡ old.known.log → LearnsEndsFirst old → LearnsEndsFirst new
   begins_like path log (inl alone) = inl (alone_like path log alone)
   begins_like path log (inr first) = inr (begun_like path log first)
 
   pub begun_after : Grows old new → HasEndsFirst old → HasEndsFirst new
-  begun_after grows first = subst (λ (P : Path W). BeginsWithEnds (along P) new.known.log) (sym grows.path) (begun_grows (along old.path) old.known.log new.known.log grows.longer grows.log first)
+  begun_after grows first = subst (λ (P : Subject W). BeginsWithEnds (along P) new.known.log) (sym grows.path) (begun_grows (along old.path) old.known.log new.known.log grows.longer grows.log first)
 
   -- they were learnt before anything else, as all of them are known now
   pub begun_by : Grows old new → IsKept new → LastKnownBelow 32 new → (HasEndsAlone old → HasEndsAlone new) → LearnsEndsFirst old → HasEndsFirst new
@@ -177,10 +177,10 @@ module _ {W : Type 0} (old new : State W) where
 
   -- what is known at a last point is known where more is
   pub last_point_grows : Grows old new → (n p : ℕ) → LastPointKnown n p old → LastPointKnown n p new
-  last_point_grows grows n p known r inside v named is = grows.more p (Register r) v (known r inside v named (subst (λ (P : Path W). slice_get (P.given.last p) r ≡ Some v) grows.path is))
+  last_point_grows grows n p known r inside v named is = grows.more p (Register r) v (known r inside v named (subst (λ (P : Subject W). slice_get (P.given.last p) r ≡ Some v) grows.path is))
 
   pub lasts_grow : Grows old new → (least : ℕ) → LastsBelow least old → LastsBelow least new
-  lasts_grow grows least known p below last = last_point_grows grows 32 p (known p below (subst (λ (P : Path W). IsLast (along P) p) grows.path last))
+  lasts_grow grows least known p below last = last_point_grows grows 32 p (known p below (subst (λ (P : Subject W). IsLast (along P) p) grows.path last))
 
 -- where nothing was learnt yet
 pub none_learnt : {W : Type 0} {S : Setting W} {log : List Fact} → log ≡ [] → AreEnds S log ⊎ BeginsWithEnds S log

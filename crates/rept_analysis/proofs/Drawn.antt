@@ -1,11 +1,11 @@
 -- Drawings one after another.
-use Rattle.std.proofs.Common.{◌≡◌, ◌≢◌, ℕ, ◌+◌, ◌-◌, ◌<◌, ◌≤◌, Bool, true, false, ◌||◌, List, length, Option, Some, None, inl, inr, refl, sym, ap, subst, ◌∙◌, arith, Contains}
+use Rattle.std.proofs.Common.{◌≡◌, ◌≢◌, ℕ, ◌+◌, ◌-◌, ◌<◌, ◌≤◌, Bool, true, false, ◌||◌, List, length, Option, Some, None, Result, Ok, Err, IfOk, inl, inr, refl, sym, ap, subst, ◌∙◌, arith, Contains}
 use Rattle.std.proofs.lemmas.Bool.{cases_lt, or_parts, false≢true, true≢false}
 use Rattle.std.proofs.Common.{slice_get}
 use Rattle.rept_isa.specs.declared.row.StepRow.{StepRow}
 use Rattle.rept_reason.specs.declared.fact.Cell.{Cell}
 use Rattle.rept_report.specs.Setting.{IsInstant}
-use Rattle.rept_analysis.specs.State.{State, Path, all_known, along}
+use Rattle.rept_analysis.specs.State.{State, Subject, all_known, along}
 use Rattle.std.proofs.lemmas.Option.{slice_get-get_or, slice_get_within}
 use Rattle.rept_view.specs.declared.drawn.Drawn.{Drawn}
 use Rattle.rept_report.proofs.Told.{same_some}
@@ -50,7 +50,7 @@ news_then a b c g (address x small was_not here) = address x small was_not (g.tr
 news_then a b c g (anew less) = anew (let more = g.fewer in omega (arith, more, less))
 
 pub news_before : {W : Type 0} (a b c : State W) → Grows a b → HasNews b c → HasNews a c
-news_before a b c g (fact p d v early cell none here) = fact p d v (subst (λ (P : Path _). IsInstant (along P) d p) g.path early) cell (was_none (all_known a p d) refl) here
+news_before a b c g (fact p d v early cell none here) = fact p d v (subst (λ (P : Subject _). IsInstant (along P) d p) g.path early) cell (was_none (all_known a p d) refl) here
   where
     was_none : (x : Option ℕ) → all_known a p d ≡ x → all_known a p d ≡ None
     was_none None e = e
@@ -96,6 +96,11 @@ module _ {W : Type 0} (a b c : State W) (x y : Bool) (P Q R : State W → Type 0
 
 pub Drew_as : {W : Type 0} (a b : State W) (x : Bool) (P Q : State W → Type 0) → Drew a b x P → (P a → Q a) → Drew a b x Q
 Drew_as a b x P Q d f = record { news = d.news; unchanged = d.unchanged; closed = λ e. f (d.closed e); uncut = d.uncut }
+
+-- so where the last call answers whether something was learnt
+pub Drew_if : {W E : Type 0} (a b : State W) (r : Result Bool E) (P Q : State W → Type 0) → IfOk r (λ x. Drew a b x P) → (P a → Q a) → IfOk r (λ x. Drew a b x Q)
+Drew_if a b (Ok x) P Q d f = Drew_as a b x P Q d f
+Drew_if a b (Err e) P Q d f = tt
 
 pub Drew_none : {W : Type 0} (a b : State W) (P : State W → Type 0) → b ≡ a → P a → Drew a b false P
 Drew_none a b P same h = record { news = λ e. absurd (false≢true e); unchanged = λ _. same; closed = λ _. h; uncut = λ u. subst (λ (x : State _). IsUncut x) (sym same) u }

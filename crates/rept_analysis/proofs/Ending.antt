@@ -13,7 +13,7 @@ use Rattle.rept_report.proofs.Places.{oldest_all, oldest_more}
 use Rattle.rept_report.proofs.ViewLaws.{known_more}
 use Rattle.rept_report.proofs.Registers.{quiet_same}
 use Rattle.rept_log.specs.Known.{Known}
-use Rattle.rept_analysis.specs.State.{State, all_known, Path, along}
+use Rattle.rept_analysis.specs.State.{State, all_known, Subject, along}
 use Rattle.rept_analysis.specs.Drawing.{Grows, SameFacts, Continues, IsFitted, IsDrawnAll, IsSettled, IsUncut}
 use Rattle.rept_analysis.specs.Work.{left}
 use Rattle.rept_analysis.specs.Kept.{IsKept}
@@ -56,10 +56,10 @@ known_after a b c g h p x v e = h p x v (g p x v e)
 
 module _ {W : Type 0} (a b : State W) (same : SameFacts a b) where
   -- what is so of the path and the facts stays so
-  pub forth : (P : Path W → Known → Type 0) → P a.path a.known → P b.path b.known
+  pub forth : (P : Subject W → Known → Type 0) → P a.path a.known → P b.path b.known
   forth P h = rw (same.path, same.known) h
 
-  pub back_to : (P : Path W → Known → Type 0) → P b.path b.known → P a.path a.known
+  pub back_to : (P : Subject W → Known → Type 0) → P b.path b.known → P a.path a.known
   back_to P h = rw (same.path, same.known) at h
 
   pub measure_same : measure b ≡ measure a
@@ -69,7 +69,7 @@ module _ {W : Type 0} (a b : State W) (same : SameFacts a b) where
   stopped_from c kind h = record {
     path = h.path ∙ same.path;
     recorded = h.recorded;
-    has = subst (λ (P : Path W). ClosureHas (along P) kind) same.path h.has;
+    has = subst (λ (P : Subject W). ClosureHas (along P) kind) same.path h.has;
     kept = λ p r v e. h.kept p r v (rw (same.shown, same.known) e);
     more = λ p x v e. h.more p x v (rw same.known e);
     shown = λ calm. h.shown (same.conflict ∙ calm);
@@ -134,7 +134,7 @@ module _ {W : Type 0} (a b c : State W) where
   stopped_after kind g more h = record {
     path = h.path ∙ g.path;
     recorded = h.recorded;
-    has = subst (λ (P : Path W). ClosureHas (along P) kind) g.path h.has;
+    has = subst (λ (P : Subject W). ClosureHas (along P) kind) g.path h.has;
     kept = λ p r v e. h.kept p r v (continues_answers a b g p r v e);
     more = known_after a b c more h.more;
     shown = λ calm. h.shown (g.conflict ∙ calm);

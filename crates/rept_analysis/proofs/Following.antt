@@ -40,7 +40,7 @@ use Rattle.rept_report.proofs.ViewLaws.{LiesIn, known_fact, known_more, known_wo
 use Rattle.rept_report.proofs.Monotony.{quiet_less, single_value_more, Concludes_more}
 use Rattle.rept_analysis.specs.Cells.{bytes_from, bytes_known, base_known}
 use Rattle.rept_log.specs.Known.{Known as LogKnown}
-use Rattle.rept_analysis.specs.State.{State, all_known, Path, along}
+use Rattle.rept_analysis.specs.State.{State, all_known, Subject, along}
 use Rattle.rept_analysis.specs.Moments.{filled_range, moment, moment_lawful}
 use Rattle.rept_analysis.specs.Room.{IsDrawable, own_at, IsOwnByte}
 use Rattle.rept_analysis.proofs.Reserve.{drawable_more, own_byte_more}
@@ -129,7 +129,7 @@ lasts_more s least point next below here p less last =
 
 -- what followed still follows
 pub follows_more : {W : Type 0} (s t : State W) → HasLaws (along s.path) → Grows s t → HasWords (all_known t) → (f : Fact) → IsFollowing s f → IsFollowing t f
-follows_more s t laws g words f follows = subst (λ (P : Path _). IsQuiet (along P) (all_known t) → Concludes (along P) (all_known t) f) (sym g.path) (λ quiet.
+follows_more s t laws g words f follows = subst (λ (P : Subject _). IsQuiet (along P) (all_known t) → Concludes (along P) (all_known t) f) (sym g.path) (λ quiet.
     let before = quiet_less (along s.path) laws (all_known s) (all_known t) (λ p r v e. g.more p (Register r) v e) quiet in
     Concludes_more (along s.path) laws (all_known s) (all_known t) g.more words quiet f (follows before))
 
@@ -190,7 +190,7 @@ module _ {W : Type 0} (s : State W) (laws : HasLaws (along s.path)) (words : Has
       }
 
 pub conclusion_more : {W : Type 0} (s t : State W) → HasLaws (along s.path) → Grows s t → HasWords (all_known t) → (i : ℕ) (d : Drawn) → IsConclusion i d s → IsConclusion i d t
-conclusion_more s t laws g words i d h = record { cell = h.cell; fits = h.fits; follows = λ small. subst (λ (P : Path _). IsFollowing t (fact_of (instant_of P.given.moments i d.when d.cell) d.cell d.value)) (sym g.path) (follows_more s t laws g words (fact_of (instant_of s.path.given.moments i d.when d.cell) d.cell d.value) (h.follows small)); tracked = λ a is. g.tracked a (h.tracked a is); byte = λ a is. subst (λ (P : Path _). IsDrawable P t.known.log i d) (sym g.path) (drawable_more s.path s.known.log t.known.log (λ p r v e. g.more p (Register r) v e) i d (h.byte a is)) }
+conclusion_more s t laws g words i d h = record { cell = h.cell; fits = h.fits; follows = λ small. subst (λ (P : Subject _). IsFollowing t (fact_of (instant_of P.given.moments i d.when d.cell) d.cell d.value)) (sym g.path) (follows_more s t laws g words (fact_of (instant_of s.path.given.moments i d.when d.cell) d.cell d.value) (h.follows small)); tracked = λ a is. g.tracked a (h.tracked a is); byte = λ a is. subst (λ (P : Subject _). IsDrawable P t.known.log i d) (sym g.path) (drawable_more s.path s.known.log t.known.log (λ p r v e. g.more p (Register r) v e) i d (h.byte a is)) }
 
 -- the sets of a moment are the ranges
 module _ {W : Type 0} (s : State W) (i : ℕ) (inside : i < s.path.given.legs.count) (fitted : IsFitted s) where
@@ -312,4 +312,4 @@ row_addresses s i row r base start count x found reads read is from few k lt =
 pub addresses_after : {W : Type 0} (s t : State W) (start count : ℕ) → Grows s t → AreRowAddresses start count s → AreRowAddresses start count t
 addresses_after s t start count g h k lt =
     let a = h k lt in
-    (a.0, a.1, subst (λ (P : Path _). IsOwnByte P t.known.log (own_at a.0 a.1 (beside start k))) (sym g.path) (own_byte_more s.path s.known.log t.known.log (λ p r v e. g.more p (Register r) v e) (own_at a.0 a.1 (beside start k)) a.2))
+    (a.0, a.1, subst (λ (P : Subject _). IsOwnByte P t.known.log (own_at a.0 a.1 (beside start k))) (sym g.path) (own_byte_more s.path s.known.log t.known.log (λ p r v e. g.more p (Register r) v e) (own_at a.0 a.1 (beside start k)) a.2))

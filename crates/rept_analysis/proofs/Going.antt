@@ -12,9 +12,10 @@ use Rattle.rept_report.proofs.Told.{same_some, none_some}
 use Rattle.rept_analysis.specs.declared.piece.Piece.{Piece}
 use Rattle.rept_report.specs.Setting.{HasLaws}
 use Rattle.rept_analysis.specs.Kept.{IsKept}
-use Rattle.rept_analysis.specs.State.{State, Path, timeline_of, along}
+use Rattle.rept_analysis.specs.State.{State, Subject, timeline_of, along}
 use Rattle.rept_analysis.proofs.Spreading.{bridged_still}
-use Rattle.rept_analysis.specs.Drawing.{Knows, Grows, IsCalm, IsCarriedFrom, IsCarriedIf, IsBridged, IsSparedBetween, IsBlocked, IsEnd, IsPiece, IsCarriedBeside, IsCarriedBelow, IsCarriedIn, IsCarriedAlong, AreLinksBelow, AreLinks, IsCarriedUpTo}
+use Rattle.rept_reach.specs.Reaching.{IsLeaving}
+use Rattle.rept_analysis.specs.Drawing.{Knows, Grows, IsCalm, IsCarriedFrom, IsCarriedIf, IsBridged, IsSparedBetween, IsBlocked, IsEnd, IsPiece, IsCarriedBeside, IsCarriedBelow, IsCarriedIn, IsCarriedAlong, IsEven, AreLinksBelow, AreLinks, IsCarriedUpTo}
 
 module _ {W : Type 0} (s : State W) where
   pub blocked_if : (x : Passage) → IsBlocked x s → IsCarriedIf x s
@@ -33,6 +34,14 @@ module _ {W : Type 0} (s : State W) where
     onward = λ w carries h. absurd (none_some (sym here ∙ h));
     back = λ w carries h. absurd (none_some (sym there ∙ h));
   }
+
+  -- where the same is known at both, or nothing
+  pub alike_if : (x : Passage) → s.known.store.fact x.from x.address ≡ s.known.store.fact x.to x.address → IsCarriedIf x s
+  alike_if x same = by (s.known.store.fact x.from x.address) refl
+    where
+      by : (o : Option ℕ) → s.known.store.fact x.from x.address ≡ o → IsCarriedIf x s
+      by None here = free_if x here (sym same ∙ here)
+      by (Some v) here = same_if x v here (sym same ∙ here)
 
   -- where they aren't next to one another
   pub apart_if : (x : Passage) → s.path.given.moments.next x.from x.to ≡ false → IsCarriedIf x s
@@ -84,7 +93,7 @@ pub next_after : {W : Type 0} (s t : State W) → Grows s t → (m w : ℕ) → 
 next_after s t g m w next = rw g.path next
 
 pub strip_after : {W : Type 0} (s t : State W) → Grows s t → (m : ℕ) (strip : Strip) → IsStrip (timeline_of s) m strip → IsStrip (timeline_of t) m strip
-strip_after s t g m strip its = subst (λ (P : Path _). IsStrip (record { legs = P.given.legs; moments = P.given.moments }) m strip) (sym g.path) its
+strip_after s t g m strip its = subst (λ (P : Subject _). IsStrip (record { legs = P.given.legs; moments = P.given.moments }) m strip) (sym g.path) its
 
 pub calm_after : {W : Type 0} (s t : State W) → HasLaws (along s.path) → IsKept t → Grows s t → (a : ℕ) → a < 2 ^ 32 → (strip : Strip) → IsCalm a strip s → IsCalm a strip t
 calm_after s t laws kept g a small strip calm p is = bridged_still s t laws kept g (passage a p (p + 1)) small (calm p is)
@@ -185,7 +194,7 @@ next_none M m least None never h = h
 next_none M m least (Some y) never h = absurd (never y refl)
 
 pub next_before : {W : Type 0} (s t : State W) → Grows s t → (m w : ℕ) → t.path.given.moments.next m w ≡ true → s.path.given.moments.next m w ≡ true
-next_before s t g m w next = subst (λ (P : Path _). P.given.moments.next m w ≡ true) g.path next
+next_before s t g m w next = subst (λ (P : Subject _). P.given.moments.next m w ≡ true) g.path next
 
 -- no number is linked to the end or one after it
 pub links_first : {W : Type 0} (s : State W) (a m : ℕ) → AreLinksBelow a m 0 s
@@ -247,3 +256,34 @@ up_to_all s a from inside far h exact m w = record {
   onward = λ v carries k. (h m w (let most = (inside m w carries.next).0 in omega (arith, most, far)) exact).onward v carries k;
   back = λ v carries k. (h m w (let most = (inside m w carries.next).0 in omega (arith, most, far)) exact).back v carries k;
 }
+
+-- up to where the same is known
+module _ {W : Type 0} (s : State W) (a from : ℕ) where
+  pub even_free : (to : ℕ) → Nexts s.known.store.fact a from None → IsEven a from to s
+  even_free to none i low high = none i low ∙ sym (none from (omega arith))
+
+  pub even_border : (m to : ℕ) (stretch : Stretch) → Nexts s.known.store.fact a from (Some stretch) → IsBorder from stretch m → to ≤ m → IsEven a from to s
+  even_border m to stretch next (inl (later, is)) near i low high = next.free i low (omega (arith, is, near, high)) ∙ sym (next.free from (omega arith) (omega (arith, later)))
+  even_border m to stretch next (inr (begun, is)) near i low high =
+      let reaches = next.reaches in
+      next.run.value i (omega (arith, begun, low)) (omega (arith, is, near, high)) ∙ sym (next.run.value from begun (omega (arith, reaches)))
+
+  pub in_even : (to : ℕ) (strip : Strip) → IsEven a from to s → from ≡ strip.first → strip.last ≤ to → IsCarriedIn a strip s
+  in_even to strip even same near i up down = alike_if s (passage a i (i + 1)) (even i (omega (arith, same, up)) (omega (arith, down, near)) ∙ sym (even (i + 1) (omega (arith, same, up)) (omega (arith, down, near))))
+
+  -- from numbers that lead to no others than those at which the same is known
+  pub up_to_even : (most n : ℕ) → IsEven a from most s → IsLeaving s.path.given.moments from most n → IsCarriedUpTo a from s → IsCarriedUpTo a n s
+  up_to_even most n even its before m w lt =
+      elim (cases_lt m from) [
+        | inl early ↦ before m w early
+        | inr late ↦ λ exact. record {
+          onward = λ v carries h. (at m w late lt carries.next exact).onward v carries h;
+          back = λ v carries h. (at m w late lt carries.next exact).back v carries h;
+        }
+      ]
+    where
+      at : (m w : ℕ) → from ≤ m → m < n → s.path.given.moments.next m w ≡ true → IsCarriedIf (passage a m w) s
+      at m w late lt next =
+          let within = its.inside m w late lt next in
+          let to = its.to in
+          alike_if s (passage a m w) (even m late (omega (arith, lt, to)) ∙ sym (even w within.0 within.1))

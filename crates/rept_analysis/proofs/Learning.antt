@@ -34,7 +34,7 @@ use Rattle.rept_analysis.proofs.Barriers.{writings_still}
 use Rattle.rept_analysis.proofs.Begun.{log_added}
 use Rattle.rept_analysis.proofs.Passing.{passes_more, never_pass}
 use Rattle.rept_analysis.proofs.Reserve.{room_like, room_drawn, room_last, room_to_draw, room_to_read, room_tracked, room_to_track, room_new}
-use Rattle.rept_analysis.specs.Told.{IsTold, Tells, TellsByte, Tracks}
+use Rattle.rept_analysis.specs.Told.{ByteToldAs, IsNewlyTold, ToldAs, Tracks}
 
 abbrev pub with_known : {W : Type 0} → State W → Known → State W
 with_known s k = record { path = s.path; known = k; spans = s.spans; filled = s.filled; shown = s.shown; complete = s.complete; conflict = s.conflict; work = s.work }
@@ -152,7 +152,7 @@ module _ {W : Type 0} (s : State W) (kept : IsKept s) (f : Fact) (keep : Bool) (
   next_words : HasWords (knows k)
   next_words = known_words (with_known s k) next_kept
 
-  pub next_told : IsTold s (with_known s k) f
+  pub next_told : IsNewlyTold s (with_known s k) f
   next_told = record {
     grows = record {
       path = refl;
@@ -205,12 +205,12 @@ module _ {W : Type 0} (s : State W) (kept : IsKept s) (p r v : ℕ) (early : p �
     agree = register_agrees;
   }
 
-  pub told_register : (k : Known) → OnceEach k.log → (answer : Answer) → LearnsRegister s.known k (fact_of p (Register r) v) answer → IsKept (with_known s k) × Tells s (with_known s k) (fact_of p (Register r) v) answer
+  pub told_register : (k : Known) → OnceEach k.log → (answer : Answer) → LearnsRegister s.known k (fact_of p (Register r) v) answer → IsKept (with_known s k) × ToldAs s (with_known s k) (fact_of p (Register r) v) answer
   told_register k once Old (same, known) = (kept_same s k same kept, (same_known s k same, known))
   told_register k once (Clash w) (same, known, differs) = (kept_same s k same kept, (same_known s k same, known, differs))
   told_register k once New (same, none) =
       let n = register_next (subst (λ (x : Known). OnceEach x.log) same once) none in
-      subst (λ (x : Known). IsKept (with_known s x) × Tells s (with_known s x) (fact_of p (Register r) v) New) (sym same) (next_kept s kept _ true _ n, next_told s kept _ true _ n)
+      subst (λ (x : Known). IsKept (with_known s x) × ToldAs s (with_known s x) (fact_of p (Register r) v) New) (sym same) (next_kept s kept _ true _ n, next_told s kept _ true _ n)
 
 -- a byte
 module _ {W : Type 0} (s : State W) (kept : IsKept s) (joins : Bool) (p a v : ℕ) (early : p ≤ s.path.given.moments.end) (small : a < 2 ^ 32) (tracked : IsTracked a s) (open_ : s.complete ≡ false) (follows : IsFollowing s (fact_of p (Byte a) v)) (keep : Bool) (brought : keep ≡ false → IsBrought s (fact_of p (Byte a) v)) where
@@ -276,7 +276,7 @@ module _ {W : Type 0} (s : State W) (kept : IsKept s) (joins : Bool) (p a v : �
     }
 
     -- it is new
-    pub new_byte : OnceEach k.log → (((q : ℕ) (c : Cell) (w : ℕ) → all_known s q c ≡ Some w → knows k q c ≡ Some w) → IsRoomy s → HasRoom s.path k) → IsKept (with_known s k) × IsTold s (with_known s k) f
+    pub new_byte : OnceEach k.log → (((q : ℕ) (c : Cell) (w : ℕ) → all_known s q c ≡ Some w → knows k q c ≡ Some w) → IsRoomy s → HasRoom s.path k) → IsKept (with_known s k) × IsNewlyTold s (with_known s k) f
     new_byte once roomy = let n = byte_next once roomy in (next_kept s kept f keep k n, next_told s kept f keep k n)
 
 -- a byte for which there is room
@@ -297,7 +297,7 @@ module _ {W : Type 0} (s : State W) (laws : HasLaws (along s.path)) (kept : IsKe
   byte_full false (inl place) full j = room_to_read s.path s.known (kept.roomy j) p a place tracked full
   byte_full false (inr plain) full j = plain j
 
-  pub told_byte : (keep : Bool) → (keep ≡ false → IsBrought s g) → HasPlace keep p a s → (k : Known) → OnceEach k.log → (r : Result Answer AllocError) → LearnsByte (known_change joins s.known k) byte_learnt keep r → IsKept (with_known s k) × TellsByte s (with_known s k) g r
+  pub told_byte : (keep : Bool) → (keep ≡ false → IsBrought s g) → HasPlace keep p a s → (k : Known) → OnceEach k.log → (r : Result Answer AllocError) → LearnsByte (known_change joins s.known k) byte_learnt keep r → IsKept (with_known s k) × ByteToldAs s (with_known s k) g r
   told_byte keep brought place k once (Err e) (same, full) = (kept_same s k same kept, (same_known s k same, byte_full keep place full))
   told_byte keep brought place k once (Ok Old) (same, known) = (kept_same s k same kept, (same_known s k same, known))
   told_byte keep brought place k once (Ok (Clash w)) (same, known, differs) = (kept_same s k same kept, (same_known s k same, known, differs))

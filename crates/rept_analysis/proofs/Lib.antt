@@ -10,6 +10,7 @@ pub mod Ending
 pub mod Following
 pub mod Going
 pub mod Latest
+pub mod Leaping
 pub mod Learning
 pub mod Listing
 pub mod Measure

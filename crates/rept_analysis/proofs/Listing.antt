@@ -1,22 +1,22 @@
 -- The list of the rows that may write, and the numbers between which a byte is carried by it.
-use Rattle.std.proofs.Common.{◌≡◌, ℕ, zero, suc, ◌+◌, ◌<◌, ◌≤◌, ◌^◌, ◌⊎◌, Bool, true, false, List, [], ◌∷◌, ◌++◌, length, Option, Some, None, inl, inr, refl, sym, ap, subst, ◌∙◌, arith, slice_get, get_or, max, min, eqb}
+use Rattle.std.proofs.Common.{◌≡◌, ℕ, zero, suc, ◌+◌, ◌<◌, ◌≤◌, ◌^◌, ◌⊎◌, Bool, true, false, List, [], ◌∷◌, ◌++◌, length, Option, Some, None, inl, inr, refl, sym, ap, subst, ◌∙◌, arith, slice_get, get_or, max, min}
 use Rattle.std.specs.Option.{IsSome}
-use Rattle.std.proofs.lemmas.Bool.{cases_Bool, cases_lt, cases_eq, cases_order, false≢true, eq-eqb, ne_eqb}
+use Rattle.std.proofs.lemmas.Bool.{cases_Bool, cases_lt, cases_eq, cases_order, false≢true}
 use Rattle.std.proofs.lemmas.Option.{slice_get-get_or, slice_get_within}
 use Rattle.std.proofs.lemmas.List.{length_push, get_or_append_left, get_or_push}
 use Rattle.rept_alias.specs.Accesses.{call_hits}
 use Rattle.rept_alias.specs.declared.addresses.CallAccess.{CallAccess}
 use Rattle.rept_isa.specs.declared.row.StepRow.{StepRow}
-use Rattle.rept_writing.specs.Hits.{hits_at, IsFirstHit, IsNextHit, IsPastHit, AreInOrder}
+use Rattle.rept_reach.specs.Reaching.{IsExtent}
+use Rattle.rept_writing.specs.Hits.{hits_at, IsFirstHit, IsNextHitBelow, IsMeeting, IsNextMeeting, IsPastHitFrom, IsSplitAt, AreInOrder}
 use Rattle.rept_writing.specs.declared.list.Writing.{Writing}
 use Rattle.rept_reason.specs.Facts.{Knowledge, told}
 use Rattle.rept_report.specs.Moments.{AreMoments}
-use Rattle.rept_span.specs.Ranges.{AreLegs}
-use Rattle.rept_report.specs.Timeline.{Timeline, IsFallingFrom, IsClear, IsLike, IsAlike, IsStrip}
+use Rattle.rept_report.specs.Timeline.{IsClear, IsLike, IsAlike, IsStrip}
 use Rattle.rept_report.specs.declared.paths.Strip.{Strip}
 use Rattle.rept_report.specs.Spots.{Passage, passage}
 use Rattle.rept_report.specs.Log.{oldest}
-use Rattle.rept_analysis.specs.State.{State, timeline_of, with_writing}
+use Rattle.rept_analysis.specs.State.{State, Subject, timeline_of, with_writing}
 use Rattle.rept_analysis.specs.declared.piece.Piece.{Piece}
 use Rattle.rept_analysis.specs.Drawing.{Grows, IsAccess, IsSpared, IsBridged, IsSparedBetween, IsSilent, IsListed, past, IsWriting, AreWritingsBefore, AreBarriers, AreWritings, AreExact, SameFacts, IsFitted, IsBlocked, IsCalm, IsLooseEnd, IsLooseBefore, IsEnd, IsPiece}
 use Rattle.rept_analysis.proofs.Barriers.{past_at}
@@ -25,7 +25,15 @@ use Rattle.rept_analysis.proofs.Barriers.{past_at}
 module _ {W : Type 0} (s t : State W) (setting : t.path ≡ s.path) (older : oldest t.filled t.known.log ≡ oldest s.filled s.known.log) where
   pub writings_like : (n : ℕ) (list : List Writing) → AreWritingsBefore n list s → AreWritingsBefore n list t
   writings_like n list h = record {
-    each = λ k w at. let x = h.each k w at in record { low = x.low; there = rw setting x.there; time = rw setting x.time; access = λ a small. rw (setting, older) (x.access a small) };
+    each = λ k w at.
+        let x = h.each k w at in
+        record {
+          low = x.low;
+          there = rw setting x.there;
+          time = rw setting x.time;
+          extent = subst (λ (P : Subject W). IsExtent P.given.moments w.row (record { from = w.from; to = w.to })) (sym setting) x.extent;
+          access = λ a small. rw (setting, older) (x.access a small);
+        };
     order = h.order;
     all = λ i there less.
         elim (h.all i (subst (λ (P : _). IsSome (P.given.legs.row i)) setting there) (subst (λ (P : _). P.given.moments.before i < n) setting less)) [
@@ -41,7 +49,7 @@ same_writing : {x y : Writing} → Some x ≡ Some y → x ≡ y
 same_writing e = cc
 
 lower_more : {W : Type 0} (s : State W) (n : ℕ) (w : Writing) → IsWriting n w s → IsWriting (n + 1) w s
-lower_more s n w x = record { low = let low = x.low in omega (arith, low); there = x.there; time = x.time; access = x.access }
+lower_more s n w x = record { low = let low = x.low in omega (arith, low); there = x.there; time = x.time; extent = x.extent; access = x.access }
 
 module _ {W : Type 0} (s : State W) (n : ℕ) (list : List Writing) (h : AreWritingsBefore n list s) where
   -- no row stands at the number
@@ -72,7 +80,7 @@ module _ {W : Type 0} (s : State W) (n : ℕ) (list : List Writing) (h : AreWrit
     }
 
     -- it may
-    module _ (w : Writing) (row : w.row ≡ i) (at : w.at ≡ n) (there : IsSome (s.path.given.legs.row i)) (time : s.path.given.moments.before i ≡ n) (access : IsAccess i w.access s) where
+    module _ (w : Writing) (row : w.row ≡ i) (at : w.at ≡ n) (there : IsSome (s.path.given.legs.row i)) (time : s.path.given.moments.before i ≡ n) (extent : IsExtent s.path.given.moments i (record { from = w.from; to = w.to })) (access : IsAccess i w.access s) where
       long : length (list ++ w ∷ []) ≡ length list + 1
       long = length_push list w
 
@@ -87,7 +95,13 @@ module _ {W : Type 0} (s : State W) (n : ℕ) (list : List Writing) (h : AreWrit
           slice_get-get_or (list ++ w ∷ []) (length list) w (omega (arith, more)) ∙ ap Some (get_or_push list w w (length list) refl)
 
       here : IsWriting (n + 1) w s
-      here = record { low = omega (arith, at); there = rw row there; time = at ∙ sym time ∙ ap s.path.given.moments.before (sym row); access = rw row access }
+      here = record {
+        low = omega (arith, at);
+        there = rw row there;
+        time = at ∙ sym time ∙ ap s.path.given.moments.before (sym row);
+        extent = subst (λ (j : ℕ). IsExtent s.path.given.moments j (record { from = w.from; to = w.to })) (sym row) extent;
+        access = rw row access;
+      }
 
       each : (k : ℕ) (x : Writing) → slice_get (list ++ w ∷ []) k ≡ Some x → IsWriting (n + 1) x s
       each k x found =
@@ -179,19 +193,6 @@ some_there : (o : Option StepRow) → IsSome o → (row : StepRow) × (o ≡ Som
 some_there None some = absurd (false≢true some)
 some_there (Some row) some = (row, refl)
 
--- where a row falls is found by a search from it on
-pub falls_none : (t : Timeline) → AreLegs t.legs → (m w row : ℕ) → IsSome (t.legs.row row) → IsFallingFrom t m w row None → false ≡ t.moments.falls row m w
-falls_none t laws m w row there none =
-    let its = some_there (t.legs.row row) there in
-    sym (none row (omega arith) (laws.inside row its.0 its.1))
-
-pub falls_some : (t : Timeline) (m w row found : ℕ) → IsFallingFrom t m w row (Some found) → eqb found row ≡ t.moments.falls row m w
-falls_some t m w row found its =
-    elim (cases_eq found row) [
-      | inl same ↦ eq-eqb found row same ∙ sym (subst (λ (n : ℕ). t.moments.falls n m w ≡ true) same its.1)
-      | inr other ↦ ne_eqb found row other ∙ sym (let low = its.2 in its.3 row (omega arith) (omega (arith, low, other)))
-    ]
-
 pub entry_early : {W : Type 0} (s : State W) → AreWritings s → (k : ℕ) (w : Writing) → slice_get s.work.writing k ≡ Some w → w.at ≤ s.path.given.moments.end
 entry_early s h k w found =
     let its = h.barriers.each k w found in
@@ -203,7 +204,7 @@ entry_early s h k w found =
 -- the list as it was made, of all numbers
 pub listed_barriers : {W : Type 0} (s : State W) (n : ℕ) → AreMoments s.path.given.legs s.path.given.moments → n ≡ s.path.given.moments.end + 1 → AreWritingsBefore n s.work.writing s → AreBarriers s.work.writing s
 listed_barriers s n laws all h = record {
-  each = λ k w at. let x = h.each k w at in record { there = x.there; time = x.time; others = λ a small miss. inl (sym (x.access a small) ∙ miss) };
+  each = λ k w at. let x = h.each k w at in record { there = x.there; time = x.time; extent = x.extent; others = λ a small miss. inl (sym (x.access a small) ∙ miss) };
   order = h.order;
   all = λ i there.
       let its = some_there (s.path.given.legs.row i) there in
@@ -230,7 +231,7 @@ module _ {W : Type 0} (s : State W) (h : AreWritings s) (a : ℕ) (small : a < 2
   none_writes i (Some row) is spared = spared refl
 
   -- a row may not write the byte, if its entry has not its address
-  spared_by : (i : ℕ) → ((j : ℕ) (w : Writing) → slice_get list j ≡ Some w → w.row ≡ i → call_hits w.access a ≡ true → ⊥) → IsSpared i a s
+  pub spared_by : (i : ℕ) → ((j : ℕ) (w : Writing) → slice_get list j ≡ Some w → w.row ≡ i → call_hits w.access a ≡ true → ⊥) → IsSpared i a s
   spared_by i none =
       none_writes i (s.path.given.legs.row i) refl (λ some.
       elim (h.barriers.all i some) [
@@ -246,8 +247,14 @@ module _ {W : Type 0} (s : State W) (h : AreWritings s) (a : ℕ) (small : a < 2
   abbrev pub DoNoneFall : ℕ → ℕ → ℕ → Type 0
   DoNoneFall m w k = (j : ℕ) (x : Writing) → j < k → slice_get list j ≡ Some x → call_hits x.access a ≡ true → s.path.given.moments.falls x.row m w ≡ false
 
-  pub none_fall_more : (m w k hit : ℕ) (x : Writing) → IsFirstHit list k a hit → slice_get list hit ≡ Some x → s.path.given.moments.falls x.row m w ≡ false → DoNoneFall m w k → DoNoneFall m w (hit + 1)
-  none_fall_more m w k hit x first at calm below j y lt found hits =
+  -- an entry that may write the byte and falls between the numbers is a meeting
+  meeting_by : (m w j : ℕ) (x : Writing) → s.path.given.moments.next m w ≡ true → slice_get list j ≡ Some x → call_hits x.access a ≡ true → s.path.given.moments.falls x.row m w ≡ true → IsMeeting list (record { from = m; to = w; address = a }) j
+  meeting_by m w j x next found hits falls =
+      let within = (h.barriers.each j x found).extent m w next falls in
+      record { writing = x; stands = found; hits = hits; above = within.0; below = within.1 }
+
+  pub none_fall_more : (m w k hit : ℕ) (x : Writing) → s.path.given.moments.next m w ≡ true → IsNextMeeting list k (record { from = m; to = w; address = a }) (Some hit) → slice_get list hit ≡ Some x → s.path.given.moments.falls x.row m w ≡ false → DoNoneFall m w k → DoNoneFall m w (hit + 1)
+  none_fall_more m w k hit x next first at calm below j y lt found hits =
       elim (cases_order j hit) [
         | inl same ↦
             let here : x ≡ y = same_writing (sym at ∙ subst (λ (n : ℕ). slice_get list n ≡ Some y) same found) in
@@ -255,25 +262,35 @@ module _ {W : Type 0} (s : State W) (h : AreWritings s) (a : ℕ) (small : a < 2
         | inr (inl low) ↦
             elim (cases_lt j k) [
               | inl early ↦ below j y early found hits
-              | inr late ↦ absurd (false≢true (sym (first.none_before j late low) ∙ same_hit list j a y found ∙ hits))
+              | inr late ↦
+                  elim (cases_Bool (s.path.given.moments.falls y.row m w)) [
+                    | inl falls ↦ absurd (first.2 j late low (meeting_by m w j y next found hits falls))
+                    | inr spared ↦ spared
+                  ]
             ]
         | inr (inr over) ↦ absurd (omega (arith, lt, over))
       ]
 
-  pub bridged_by : (m w k : ℕ) → s.path.given.moments.next m w ≡ true → s.path.given.moments.dark m w ≡ false → IsNextHit list k a None → DoNoneFall m w k → IsBridged (passage a m w) s
+  pub bridged_by : (m w k : ℕ) → s.path.given.moments.next m w ≡ true → s.path.given.moments.dark m w ≡ false → IsNextMeeting list k (record { from = m; to = w; address = a }) None → DoNoneFall m w k → IsBridged (passage a m w) s
   bridged_by m w k next light none below = record {
     next = next;
     light = light;
     spared = λ i falls. spared_by i (λ j x found row hits.
+        let its = subst (λ (n : ℕ). s.path.given.moments.falls n m w ≡ true) (sym row) falls in
         elim (cases_lt j k) [
-          | inl early ↦ false≢true (sym (below j x early found hits) ∙ subst (λ (n : ℕ). s.path.given.moments.falls n m w ≡ true) (sym row) falls)
-          | inr late ↦ false≢true (sym (none j late) ∙ same_hit list j a x found ∙ hits)
+          | inl early ↦ false≢true (sym (below j x early found hits) ∙ its)
+          | inr late ↦ none j late (meeting_by m w j x next found hits its)
         ]);
   }
 
   -- where a row falls that may write the byte it isn't carried
   pub blocked_by : (m w hit : ℕ) (x : Writing) → slice_get list hit ≡ Some x → hits_at list hit a ≡ true → s.path.given.moments.falls x.row m w ≡ true → IsBlocked (passage a m w) s
   blocked_by m w hit x at hits falls exact carries = false≢true (sym (carries.spared x.row falls) ∙ exact hit x a at small (sym (same_hit list hit a x at) ∙ hits))
+
+  pub blocked_meeting : (m w hit : ℕ) (x : Writing) → IsMeeting list (record { from = m; to = w; address = a }) hit → slice_get list hit ≡ Some x → s.path.given.moments.falls x.row m w ≡ true → IsBlocked (passage a m w) s
+  blocked_meeting m w hit x meeting at falls =
+      let hits : call_hits x.access a ≡ true = subst (λ (y : Writing). call_hits y.access a ≡ true) (same_writing (sym meeting.stands ∙ at)) meeting.hits in
+      blocked_by m w hit x at (same_hit list hit a x at ∙ hits) falls
 
 pub blocked_dark : {W : Type 0} (s : State W) (x : Passage) → s.path.given.moments.dark x.from x.to ≡ true → IsBlocked x s
 blocked_dark s x dark exact carries = false≢true (sym carries.light ∙ dark)
@@ -357,16 +374,28 @@ module _ {W : Type 0} (s : State W) (h : AreWritings s) (a : ℕ) (small : a < 2
       ])
   between_free k from to few low least most order none m (inr x) = let up = x.0 in let down = x.1 in absurd (omega (arith, up, down, order))
 
-  -- the number after that of the last entry before a number that may write the byte is no later
-  past_early : (point k : ℕ) → IsPastHit entries point a k → past entries k ≤ point
-  past_early point k last =
+  -- the number after that of the last entry before those of the strip is no later than its first one
+  past_low : (k : ℕ) → IsSplitAt entries strip.first k → past entries k ≤ strip.first
+  past_low zero split = omega arith
+  past_low (suc k) split =
+      let none : Writing = record { row = 0; at = 0; from = 0; to = 0; is_call = false; access = record { first = None; second = None } } in
+      let bound = split.bound in
+      let last = slice_get-get_or entries k none (omega (arith, bound)) in
+      let under = split.below k (get_or entries k none) last (omega arith) in
+      let one_more : k + 1 ≡ suc k = omega arith in
+      let next : past entries (suc k) ≡ (get_or entries k none).at + 1 = subst (λ (n : ℕ). past entries n ≡ (get_or entries k none).at + 1) one_more (past_at entries k (get_or entries k none) last) in
+      omega (arith, under, next)
+
+  -- the number after that of the last entry in the strip before a number that may write the byte is no later
+  past_early : (least point k : ℕ) → IsSplitAt entries strip.first least → strip.first ≤ point → IsPastHitFrom entries least point a k → past entries k ≤ point
+  past_early least point k split here last =
       elim last.before [
-        | inl e ↦ rw e (omega arith)
+        | inl e ↦ let low = past_low least split in subst (λ (n : ℕ). past entries n ≤ point) (sym e) (omega (arith, low, here))
         | inr (j, e, hit) ↦ let next = past_at entries j hit.writing hit.stands in let lower = hit.lower in rw e (omega (arith, next, lower))
       ]
 
-  hit_late : (point k hit : ℕ) (x : Writing) → IsPastHit entries point a k → IsFirstHit entries k a hit → slice_get entries hit ≡ Some x → point ≤ x.at
-  hit_late point k hit x last first at =
+  hit_late : (least point k hit : ℕ) (x : Writing) → IsPastHitFrom entries least point a k → IsFirstHit entries k a hit → slice_get entries hit ≡ Some x → point ≤ x.at
+  hit_late least point k hit x last first at =
       elim (cases_lt x.at point) [
         | inr ge ↦ ge
         | inl lt ↦ absurd (last.none_after hit first.from (record { writing = x; stands = at; lower = lt; hits = sym (same_hit entries hit a x at) ∙ first.hits }))
@@ -382,17 +411,20 @@ module _ {W : Type 0} (s : State W) (h : AreWritings s) (a : ℕ) (small : a < 2
   loose_next : (n : ℕ) → n < length entries → (m : Option ℕ) → IsLooseEnd strip n m s → (i : ℕ) → m ≡ Some i → s.path.given.moments.next i (i + 1) ≡ true
   loose_next n inside None its i some = absurd (none_pause some)
   loose_next n inside (Some m) its i some =
-      let none : Writing = record { row = 0; at = 0; access = record { first = None; second = None } } in
+      let none : Writing = record { row = 0; at = 0; from = 0; to = 0; is_call = false; access = record { first = None; second = None } } in
       let next = (its (get_or entries n none) (slice_get-get_or entries n none inside)).1 in
       subst (λ (x : ℕ). s.path.given.moments.next x (x + 1) ≡ true) (some_pause some) next
 
-  module _ (point k : ℕ) (here : strip.first ≤ point) (there : point ≤ strip.last) (few : k ≤ length entries) (last : IsPastHit entries point a k) (piece : Piece) (from : piece.from ≡ max (past entries k) strip.first) (loose : IsLooseBefore strip k piece.before s) where
+  module _ (least most point k : ℕ) (low_split : IsSplitAt entries strip.first least) (high_split : IsSplitAt entries strip.last most) (here : strip.first ≤ point) (there : point ≤ strip.last) (few : k ≤ length entries) (last : IsPastHitFrom entries least point a k) (piece : Piece) (from : piece.from ≡ max (past entries k) strip.first) (loose : IsLooseBefore strip k piece.before s) where
     -- what was found of the entry before
-    below_by : (n : ℕ) → n ≡ k → IsPastHit entries point a n → IsLooseBefore strip n piece.before s → (i : ℕ) → i + 1 ≡ piece.from → strip.first ≤ i → IsBlocked (passage a i (i + 1)) s ⊎ IsEnd piece i
+    below_by : (n : ℕ) → n ≡ k → IsPastHitFrom entries least point a n → IsLooseBefore strip n piece.before s → (i : ℕ) → i + 1 ≡ piece.from → strip.first ≤ i → IsBlocked (passage a i (i + 1)) s ⊎ IsEnd piece i
     below_by zero same past_hit its i e up = absurd (let none : past entries k ≡ 0 = subst (λ (n : ℕ). past entries n ≡ 0) same refl in omega (arith, e, up, from, none))
     below_by (suc n) same past_hit its i e up =
         elim past_hit.before [
-          | inl zero_is ↦ absurd (omega (arith, zero_is))
+          | inl is_least ↦
+              let first : k ≡ least = omega (arith, same, is_least) in
+              let low : past entries k ≤ strip.first = subst (λ (x : ℕ). past entries x ≤ strip.first) (sym first) (past_low least low_split) in
+              absurd (omega (arith, low, from, e, up))
           | inr (j, f, hit) ↦
               let index : j ≡ n = omega (arith, f) in
               let stands : slice_get entries n ≡ Some hit.writing = subst (λ (x : ℕ). slice_get entries x ≡ Some hit.writing) index hit.stands in
@@ -411,20 +443,27 @@ module _ {W : Type 0} (s : State W) (h : AreWritings s) (a : ℕ) (small : a < 2
     ends_before (suc n) same its i some = loose_next n (omega (arith, same, few)) piece.before its i some
 
     -- no later entry may write the byte
-    pub piece_last : piece.to ≡ strip.last → piece.after ≡ None → IsNextHit entries k a None → IsPiece a strip point piece s
+    pub piece_last : piece.to ≡ strip.last → piece.after ≡ None → IsNextHitBelow entries k most a None → IsPiece a strip point piece s
     piece_last to none missed =
-        let low = past_early point k last in
+        let low = past_early least point k low_split here last in
         record {
           inside = omega (arith, from);
           low = omega (arith, from, low, here);
           high = omega (arith, to, there);
           within = omega (arith, to);
-          spared = between_free k piece.from piece.to few (omega (arith, from)) (omega (arith, from)) (omega (arith, to)) (omega (arith, from, low, here, to, there)) (λ j w late found down hits. false≢true (sym (missed j late) ∙ same_hit entries j a w found ∙ hits));
+          spared = between_free k piece.from piece.to few (omega (arith, from)) (omega (arith, from)) (omega (arith, to)) (omega (arith, from, low, here, to, there)) (λ j w late found down hits. none_here j w late found (omega (arith, down, to)) hits);
           below = below_by k refl last loose;
           above = λ less. absurd (omega (arith, less, to));
           ends = ends;
         }
       where
+        none_here : (j : ℕ) (w : Writing) → k ≤ j → slice_get entries j ≡ Some w → w.at < strip.last → call_hits w.access a ≡ true → ⊥
+        none_here j w late found down hits =
+            elim (cases_lt j most) [
+              | inl early ↦ false≢true (sym (missed j late early) ∙ same_hit entries j a w found ∙ hits)
+              | inr over ↦ let above = high_split.above j w found over in omega (arith, above, down)
+            ]
+
         ends : (i : ℕ) → IsEnd piece i → s.path.given.moments.next i (i + 1) ≡ true
         ends i (inl before) = ends_before k refl loose i before
         ends i (inr after) = absurd (none_pause (sym none ∙ after))
@@ -432,8 +471,8 @@ module _ {W : Type 0} (s : State W) (h : AreWritings s) (a : ℕ) (small : a < 2
     -- the next one that may
     pub piece_hit : (hit : ℕ) (x : Writing) → piece.to ≡ min x.at strip.last → IsLooseEnd strip hit piece.after s → IsFirstHit entries k a hit → slice_get entries hit ≡ Some x → IsPiece a strip point piece s
     piece_hit hit x to after first at =
-        let low = past_early point k last in
-        let late = hit_late point k hit x last first at in
+        let low = past_early least point k low_split here last in
+        let late = hit_late least point k hit x last first at in
         record {
           inside = omega (arith, from);
           low = omega (arith, from, low, here);

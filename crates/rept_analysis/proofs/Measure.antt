@@ -5,7 +5,7 @@ use Rattle.rept_reason.specs.declared.fact.Cell.{Cell}
 use Rattle.rept_reason.specs.declared.fact.Cell.TheVariants.{Register, Byte}
 use Rattle.rept_reason.specs.Facts.{IsCell}
 use Rattle.rept_report.specs.Setting.{IsInstant}
-use Rattle.rept_analysis.specs.State.{State, Path, all_known, along}
+use Rattle.rept_analysis.specs.State.{State, Subject, all_known, along}
 use Rattle.rept_analysis.specs.Drawing.{Knows, Grows, HasNews}
 use Rattle.rept_analysis.specs.Drawing.HasNews.{fact, address, anew}
 use Rattle.rept_analysis.specs.Kept.{is_among}
@@ -59,7 +59,7 @@ module _ {W : Type 0} (a b : State W) (g : Grows a b) where
       omega (arith, one, other)
 
   same_end : b.path.given.moments.end ≡ a.path.given.moments.end
-  same_end = ap (λ (P : Path W). P.given.moments.end) g.path
+  same_end = ap (λ (P : Subject W). P.given.moments.end) g.path
 
   pub news_less : HasNews a b → measure b < measure a
   news_less (fact p c v early cell none here) =

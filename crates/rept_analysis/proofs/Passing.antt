@@ -23,7 +23,7 @@ use Rattle.rept_analysis.specs.declared.pass.Pass.TheVariants.{Never, With, Cut}
 use Rattle.rept_writing.specs.Hits.{Listed}
 use Rattle.rept_analysis.specs.Work.{Work, left, left_of}
 use Rattle.rept_analysis.specs.Cells.{cells_known}
-use Rattle.rept_analysis.specs.State.{State, all_known, with_work, with_draws, with_drawn, Path, along}
+use Rattle.rept_analysis.specs.State.{State, all_known, with_work, with_draws, with_drawn, Subject, along}
 use Rattle.rept_analysis.specs.Drawing.{Knows, Grows, DrawnKnown, DrawnBelow, Drew, IsUncut, IsHalt}
 use Rattle.rept_analysis.specs.Drawing.HasNews.{anew}
 use Rattle.rept_analysis.specs.declared.halt.Halt.{Halt}
@@ -39,15 +39,15 @@ use Rattle.rept_view.specs.declared.drawn.When.TheVariants.{Before, After}
 module _ {W : Type 0} (s t : State W) (same : t.path ≡ s.path) (more : (p : ℕ) (c : Cell) (v : ℕ) → Knows p c v s → Knows p c v t) where
   pub seen_more : (i : ℕ) (w : When) (c : Cell) (v : ℕ) → seen_cell (around s.path.given.moments s.known i) w c ≡ Some v → seen_cell (around t.path.given.moments t.known i) w c ≡ Some v
   seen_more i w (Register r) v e = known_more (told s.known.log) (told t.known.log) (λ q x y h. more q (Register x) y h) (point_of i w) r v e
-  seen_more i Before (Byte a) v e = subst (λ (P : Path W). Knows (P.given.moments.before i) (Byte a) v t) (sym same) (more (s.path.given.moments.before i) (Byte a) v e)
-  seen_more i After (Byte a) v e = subst (λ (P : Path W). Knows (P.given.moments.after i) (Byte a) v t) (sym same) (more (s.path.given.moments.after i) (Byte a) v e)
+  seen_more i Before (Byte a) v e = subst (λ (P : Subject W). Knows (P.given.moments.before i) (Byte a) v t) (sym same) (more (s.path.given.moments.before i) (Byte a) v e)
+  seen_more i After (Byte a) v e = subst (λ (P : Subject W). Knows (P.given.moments.after i) (Byte a) v t) (sym same) (more (s.path.given.moments.after i) (Byte a) v e)
 
   with_more : (row : StepRow) (i k : ℕ) → IsDrawnWith row i k s → IsDrawnWith row i k t
   with_more row i k d = record {
     view = d.view;
     lawful = d.lawful;
-    count = subst (λ (P : Path W). cells_known P.rules row d.view ≡ k) (sym same) d.count;
-    learnt = λ x h. subst (λ (P : Path W). Knows (instant_of P.given.moments i x.when x.cell) x.cell x.value t) (sym same) (more (instant_of s.path.given.moments i x.when x.cell) x.cell x.value (d.learnt x (subst (λ (P : Path W). Contains (P.rules.draw row d.view) x) same h)));
+    count = subst (λ (P : Subject W). cells_known P.rules row d.view ≡ k) (sym same) d.count;
+    learnt = λ x h. subst (λ (P : Subject W). Knows (instant_of P.given.moments i x.when x.cell) x.cell x.value t) (sym same) (more (instant_of s.path.given.moments i x.when x.cell) x.cell x.value (d.learnt x (subst (λ (P : Subject W). Contains (P.rules.draw row d.view) x) same h)));
     less = λ w c v e. seen_more i w c v (d.less w c v e);
   }
 
@@ -57,7 +57,7 @@ module _ {W : Type 0} (s t : State W) (same : t.path ≡ s.path) (more : (p : �
   pass_more row i Cut h = h
 
   pub passes_more : t.work.drawn ≡ s.work.drawn → ((i : ℕ) (row : StepRow) (pass : Pass) → s.path.given.legs.row i ≡ Some row → slice_get s.work.drawn i ≡ Some pass → IsPass row i pass s) → (i : ℕ) (row : StepRow) (pass : Pass) → t.path.given.legs.row i ≡ Some row → slice_get t.work.drawn i ≡ Some pass → IsPass row i pass t
-  passes_more drawn h i row pass at is = pass_more row i pass (h i row pass (subst (λ (P : Path W). P.given.legs.row i ≡ Some row) same at) (subst (λ (xs : List Pass). slice_get xs i ≡ Some pass) drawn is))
+  passes_more drawn h i row pass at is = pass_more row i pass (h i row pass (subst (λ (P : Subject W). P.given.legs.row i ≡ Some row) same at) (subst (λ (xs : List Pass). slice_get xs i ≡ Some pass) drawn is))
 
 pub never_pass : {W : Type 0} (s : State W) (row : StepRow) (i : ℕ) (x : Pass) → x ≡ Never → IsPass row i x s
 never_pass s row i x e = subst (λ (y : Pass). IsPass row i y s) (sym e) tt
@@ -211,8 +211,8 @@ pub drawn_with : {W : Type 0} (s b : State W) (n i cells : ℕ) (row : StepRow) 
 drawn_with s b n i cells row items words grows is_cells is_items known = record {
   view = around s.path.given.moments s.known i;
   lawful = around_lawful s.path.given.moments s.known i (λ p r v e. words p r v e);
-  count = subst (λ (P : Path _). cells_known P.rules row (around s.path.given.moments s.known i) ≡ cells) (sym grows.path) (sym is_cells);
-  learnt = λ d h. list_known b i items known d (rw is_items (subst (λ (P : Path _). Contains (P.rules.draw row (around s.path.given.moments s.known i)) d) grows.path h));
+  count = subst (λ (P : Subject _). cells_known P.rules row (around s.path.given.moments s.known i) ≡ cells) (sym grows.path) (sym is_cells);
+  learnt = λ d h. list_known b i items known d (rw is_items (subst (λ (P : Subject _). Contains (P.rules.draw row (around s.path.given.moments s.known i)) d) grows.path h));
   less = λ w c v e. seen_more s b grows.path grows.more i w c v e;
 }
 
@@ -274,7 +274,7 @@ module _ {W : Type 0} (s a b : State W) (laws : HasLaws (along s.path)) (kept : 
 
   pub anew_pass : (items : List Drawn) → items ≡ s.path.rules.draw row (around s.path.given.moments s.known i) → DrawnBelow (length items) items i b → (other : StepRow) → b.path.given.legs.row i ≡ Some other → IsDrawnWith other i cells b
   anew_pass items is_items known other at =
-      let is_row : row ≡ other = same_row (sym found ∙ subst (λ (P : Path W). P.given.legs.row i ≡ Some other) from_same.path at) in
+      let is_row : row ≡ other = same_row (sym found ∙ subst (λ (P : Subject W). P.given.legs.row i ≡ Some other) from_same.path at) in
       subst (λ (x : StepRow). IsDrawnWith x i cells b) is_row (drawn_with s b a.work.draws i cells row items words from_same is_cells is_items known)
     where
       same_row : {x y : StepRow} → Some x ≡ Some y → x ≡ y

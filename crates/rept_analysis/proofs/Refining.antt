@@ -13,7 +13,7 @@ use Rattle.rept_report.specs.Soundness.{AlwaysHolds, IsSound, HasNoExecution}
 use Rattle.rept_report.proofs.Soundness.{closure_sound, conflict_sound, report_sound}
 use Rattle.rept_analysis.specs.declared.stop.Stop.{Stop}
 use Rattle.rept_analysis.specs.declared.stop.Stop.TheVariants.{Conflict, OutOfMemory}
-use Rattle.rept_analysis.specs.State.{State, Path, along}
+use Rattle.rept_analysis.specs.State.{State, Subject, along}
 use Rattle.rept_analysis.specs.Kept.{register_answer, answers, IsKept}
 use Rattle.rept_analysis.specs.Refined.{KeepsAnswers, KeepsKnown, IsEnded, IsStopped, IsPaused, Outcome}
 
@@ -45,7 +45,7 @@ module _ {W : Type 0} (old new : State W) where
   complete_of (Err e) h = tt
 
   pub consistent_of : (r : Result ⊤ Stop) → Outcome old new r → OnOk r (IsConsistent (along old.path))
-  consistent_of (Ok u) h = subst (λ (P : Path W). IsConsistent (along P)) h.path h.finished.report.consistent
+  consistent_of (Ok u) h = subst (λ (P : Subject W). IsConsistent (along P)) h.path h.finished.report.consistent
   consistent_of (Err e) h = tt
 
   pub stopped_of : (r : Result ⊤ Stop) (kind : ConflictKind) → Outcome old new r → r ≡ Err (Conflict kind) → IsStopped old new kind

@@ -25,9 +25,9 @@ use Rattle.rept_report.proofs.ViewLaws.{known_more}
 use Rattle.rept_versions.specs.Facts.{KnownValues}
 use Rattle.rept_log.specs.Known.{Known, knows, known_change, AddsByte, HasNoRoom, TracksMore}
 use Rattle.rept_analysis.specs.Sums.{one_if, count_true, sum_to}
-use Rattle.rept_analysis.specs.Room.{places_of, places_at, bytes_at, marked, unread, IsDrawable, IsDrawnAt, IsSlotLearnt, OwnByte, own_at, IsOwnByte, IsByteTracked, HasRoom}
+use Rattle.rept_analysis.specs.Room.{places_of, places_at, bytes_looked_at, marked, unread, IsDrawable, IsDrawnAt, IsSlotLearnt, OwnByte, own_at, IsOwnByte, IsByteTracked, HasRoom}
 use Rattle.rept_analysis.proofs.Sums.{count_le, count_less, sum_le, sum_less}
-use Rattle.rept_analysis.specs.State.{Path, along}
+use Rattle.rept_analysis.specs.State.{Subject, along}
 
 -- the same marks but one
 abbrev unmark : (ℕ → ℕ → Bool) → ℕ → ℕ → ℕ → ℕ → Bool
@@ -123,7 +123,7 @@ same_row e = cc
 same_byte : {a b : ℕ} → Byte a ≡ Byte b → a ≡ b
 same_byte e = cc
 
-module _ {W : Type 0} (P : Path W) (old new : List Fact) (more : (p r v : ℕ) → told old p (Register r) ≡ Some v → told new p (Register r) ≡ Some v) where
+module _ {W : Type 0} (P : Subject W) (old new : List Fact) (more : (p r v : ℕ) → told old p (Register r) ≡ Some v → told new p (Register r) ≡ Some v) where
   pub drawable_more : (i : ℕ) (d : Drawn) → IsDrawable P old i d → IsDrawable P new i d
   drawable_more i d h = record {
     row = h.row;
@@ -152,7 +152,7 @@ module _ {W : Type 0} (P : Path W) (old new : List Fact) (more : (p r v : ℕ) �
   }
 
 -- two conclusions of one slot are on one byte at one point
-slot_same : {W : Type 0} (P : Path W) → HasLaws (along P) → (log : List Fact) (i : ℕ) (d e : Drawn) (a b : ℕ) → IsDrawable P log i d → d.cell ≡ Byte a → IsDrawable P log i e → e.cell ≡ Byte b → d.slot ≡ e.slot → (d.when ≡ e.when) × (a ≡ b)
+slot_same : {W : Type 0} (P : Subject W) → HasLaws (along P) → (log : List Fact) (i : ℕ) (d e : Drawn) (a b : ℕ) → IsDrawable P log i d → d.cell ≡ Byte a → IsDrawable P log i e → e.cell ≡ Byte b → d.slot ≡ e.slot → (d.when ≡ e.when) × (a ≡ b)
 slot_same P laws log i d e a b h on_a g on_b slot =
     let row : h.row ≡ g.row = same_row (sym h.found ∙ g.found) in
     let drawn = subst (λ (x : StepRow). Contains (P.rules.draw x h.view) d) row h.drawn in
@@ -164,7 +164,7 @@ slot_same P laws log i d e a b h on_a g on_b slot =
     laws.rules.slot_once g.row h.view g.view d e a b g.base_register h.lawful g.lawful drawn g.drawn on_a on_b g.read (seen ∙ ap Some base ∙ sym g.seen) slot
 
 -- one byte of a row has one address
-own_same : {W : Type 0} (P : Path W) (log : List Fact) (i j a b : ℕ) → IsOwnByte P log (own_at i j a) → IsOwnByte P log (own_at i j b) → a ≡ b
+own_same : {W : Type 0} (P : Subject W) (log : List Fact) (i j a b : ℕ) → IsOwnByte P log (own_at i j a) → IsOwnByte P log (own_at i j b) → a ≡ b
 own_same P log i j a b h g =
     let row : h.row ≡ g.row = same_row (sym h.found ∙ g.found) in
     let read = subst (λ (x : StepRow). first_read x.instr ≡ Some h.base_register) row h.read in
@@ -174,24 +174,24 @@ own_same P log i j a b h g =
     let address = subst (λ (x : StepRow). a ≡ beside (plus h.base (offset_of x.instr)) j) row h.address in
     subst (λ (x : ℕ). a ≡ beside (plus x (offset_of g.row.instr)) j) base address ∙ sym g.address
 
-row_places : {W : Type 0} (P : Path W) (i : ℕ) (row : StepRow) → P.given.legs.row i ≡ Some row → places_at P i ≡ P.rules.places row
+row_places : {W : Type 0} (P : Subject W) (i : ℕ) (row : StepRow) → P.given.legs.row i ≡ Some row → places_at P i ≡ P.rules.places row
 row_places P i row found = ap (λ (x : Option StepRow). places_of P.rules x) found
 
 -- a slot of a row, and a byte of it
-drawn_slot : {W : Type 0} (P : Path W) → HasLaws (along P) → (log : List Fact) (i : ℕ) (d : Drawn) (a : ℕ) → IsDrawable P log i d → d.cell ≡ Byte a → (i < P.given.legs.count) × (d.slot < places_at P i)
+drawn_slot : {W : Type 0} (P : Subject W) → HasLaws (along P) → (log : List Fact) (i : ℕ) (d : Drawn) (a : ℕ) → IsDrawable P log i d → d.cell ≡ Byte a → (i < P.given.legs.count) × (d.slot < places_at P i)
 drawn_slot P laws log i d a h on_a =
     let below = laws.rules.slot_inside h.row h.view d a h.lawful h.drawn on_a in
     let places = row_places P i h.row h.found in
     (laws.legs.inside i h.row h.found, omega (arith, below, places))
 
-own_byte : {W : Type 0} (P : Path W) → AreLegs P.given.legs → (log : List Fact) (i j a : ℕ) → IsOwnByte P log (own_at i j a) → (i < P.given.legs.count) × (j < bytes_at P i)
+own_byte : {W : Type 0} (P : Subject W) → AreLegs P.given.legs → (log : List Fact) (i j a : ℕ) → IsOwnByte P log (own_at i j a) → (i < P.given.legs.count) × (j < bytes_looked_at P i)
 own_byte P legs log i j a h =
     let below : j < P.rules.places h.row = h.below_places in
     let four : j < 4 = h.below_four in
     let places = row_places P i h.row h.found in
     (legs.inside i h.row h.found, omega (arith, below, four, places))
 
-module _ {W : Type 0} (P : Path W) (old new : Known) (more : (p : ℕ) (c : Cell) (v : ℕ) → knows old p c ≡ Some v → knows new p c ≡ Some v) where
+module _ {W : Type 0} (P : Subject W) (old new : Known) (more : (p : ℕ) (c : Cell) (v : ℕ) → knows old p c ≡ Some v → knows new p c ≡ Some v) where
   slot_more : (i j : ℕ) → IsSlotLearnt P old i j → IsSlotLearnt P new i j
   slot_more i j h = record {
     conclusion = h.conclusion;
@@ -255,14 +255,14 @@ module _ {W : Type 0} (P : Path W) (old new : Known) (more : (p : ℕ) (c : Cell
       }
 
 -- a slot that isn't marked is of a byte that is known
-slot_known : {W : Type 0} (P : Path W) → HasLaws (along P) → (k : Known) → (i : ℕ) (d : Drawn) (a : ℕ) → IsDrawable P k.log i d → d.cell ≡ Byte a → IsSlotLearnt P k i d.slot → (v : ℕ) × (k.store.fact (moment_of P.given.moments i d.when) a ≡ Some v)
+slot_known : {W : Type 0} (P : Subject W) → HasLaws (along P) → (k : Known) → (i : ℕ) (d : Drawn) (a : ℕ) → IsDrawable P k.log i d → d.cell ≡ Byte a → IsSlotLearnt P k i d.slot → (v : ℕ) × (k.store.fact (moment_of P.given.moments i d.when) a ≡ Some v)
 slot_known P laws k i d a h on_a l =
     let same = slot_same P laws k.log i l.conclusion d l.address a l.drawn l.cell h on_a l.slot in
     let point = subst (λ (w : When). k.store.fact (moment_of P.given.moments i w) l.address ≡ Some l.value) same.0 l.byte in
     (l.value, subst (λ (x : ℕ). k.store.fact (moment_of P.given.moments i d.when) x ≡ Some l.value) same.1 point)
 
 -- so where nothing is known of the byte, its slot is marked
-slot_marked : {W : Type 0} (P : Path W) → HasLaws (along P) → (k : Known) → (r : HasRoom P k) → (p a : ℕ) → (place : IsDrawnAt P k.log p a) → k.store.fact p a ≡ None → r.unlearnt place.number place.conclusion.slot ≡ true
+slot_marked : {W : Type 0} (P : Subject W) → HasLaws (along P) → (k : Known) → (r : HasRoom P k) → (p a : ℕ) → (place : IsDrawnAt P k.log p a) → k.store.fact p a ≡ None → r.unlearnt place.number place.conclusion.slot ≡ true
 slot_marked P laws k r p a place none =
     elim (cases_Bool (r.unlearnt place.number place.conclusion.slot)) [
       | inl is ↦ is
@@ -273,7 +273,7 @@ slot_marked P laws k r p a place none =
     ]
 
 -- a byte that rows let one conclude was learnt
-module _ {W : Type 0} (P : Path W) (laws : HasLaws (along P)) (old new : Known) (more : (p : ℕ) (c : Cell) (v : ℕ) → knows old p c ≡ Some v → knows new p c ≡ Some v) (joins : Bool) (p a v : ℕ) (place : IsDrawnAt P old.log p a) (adds : AddsByte (known_change joins old new) (record { point = p; address = a; value = v }) true) (r : HasRoom P old) where
+module _ {W : Type 0} (P : Subject W) (laws : HasLaws (along P)) (old new : Known) (more : (p : ℕ) (c : Cell) (v : ℕ) → knows old p c ≡ Some v → knows new p c ≡ Some v) (joins : Bool) (p a v : ℕ) (place : IsDrawnAt P old.log p a) (adds : AddsByte (known_change joins old new) (record { point = p; address = a; value = v }) true) (r : HasRoom P old) where
   abbrev i : ℕ
   i = place.number
 
@@ -321,7 +321,7 @@ module _ {W : Type 0} (P : Path W) (laws : HasLaws (along P)) (old new : Known) 
       }
 
 -- a byte of a row was tracked
-module _ {W : Type 0} (P : Path W) (legs : AreLegs P.given.legs) (old : Known) (r : HasRoom P old) (i j a : ℕ) (own : IsOwnByte P old.log (own_at i j a)) (was_not : Contains old.store.tracked a → ⊥) where
+module _ {W : Type 0} (P : Subject W) (legs : AreLegs P.given.legs) (old : Known) (r : HasRoom P old) (i j a : ℕ) (own : IsOwnByte P old.log (own_at i j a)) (was_not : Contains old.store.tracked a → ⊥) where
   byte_marked : r.untracked i j ≡ true
   byte_marked =
       elim (cases_Bool (r.untracked i j)) [
@@ -331,8 +331,8 @@ module _ {W : Type 0} (P : Path W) (legs : AreLegs P.given.legs) (old : Known) (
             absurd (was_not (subst (λ (x : ℕ). Contains old.store.tracked x) (own_same P old.log i j h.address a h.own own) h.tracked))
       ]
 
-  fewer_bytes : marked (bytes_at P) (unmark r.untracked i j) (P.given.legs.count) < marked (bytes_at P) r.untracked (P.given.legs.count)
-  fewer_bytes = let inside = own_byte P legs old.log i j a own in unmark_fewer r.untracked i j (bytes_at P) (P.given.legs.count) inside.0 inside.1 byte_marked
+  fewer_bytes : marked (bytes_looked_at P) (unmark r.untracked i j) (P.given.legs.count) < marked (bytes_looked_at P) r.untracked (P.given.legs.count)
+  fewer_bytes = let inside = own_byte P legs old.log i j a own in unmark_fewer r.untracked i j (bytes_looked_at P) (P.given.legs.count) inside.0 inside.1 byte_marked
 
   -- there was a place for it
   pub room_to_track : length old.store.tracked < old.store.places
@@ -374,7 +374,7 @@ module _ {W : Type 0} (P : Path W) (legs : AreLegs P.given.legs) (old : Known) (
         }
 
 -- there is room for a byte that rows let one conclude
-pub room_to_draw : {W : Type 0} (P : Path W) → HasLaws (along P) → (k : Known) → HasRoom P k → (p a : ℕ) → IsDrawnAt P k.log p a → HasNoRoom k p a true → ⊥
+pub room_to_draw : {W : Type 0} (P : Subject W) → HasLaws (along P) → (k : Known) → HasRoom P k → (p a : ℕ) → IsDrawnAt P k.log p a → HasNoRoom k p a true → ⊥
 room_to_draw P laws k r p a place full =
     let inside = drawn_slot P laws k.log place.number place.conclusion a place.drawn place.cell in
     let less = unmark_fewer r.unlearnt place.number place.conclusion.slot (places_at P) (P.given.legs.count) inside.0 inside.1 (slot_marked P laws k r p a place full.none) in
@@ -386,7 +386,7 @@ room_to_draw P laws k r p a place full =
     ]
 
 -- and for the byte of the dump at a tracked address
-pub room_to_read : {W : Type 0} (P : Path W) (k : Known) → HasRoom P k → (p a : ℕ) → p ≡ P.given.moments.end → Contains k.store.tracked a → HasNoRoom k p a false → ⊥
+pub room_to_read : {W : Type 0} (P : Subject W) (k : Known) → HasRoom P k → (p a : ℕ) → p ≡ P.given.moments.end → Contains k.store.tracked a → HasNoRoom k p a false → ⊥
 room_to_read P k r p a end tracked full =
     let some = unread_some P.given.moments.end k a tracked (subst (λ (q : ℕ). k.store.fact q a ≡ None) end full.none) in
     let spare = r.spare in
@@ -396,11 +396,11 @@ room_to_read P k r p a end tracked full =
     ]
 
 -- all is marked at first
-pub room_new : {W : Type 0} (P : Path W) (k : Known) (bytes : ℕ) → bytes ≡ sum_to (places_at P) (P.given.legs.count) → k.store.tracked ≡ [] → k.left ≡ bytes → bytes ≤ k.store.places → 2 * bytes ≤ k.store.spare → HasRoom P k
+pub room_new : {W : Type 0} (P : Subject W) (k : Known) (bytes : ℕ) → bytes ≡ sum_to (places_at P) (P.given.legs.count) → k.store.tracked ≡ [] → k.left ≡ bytes → bytes ≤ k.store.places → 2 * bytes ≤ k.store.spare → HasRoom P k
 room_new P k bytes is tracked left places spare =
     let slots = marked_all (places_at P) (P.given.legs.count) in
-    let own = marked_all (bytes_at P) (P.given.legs.count) in
-    let less = sum_le (places_at P) (bytes_at P) (P.given.legs.count) (λ i lt. omega arith) in
+    let own = marked_all (bytes_looked_at P) (P.given.legs.count) in
+    let less = sum_le (places_at P) (bytes_looked_at P) (P.given.legs.count) (λ i lt. omega arith) in
     let none : unread P.given.moments.end k ≡ 0 = rw tracked refl in
     let empty : length k.store.tracked ≡ 0 = rw tracked refl in
     record {

@@ -11,6 +11,7 @@ use Rattle.rept_report.specs.Spots.{spot}
 use Rattle.rept_report.specs.Timeline.{Timeline, IsLeastFrom, IsOpen}
 use Rattle.rept_report.specs.Views.{may_write, registers_at, touched_by}
 use Rattle.rept_report.specs.Implied.{all_past, is_settled}
+use Rattle.rept_analysis.proofs.Along.{there_inside}
 
 module _ {W : Type 0} (S : Setting W) (K : Knowledge) (m a : ℕ) where
   -- each row below a number that may write the byte lies before the moment
@@ -99,11 +100,7 @@ rest_none P least (Some x) never its = absurd (never x refl)
 -- a row that was found is there
 pub open_inside : (t : Timeline) → AreLegs t.legs → (m least : ℕ) (o : Option ℕ) → IsLeastFrom (IsOpen t m) least o → IfSome o (λ i. i < t.legs.count)
 open_inside t laws m least None its = tt
-open_inside t laws m least (Some i) its = let there = of (t.legs.row i) refl its.0.row in laws.inside i there.0 there.1
-  where
-    of : (o : Option StepRow) → t.legs.row i ≡ o → IsSome o → (row : StepRow) × (t.legs.row i ≡ Some row)
-    of None e some = cc
-    of (Some row) e some = (row, e)
+open_inside t laws m least (Some i) its = there_inside t laws i its.0.row
 
 pub open_order : (t : Timeline) (m least : ℕ) (o : Option ℕ) → IsLeastFrom (IsOpen t m) least o → IfSome o (λ i. least ≤ i)
 open_order t m least None its = tt

@@ -1,5 +1,5 @@
 -- A byte's value that is carried over several points is as if it were learnt at one after another.
-use Rattle.std.proofs.Common.{◌≡◌, ℕ, zero, suc, ◌+◌, ◌-◌, ◌<◌, ◌≤◌, ◌^◌, ◌⊎◌, ◌&&◌, Bool, true, false, cond, eqb, List, Option, Some, None, Result, Ok, Err, inl, inr, refl, sym, ap, subst, ◌∙◌, arith, Contains, max}
+use Rattle.std.proofs.Common.{◌≡◌, ◌≢◌, ℕ, zero, suc, ◌+◌, ◌-◌, ◌<◌, ◌≤◌, ◌^◌, ◌⊎◌, ◌&&◌, Bool, true, false, cond, eqb, List, Option, Some, None, Result, Ok, Err, inl, inr, refl, sym, ap, subst, ◌∙◌, arith, Contains, max}
 use Rattle.std.proofs.lemmas.Bool.{cases_lt, cases_eq, cond-true, cond-false, and_parts, and_from, eq-eqb, eqb-true, false≢true}
 use mathlib.Core.Path.{fun_ext}
 use Rattle.rept_reason.specs.declared.fact.Cell.{Cell}
@@ -19,12 +19,12 @@ use Rattle.rept_reason.specs.declared.fact.Fact.{Fact}
 use Rattle.rept_versions.specs.declared.facts.Carried.{Carried}
 use Rattle.rept_versions.specs.declared.facts.Carried.TheVariants.{Same, More, Stop}
 use Rattle.rept_versions.specs.declared.facts.Stretch.{Stretch}
-use Rattle.rept_versions.specs.Facts.{KnownValues, Store, change, Between, Spreads, CarriesOr as StoreCarries, Nexts}
+use Rattle.rept_versions.specs.Facts.{KnownValues, Store, change, Carry, Between, Spreads, CarriesOr as StoreCarries, Nexts}
 use Rattle.rept_log.proofs.Stores.{stays_same}
 use Rattle.rept_log.specs.Known.{Known, knows, known_change, AddsByte, SameLog}
-use Rattle.rept_analysis.specs.State.{State, IsRoomy, all_known, Path, along}
+use Rattle.rept_analysis.specs.State.{State, IsRoomy, all_known, Subject, along}
 use Rattle.rept_report.specs.Why.{fact_of}
-use Rattle.rept_analysis.specs.Drawing.{Knows, IsTracked, Grows, IsBrought, IsSpared, IsBridged, IsSparedBetween, IsSpreadTo, IsCarriedFrom}
+use Rattle.rept_analysis.specs.Drawing.{Knows, IsTracked, Grows, IsBrought, IsSpared, IsBridged, IsSparedBetween, IsBefore, IsLedTo, IsLed, IsSpreadTo, IsCarriedFrom}
 use Rattle.rept_analysis.specs.Drawing.HasNews.{fact}
 use Rattle.rept_analysis.specs.Told.{Sends}
 use Rattle.rept_analysis.specs.Kept.{IsKept}
@@ -77,23 +77,55 @@ module _ {W : Type 0} (s : State W) (laws : HasLaws (along s.path)) (kept : IsKe
   pub brought_back : Knows x.to (Byte x.address) v s → IsBrought s (fact_of x.from (Byte x.address) v)
   brought_back h quiet = back x.address x.from x.to refl refl (carries quiet) h
 
-module _ {W : Type 0} (s : State W) (laws : HasLaws (along s.path)) (kept : IsKept s) (m a v : ℕ) (small : a < 2 ^ 32) (bridged : IsBridged (passage a m (m + 1)) s) where
-  pub up_brought : Knows m (Byte a) v s → IsBrought s (fact_of (m + 1) (Byte a) v)
-  up_brought h = brought_on s laws kept (passage a m (m + 1)) v small bridged h
-
-  pub down_brought : Knows (m + 1) (Byte a) v s → IsBrought s (fact_of m (Byte a) v)
-  down_brought h = brought_back s laws kept (passage a m (m + 1)) v small bridged h
-
 -- it is carried still where more is known
 pub bridged_still : {W : Type 0} (s t : State W) → HasLaws (along s.path) → IsKept t → Grows s t → (x : Passage) → x.address < 2 ^ 32 → IsBridged x s → IsBridged x t
 bridged_still s t laws kept g x small h = record {
   next = rw g.path h.next;
   light = rw g.path h.light;
-  spared = λ i falls. spared_still s t laws (known_words t kept) g.path g.older g.more i x.address small (h.spared i (subst (λ (P : Path _). P.given.moments.falls i x.from x.to ≡ true) g.path falls));
+  spared = λ i falls. spared_still s t laws (known_words t kept) g.path g.older g.more i x.address small (h.spared i (subst (λ (P : Subject _). P.given.moments.falls i x.from x.to ≡ true) g.path falls));
 }
 
 pub bridged_after : {W : Type 0} (s t : State W) → HasLaws (along s.path) → IsKept t → Grows s t → (m a : ℕ) → a < 2 ^ 32 → IsBridged (passage a m (m + 1)) s → IsBridged (passage a m (m + 1)) t
 bridged_after s t laws kept g m a small h = bridged_still s t laws kept g (passage a m (m + 1)) small h
+
+-- it is brought to a point of a course where its values at those before it are known
+module _ {W : Type 0} (s t : State W) (laws : HasLaws (along s.path)) (kept : IsKept t) (g : Grows s t) (course : Carry) (small : course.address < 2 ^ 32) (q : ℕ) (x : IsLedTo course q s) (before : (p : ℕ) → IsBefore course q p → Knows p (Byte course.address) course.value t) where
+  laws_then : HasLaws (along t.path)
+  laws_then = subst (λ (P : Subject W). HasLaws (along P)) (sym g.path) laws
+
+  known_then : Knows x.source (Byte course.address) course.value t
+  known_then =
+      elim x.known [
+        | inl h ↦ g.more x.source (Byte course.address) course.value h
+        | inr y ↦ before x.source y
+      ]
+
+  pub led_brought : IsBrought t (fact_of q (Byte course.address) course.value)
+  led_brought =
+      elim x.bridged [
+        | inl h ↦ brought_on t laws_then kept (passage course.address x.source q) course.value small (bridged_still s t laws kept g (passage course.address x.source q) small h) known_then
+        | inr h ↦ brought_back t laws_then kept (passage course.address q x.source) course.value small (bridged_still s t laws kept g (passage course.address q x.source) small h) known_then
+      ]
+
+-- from one number to the one after it
+pub spared_led : {W : Type 0} (s : State W) (a from to v : ℕ) → IsSparedBetween from to a s → IsLed (record { address = a; from = from; to = to; value = v }) s
+spared_led s a from to v spared q (inl x) ne =
+    let low = x.0 in
+    let high = x.1 in
+    let next : q - 1 + 1 ≡ q = omega (arith, low, ne) in
+    record {
+      source = q - 1;
+      known = inr (inl (omega (arith, low, ne), omega (arith, low, ne)));
+      bridged = inl (subst (λ (n : ℕ). IsBridged (passage a (q - 1) n) s) next (spared (q - 1) (inl (omega (arith, low, ne), omega (arith, low, high, ne)))));
+    }
+spared_led s a from to v spared q (inr x) ne =
+    let low = x.0 in
+    let high = x.1 in
+    record {
+      source = q + 1;
+      known = inr (inr (omega arith, omega (arith, high, ne)));
+      bridged = inr (spared q (inr (low, omega (arith, high, ne))));
+    }
 
 module _ {W : Type 0} (s : State W) (laws : HasLaws (along s.path)) (kept : IsKept s) (open_ : s.complete ≡ false) (a v : ℕ) (small : a < 2 ^ 32) (tracked : IsTracked a s) where
   -- one fact more
@@ -172,35 +204,39 @@ module _ {W : Type 0} (s : State W) (laws : HasLaws (along s.path)) (kept : IsKe
         | inr ne ↦ fact_else (chain pt d).known (pt (suc d)) q a (λ x f. ne x) ∙ e
       ]
 
-  module _ (pt : ℕ → ℕ) (D : ℕ) (early : (d : ℕ) → d ≤ D → pt d ≤ s.path.given.moments.end) (free : (d w : ℕ) → d ≤ D → s.known.store.fact (pt d) a ≡ Some w → w ≡ v) (start : s.known.store.fact (pt 0) a ≡ Some v) (reach : (d : ℕ) → d < D → (t : State W) → HasLaws (along t.path) → IsKept t → Grows s t → Knows (pt d) (Byte a) v t → IsBrought t (fact_of (pt (suc d)) (Byte a) v)) where
+  module _ (pt : ℕ → ℕ) (D : ℕ) (early : (d : ℕ) → d ≤ D → pt d ≤ s.path.given.moments.end) (free : (d w : ℕ) → d ≤ D → s.known.store.fact (pt d) a ≡ Some w → w ≡ v) (start : s.known.store.fact (pt 0) a ≡ Some v) (reach : (d : ℕ) → d < D → (t : State W) → IsKept t → Grows s t → ((j : ℕ) → j ≤ d → Knows (pt j) (Byte a) v t) → IsBrought t (fact_of (pt (suc d)) (Byte a) v)) where
     step : (t : State W) → IsKept t → Grows s t → (p : ℕ) → p ≤ s.path.given.moments.end → t.known.store.fact p a ≡ None → IsBrought t (fact_of p (Byte a) v) → IsKept (with_known t (with_fact t.known p)) × Grows t (with_known t (with_fact t.known p))
     step t kept_t g p le none brought =
-        let early_t : p ≤ t.path.given.moments.end = subst (λ (P : Path W). p ≤ P.given.moments.end) (sym g.path) le in
+        let early_t : p ≤ t.path.given.moments.end = subst (λ (P : Subject W). p ≤ P.given.moments.end) (sym g.path) le in
         let both = new_byte t kept_t true p a v early_t small (g.tracked a tracked) (g.complete ∙ open_) (brought_follows t p a v early_t small brought) false (λ _. brought) (with_fact t.known p) (adds t.known p none) kept_t.once (λ more j. room_like t.path t.known (with_fact t.known p) more (omega arith) (omega arith) refl refl (kept_t.roomy j)) in
         (both.0, both.1.grows)
 
-    chain_kept : (d : ℕ) → d ≤ D → IsKept (chain pt d) × Grows s (chain pt d) × Knows (pt d) (Byte a) v (chain pt d)
-    chain_kept zero le = (kept, Grows_itself s, start)
+    abbrev IsChained : ℕ → Type 0
+    IsChained d = IsKept (chain pt d) × Grows s (chain pt d) × ((j : ℕ) → j ≤ d → Knows (pt j) (Byte a) v (chain pt d))
+
+    chain_kept : (d : ℕ) → d ≤ D → IsChained d
+    chain_kept zero le = (kept, Grows_itself s, λ j h. let e : 0 ≡ j = omega (arith, h) in subst (λ (x : ℕ). s.known.store.fact (pt x) a ≡ Some v) e start)
     chain_kept (suc d) le = next (chain_kept d (omega (arith, le))) ((chain pt d).known.store.fact (pt (suc d)) a) refl
       where
-        next : IsKept (chain pt d) × Grows s (chain pt d) × Knows (pt d) (Byte a) v (chain pt d) → (x : Option ℕ) → (chain pt d).known.store.fact (pt (suc d)) a ≡ x → IsKept (chain pt (suc d)) × Grows s (chain pt (suc d)) × Knows (pt (suc d)) (Byte a) v (chain pt (suc d))
-        next (k, g, h) None none =
-            let laws_t : HasLaws (along (chain pt d).path) = subst (λ (P : Path W). HasLaws (along P)) (sym g.path) laws in
-            let both = step (chain pt d) k g (pt (suc d)) (early (suc d) le) none (reach d (omega (arith, le)) (chain pt d) laws_t k g h) in
-            (both.0, Grows_trans s (chain pt d) (chain pt (suc d)) g both.1, fact_here (chain pt d).known (pt (suc d)))
-        next (k, g, h) (Some w) some =
+        more : ((j : ℕ) → j ≤ d → Knows (pt j) (Byte a) v (chain pt d)) → (j : ℕ) → j ≤ suc d → Knows (pt j) (Byte a) v (chain pt (suc d))
+        more all j h =
+            elim (cases_eq j (suc d)) [
+              | inl e ↦ rw e (fact_here (chain pt d).known (pt (suc d)))
+              | inr ne ↦ chain_stays pt d (pt j) (all j (omega (arith, h, ne)))
+            ]
+
+        next : IsChained d → (x : Option ℕ) → (chain pt d).known.store.fact (pt (suc d)) a ≡ x → IsChained (suc d)
+        next (k, g, all) None none =
+            let both = step (chain pt d) k g (pt (suc d)) (early (suc d) le) none (reach d (omega (arith, le)) (chain pt d) k g all) in
+            (both.0, Grows_trans s (chain pt d) (chain pt (suc d)) g both.1, more all)
+        next (k, g, all) (Some w) some =
             let value : w ≡ v = elim (chain_value pt d (pt (suc d)) w some) [ inl e ↦ e | inr e ↦ free (suc d) w le e ] in
             let known : (chain pt d).known.store.fact (pt (suc d)) a ≡ Some v = some ∙ ap Some value in
             let same : chain pt (suc d) ≡ chain pt d = ap (λ (x : Known). with_known (chain pt d) x) (same_fact (chain pt d).known (pt (suc d)) known) in
-            (subst (λ (x : State W). IsKept x) (sym same) k, subst (λ (x : State W). Grows s x) (sym same) g, fact_here (chain pt d).known (pt (suc d)))
+            (subst (λ (x : State W). IsKept x) (sym same) k, subst (λ (x : State W). Grows s x) (sym same) g, more all)
 
-    chain_here : (d j : ℕ) → d ≤ D → j ≤ d → (chain pt d).known.store.fact (pt j) a ≡ Some v
-    chain_here zero j le h = let e : 0 ≡ j = omega (arith, h) in subst (λ (x : ℕ). s.known.store.fact (pt x) a ≡ Some v) e start
-    chain_here (suc d) j le h =
-        elim (cases_eq j (suc d)) [
-          | inl e ↦ rw e (fact_here (chain pt d).known (pt (suc d)))
-          | inr ne ↦ chain_stays pt d (pt j) (chain_here d j (omega (arith, le)) (omega (arith, h, ne)))
-        ]
+    chain_here : (j : ℕ) → j ≤ D → (chain pt D).known.store.fact (pt j) a ≡ Some v
+    chain_here j h = (chain_kept D (omega arith)).2 j h
 
     -- a store that has these facts
     pub chain_done : (k : Known) → k.last ≡ s.known.last → k.log ≡ s.known.log → k.left ≡ s.known.left → k.store.tracked ≡ s.known.store.tracked → k.store.places ≡ s.known.store.places → (s.work.joins ≡ true → s.known.store.spare ≤ k.store.spare) → ((q b : ℕ) → k.store.fact q b ≡ (chain pt D).known.store.fact q b) → IsKept (with_known s k) × Grows s (with_known s k)
@@ -240,7 +276,7 @@ module _ {W : Type 0} (s : State W) (laws : HasLaws (along s.path)) (kept : IsKe
         more_of p (Byte b) w e facts k_log = rw facts e
 
   -- a store in which the value was spread from a point to another one
-  module _ (k : Known) (from to : ℕ) (last : k.last ≡ s.known.last) (log : k.log ≡ s.known.log) (left : k.left ≡ s.known.left) (from_early : from ≤ s.path.given.moments.end) (to_early : to ≤ s.path.given.moments.end) (known : Knows from (Byte a) v s) (spared : IsSparedBetween from to a s) (spreads : Spreads (change s.work.joins s.known.store k.store) (record { address = a; from = from; to = to; value = v })) where
+  module _ (k : Known) (from to : ℕ) (last : k.last ≡ s.known.last) (log : k.log ≡ s.known.log) (left : k.left ≡ s.known.left) (from_early : from ≤ s.path.given.moments.end) (to_early : to ≤ s.path.given.moments.end) (known : Knows from (Byte a) v s) (led : IsLed (record { address = a; from = from; to = to; value = v }) s) (spreads : Spreads (change s.work.joins s.known.store k.store) (record { address = a; from = from; to = to; value = v })) where
     start_up : s.known.store.fact (from + 0) a ≡ Some v
     start_up = let e : from ≡ from + 0 = omega arith in subst (λ (p : ℕ). s.known.store.fact p a ≡ Some v) e known
 
@@ -250,11 +286,13 @@ module _ {W : Type 0} (s : State W) (laws : HasLaws (along s.path)) (kept : IsKe
     up : from ≤ to → IsKept (with_known s k) × Grows s (with_known s k)
     up le = chain_done (λ d. from + d) (to - from) (λ d h. omega (arith, h, to_early, le)) (λ d w h e. spreads.free (from + d) w (inl (omega arith, omega (arith, h, le))) e) start_up reach k last log left spreads.tracked spreads.places spreads.spare same
       where
-        reach : (d : ℕ) → d < to - from → (t : State W) → HasLaws (along t.path) → IsKept t → Grows s t → Knows (from + d) (Byte a) v t → IsBrought t (fact_of (from + suc d) (Byte a) v)
-        reach d lt t laws_t kept_t g h =
-            let at = up_brought t laws_t kept_t (from + d) a v small (bridged_after s t laws kept_t g (from + d) a small (spared (from + d) (inl (omega arith, omega (arith, lt))))) h in
-            let next : from + d + 1 ≡ from + suc d = omega arith in
-            subst (λ (p : ℕ). IsBrought t (fact_of p (Byte a) v)) next at
+        reach : (d : ℕ) → d < to - from → (t : State W) → IsKept t → Grows s t → ((j : ℕ) → j ≤ d → Knows (from + j) (Byte a) v t) → IsBrought t (fact_of (from + suc d) (Byte a) v)
+        reach d lt t kept_t g all =
+            led_brought s t laws kept_t g (record { address = a; from = from; to = to; value = v }) small (from + suc d) (led (from + suc d) (inl (omega arith, omega (arith, lt))) (λ e. omega (arith, e))) before
+          where
+            before : (p : ℕ) → IsBefore (record { address = a; from = from; to = to; value = v }) (from + suc d) p → Knows p (Byte a) v t
+            before p (inl x) = let low = x.0 in let high = x.1 in let at : from + (p - from) ≡ p = omega (arith, low) in subst (λ (n : ℕ). Knows n (Byte a) v t) at (all (p - from) (omega (arith, low, high)))
+            before p (inr x) = let low = x.0 in let high = x.1 in absurd (omega (arith, low, high))
 
         same : (q b : ℕ) → k.store.fact q b ≡ (chain (λ d. from + d) (to - from)).known.store.fact q b
         same q b =
@@ -266,7 +304,7 @@ module _ {W : Type 0} (s : State W) (laws : HasLaws (along s.path)) (kept : IsKe
                   | inl past ↦ spreads.others q b (λ x f. elim x [ inl y ↦ let z = y.1 in omega (arith, z, past) | inr y ↦ let z = y.1 in omega (arith, z, past, le) ]) ∙ sym (chain_else (λ d. from + d) (to - from) q b (λ j positive h e f. omega (arith, e, h, past, le)))
                   | inr under ↦
                       let at : from + (q - from) ≡ q = omega (arith, high) in
-                      let there = chain_here (λ d. from + d) (to - from) (λ d h. omega (arith, h, to_early, le)) (λ d w h e. spreads.free (from + d) w (inl (omega arith, omega (arith, h, le))) e) start_up reach (to - from) (q - from) (omega arith) (omega (arith, under)) in
+                      let there = chain_here (λ d. from + d) (to - from) (λ d h. omega (arith, h, to_early, le)) (λ d w h e. spreads.free (from + d) w (inl (omega arith, omega (arith, h, le))) e) start_up reach (q - from) (omega (arith, under)) in
                       let value : (chain (λ d. from + d) (to - from)).known.store.fact q a ≡ Some v = subst (λ (p : ℕ). (chain (λ d. from + d) (to - from)).known.store.fact p a ≡ Some v) at there in
                       rw is (spreads.here q (inl (high, under)) ∙ sym value)
                 ]
@@ -276,11 +314,13 @@ module _ {W : Type 0} (s : State W) (laws : HasLaws (along s.path)) (kept : IsKe
     down : to ≤ from → IsKept (with_known s k) × Grows s (with_known s k)
     down le = chain_done (λ d. from - d) (from - to) (λ d h. omega (arith, from_early)) (λ d w h e. spreads.free (from - d) w (inr (omega (arith, h, le), omega arith)) e) start_down reach k last log left spreads.tracked spreads.places spreads.spare same
       where
-        reach : (d : ℕ) → d < from - to → (t : State W) → HasLaws (along t.path) → IsKept t → Grows s t → Knows (from - d) (Byte a) v t → IsBrought t (fact_of (from - suc d) (Byte a) v)
-        reach d lt t laws_t kept_t g h =
-            let next : from - d ≡ from - suc d + 1 = omega (arith, lt) in
-            let above : Knows (from - suc d + 1) (Byte a) v t = subst (λ (p : ℕ). Knows p (Byte a) v t) next h in
-            down_brought t laws_t kept_t (from - suc d) a v small (bridged_after s t laws kept_t g (from - suc d) a small (spared (from - suc d) (inr (omega (arith, lt), omega (arith, lt))))) above
+        reach : (d : ℕ) → d < from - to → (t : State W) → IsKept t → Grows s t → ((j : ℕ) → j ≤ d → Knows (from - j) (Byte a) v t) → IsBrought t (fact_of (from - suc d) (Byte a) v)
+        reach d lt t kept_t g all =
+            led_brought s t laws kept_t g (record { address = a; from = from; to = to; value = v }) small (from - suc d) (led (from - suc d) (inr (omega (arith, lt), omega arith)) (λ e. omega (arith, e, lt))) before
+          where
+            before : (p : ℕ) → IsBefore (record { address = a; from = from; to = to; value = v }) (from - suc d) p → Knows p (Byte a) v t
+            before p (inl x) = let low = x.0 in let high = x.1 in absurd (omega (arith, low, high))
+            before p (inr x) = let low = x.0 in let high = x.1 in let at : from - (from - p) ≡ p = omega (arith, high) in subst (λ (n : ℕ). Knows n (Byte a) v t) at (all (from - p) (omega (arith, low, high, lt)))
 
         same : (q b : ℕ) → k.store.fact q b ≡ (chain (λ d. from - d) (from - to)).known.store.fact q b
         same q b =
@@ -292,7 +332,7 @@ module _ {W : Type 0} (s : State W) (laws : HasLaws (along s.path)) (kept : IsKe
                   | inl past ↦ spreads.others q b (λ x f. elim x [ inl y ↦ let z = y.1 in omega (arith, z, past, le) | inr y ↦ let z = y.1 in omega (arith, z, past) ]) ∙ sym (chain_else (λ d. from - d) (from - to) q b (λ j positive h e f. omega (arith, e, past)))
                   | inr under ↦
                       let at : from - (from - q) ≡ q = omega (arith, under) in
-                      let there = chain_here (λ d. from - d) (from - to) (λ d h. omega (arith, from_early)) (λ d w h e. spreads.free (from - d) w (inr (omega (arith, h, le), omega arith)) e) start_down reach (from - to) (from - q) (omega arith) (omega (arith, high)) in
+                      let there = chain_here (λ d. from - d) (from - to) (λ d h. omega (arith, from_early)) (λ d w h e. spreads.free (from - d) w (inr (omega (arith, h, le), omega arith)) e) start_down reach (from - q) (omega (arith, high)) in
                       let value : (chain (λ d. from - d) (from - to)).known.store.fact q a ≡ Some v = subst (λ (p : ℕ). (chain (λ d. from - d) (from - to)).known.store.fact p a ≡ Some v) at there in
                       rw is (spreads.here q (inr (high, under)) ∙ sym value)
                 ]
@@ -307,7 +347,7 @@ module _ {W : Type 0} (s : State W) (laws : HasLaws (along s.path)) (kept : IsKe
         ]
 
 -- what a store's answer to `carry` comes to
-module _ {W : Type 0} (s : State W) (laws : HasLaws (along s.path)) (kept : IsKept s) (open_ : s.complete ≡ false) (a from to v : ℕ) (small : a < 2 ^ 32) (from_early : from ≤ s.path.given.moments.end) (to_early : to ≤ s.path.given.moments.end) (known : Knows from (Byte a) v s) (spared : IsSparedBetween from to a s) where
+module _ {W : Type 0} (s : State W) (laws : HasLaws (along s.path)) (kept : IsKept s) (open_ : s.complete ≡ false) (a from to v : ℕ) (small : a < 2 ^ 32) (from_early : from ≤ s.path.given.moments.end) (to_early : to ≤ s.path.given.moments.end) (known : Knows from (Byte a) v s) (led : IsLed (record { address = a; from = from; to = to; value = v }) s) where
   tracked : IsTracked a s
   tracked = kept.listed from a v known
 
@@ -315,26 +355,35 @@ module _ {W : Type 0} (s : State W) (laws : HasLaws (along s.path)) (kept : IsKe
   between_early q (inl y) = let z = y.1 in omega (arith, z, to_early)
   between_early q (inr y) = let z = y.1 in omega (arith, z, from_early)
 
-  within : (before : ℕ) → Between from to before → IsSparedBetween from before a s
-  within before (inl y) i (inl x) = let p = x.0 in let q = x.1 in let z = y.1 in spared i (inl (p, omega (arith, q, z)))
-  within before (inl y) i (inr x) = let p = x.0 in let q = x.1 in let z = y.0 in absurd (omega (arith, p, q, z))
-  within before (inr y) i (inl x) = let p = x.0 in let q = x.1 in let z = y.1 in absurd (omega (arith, p, q, z))
-  within before (inr y) i (inr x) = let p = x.0 in let q = x.1 in let z = y.0 in spared i (inr (omega (arith, p, z), q))
+  wider : (before q : ℕ) → Between from to before → Between from before q → Between from to q
+  wider before q (inl y) (inl x) = let high = y.1 in let low = x.1 in inl (x.0, omega (arith, high, low))
+  wider before q (inl y) (inr x) = let low = y.0 in let high = y.1 in let under = x.0 in let over = x.1 in inl (omega (arith, low, under), omega (arith, low, high, over))
+  wider before q (inr y) (inl x) = let low = y.0 in let high = y.1 in let under = x.0 in let over = x.1 in inr (omega (arith, low, high, under), omega (arith, high, over))
+  wider before q (inr y) (inr x) = let low = y.0 in let high = x.0 in inr (omega (arith, low, high), x.1)
+
+  within : (before : ℕ) → Between from to before → IsLed (record { address = a; from = from; to = before; value = v }) s
+  within before at q between ne = let x = led q (wider before q at between) ne in record { source = x.source; known = x.known; bridged = x.bridged }
 
   spread : (k : Known) → SameLog s.known k → (before : ℕ) → Between from to before → Spreads (change s.work.joins s.known.store k.store) (record { address = a; from = from; to = before; value = v }) → IsKept (with_known s k) × Grows s (with_known s k)
   spread k log before at h = spread_kept s laws kept open_ a v small tracked k from before log.last log.log log.left from_early (between_early before at) known (within before at) h
 
-  up_spared : (before stop : ℕ) → before + 1 ≡ stop → Between from to before → Between from to stop → IsBridged (passage a before (before + 1)) s
-  up_spared before stop next (inl y) (inl x) = let p = y.0 in let q = x.1 in spared before (inl (p, omega (arith, next, q)))
-  up_spared before stop next (inr y) (inr x) = let p = y.0 in let q = x.1 in spared before (inr (p, omega (arith, next, q)))
-  up_spared before stop next (inl y) (inr x) = let p = y.0 in let q = x.1 in let z = y.1 in absurd (omega (arith, next, p, q, z))
-  up_spared before stop next (inr y) (inl x) = let p = y.0 in let q = x.1 in let z = y.1 in let w = x.0 in spared before (inl (omega (arith, z, w, next, q, p), omega (arith, next, q)))
+  -- what comes before a point that wasn't reached was reached
+  module _ (before stop : ℕ) (out : Between from before stop → ⊥) where
+    not_first : Between from to before → stop ≢ from
+    not_first (inl y) e = let low = y.0 in out (inl (omega (arith, e), omega (arith, e, low)))
+    not_first (inr y) e = let high = y.1 in out (inr (omega (arith, e, high), omega (arith, e)))
 
-  down_spared : (before stop : ℕ) → stop + 1 ≡ before → Between from to before → Between from to stop → IsBridged (passage a stop (stop + 1)) s
-  down_spared before stop next (inl y) (inl x) = let p = x.0 in let q = y.1 in spared stop (inl (p, omega (arith, next, q)))
-  down_spared before stop next (inr y) (inr x) = let p = x.0 in let q = y.1 in spared stop (inr (p, omega (arith, next, q)))
-  down_spared before stop next (inl y) (inr x) = let p = x.0 in let q = x.1 in let z = y.0 in let w = y.1 in spared stop (inr (p, omega (arith, next, q, z, w)))
-  down_spared before stop next (inr y) (inl x) = let p = x.0 in let q = x.1 in let z = y.0 in let w = y.1 in absurd (omega (arith, next, p, q, z, w))
+    reached : (before + 1 ≡ stop) ⊎ (stop + 1 ≡ before) → Between from to before → Between from to stop → (p : ℕ) → IsBefore (record { address = a; from = from; to = to; value = v }) stop p → Between from before p
+    reached (inl next) (inl y) (inl x) p (inl z) = let high = z.1 in inl (z.0, omega (arith, next, high))
+    reached (inl next) (inl y) (inl x) p (inr z) = let low = x.0 in let under = z.0 in let over = z.1 in absurd (omega (arith, low, under, over))
+    reached (inr next) (inl y) (inl x) p z = absurd (out (inl (x.0, omega (arith, next))))
+    reached (inl next) (inr y) (inr x) p z = absurd (out (inr (omega (arith, next), x.1)))
+    reached (inr next) (inr y) (inr x) p (inl z) = let high = x.1 in let under = z.0 in let over = z.1 in absurd (omega (arith, high, under, over))
+    reached (inr next) (inr y) (inr x) p (inr z) = let low = z.0 in inr (omega (arith, next, low), z.1)
+    reached (inl next) (inl y) (inr x) p z = let b = y.1 in let c = x.0 in let d = x.1 in let e = y.0 in absurd (omega (arith, next, b, c, d, e))
+    reached (inr next) (inl y) (inr x) p z = let b = y.1 in let c = x.0 in let d = x.1 in let e = y.0 in absurd (omega (arith, next, b, c, d, e))
+    reached (inl next) (inr y) (inl x) p z = let b = y.1 in let c = x.0 in let d = x.1 in let e = y.0 in absurd (omega (arith, next, b, c, d, e))
+    reached (inr next) (inr y) (inl x) p z = let b = y.1 in let c = x.0 in let d = x.1 in let e = y.0 in absurd (omega (arith, next, b, c, d, e))
 
   same_known_is : (k : Known) → SameLog s.known k → k.store ≡ s.known.store → k ≡ s.known
   same_known_is k log store =
@@ -348,25 +397,17 @@ module _ {W : Type 0} (s : State W) (laws : HasLaws (along s.path)) (kept : IsKe
       let same = same_known_is k log (stays_same s.known.store k.store stays) in
       (kept_same s k same kept, (same_known s k same, λ q between. sym (stays.fact q a) ∙ h.here q between))
   sent k log (Ok More) h =
-      let both = spread_kept s laws kept open_ a v small tracked k from to log.last log.log log.left from_early to_early known spared h.0 in
+      let both = spread_kept s laws kept open_ a v small tracked k from to log.last log.log log.left from_early to_early known led h.0 in
       let q = h.1.0 in
       (both.0, (both.1, fact q (Byte a) v (between_early q h.1.1) small h.1.2 (h.0.here q h.1.1), refl))
   sent k log (Ok (Stop stop k_known found)) (value, stops) =
       let r = stops.reaches in
       let both = spread k log r.before r.toward r.spreads in
       let t = with_known s k in
-      let laws_t : HasLaws (along t.path) = laws in
-      (both.0, (both.1, record { is_known = both.1.more stop (Byte a) found stops.other; differs = stops.differs; follows = brought_follows t stop a v (between_early stop r.within) small (next_brought k both.0 both.1 r.before stop r.next r.toward r.within (r.spreads.here r.before (itself r.before r.toward))) }, value))
-    where
-      itself : (before : ℕ) → Between from to before → Between from before before
-      itself before (inl y) = inl (y.0, omega arith)
-      itself before (inr y) = inr (omega arith, y.1)
-
-      next_brought : (k : Known) → IsKept (with_known s k) → Grows s (with_known s k) → (before stop : ℕ) → (before + 1 ≡ stop) ⊎ (stop + 1 ≡ before) → Between from to before → Between from to stop → k.store.fact before a ≡ Some v → IsBrought (with_known s k) (fact_of stop (Byte a) v)
-      next_brought k kept_t g before stop (inl next) at within_ h =
-          subst (λ (p : ℕ). IsBrought (with_known s k) (fact_of p (Byte a) v)) next (up_brought (with_known s k) laws kept_t before a v small (bridged_after s (with_known s k) laws kept_t g before a small (up_spared before stop next at within_)) h)
-      next_brought k kept_t g before stop (inr next) at within_ h =
-          down_brought (with_known s k) laws kept_t stop a v small (bridged_after s (with_known s k) laws kept_t g stop a small (down_spared before stop next at within_)) (subst (λ (p : ℕ). k.store.fact p a ≡ Some v) (sym next) h)
+      let out : Between from r.before stop → ⊥ = λ at. stops.differs (r.spreads.free stop found at stops.other) in
+      let source = led stop r.within (not_first r.before stop out r.toward) in
+      let brought = led_brought s t laws both.0 both.1 (record { address = a; from = from; to = to; value = v }) small stop source (λ p first. r.spreads.here p (reached r.before stop out r.next r.toward r.within p first)) in
+      (both.0, (both.1, record { is_known = both.1.more stop (Byte a) found stops.other; differs = stops.differs; follows = brought_follows t stop a v (between_early stop r.within) small brought }, value))
   sent k log (Err e) h = let both = spread k log h.reaches.before h.reaches.toward h.reaches.spreads in (both.0, (both.1, λ j. false≢true (sym h.plain ∙ j.0)))
 
 -- a segment in which no row may write the byte

@@ -26,10 +26,12 @@ use Rattle.rept_report.specs.Log.{oldest}
 use Rattle.rept_report.specs.Why.{fact_of}
 use Rattle.rept_analysis.specs.declared.halt.Halt.{Halt}
 use Rattle.rept_analysis.specs.declared.halt.Halt.TheVariants.{Clash, OutOfMemory}
+use Rattle.rept_reach.specs.Reaching.{IsExtent}
 use Rattle.rept_writing.specs.Hits.{AreInOrder}
 use Rattle.rept_writing.specs.declared.list.Writing.{Writing}
 use Rattle.rept_report.specs.declared.paths.Strip.{Strip}
 use Rattle.rept_analysis.specs.declared.piece.Piece.{Piece}
+use Rattle.rept_analysis.specs.declared.leap.Leap.{Leap}
 use Rattle.rept_analysis.specs.declared.pass.Pass.TheVariants.{Cut}
 use Rattle.rept_analysis.specs.Work.{left, number_past}
 use Rattle.rept_analysis.specs.Room.{IsDrawable, IsDrawnAt, own_at, IsOwnByte}
@@ -78,6 +80,7 @@ past list (suc k) = number_past (slice_get list k)
 pub record IsBarrier {W : Type 0} (w : Writing) (s : State W) : Type 0 where
   pub there : IsSome (s.path.given.legs.row w.row)
   pub time : w.at ≡ s.path.given.moments.before w.row
+  pub extent : IsExtent s.path.given.moments w.row (record { from = w.from; to = w.to })
   pub others : (a : ℕ) → a < 2 ^ 32 → call_hits w.access a ≡ false → IsSpared w.row a s
 
 -- no row but these may write, and they stand in the order of time
@@ -320,9 +323,34 @@ pub record IsBridged {W : Type 0} (x : Passage) (s : State W) : Type 0 where
 abbrev pub IsSparedBetween : {W : Type 0} → ℕ → ℕ → ℕ → State W → Type 0
 IsSparedBetween from to a s = (m : ℕ) → ((from ≤ m) × (m < to)) ⊎ ((to ≤ m) × (m < from)) → IsBridged (passage a m (m + 1)) s
 
+-- each number after those, up to the one to which it goes, is next to an earlier one that isn't before them, from which the byte is carried
+pub record IsLeapUp {W : Type 0} (x : Leap) (s : State W) : Type 0 where
+  pub from : x.last ≤ x.to
+  pub inside : x.to ≤ s.path.given.moments.end
+  pub ways : (k : ℕ) → x.last < k → k ≤ x.to → (m : ℕ) × (x.first ≤ m) × (m < k) × IsBridged (passage x.address m k) s
+
+-- each number before those, down to the one to which it goes, has a later one next to it that isn't after them, to which the byte is carried
+pub record IsLeapDown {W : Type 0} (x : Leap) (s : State W) : Type 0 where
+  pub from : x.to ≤ x.first
+  pub ways : (k : ℕ) → x.to ≤ k → k < x.first → (w : ℕ) × (k < w) × (w ≤ x.last) × IsBridged (passage x.address k w) s
+
 -- the byte has the value at each point of a course
 abbrev pub IsSpreadTo : {W : Type 0} → Carry → State W → Type 0
 IsSpreadTo course s = (q : ℕ) → Between course.from course.to q → Knows q (Byte course.address) course.value s
+
+-- a number stands on the way from the beginning of a course to a point, before that point
+abbrev pub IsBefore : Carry → ℕ → ℕ → Type 0
+IsBefore course q p = ((course.from ≤ p) × (p < q)) ⊎ ((q < p) × (p ≤ course.from))
+
+-- the byte is carried to a point from a number next to it, or back to it: from one at which its value is known, or from one before that point on the course
+pub record IsLedTo {W : Type 0} (course : Carry) (q : ℕ) (s : State W) : Type 0 where
+  pub source : ℕ
+  pub known : Knows source (Byte course.address) course.value s ⊎ IsBefore course q source
+  pub bridged : IsBridged (passage course.address source q) s ⊎ IsBridged (passage course.address q source) s
+
+-- so it is to each point of a course but the first
+abbrev pub IsLed : {W : Type 0} → Carry → State W → Type 0
+IsLed course s = (q : ℕ) → Between course.from course.to q → q ≢ course.from → IsLedTo course q s
 
 -- the byte is carried from each number from one to before another to the one after it
 abbrev pub IsCarriedFrom : {W : Type 0} → ℕ → ℕ → ℕ → State W → Type 0
@@ -407,11 +435,16 @@ CarriedAlongBelow n s = (k a : ℕ) → k < n → slice_get s.known.store.tracke
 abbrev pub AllCarried : {W : Type 0} → State W → Type 0
 AllCarried s = (a : ℕ) → IsTracked a s → IsCarriedAlong a s
 
+-- the same is known of the byte at each number from one to another one
+abbrev pub IsEven : {W : Type 0} → ℕ → ℕ → ℕ → State W → Type 0
+IsEven a from to s = (i : ℕ) → from ≤ i → i ≤ to → s.known.store.fact i a ≡ s.known.store.fact from a
+
 -- a row of such a list, with the bytes that it may write, at a lower number
 pub record IsWriting {W : Type 0} (n : ℕ) (w : Writing) (s : State W) : Type 0 where
   pub low : w.at < n
   pub there : IsSome (s.path.given.legs.row w.row)
   pub time : w.at ≡ s.path.given.moments.before w.row
+  pub extent : IsExtent s.path.given.moments w.row (record { from = w.from; to = w.to })
   pub access : IsAccess w.row w.access s
 
 -- these are the rows at numbers below one that may write, in the order of time

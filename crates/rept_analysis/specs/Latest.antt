@@ -1,23 +1,22 @@
 -- Which of some rows is the last one. This project's own.
-use Rattle.std.specs.Prelude.{◌≡◌, ℕ, ◌<◌, true, false, Option, Some, None}
-use Rattle.std.specs.Option.{IsSome}
+use Rattle.std.specs.Prelude.{ℕ, ◌<◌, Option, Some, None}
 use Rattle.rept_reason.specs.Facts.{Knowledge}
 use Rattle.rept_report.specs.Latest.{IsLatest, HasNone}
 use Rattle.rept_report.specs.Moments.{Moments}
 use Rattle.rept_report.specs.Setting.{Setting}
 use Rattle.rept_report.specs.Spots.{spot}
+use Rattle.rept_report.specs.Timeline.{Timeline, IsBegun}
 use Rattle.rept_report.specs.Writers.{IsCandidate}
 use Rattle.rept_report.specs.declared.writer.Writer.{Writer}
 use Rattle.rept_report.specs.declared.writer.Writer as writers
 use Rattle.rept_analysis.specs.declared.sought.Sought.{Sought}
 
--- a row that doesn't lie wholly after a moment
-pub record IsBegun {W : Type 0} (S : Setting W) (m i : ℕ) : Type 0 where
-  pub row : IsSome (S.legs.row i)
-  pub reaches : S.moments.ahead i m ≡ false
+-- the rows and moments of which a setting is
+abbrev pub time_of : {W : Type 0} → Setting W → Timeline
+time_of S = record { legs = S.legs; moments = S.moments }
 
 abbrev sought_by : {W : Type 0} → Setting W → Knowledge → ℕ → Option ℕ → ℕ → Type 0
-sought_by S K m None i = IsBegun S m i
+sought_by S K m None i = IsBegun (time_of S) m i
 sought_by S K m (Some a) i = IsCandidate S K (spot m a) i
 
 -- one of the rows of which the last one is sought, by what is known

@@ -16,7 +16,7 @@ use Rattle.rept_view.specs.Rules.{Rules, offset_of}
 use Rattle.rept_report.specs.Views.{moment_of}
 use Rattle.rept_log.specs.Known.{Known}
 use Rattle.rept_analysis.specs.Sums.{one_if, count_true, sum_to}
-use Rattle.rept_analysis.specs.State.{Path}
+use Rattle.rept_analysis.specs.State.{Subject}
 
 -- how many byte facts a row lets one conclude at most
 abbrev pub places_of : Rules → Option StepRow → ℕ
@@ -24,12 +24,12 @@ places_of rules None = 0
 places_of rules (Some row) = rules.places row
 
 -- so many has row i
-abbrev pub places_at : {W : Type 0} → Path W → ℕ → ℕ
+abbrev pub places_at : {W : Type 0} → Subject W → ℕ → ℕ
 places_at P i = places_of P.rules (P.given.legs.row i)
 
 -- how many bytes its rules look at
-abbrev pub bytes_at : {W : Type 0} → Path W → ℕ → ℕ
-bytes_at P i = min (places_at P i) 4
+abbrev pub bytes_looked_at : {W : Type 0} → Subject W → ℕ → ℕ
+bytes_looked_at P i = min (places_at P i) 4
 
 -- of all the numbers below `width i`, for each i below n, how many are marked
 abbrev pub marked : (ℕ → ℕ) → (ℕ → ℕ → Bool) → ℕ → ℕ
@@ -40,7 +40,7 @@ abbrev pub unread : ℕ → Known → ℕ
 unread last k = sum_by (λ a. one_if (is_none (k.store.fact last a))) k.store.tracked
 
 -- a conclusion that row i's rules let one draw, from something that was seen around the row, in which its base was what is known now
-pub record IsDrawable {W : Type 0} (P : Path W) (log : List Fact) (i : ℕ) (d : Drawn) : Type 0 where
+pub record IsDrawable {W : Type 0} (P : Subject W) (log : List Fact) (i : ℕ) (d : Drawn) : Type 0 where
   pub row : StepRow
   pub found : P.given.legs.row i ≡ Some row
   pub view : Seen
@@ -53,7 +53,7 @@ pub record IsDrawable {W : Type 0} (P : Path W) (log : List Fact) (i : ℕ) (d :
   pub known : register_known (told log) i base_register ≡ Some base
 
 -- such a conclusion on this byte at this moment
-pub record IsDrawnAt {W : Type 0} (P : Path W) (log : List Fact) (p a : ℕ) : Type 0 where
+pub record IsDrawnAt {W : Type 0} (P : Subject W) (log : List Fact) (p a : ℕ) : Type 0 where
   pub number : ℕ
   pub conclusion : Drawn
   pub moment : p ≡ moment_of P.given.moments number conclusion.when
@@ -61,7 +61,7 @@ pub record IsDrawnAt {W : Type 0} (P : Path W) (log : List Fact) (p a : ℕ) : T
   pub drawn : IsDrawable P log number conclusion
 
 -- the byte of row i's slot j is known
-pub record IsSlotLearnt {W : Type 0} (P : Path W) (k : Known) (i j : ℕ) : Type 0 where
+pub record IsSlotLearnt {W : Type 0} (P : Subject W) (k : Known) (i j : ℕ) : Type 0 where
   pub conclusion : Drawn
   pub address : ℕ
   pub value : ℕ
@@ -80,7 +80,7 @@ abbrev pub own_at : ℕ → ℕ → ℕ → OwnByte
 own_at i j a = record { row = i; number = j; address = a }
 
 -- that it is one of the row, whose base is known
-pub record IsOwnByte {W : Type 0} (P : Path W) (log : List Fact) (b : OwnByte) : Type 0 where
+pub record IsOwnByte {W : Type 0} (P : Subject W) (log : List Fact) (b : OwnByte) : Type 0 where
   pub row : StepRow
   pub found : P.given.legs.row b.row ≡ Some row
   pub base_register : ℕ
@@ -92,18 +92,18 @@ pub record IsOwnByte {W : Type 0} (P : Path W) (log : List Fact) (b : OwnByte) :
   pub address : b.address ≡ beside (plus base (offset_of row.instr)) b.number
 
 -- it is tracked
-pub record IsByteTracked {W : Type 0} (P : Path W) (k : Known) (i j : ℕ) : Type 0 where
+pub record IsByteTracked {W : Type 0} (P : Subject W) (k : Known) (i j : ℕ) : Type 0 where
   pub address : ℕ
   pub own : IsOwnByte P k.log (own_at i j address)
   pub tracked : Contains k.store.tracked address
 
 -- The room that is left is enough for each slot whose byte isn't known, for each byte of a row that isn't tracked, and for the byte of
 -- the dump at each tracked address at which none is known.
-pub record HasRoom {W : Type 0} (P : Path W) (k : Known) : Type 0 where
+pub record HasRoom {W : Type 0} (P : Subject W) (k : Known) : Type 0 where
   pub unlearnt : ℕ → ℕ → Bool
   pub untracked : ℕ → ℕ → Bool
-  pub spare : marked (places_at P) unlearnt (P.given.legs.count) + marked (bytes_at P) untracked (P.given.legs.count) + unread P.given.moments.end k ≤ k.store.spare
+  pub spare : marked (places_at P) unlearnt (P.given.legs.count) + marked (bytes_looked_at P) untracked (P.given.legs.count) + unread P.given.moments.end k ≤ k.store.spare
   pub log : marked (places_at P) unlearnt (P.given.legs.count) ≤ k.left
-  pub places : length k.store.tracked + marked (bytes_at P) untracked (P.given.legs.count) ≤ k.store.places
+  pub places : length k.store.tracked + marked (bytes_looked_at P) untracked (P.given.legs.count) ≤ k.store.places
   pub learnt : (i j : ℕ) → unlearnt i j ≡ false → IsSlotLearnt P k i j
   pub tracked : (i j : ℕ) → untracked i j ≡ false → IsByteTracked P k i j

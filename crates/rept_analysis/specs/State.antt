@@ -1,6 +1,5 @@
 -- An analysis, as its callers see it, and what definitions speak of in it. This project's own.
-use Rattle.std.specs.Prelude.{◌≡◌, ◌+◌, ℕ, Bool, true, List, length, Option}
-use Rattle.rept_isa.specs.declared.row.StepRow.{StepRow}
+use Rattle.std.specs.Prelude.{◌≡◌, ◌+◌, ℕ, Bool, true, List, Option}
 use Rattle.rept_elf.specs.Segments.{ElfSegment}
 use Rattle.rept_dump.specs.Memory.{crash_byte}
 use Rattle.rept_dump.specs.Program.{Program, contents}
@@ -13,8 +12,7 @@ use Rattle.rept_log.specs.Known.{Held, Known, known_of, knows}
 use Rattle.rept_report.specs.declared.conflict.ConflictKind.{ConflictKind}
 use Rattle.rept_report.specs.Setting.{Setting}
 use Rattle.rept_report.specs.Given.{Given, setting_by}
-use Rattle.rept_report.specs.Timeline.{Timeline, time_alone}
-use Rattle.rept_report.proofs.Line.{next_is}
+use Rattle.rept_report.specs.Timeline.{Timeline}
 use Rattle.rept_reason.specs.Facts.{Knowledge}
 use Rattle.rept_writing.specs.declared.list.Writing.{Writing}
 use Rattle.rept_analysis.specs.declared.pass.Pass.{Pass}
@@ -38,7 +36,7 @@ pub record Whole (P L B W R : Type 0) : Type 0 where
   pub work : Work
 
 -- what is given, and what it is read by: the kind of sets of values that is followed along the paths, and the rules of the rows
-pub record Path (W : Type 0) : Type 0 where
+pub record Subject (W : Type 0) : Type 0 where
   pub sets : Sets W
   pub moves : Moves W
   pub rules : Rules
@@ -48,16 +46,13 @@ pub record Path (W : Type 0) : Type 0 where
 abbrev pub IsLined : Timeline → Type 0
 IsLined t = (m w : ℕ) → t.moments.next m w ≡ true → w ≡ m + 1
 
-pub alone_lined : (rows : List StepRow) → IsLined (time_alone rows)
-alone_lined rows m w next = (next_is (length rows) m w next).1
-
 -- the setting of which a report speaks
-abbrev pub along : {W : Type 0} → Path W → Setting W
+abbrev pub along : {W : Type 0} → Subject W → Setting W
 along p = setting_by p.sets p.moves p.rules p.given
 
 -- the same, with what is given
 pub record State (W : Type 0) : Type 0 where
-  pub path : Path W
+  pub path : Subject W
   pub known : Known
   pub spans : View W
   pub filled : ℕ
@@ -84,7 +79,7 @@ given_of read a = record {
   image_end = (contents a.exe).end;
 }
 
-abbrev pub path_of : {P L B W R : Type 0} → Reader P L → Sets W → Moves W → Rules → Whole P L B W R → Path W
+abbrev pub path_of : {P L B W R : Type 0} → Reader P L → Sets W → Moves W → Rules → Whole P L B W R → Subject W
 path_of read sets moves rules a = record {
   sets = sets;
   moves = moves;

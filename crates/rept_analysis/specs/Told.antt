@@ -14,7 +14,7 @@ use Rattle.rept_analysis.specs.Drawing.{Knows, IsTracked, Grows, HasNews, IsClas
 use Rattle.rept_analysis.specs.Begun.{IsLogWith}
 
 -- the fact is known now, and wasn't
-pub record IsTold {W : Type 0} (old new : State W) (f : Fact) : Type 0 where
+pub record IsNewlyTold {W : Type 0} (old new : State W) (f : Fact) : Type 0 where
   pub grows : Grows old new
   pub news : HasNews old new
   pub here : Knows f.point f.cell f.value new
@@ -22,15 +22,15 @@ pub record IsTold {W : Type 0} (old new : State W) (f : Fact) : Type 0 where
   pub log : IsLogWith f old.known.log new.known.log
 
 -- what learning it did, by the answer: it was known, it was new, or another value of its cell was known
-abbrev pub Tells : {W : Type 0} → State W → State W → Fact → Answer → Type 0
-Tells old new f Old = (new ≡ old) × Knows f.point f.cell f.value old
-Tells old new f New = IsTold old new f
-Tells old new f (Clash w) = (new ≡ old) × Knows f.point f.cell w old × (w ≢ f.value)
+abbrev pub ToldAs : {W : Type 0} → State W → State W → Fact → Answer → Type 0
+ToldAs old new f Old = (new ≡ old) × Knows f.point f.cell f.value old
+ToldAs old new f New = IsNewlyTold old new f
+ToldAs old new f (Clash w) = (new ≡ old) × Knows f.point f.cell w old × (w ≢ f.value)
 
 -- the same of a fact on a byte, for which memory may run out
-abbrev pub TellsByte : {W : Type 0} → State W → State W → Fact → Result Answer AllocError → Type 0
-TellsByte old new f (Ok answer) = Tells old new f answer
-TellsByte old new f (Err e) = (new ≡ old) × (IsRoomy new → ⊥)
+abbrev pub ByteToldAs : {W : Type 0} → State W → State W → Fact → Result Answer AllocError → Type 0
+ByteToldAs old new f (Ok answer) = ToldAs old new f answer
+ByteToldAs old new f (Err e) = (new ≡ old) × (IsRoomy new → ⊥)
 
 -- the address is tracked now
 abbrev pub Tracks : {W : Type 0} → State W → State W → ℕ → Result Bool AllocError → Type 0

@@ -33,7 +33,9 @@ mod counting;
 mod drawing;
 mod fronts;
 mod latest;
+mod leaping;
 mod learning;
+mod listing;
 mod looking;
 mod refining;
 mod stopping;
@@ -47,6 +49,7 @@ use rept_dump::Dump;
 use rept_isa::{Reg, StepRow};
 use rept_log::{FactLog, LastValues};
 use rept_partial::Flat;
+use rept_reach::Reaches;
 use rept_report::{ConflictKind, Paths};
 use rept_span::{Spans, Transfer};
 use rept_versions::ByteFacts;
@@ -59,7 +62,7 @@ use std::marker::Model;
 #[derive(Drop)]
 pub struct Analysis<
     'a,
-    P: Paths + Drop,
+    P: Reaches + Drop,
     L: LastValues + Drop,
     B: ByteFacts,
     W: Transfer,
@@ -99,7 +102,7 @@ pub struct Analysis<
     fresh: Fresh,
 }
 
-impl<'a, P: Paths + Drop, L: LastValues + Drop, B: ByteFacts, W: Transfer, R: RowRules> Model
+impl<'a, P: Reaches + Drop, L: LastValues + Drop, B: ByteFacts, W: Transfer, R: RowRules> Model
     for Analysis<'a, P, L, B, W, R> {
     ghost use Rattle.rept_dump.specs.Dump.{exe_of, core_of};
     ghost use Rattle.rept_analysis.specs.State.{Whole, state_of, reader};
@@ -137,7 +140,7 @@ fn access_bytes<P: Paths, R: RowRules>(paths: &P) -> u32
     sum
 }
 
-impl<'a, P: Paths + Drop, L: LastValues + Drop, B: ByteFacts, W: Transfer, R: RowRules> Analysis<
+impl<'a, P: Reaches + Drop, L: LastValues + Drop, B: ByteFacts, W: Transfer, R: RowRules> Analysis<
     'a,
     P,
     L,

@@ -3,7 +3,7 @@
 use rept_reason::Cell;
 
 /// Why a conclusion wasn't learnt.
-#[derive(Clone, Copy, PartialEq, Eq, Debug)]
+#[derive(Clone, Copy)]
 pub enum Halt {
     /// Another value is known.
     Clash {

@@ -4,6 +4,7 @@
 pub mod analysis;
 mod fresh;
 mod halt;
+mod leap;
 mod moment;
 mod offset;
 mod pass;

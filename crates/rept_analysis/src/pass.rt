@@ -7,7 +7,7 @@ use std::alloc::{AllocError as OutOfMemory, Global};
 use std::marker::Model;
 
 /// How far a row's rules were drawn.
-#[derive(Clone, Copy, PartialEq, Eq, Debug)]
+#[derive(Clone, Copy)]
 pub enum Pass {
     /// They weren't.
     Never,

@@ -3,7 +3,7 @@
 use rept_report::ConflictKind;
 
 /// Why there is no report.
-#[derive(Clone, Copy, PartialEq, Eq, Debug)]
+#[derive(Clone, Copy)]
 pub enum Stop {
     /// What follows from the path and the dump contradicts itself, in this way among others.
     Conflict(ConflictKind),

@@ -26,7 +26,7 @@ use Rattle.rept_report.specs.declared.conflict.ConflictKind.{ConflictKind}
 use Rattle.rept_report.specs.Given.{Given, setting_by}
 use Rattle.rept_report.specs.Setting.{Setting}
 use Rattle.rept_timeline.specs.declared.run_paths.RunPaths.{RunPaths}
-use Rattle.rept_analysis.specs.State.{Path as Read, Whole, given_of, path_of, setting_of}
+use Rattle.rept_analysis.specs.State.{Subject as Read, Whole, given_of, path_of, setting_of}
 use Rattle.rept_analysis.specs.Kept.{answers}
 use Rattle.rept_analysis.specs.Logged.{IsLogOf}
 use Rattle.rept_trip.specs.Alone.{registers_alone, trip_of}
@@ -34,8 +34,8 @@ use Rattle.rept_trip.specs.Trip.{Trip, thread_on, given_on, setting_on}
 use Rattle.rept_found.specs.Crash.{Crash, Means, ThreadEnd, Scene, ended, last_value, last_values, path_of as crash_path, route, trip_by, values_of}
 use Rattle.rept_found.specs.Ends.{Ends, registers_of_one, registers_in, last_values_in, AreEnds, AreNoted, AreWhole}
 use Rattle.rept_found.specs.View.{View, read_in, ended_as, IsFoundIn, IsOfRun, IsPreparedFor, scene_in, state_in, trip_in}
-use Rattle.rept_found.specs.declared.over.RunRows.{RunRows}
-use Rattle.rept_found.specs.declared.over.RunEnds.{RunEnds}
+use Rattle.rept_extents.specs.declared.run_rows.RunRows.{RunRows}
+use Rattle.rept_found.specs.declared.ends.RunEnds.{RunEnds}
 use Rattle.rept_found.proofs.Enders.{thread_inside, values_same}
 
 -- the registers of a status are the last values

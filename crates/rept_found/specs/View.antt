@@ -15,8 +15,8 @@ use Rattle.rept_analysis.specs.Logged.{IsLogOf}
 use Rattle.rept_trip.specs.Trip.{Trip, given_on, setting_on}
 use Rattle.rept_found.specs.Crash.{Means, ThreadEnd, Scene, trip_by}
 use Rattle.rept_found.specs.Ends.{Ends, registers_in, last_values_in}
-use Rattle.rept_found.specs.declared.over.RunRows.{RunRows}
-use Rattle.rept_found.specs.declared.over.RunEnds.{RunEnds}
+use Rattle.rept_extents.specs.declared.run_rows.RunRows.{RunRows}
+use Rattle.rept_found.specs.declared.ends.RunEnds.{RunEnds}
 
 -- the analysis, how the threads of its run ended, the files of the program, and the segments of the core file
 pub record View (W R : Type 0) : Type 0 where

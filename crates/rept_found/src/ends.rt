@@ -10,6 +10,7 @@ ghost use Rattle.rept_found.specs.Ends.{AreEnds, AreNoted, AreWhole, last_values
 
 use rept_dump::{Dump, Status};
 use rept_isa::{Reg, StepRow};
+use rept_log::LastValues;
 use rept_steps::Run;
 use rept_word::OutOfMemory;
 use std::alloc::Global;
@@ -96,6 +97,13 @@ impl<'a> ThreadEnds<'a> {
         let _run = self.run;
     }
 
+    /// The run.
+    pub(crate) fn run(&self) -> &'a Run
+        ensures { course_of result.now ≡ self.now.course }
+    {
+        self.run
+    }
+
     /// The rows of a thread.
     pub fn rows(&self, thread: u32) -> &[StepRow]
         requires { thread < length self.now.course.threads }
@@ -119,5 +127,32 @@ impl<'a> ThreadEnds<'a> {
     {
         let thread = thread_of(self.run, point);
         self.statuses[thread].regs[r.number() as usize]
+    }
+}
+
+/// The last values of the registers of the threads of a run.
+#[derive(Drop)]
+pub struct RunEnds<'a> {
+    ends: &'a ThreadEnds<'a>,
+}
+
+impl<'a> RunEnds<'a> {
+    ghost use Rattle.std.specs.Prelude.{◌≡◌};
+
+    /// Those of these ends.
+    pub fn new(ends: &'a ThreadEnds<'a>) -> RunEnds<'a>
+        ensures { result.ends.now ≡ ends.now }
+    {
+        RunEnds { ends }
+    }
+}
+
+impl<'a> LastValues for RunEnds<'a> {
+    ghost use Rattle.rept_found.specs.Ends.{last_values_in};
+
+    ghost values = { λ e. last_values_in e.ends.now };
+
+    fn value(&self, point: u32, r: Reg) -> u32 {
+        self.ends.value(point, r)
     }
 }

@@ -9,11 +9,11 @@ ghost use Rattle.rept_analysis.specs.State.{IsLined};
 ghost use Rattle.rept_found.specs.Crash.{means};
 ghost use Rattle.rept_found.specs.View.{IsFoundIn, read_in, scene_in, trip_in};
 
-use crate::ends::ThreadEnds;
-use crate::over::{RunEnds, RunRows};
+use crate::ends::{RunEnds, ThreadEnds};
 use crate::prepared::Prepared;
 use rept_analysis::{Analysis, Stop};
 use rept_dump::Dump;
+use rept_extents::RunRows;
 use rept_span::Transfer;
 use rept_timeline::RunPaths;
 use rept_versions::SpanFacts;

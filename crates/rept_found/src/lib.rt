@@ -5,7 +5,6 @@ pub mod contradiction;
 pub mod ends;
 pub mod found;
 mod laws;
-pub mod over;
 pub mod prepared;
 mod telling;
 

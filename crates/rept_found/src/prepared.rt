@@ -7,10 +7,10 @@ ghost use Rattle.rept_found.specs.Crash.{crash_of, means, route, scene_of};
 ghost use Rattle.rept_found.specs.Ends.{AreNoted};
 ghost use Rattle.rept_found.specs.View.{IsPreparedFor};
 
-use crate::ends::ThreadEnds;
-use crate::over::{RunEnds, RunRows};
+use crate::ends::{RunEnds, ThreadEnds};
 use rept_analysis::Analysis;
 use rept_dump::Dump;
+use rept_extents::RunRows;
 use rept_span::Transfer;
 use rept_timeline::RunPaths;
 use rept_versions::SpanFacts;
@@ -54,7 +54,7 @@ pub fn prepare<'a, W: Transfer, R: RowRules>(
     ensures prepared { (notes : List (List ℕ)) → AreNoted notes ends.now.statuses → length ends.now.statuses ≡ length notes → IfOk result (IsPreparedFor (means W.sets W.moves R.rules) (route (means W.sets W.moves R.rules) (crash_of dump.now notes) ends.now.course) (scene_of (crash_of dump.now notes))) }
 {
     ends.account();
-    let rows = RunRows::new(paths);
+    let rows = RunRows::new(alloc, ends.run(), paths)?;
     let last = RunEnds::new(ends);
     let analysis = Analysis::<'a, RunRows<'a>, RunEnds<'a>, SpanFacts, W, R>::prepare(
         alloc, rows, last, dump, rules,

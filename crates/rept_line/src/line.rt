@@ -3,6 +3,7 @@
 ghost use Rattle.std.specs.Prelude.{◌≡◌, ◌≤◌, length};
 
 use rept_isa::StepRow;
+use rept_reach::{Reaches, Window};
 use rept_report::paths::{Line, Strip};
 use rept_report::{Paths, greatest_below, least_below};
 
@@ -156,5 +157,30 @@ impl<'a> Paths for OnePath<'a> {
 
     fn is_dark_before(&self, _row: u32) -> bool {
         true
+    }
+}
+
+impl<'a> Reaches for OnePath<'a> {
+    fn falls(&self, row: u32, number: u32, _next: u32) -> bool {
+        row == number
+    }
+
+    fn extent(&self, row: u32) -> Window {
+        Window {
+            from: row + 1,
+            to: row + 1,
+        }
+    }
+
+    fn leaving_from(&self, _least: u32, most: u32) -> u32 {
+        most
+    }
+
+    fn reached_up(&self, known: Window, _most: u32) -> u32 {
+        known.to - 1
+    }
+
+    fn reached_down(&self, known: Window, _least: u32) -> u32 {
+        known.from
     }
 }

@@ -1,28 +1,50 @@
 -- The number after the last one of which something holds.
-use Rattle.std.proofs.Common.{◌≡◌, ℕ, zero, suc, ◌+◌, ◌<◌, ◌≤◌, ◌⊎◌, inl, inr, subst, sym, arith, add-one}
+use Rattle.std.proofs.Common.{◌≡◌, ℕ, ◌+◌, ◌<◌, ◌≤◌, ◌⊎◌, inl, inr, refl, subst, sym, ◌∙◌, arith}
 use Rattle.std.specs.Prelude.{max}
 use Rattle.rept_writing.specs.Filed.{IsPast}
 
 -- after one below k, where none stands between
-pub past_after : (P : ℕ → Type 0) (k h : ℕ) → h < k → P h → ((j : ℕ) → h < j → j < k → P j → ⊥) → IsPast P k (h + 1)
-past_after P k h below holds none = subst (IsPast P k) (sym (add-one h)) (below, holds, none)
+pub past_after : (P : ℕ → Type 0) (low k h : ℕ) → low ≤ h → h < k → P h → ((j : ℕ) → h < j → j < k → P j → ⊥) → IsPast P low k (h + 1)
+past_after P low k h from below holds none = record {
+  from = omega (arith, from);
+  before = inr (h, refl, below, holds);
+  none = λ j late lt p. none j (omega (arith, late)) lt p;
+}
 
--- no more than k
-pub past_bound : (P : ℕ → Type 0) (k r : ℕ) → IsPast P k r → r ≤ k
-past_bound P k zero none = omega arith
-past_bound P k (suc h) (below, _, _) = omega (arith, below)
+-- where there is none
+pub past_none : (P : ℕ → Type 0) (low k : ℕ) → ((j : ℕ) → low ≤ j → j < k → P j → ⊥) → IsPast P low k low
+past_none P low k none = record { from = omega arith; before = inl refl; none = none }
+
+-- no more than k, or the number from which on it is sought
+pub past_bound : (P : ℕ → Type 0) (low k r end : ℕ) → low ≤ end → k ≤ end → IsPast P low k r → r ≤ end
+past_bound P low k r end few fewer past = elim past.before [ inl e ↦ omega (arith, e, few) | inr (j, e, lt, p) ↦ omega (arith, e, lt, fewer) ]
+
+-- from a greater number on
+pub past_from : (P : ℕ → Type 0) (low k r : ℕ) → IsPast P 0 k r → IsPast P low k (max r low)
+past_from P low k r past = record {
+  from = omega arith;
+  before = elim greater [
+    | inl (e, le) ↦ inl e
+    | inr (e, lt) ↦ elim past.before [ inl none ↦ absurd (omega (arith, none, lt)) | inr (j, is, less, p) ↦ inr (j, e ∙ is, less, p) ]
+  ];
+  none = λ j late lt p. past.none j (omega (arith, late)) lt p;
+}
+  where
+    greater : ((max r low ≡ low) × (r ≤ low)) ⊎ ((max r low ≡ r) × (low < r))
+    greater = grind arith
 
 -- the greater one of two, of which the one or the other holds
-past_left : (P Q R : ℕ → Type 0) (k x y : ℕ) → ((j : ℕ) → P j → R j) → ((j : ℕ) → R j → P j ⊎ Q j) → y ≤ x → IsPast P k x → IsPast Q k y → IsPast R k x
-past_left P Q R k zero zero p each le x y = λ j lt r. elim (each j r) [ inl h ↦ x j lt h | inr h ↦ y j lt h ]
-past_left P Q R k zero (suc n) p each le x y = absurd (omega (arith, le))
-past_left P Q R k (suc m) zero p each le x y = (x.0, p m x.1, λ j low lt r. elim (each j r) [ inl h ↦ x.2 j low lt h | inr h ↦ y j lt h ])
-past_left P Q R k (suc m) (suc n) p each le x y = (x.0, p m x.1, λ j low lt r. elim (each j r) [ inl h ↦ x.2 j low lt h | inr h ↦ y.2 j (omega (arith, low, le)) lt h ])
+past_left : (P Q R : ℕ → Type 0) (low k x y : ℕ) → ((j : ℕ) → P j → R j) → ((j : ℕ) → R j → P j ⊎ Q j) → y ≤ x → IsPast P low k x → IsPast Q low k y → IsPast R low k x
+past_left P Q R low k x y p each le first second = record {
+  from = first.from;
+  before = elim first.before [ inl e ↦ inl e | inr (j, is, less, h) ↦ inr (j, is, less, p j h) ];
+  none = λ j late lt r. elim (each j r) [ inl h ↦ first.none j late lt h | inr h ↦ second.none j (omega (arith, late, le)) lt h ];
+}
 
-pub past_later : (P Q R : ℕ → Type 0) (k x y : ℕ) → ((j : ℕ) → P j → R j) → ((j : ℕ) → Q j → R j) → ((j : ℕ) → R j → P j ⊎ Q j) → IsPast P k x → IsPast Q k y → IsPast R k (max x y)
-past_later P Q R k x y p q each first second = elim greater [
-  | inl (e, le) ↦ subst (IsPast R k) (sym e) (past_left P Q R k x y p each le first second)
-  | inr (e, le) ↦ subst (IsPast R k) (sym e) (past_left Q P R k y x q (λ j r. elim (each j r) [ inl h ↦ inr h | inr h ↦ inl h ]) le second first)
+pub past_later : (P Q R : ℕ → Type 0) (low k x y : ℕ) → ((j : ℕ) → P j → R j) → ((j : ℕ) → Q j → R j) → ((j : ℕ) → R j → P j ⊎ Q j) → IsPast P low k x → IsPast Q low k y → IsPast R low k (max x y)
+past_later P Q R low k x y p q each first second = elim greater [
+  | inl (e, le) ↦ subst (IsPast R low k) (sym e) (past_left P Q R low k x y p each le first second)
+  | inr (e, le) ↦ subst (IsPast R low k) (sym e) (past_left Q P R low k y x q (λ j r. elim (each j r) [ inl h ↦ inr h | inr h ↦ inl h ]) le second first)
 ]
   where
     greater : ((max x y ≡ x) × (y ≤ x)) ⊎ ((max x y ≡ y) × (x ≤ y))

@@ -120,7 +120,7 @@ more_sound list w narrow sound = All-weaker (λ (h : Hit). hits_at list h.index 
 more_inside : (list : List Writing) (w : Writing) (wide : List ℕ) → All (λ j. j < length list) wide → All (λ j. j < length (list ++ w ∷ [])) wide
 more_inside list w wide inside = All-weaker (λ (j : ℕ). j < length list) (λ (j : ℕ). j < length (list ++ w ∷ [])) (λ j lt. omega (arith, lt, length-append list (w ∷ []))) wide inside
 
-set_elsewhere : (xs : List Writing) (i j : ℕ) (w : Writing) → (j ≡ i → ⊥) → slice_get (set xs i w) j ≡ slice_get xs j
+pub set_elsewhere : (xs : List Writing) (i j : ℕ) (w : Writing) → (j ≡ i → ⊥) → slice_get (set xs i w) j ≡ slice_get xs j
 set_elsewhere [] zero j w ne = refl
 set_elsewhere [] (suc i) j w ne = refl
 set_elsewhere (x ∷ xs) zero zero w ne = absurd (ne refl)

@@ -5,3 +5,5 @@ pub mod Going
 pub mod Numbers
 pub mod Reading
 pub mod Passing
+pub mod Rising
+pub mod Meeting

@@ -1,5 +1,5 @@
 -- The place after the last row that may write an address, by the numbers at which the rows stand.
-use Rattle.std.proofs.Common.{◌≡◌, ℕ, zero, suc, ◌<◌, ◌≤◌, inl, inr, true, false, List, length, get_or, Option, Some, None, refl, sym, ◌∙◌, ap, subst, arith, add-one}
+use Rattle.std.proofs.Common.{◌≡◌, ℕ, ◌<◌, ◌≤◌, inl, inr, true, false, List, length, get_or, Option, Some, None, refl, ◌∙◌, ap, subst, arith}
 use Rattle.std.specs.Prelude.{slice_get, nat_lt}
 use Rattle.std.specs.List.Sorted.{IsPartitionPoint}
 use Rattle.std.proofs.lemmas.Bool.Decides.{nat_tests}
@@ -7,7 +7,7 @@ use Rattle.std.proofs.lemmas.Bool.{cases_lt}
 use Rattle.std.proofs.lemmas.Option.{slice_get_within, slice_get-get_or}
 use Rattle.rept_alias.specs.Accesses.{call_hits}
 use Rattle.rept_writing.specs.declared.list.Writing.{Writing}
-use Rattle.rept_writing.specs.Hits.{hits_at, may_write, IsHitBefore, IsPastHit, IsSplitAt}
+use Rattle.rept_writing.specs.Hits.{hits_at, may_write, IsHitBefore, IsPastHitFrom, IsSplitAt}
 use Rattle.rept_writing.specs.Filed.{IsPast}
 
 -- the rows before index k are those at lower numbers
@@ -37,23 +37,20 @@ split_at list number k cut = record {
   above = λ j w is le. subst (λ (x : Writing). number ≤ x.at) (read list j w is) (cut.above j w le (slice_get_within list j w is));
 }
 
-hit_before : (list : List Writing) (number k a j : ℕ) → IsCutAt list number k → j < k → hits_at list j a ≡ true → IsHitBefore list number a j
-hit_before list number k a j cut lt h =
+hit_before : (list : List Writing) (number k a j : ℕ) → IsSplitAt list number k → j < k → hits_at list j a ≡ true → IsHitBefore list number a j
+hit_before list number k a j split lt h =
     let (w, is, hits) = stands (slice_get list j) a h in
-    record { writing = w; stands = is; lower = subst (λ (x : Writing). x.at < number) (read list j w is) (cut.below j w lt); hits = hits }
+    record { writing = w; stands = is; lower = split.below j w is lt; hits = hits }
 
-before_cut : (list : List Writing) (number k a j : ℕ) → IsCutAt list number k → IsHitBefore list number a j → (j < k) × (hits_at list j a ≡ true)
-before_cut list number k a j cut h = (
-  elim (cases_lt j k) [
-    | inl lt ↦ lt
-    | inr le ↦ absurd (omega (arith, subst (λ (x : Writing). number ≤ x.at) (read list j h.writing h.stands) (cut.above j h.writing le (slice_get_within list j h.writing h.stands)), h.lower))
-  ],
+before_split : (list : List Writing) (number k a j : ℕ) → IsSplitAt list number k → IsHitBefore list number a j → (j < k) × (hits_at list j a ≡ true)
+before_split list number k a j split h = (
+  elim (cases_lt j k) [ inl lt ↦ lt | inr le ↦ absurd (omega (arith, split.above j h.writing h.stands le, h.lower)) ],
   ap (λ w. may_write w a) h.stands ∙ h.hits,
 )
 
-pub past_row : (list : List Writing) (number k a r : ℕ) → IsCutAt list number k → IsPast (λ j. hits_at list j a ≡ true) k r → IsPastHit list number a r
-past_row list number k a zero cut none = record { before = inl refl; none_after = λ j low h. let b = before_cut list number k a j cut h in none j b.0 b.1 }
-past_row list number k a (suc h) cut (below, holds, none) = record {
-  before = inr (h, sym (add-one h), hit_before list number k a h cut below holds);
-  none_after = λ j low hit. let b = before_cut list number k a j cut hit in none j (omega (arith, low)) b.0 b.1;
+pub past_row : (list : List Writing) (low number k a r : ℕ) → IsSplitAt list number k → IsPast (λ j. hits_at list j a ≡ true) low k r → IsPastHitFrom list low number a r
+past_row list low number k a r split past = record {
+  from = past.from;
+  before = elim past.before [ inl e ↦ inl e | inr (j, e, lt, hits) ↦ inr (j, e, hit_before list number k a j split lt hits) ];
+  none_after = λ j late h. let b = before_split list number k a j split h in past.none j late b.0 b.1;
 }

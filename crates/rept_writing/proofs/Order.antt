@@ -1,5 +1,5 @@
 -- Addresses with an index, in order, and what a search among them finds.
-use Rattle.std.proofs.Common.{◌≡◌, ℕ, zero, ◌+◌, ◌-◌, ◌<◌, ◌≤◌, ◌⊎◌, true, false, List, length, get_or, Some, None, inl, inr, sym, ◌∙◌, ap, subst, arith}
+use Rattle.std.proofs.Common.{◌≡◌, ℕ, ◌+◌, ◌-◌, ◌<◌, ◌≤◌, ◌⊎◌, true, false, List, length, get_or, Some, None, inl, inr, sym, ◌∙◌, ap, subst, arith}
 use Rattle.std.specs.List.{Contains}
 use Rattle.std.specs.List.Sorted.{IsSorted, IsPartitionPoint, IsNonDecreasingBy}
 use Rattle.std.specs.Ordering.{is_lt, ordering_index}
@@ -10,8 +10,8 @@ use Rattle.std.proofs.lemmas.Bool.Decides.{nat_tests}
 use Rattle.std.proofs.lemmas.List.{get_or_default}
 use Rattle.std.proofs.lemmas.List.Sorted.{sorted_far, searchable_from_sorted, ranks_by}
 use Rattle.rept_writing.specs.declared.narrow.Hit.{Hit}
-use Rattle.rept_writing.specs.Filed.{IsFirst, IsPast, hit, hit_cmp}
-use Rattle.rept_writing.proofs.Going.{past_after}
+use Rattle.rept_writing.specs.Filed.{IsLeast, IsPast, hit, hit_cmp}
+use Rattle.rept_writing.proofs.Going.{past_after, past_none}
 
 pub hits_total : IsTotalOrder hit_cmp
 hits_total = then_total (on_total (λ (x : Hit). x.address) nat_cmp_total) (on_total (λ (x : Hit). x.index) nat_cmp_total)
@@ -49,7 +49,7 @@ later hits a k at j up parts from (m, inside, is) = (omega (arith, after), subst
     after = omega (arith, before)
 
 -- no one stands there, where the place is the end or has another address
-pub none_there : (hits : List Hit) (a k at : ℕ) (d : Hit) → IsSorted hit_cmp hits → IsPlaceOf hits (hit a k) at → (at < length hits → (get_or hits at d).address ≡ a → ⊥) → IsFirst (λ j. Contains hits (hit a j)) k None
+pub none_there : (hits : List Hit) (a k at : ℕ) (d : Hit) → IsSorted hit_cmp hits → IsPlaceOf hits (hit a k) at → (at < length hits → (get_or hits at d).address ≡ a → ⊥) → IsLeast (λ j. Contains hits (hit a j)) k None
 none_there hits a k at d up parts other j from there = case (greater_at x a k (parts.1 at (hit a j) (omega arith) inside))
   where
     l : (at < length hits) × (is_lt (hit_cmp (hit a j) (get_or hits at (hit a j))) ≡ false)
@@ -66,7 +66,7 @@ none_there hits a k at d up parts other j from there = case (greater_at x a k (p
     case (inr (same, _)) = other inside (ap (λ (y : Hit). y.address) (get_or_default hits at d (hit a j) inside) ∙ same)
 
 -- the one at the place is the first one, where it has the address
-pub first_there : (hits : List Hit) (a k at : ℕ) (d : Hit) → IsSorted hit_cmp hits → IsPlaceOf hits (hit a k) at → at < length hits → (get_or hits at d).address ≡ a → IsFirst (λ j. Contains hits (hit a j)) k (Some (get_or hits at d).index)
+pub first_there : (hits : List Hit) (a k at : ℕ) (d : Hit) → IsSorted hit_cmp hits → IsPlaceOf hits (hit a k) at → at < length hits → (get_or hits at d).address ≡ a → IsLeast (λ j. Contains hits (hit a j)) k (Some (get_or hits at d).index)
 first_there hits a k at d up parts inside same = (from (greater_at x a k (parts.1 at d (omega arith) inside)), (at, inside, get_or_default hits at _ d inside ∙ whole), none)
   where
     x : Hit
@@ -124,8 +124,8 @@ none_up_to hits a k at d up parts bound other j to there =
     ]
 
 -- the one before the place is the last one up to the index, where it has the address
-pub last_up_to : (hits : List Hit) (a k at : ℕ) (d : Hit) → IsSorted hit_cmp hits → IsPlaceOf hits (hit a k) at → at ≤ length hits → 0 < at → (get_or hits (at - 1) d).address ≡ a → IsPast (λ j. Contains hits (hit a j)) (k + 1) ((get_or hits (at - 1) d).index + 1)
-last_up_to hits a k at d up parts bound some same = past_after (λ j. Contains hits (hit a j)) (k + 1) x.index below (at - 1, omega (arith, some, bound), get_or_default hits (at - 1) _ d (omega (arith, some, bound)) ∙ ap (λ n. hit n x.index) same) none
+pub last_up_to : (hits : List Hit) (a k at : ℕ) (d : Hit) → IsSorted hit_cmp hits → IsPlaceOf hits (hit a k) at → at ≤ length hits → 0 < at → (get_or hits (at - 1) d).address ≡ a → IsPast (λ j. Contains hits (hit a j)) 0 (k + 1) ((get_or hits (at - 1) d).index + 1)
+last_up_to hits a k at d up parts bound some same = past_after (λ j. Contains hits (hit a j)) 0 (k + 1) x.index (omega arith) below (at - 1, omega (arith, some, bound), get_or_default hits (at - 1) _ d (omega (arith, some, bound)) ∙ ap (λ n. hit n x.index) same) none
   where
     x : Hit
     x = get_or hits (at - 1) d
@@ -137,10 +137,10 @@ last_up_to hits a k at d up parts bound some same = past_after (λ j. Contains h
     none j low high there = true≢false (sym (sooner_than x a j same low) ∙ (not_after hits a k at j up parts bound (omega (arith, high)) there).1 d)
 
 -- the same below an index
-pub none_below : (hits : List Hit) (a k at : ℕ) (d : Hit) → 0 < k → IsSorted hit_cmp hits → IsPlaceOf hits (hit a (k - 1)) at → at ≤ length hits → (0 < at → (get_or hits (at - 1) d).address ≡ a → ⊥) → IsPast (λ j. Contains hits (hit a j)) k zero
-none_below hits a k at d some up parts bound other j lt there = none_up_to hits a (k - 1) at d up parts bound other j (omega (arith, lt)) there
+pub none_below : (hits : List Hit) (a k at : ℕ) (d : Hit) → 0 < k → IsSorted hit_cmp hits → IsPlaceOf hits (hit a (k - 1)) at → at ≤ length hits → (0 < at → (get_or hits (at - 1) d).address ≡ a → ⊥) → IsPast (λ j. Contains hits (hit a j)) 0 k 0
+none_below hits a k at d some up parts bound other = past_none (λ j. Contains hits (hit a j)) 0 k (λ j low lt there. none_up_to hits a (k - 1) at d up parts bound other j (omega (arith, lt)) there)
 
-pub last_below : (hits : List Hit) (a k at : ℕ) (d : Hit) → 0 < k → IsSorted hit_cmp hits → IsPlaceOf hits (hit a (k - 1)) at → at ≤ length hits → 0 < at → (get_or hits (at - 1) d).address ≡ a → IsPast (λ j. Contains hits (hit a j)) k ((get_or hits (at - 1) d).index + 1)
+pub last_below : (hits : List Hit) (a k at : ℕ) (d : Hit) → 0 < k → IsSorted hit_cmp hits → IsPlaceOf hits (hit a (k - 1)) at → at ≤ length hits → 0 < at → (get_or hits (at - 1) d).address ≡ a → IsPast (λ j. Contains hits (hit a j)) 0 k ((get_or hits (at - 1) d).index + 1)
 last_below hits a k at d low up parts bound some same =
     let e : k - 1 + 1 ≡ k = omega arith in
-    subst (λ (n : ℕ). IsPast (λ j. Contains hits (hit a j)) n ((get_or hits (at - 1) d).index + 1)) e (last_up_to hits a (k - 1) at d up parts bound some same)
+    subst (λ (n : ℕ). IsPast (λ j. Contains hits (hit a j)) 0 n ((get_or hits (at - 1) d).index + 1)) e (last_up_to hits a (k - 1) at d up parts bound some same)

@@ -20,14 +20,20 @@ abbrev pub hit_cmp : Hit → Hit → Ordering
 hit_cmp x y = ordering_then (nat_cmp x.address y.address) (nat_cmp x.index y.index)
 
 -- the least number from k on of which P holds, or that there is none
-abbrev pub IsFirst : (ℕ → Type 0) → ℕ → Option ℕ → Type 0
-IsFirst P k None = (j : ℕ) → k ≤ j → P j → ⊥
-IsFirst P k (Some h) = (k ≤ h) × P h × ((j : ℕ) → k ≤ j → j < h → P j → ⊥)
+abbrev pub IsLeast : (ℕ → Type 0) → ℕ → Option ℕ → Type 0
+IsLeast P k None = (j : ℕ) → k ≤ j → P j → ⊥
+IsLeast P k (Some h) = (k ≤ h) × P h × ((j : ℕ) → k ≤ j → j < h → P j → ⊥)
 
--- the number after the greatest one below k of which P holds, or 0 where there is none
-abbrev pub IsPast : (ℕ → Type 0) → ℕ → ℕ → Type 0
-IsPast P k zero = (j : ℕ) → j < k → P j → ⊥
-IsPast P k (suc h) = (h < k) × P h × ((j : ℕ) → h < j → j < k → P j → ⊥)
+-- the same before another number
+abbrev pub IsFirst : (ℕ → Type 0) → ℕ → ℕ → Option ℕ → Type 0
+IsFirst P k end None = (j : ℕ) → k ≤ j → j < end → P j → ⊥
+IsFirst P k end (Some h) = (k ≤ h) × (h < end) × P h × ((j : ℕ) → k ≤ j → j < h → P j → ⊥)
+
+-- the number after the greatest one from a number on and below k of which P holds, or the former number where there is none
+pub record IsPast (P : ℕ → Type 0) (low k past : ℕ) : Type 0 where
+  pub from : low ≤ past
+  pub before : (past ≡ low) ⊎ ((j : ℕ) × (past ≡ j + 1) × (j < k) × P j)
+  pub none : (j : ℕ) → past ≤ j → j < k → P j → ⊥
 
 -- the lesser of two numbers, where there are two
 abbrev pub sooner : Option ℕ → Option ℕ → Option ℕ

@@ -1,6 +1,8 @@
 //! Rows that may write, found by the address.
 #![tactic(auto)]
 
+mod columns;
+mod cuts;
 mod list;
 mod narrow;
 mod wide;

@@ -1,12 +1,14 @@
 //! The list of rows that may write, with what finds them by address.
 
-ghost use Rattle.std.specs.Prelude.{◌≡◌, ◌+◌, ◌<◌, ◌≤◌, [], ◌∷◌, ◌++◌, IfOk, Some, true, false, length, set, slice_get};
+ghost use Rattle.std.specs.Prelude.{◌≡◌, ℕ, ◌+◌, ◌<◌, ◌≤◌, [], ◌∷◌, ◌++◌, IfOk, Some, true, false, length, set, slice_get};
 ghost use Rattle.std.specs.Vec.{vec_len, vec_capacity};
-ghost use Rattle.rept_writing.specs.Hits.{IsNextHit, IsPastHit, IsSplitAt, AreInOrder};
-ghost use Rattle.rept_writing.specs.Filed.{IsFiled, sooner};
+ghost use Rattle.rept_writing.specs.Hits.{IsMeeting, IsNextHitBelow, IsNextMeeting, IsPastHitFrom, IsSplitAt, IsFreeSince, IsFreeUntil, AreInOrder, hits_at};
+ghost use Rattle.rept_writing.specs.Falling.{FallsAs};
+ghost use Rattle.rept_writing.specs.Filed.{IsFiled, IsFirst, sooner};
 
+use crate::columns::{Columns, meets};
 use crate::narrow::{Hit, file, next_narrow, past_narrow};
-use crate::wide::{is_among, next_wide, past_wide, scan, scan_back};
+use crate::wide::{is_among, next_wide, past_wide, scan, scan_back, scan_since, scan_until};
 use rept_alias::CallAccess;
 use std::alloc::{AllocError as OutOfMemory, Global};
 use std::marker::Model;
@@ -17,6 +19,9 @@ const WORN: usize = 64;
 /// And one in so many rows.
 const SHARE: usize = 32;
 
+/// Over so many rows at most one is looked for that may write an address, to tell since or until when none falls.
+const NEAR: usize = 4096;
+
 /// A row that may write, where it stands in time, and the bytes that it may write.
 #[derive(Clone, Copy, PartialEq, Eq, Debug)]
 pub struct Writing {
@@ -24,6 +29,12 @@ pub struct Writing {
     pub row: u32,
     /// the number of the moment before it
     pub at: u32,
+    /// the least number to which it may fall before it
+    pub from: u32,
+    /// the number after the greatest one after which it may fall
+    pub to: u32,
+    /// whether it may go on for long, as a call of the system may. It only saves work: no clause rests on it.
+    pub is_call: bool,
     /// the bytes
     pub access: CallAccess,
 }
@@ -37,24 +48,29 @@ pub struct Writings {
     narrow: Vec<Hit>,
     /// the indices of the others
     wide: Vec<usize>,
-    /// whether `narrow` is in order
+    /// the calls, and when they may fall
+    calls: Columns,
+    /// the same of the others
+    others: Columns,
+    /// whether `narrow` is in order, and `calls` and `others` are those of the list
     is_indexed: bool,
     /// how many of the others were replaced since then
     replaced: usize,
 }
 
 impl Model for Writings {
-    ghost use Rattle.std.specs.Prelude.{◌≡◌, ◌≤◌, true};
+    ghost use Rattle.std.specs.Prelude.{◌≡◌, ◌≤◌, true, false};
     ghost use Rattle.std.specs.Vec.{vec_capacity};
     ghost use Rattle.std.specs.List.Sorted.{IsSorted};
     ghost use Rattle.rept_writing.specs.Hits.{Listed};
     ghost use Rattle.rept_writing.specs.Filed.{IsFiled, hit_cmp};
+    ghost use Rattle.rept_writing.specs.Falling.{AreColumns, room_of};
 
     ghost Value = { Listed };
 
     ghost view = { λ w. record { list = w.list.items; room = vec_capacity w.list } };
 
-    ghost invariant = { λ w. record { filed : IsFiled w.list.items w.narrow.items w.wide.items; sorted : w.is_indexed ≡ true → IsSorted hit_cmp w.narrow.items; room : vec_capacity w.list ≤ vec_capacity w.wide } };
+    ghost invariant = { λ w. record { filed : IsFiled w.list.items w.narrow.items w.wide.items; sorted : w.is_indexed ≡ true → IsSorted hit_cmp w.narrow.items; room : vec_capacity w.list ≤ vec_capacity w.wide; calls : w.is_indexed ≡ true → AreColumns w.list.items w.calls; others : w.is_indexed ≡ true → AreColumns w.list.items w.others; are_calls : w.calls.is_call ≡ true; are_others : w.others.is_call ≡ false; calls_room : vec_capacity w.list ≤ room_of w.calls; others_room : vec_capacity w.list ≤ room_of w.others } };
 }
 
 impl Writings {
@@ -66,10 +82,15 @@ impl Writings {
         let list = Vec::with_capacity(alloc, rows)?;
         let narrow = Vec::with_capacity(alloc, bytes)?;
         let wide = Vec::with_capacity(alloc, rows)?;
+        let room = list.capacity();
+        let calls = Columns::new(alloc, true, room)?;
+        let others = Columns::new(alloc, false, room)?;
         Ok(Writings {
             list,
             narrow,
             wide,
+            calls,
+            others,
             is_indexed: false,
             replaced: 0,
         })
@@ -83,6 +104,7 @@ impl Writings {
         self.list.clear();
         self.narrow.clear();
         self.wide.clear();
+        self.is_indexed = false;
     }
 
     /// Adds a row.
@@ -114,8 +136,9 @@ impl Writings {
         list[k]
     }
 
-    /// Puts a row in the place of the one at an index, if that one may write many addresses, and answers whether it is so. Of a row of
-    /// few each address is kept by itself, so that it stays.
+    /// Puts a row in the place of the one at an index, if that one may write many addresses and this one may fall between the same
+    /// numbers and is a call where that one is, and answers whether it is so. Of a row of few each address is kept by itself, so that it
+    /// stays.
     pub fn replace(&mut self, k: usize, writing: Writing) -> bool
         requires { k < length self.old.list }
         ensures replaced { result ≡ true → self.new.list ≡ set self.old.list k writing }
@@ -123,6 +146,9 @@ impl Writings {
         ensures room { self.new.room ≡ self.old.room }
     {
         if !is_among(self.wide.as_slice(), k) {
+            return false;
+        }
+        if !falls_as(&self.list[k], &writing) {
             return false;
         }
         self.list[k] = writing;
@@ -144,21 +170,98 @@ impl Writings {
         self.wide.clear();
         file_all(self.list.as_slice(), &mut self.narrow, &mut self.wide);
         self.narrow.sort_unstable();
+        self.calls.fill(self.list.as_slice());
+        self.others.fill(self.list.as_slice());
         self.is_indexed = true;
         self.replaced = 0;
     }
 
-    /// The index of the first row from index k on that may write the address. None is said exactly where there is none.
-    pub fn next_hit(&self, k: usize, a: u32) -> Option<usize>
-        ensures { IsNextHit self.now.list k a result }
+    /// The index of the first row from index k to before another one that may write the address. None is said exactly where there is none.
+    pub fn next_hit(&self, k: usize, end: usize, a: u32) -> Option<usize>
+        ensures { IsNextHitBelow self.now.list k end a result }
     {
         let list = self.list.as_slice();
         if self.is_indexed {
-            let narrow = next_narrow(self.narrow.as_slice(), k, a);
-            let wide = next_wide(list, self.wide.as_slice(), k, a);
+            let narrow = next_narrow(self.narrow.as_slice(), k, end, a);
+            let wide = next_wide(list, self.wide.as_slice(), k, end, a);
             sooner(narrow, wide)
         } else {
-            scan(list, k, a)
+            scan(list, k, end, a)
+        }
+    }
+
+    /// The index of the first row from index k on that may write the address and may fall between two numbers.
+    pub fn next_meeting(&self, k: usize, m: u32, w: u32, a: u32) -> Option<usize>
+        ensures { IsNextMeeting self.now.list k (record { from = m; to = w; address = a }) result }
+    {
+        let list = self.list.as_slice();
+        if self.is_indexed {
+            let (low, high) = self.others.around(list, m, w);
+            let other = self.meeting_below(k.max(low), high, m, w, a);
+            let call = self.calls.next_meeting(list, k, m, w, a);
+            sooner(other, call)
+        } else {
+            self.meeting_below(k, list.len(), m, w, a)
+        }
+    }
+
+    /// The first such row before an index.
+    fn meeting_below(&self, k: usize, end: usize, m: u32, w: u32, a: u32) -> Option<usize>
+        ensures { IsFirst (λ j. IsMeeting self.now.list (record { from = m; to = w; address = a }) j) k end result }
+    {
+        let mut from = k;
+        while from < end {
+            match self.next_hit(from, end, a) {
+                None => return None,
+                Some(j) => {
+                    if meets(&self.list[j], m, w, a) {
+                        return Some(j);
+                    }
+                    from = j + 1;
+                }
+            }
+        }
+        None
+    }
+
+    /// A number at which and after which no row that stands at a lower number and may write the address falls. Not each row is looked
+    /// at, so it may be greater than it needs to be.
+    pub fn free_since(&self, number: u32, a: u32) -> u32
+        ensures { AreInOrder self.now.list → IsFreeSince self.now.list number a result }
+    {
+        if !self.is_indexed {
+            return scan_since(self.list.as_slice(), a);
+        }
+        let k = self.before(number);
+        let past = self.past_hit(k.saturating_sub(NEAR), number, a);
+        let list = self.list.as_slice();
+        let since = self.others.last_before(list, past);
+        self.calls.since(list, k, a, since)
+    }
+
+    /// A number before which no row that stands at this one or a higher one and may write the address falls. Not each row is looked
+    /// at, so it may be less than it needs to be.
+    pub fn free_until(&self, number: u32, a: u32) -> u32
+        ensures { AreInOrder self.now.list → IsFreeUntil self.now.list number a result }
+    {
+        if !self.is_indexed {
+            return scan_until(self.list.as_slice(), a);
+        }
+        let k = self.before(number);
+        let next = self.hit_near(k, a);
+        let list = self.list.as_slice();
+        let until = self.others.first_from(list, next);
+        self.calls.until(list, k, a, until)
+    }
+
+    /// The first row from an index on that may write the address, or an index before which there is none from that index on.
+    fn hit_near(&self, k: usize, a: u32) -> usize
+        ensures { (j : ℕ) → k ≤ j → hits_at self.now.list j a ≡ true → result ≤ j }
+    {
+        let end = k.saturating_add(NEAR);
+        match self.next_hit(k, end, a) {
+            None => end,
+            Some(j) => j,
         }
     }
 
@@ -172,22 +275,30 @@ impl Writings {
         list.partition_point(|w| w.at < number)
     }
 
-    /// The index after the last row at a lower number that may write the address, or 0 where there is none. The rows must stand in the
-    /// order of these; where they don't, it is some index, up to the number of rows.
-    pub fn past_hit(&self, number: u32, a: u32) -> usize
+    /// The index after the last row from an index on at a lower number that may write the address, or that index where there is none.
+    /// The rows must stand in the order of these numbers; where they don't, it is some index, up to the number of rows.
+    pub fn past_hit(&self, low: usize, number: u32, a: u32) -> usize
+        requires { low ≤ length self.now.list }
         ensures bound { result ≤ length self.now.list }
-        ensures past { AreInOrder self.now.list → IsPastHit self.now.list number a result }
+        ensures past { AreInOrder self.now.list → IsPastHitFrom self.now.list low number a result }
     {
         let list = self.list.as_slice();
-        let k = list.partition_point(|w| w.at < number);
+        let k = self.before(number);
         if self.is_indexed {
             let narrow = past_narrow(self.narrow.as_slice(), k, a);
-            let wide = past_wide(list, self.wide.as_slice(), k, a);
-            narrow.max(wide)
+            let wide = past_wide(list, self.wide.as_slice(), low, k, a);
+            narrow.max(low).max(wide)
         } else {
-            scan_back(list, k, a)
+            scan_back(list, low, k, a)
         }
     }
+}
+
+/// Whether a row may fall between the same numbers as another one, and is a call where that one is.
+fn falls_as(old: &Writing, new: &Writing) -> bool
+    ensures { result ≡ true → FallsAs old.now new.now }
+{
+    old.from == new.from && old.to == new.to && old.is_call == new.is_call
 }
 
 /// Keeps the addresses of all rows, or their indices, where nothing is kept yet.

@@ -4,7 +4,7 @@ ghost use Rattle.std.specs.Prelude.{◌≡◌, ◌⊎◌, ◌+◌, ◌<◌, ◌�
 ghost use Rattle.std.specs.Vec.{vec_len, vec_capacity};
 ghost use Rattle.std.specs.List.{Contains};
 ghost use Rattle.std.specs.List.Sorted.{IsSorted};
-ghost use Rattle.rept_writing.specs.Filed.{IsFirst, IsPast, IsKeptByAddress, StartsAtWord, hit, hit_cmp, hits_from, hits_of_part, size_of_part};
+ghost use Rattle.rept_writing.specs.Filed.{IsFirst, IsLeast, IsPast, IsKeptByAddress, StartsAtWord, hit, hit_cmp, hits_from, hits_of_part, size_of_part};
 
 use rept_alias::{Access, CallAccess};
 
@@ -84,10 +84,21 @@ pub fn file(narrow: &mut Vec<Hit>, wide: &mut Vec<usize>, index: usize, access: 
     }
 }
 
-/// The least index from k on that is kept with the address.
-pub fn next_narrow(narrow: &[Hit], k: usize, a: u32) -> Option<usize>
+/// The least index from k on and before another one that is kept with the address.
+pub fn next_narrow(narrow: &[Hit], k: usize, end: usize, a: u32) -> Option<usize>
     requires { IsSorted hit_cmp narrow.now }
-    ensures { IsFirst (λ j. Contains narrow.now (hit a j)) k result }
+    ensures { IsFirst (λ j. Contains narrow.now (hit a j)) k end result }
+{
+    match least_narrow(narrow, k, a) {
+        None => None,
+        Some(found) => { if found < end { Some(found) } else { None } }
+    }
+}
+
+/// The least index from k on that is kept with the address.
+fn least_narrow(narrow: &[Hit], k: usize, a: u32) -> Option<usize>
+    requires { IsSorted hit_cmp narrow.now }
+    ensures { IsLeast (λ j. Contains narrow.now (hit a j)) k result }
 {
     match narrow.binary_search(&Hit {
         address: a,
@@ -107,7 +118,7 @@ pub fn next_narrow(narrow: &[Hit], k: usize, a: u32) -> Option<usize>
 /// The number after the greatest index below k that is kept with the address, or 0.
 pub fn past_narrow(narrow: &[Hit], k: usize, a: u32) -> usize
     requires { IsSorted hit_cmp narrow.now }
-    ensures { IsPast (λ j. Contains narrow.now (hit a j)) k result }
+    ensures { IsPast (λ j. Contains narrow.now (hit a j)) 0 k result }
 {
     if k == 0 {
         return 0;

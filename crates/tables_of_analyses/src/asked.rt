@@ -55,7 +55,7 @@ fn learn<B: ByteFacts>(
         let stop = analysis.refine();
         let after = answer(alloc, analysis, asked)?;
         changed = changed || (is_known(asked.word, before.as_str()) && before != after);
-        if stop != Err(Stop::OutOfMemory) {
+        if !matches!(stop, Err(Stop::OutOfMemory)) {
             break;
         }
     }

@@ -1,9 +1,10 @@
-//! What was worked out by hand of runs of several threads: which are sound, which moments are next to one another, over which of them a byte is carried, and which rows fall
-//! between them. The cases are the lines of `stdin`, and `stdout` has each with its answer.
+//! What was worked out by hand of runs of several threads: which are sound, which moments are next to one another, over which of them a byte is carried, which rows fall
+//! between them, and how far a byte's value goes at once. The cases are the lines of `stdin`, and `stdout` has each with its answer.
 #![tactic(auto)]
 
 mod made;
 mod moments;
+mod reaching;
 mod rows;
 
 use made::Made;
@@ -48,7 +49,8 @@ fn answer(alloc: Global, run: &Run, asked: &str, n: &Numbers) -> Result<String, 
         "open" => rows::open(alloc, &paths, n.word(0), n.word(1)),
         "close" => rows::close(alloc, &paths, n.word(0), n.word(1)),
         "strip" => rows::strip(alloc, &paths, n.word(0)),
-        _ => rows::around(alloc, &paths, n.word(0)),
+        "around" => rows::around(alloc, &paths, n.word(0)),
+        _ => reaching::reaching(alloc, run, &paths, asked, n),
     }
 }
 

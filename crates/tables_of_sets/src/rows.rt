@@ -18,11 +18,14 @@ pub struct Rows {
     ghost room: { 6 ≤ writings.room },
 }
 
-/// What a row may write that stands at a number in time, and itself has another number.
+/// What a row may write that stands at a number in time, itself has another number, and may fall between any two below 100.
 fn written(at: u32, access: CallAccess) -> Writing {
     Writing {
         row: 40u32.wrapping_sub(at),
         at,
+        from: 0,
+        to: 100,
+        is_call: false,
         access,
     }
 }
@@ -45,14 +48,17 @@ impl Rows {
         let (k, a) = (n.word(0), n.word(1));
         let mut done = 0;
         match asked {
-            "rows-from" => return format!(in alloc; "{:?}", self.writings.next_hit(k as usize, a)),
+            "rows-from" | "rows-between" | "rows-meet" | "rows-free" => {
+                return self.found(alloc, asked, n);
+            }
             "rows-below" => return format!(in alloc;
                 "{} of {}",
-                self.writings.past_hit(k, a),
+                self.writings.past_hit(0, k, a),
                 self.writings.before(k)
             ),
             "rows-new" => *self = Rows::new(alloc, k)?,
             "rows-add" => self.add(n),
+            "rows-fall" => self.add_falling(n),
             "rows-replace" => done = self.replace(n),
             "rows-index" => self.writings.index(),
             _ => self.writings.clear(),
@@ -62,6 +68,46 @@ impl Rows {
             self.writings.len(),
             self.writings.is_worn()
         )
+    }
+
+    /// The first row that may write an address, from an index on or between two; the first one that may fall between two numbers besides;
+    /// and since and until which numbers none falls that may write it.
+    fn found(&self, alloc: Global, asked: &str, n: &Numbers) -> Result<String, AllocError> {
+        let (k, a) = (n.word(0), n.word(1));
+        match asked {
+            "rows-from" => format!(in alloc;
+                "{:?}",
+                self.writings.next_hit(k as usize, usize::MAX, a)
+            ),
+            "rows-between" => {
+                let low = (k as usize).min(self.writings.len());
+                let next = self.writings.next_hit(low, a as usize, n.word(2));
+                let past = self.writings.past_hit(low, n.word(3), n.word(2));
+                format!(in alloc; "{next:?}, {past}")
+            }
+            "rows-meet" => format!(in alloc;
+                "{:?}",
+                self.writings
+                    .next_meeting(k as usize, a, n.word(2), n.word(3))
+            ),
+            _ => format!(in alloc;
+                "{}, {}",
+                self.writings.free_since(k, a),
+                self.writings.free_until(k, a)
+            ),
+        }
+    }
+
+    /// Adds a row that may fall between two numbers, and of which it is said whether it is a call.
+    fn add_falling(&mut self, n: &Numbers) {
+        if self.writings.len() < ROOM {
+            let (first, second) = (part(n, 4), part(n, 6));
+            let mut writing = written(n.word(0), CallAccess { first, second });
+            writing.from = n.word(1);
+            writing.to = n.word(2);
+            writing.is_call = n.word(3) == 1;
+            self.writings.add(writing);
+        }
     }
 
     fn add(&mut self, n: &Numbers) {

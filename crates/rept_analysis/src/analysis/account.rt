@@ -8,12 +8,12 @@ ghost use Rattle.rept_analysis.specs.Logged.{IsLogOf};
 
 use super::Analysis;
 use rept_log::LastValues;
-use rept_report::Paths;
+use rept_reach::Reaches;
 use rept_span::Transfer;
 use rept_versions::ByteFacts;
 use rept_view::RowRules;
 
-impl<'a, P: Paths + Drop, L: LastValues + Drop, B: ByteFacts, W: Transfer, R: RowRules> Analysis<
+impl<'a, P: Reaches + Drop, L: LastValues + Drop, B: ByteFacts, W: Transfer, R: RowRules> Analysis<
     'a,
     P,
     L,

@@ -13,7 +13,7 @@ ghost use Rattle.rept_report.specs.Closure.{InClosure};
 ghost use Rattle.rept_report.specs.Soundness.{AlwaysHolds};
 ghost use Rattle.rept_report.specs.Implied.{is_settled, implied};
 ghost use Rattle.rept_report.specs.Spots.{spot};
-ghost use Rattle.rept_report.specs.Timeline.{IsLeastFrom, IsOpen};
+ghost use Rattle.rept_report.specs.Timeline.{IsLeastFrom, IsBegun, IsOpen};
 ghost use Rattle.rept_report.specs.Writers.{is_certain, IsWriter};
 ghost use Rattle.rept_report.specs.Log.{oldest};
 ghost use Rattle.rept_analysis.specs.State.{setting_of, state_of, reader};
@@ -21,19 +21,20 @@ ghost use Rattle.rept_report.specs.Why.{fact_of};
 ghost use Rattle.rept_analysis.specs.Drawing.{IsFitted};
 ghost use Rattle.rept_analysis.specs.Kept.{IsKept, answers};
 ghost use Rattle.rept_analysis.specs.Answers.{byte_answer};
-ghost use Rattle.rept_analysis.specs.Latest.{IsBegun, IsPossibleWriter};
+ghost use Rattle.rept_analysis.specs.Latest.{IsPossibleWriter};
 
 use super::Analysis;
 use crate::moment::Moment;
 use crate::sought::Sought;
 use rept_isa::Reg;
 use rept_log::LastValues;
-use rept_report::{Paths, Writer};
+use rept_reach::Reaches;
+use rept_report::Writer;
 use rept_span::Transfer;
 use rept_versions::ByteFacts;
 use rept_view::RowRules;
 
-impl<'a, P: Paths + Drop, L: LastValues + Drop, B: ByteFacts, W: Transfer, R: RowRules> Analysis<
+impl<'a, P: Reaches + Drop, L: LastValues + Drop, B: ByteFacts, W: Transfer, R: RowRules> Analysis<
     'a,
     P,
     L,
@@ -263,7 +264,7 @@ impl<'a, P: Paths + Drop, L: LastValues + Drop, B: ByteFacts, W: Transfer, R: Ro
     pub fn writer(&self, moment: u32, a: u32) -> Writer
         requires { moment ≤ (P.timeline self.now.paths).moments.end }
         ensures ended { self.now.complete ≡ true → IsWriter (setting_of (reader P.timeline L.values) W.sets W.moves R.rules self.now) (answers (state_of (reader P.timeline L.values) W.sets W.moves R.rules B.store self.now)) (spot moment a) result }
-        ensures open { self.now.complete ≡ false → IsPossibleWriter (P.timeline self.now.paths).moments (IsBegun (setting_of (reader P.timeline L.values) W.sets W.moves R.rules self.now) moment) result }
+        ensures open { self.now.complete ≡ false → IsPossibleWriter (P.timeline self.now.paths).moments (IsBegun (P.timeline self.now.paths) moment) result }
     {
         if self.ended() {
             return self.last_writer(moment, a);

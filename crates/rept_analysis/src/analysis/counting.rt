@@ -11,6 +11,7 @@ use super::Analysis;
 use rept_isa::{Instr, Reg, reads, register};
 use rept_log::LastValues;
 use rept_partial::Flat;
+use rept_reach::Reaches;
 use rept_report::{Counts, Paths};
 use rept_span::Transfer;
 use rept_versions::ByteFacts;
@@ -33,7 +34,7 @@ fn base(instr: &Instr) -> Option<Reg>
     }
 }
 
-impl<'a, P: Paths + Drop, L: LastValues + Drop, B: ByteFacts, W: Transfer, R: RowRules> Analysis<
+impl<'a, P: Reaches + Drop, L: LastValues + Drop, B: ByteFacts, W: Transfer, R: RowRules> Analysis<
     'a,
     P,
     L,

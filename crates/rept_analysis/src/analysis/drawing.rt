@@ -16,7 +16,7 @@ ghost use Rattle.rept_log.specs.Known.{known_of};
 ghost use Rattle.rept_analysis.specs.Told.{Tracks};
 
 use super::Analysis;
-use super::carrying::is_store;
+use super::listing::is_store;
 use crate::halt::Halt;
 use crate::offset::address;
 use crate::pass::Pass;
@@ -24,8 +24,8 @@ use rept_isa::{Instr, Reg, StepRow, reads, register, writes};
 use rept_log::views::point_at;
 use rept_log::{Around, LastValues};
 use rept_partial::Flat;
+use rept_reach::Reaches;
 use rept_reason::Cell;
-use rept_report::Paths;
 use rept_span::Transfer;
 use rept_versions::ByteFacts;
 use rept_view::{Drawn, RowRules, When};
@@ -74,7 +74,7 @@ fn side(instr: &Instr) -> When {
     }
 }
 
-impl<'a, P: Paths + Drop, L: LastValues + Drop, B: ByteFacts, W: Transfer, R: RowRules> Analysis<
+impl<'a, P: Reaches + Drop, L: LastValues + Drop, B: ByteFacts, W: Transfer, R: RowRules> Analysis<
     'a,
     P,
     L,
@@ -341,8 +341,7 @@ impl<'a, P: Paths + Drop, L: LastValues + Drop, B: ByteFacts, W: Transfer, R: Ro
                 Flat::Known(base) => {
                     let point = self.moment_at(i, side(&row.instr));
                     let start = address(base, &row.instr);
-                    let learnt = self.carry_bytes(point, start, R::places(row).min(4))?;
-                    Ok(learnt)
+                    self.carry_bytes(point, start, R::places(row).min(4))
                 }
             },
         }
@@ -430,10 +429,7 @@ impl<'a, P: Paths + Drop, L: LastValues + Drop, B: ByteFacts, W: Transfer, R: Ro
     {
         match self.row(i) {
             None => Ok(false),
-            Some(row) => {
-                let learnt = self.draw_all(i, &row)?;
-                Ok(learnt)
-            }
+            Some(row) => self.draw_all(i, &row),
         }
     }
 
@@ -510,7 +506,6 @@ impl<'a, P: Paths + Drop, L: LastValues + Drop, B: ByteFacts, W: Transfer, R: Ro
         if !self.may_tell(i) {
             return Ok(false);
         }
-        let learnt = self.draw_noted(i)?;
-        Ok(learnt)
+        self.draw_noted(i)
     }
 }

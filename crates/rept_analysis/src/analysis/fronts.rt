@@ -12,14 +12,14 @@ use super::Analysis;
 use crate::trail::PathTrail;
 use rept_isa::Reg;
 use rept_log::{Below, Front, LastValues};
+use rept_reach::Reaches;
 use rept_reason::{Fact, Reason};
-use rept_report::Paths;
 use rept_span::{Spans, Transfer};
 use rept_versions::ByteFacts;
 use rept_view::RowRules;
 use std::alloc::{AllocError as OutOfMemory, Global};
 
-impl<'a, P: Paths + Drop, L: LastValues + Drop, B: ByteFacts, W: Transfer, R: RowRules> Analysis<
+impl<'a, P: Reaches + Drop, L: LastValues + Drop, B: ByteFacts, W: Transfer, R: RowRules> Analysis<
     'a,
     P,
     L,

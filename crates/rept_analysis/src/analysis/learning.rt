@@ -8,21 +8,21 @@ ghost use Rattle.rept_analysis.specs.Begun.{IsLogWith};
 ghost use Rattle.rept_analysis.specs.State.{state_of, reader};
 ghost use Rattle.rept_report.specs.Why.{fact_of};
 ghost use Rattle.rept_analysis.specs.Drawing.{Knows, IsTracked, Grows, Drew, IsFollowing, IsBrought, IsHalt, IsLearntAt, IsRowAddress, HasPlace};
-ghost use Rattle.rept_analysis.specs.Told.{Tells, TellsByte, Tracks};
+ghost use Rattle.rept_analysis.specs.Told.{ByteToldAs, ToldAs, Tracks};
 
 use super::Analysis;
 use crate::halt::Halt;
 use rept_isa::Reg;
 use rept_log::{Answer, LastValues};
 use rept_partial::Flat;
+use rept_reach::Reaches;
 use rept_reason::Cell;
-use rept_report::Paths;
 use rept_span::Transfer;
 use rept_versions::ByteFacts;
 use rept_view::RowRules;
 use std::alloc::AllocError as OutOfMemory;
 
-impl<'a, P: Paths + Drop, L: LastValues + Drop, B: ByteFacts, W: Transfer, R: RowRules> Analysis<
+impl<'a, P: Reaches + Drop, L: LastValues + Drop, B: ByteFacts, W: Transfer, R: RowRules> Analysis<
     'a,
     P,
     L,
@@ -36,7 +36,7 @@ impl<'a, P: Paths + Drop, L: LastValues + Drop, B: ByteFacts, W: Transfer, R: Ro
         requires named { 0 < r }
         requires follows { value < 2 ^ 32 → IsFollowing (state_of (reader P.timeline L.values) W.sets W.moves R.rules B.store self.old) (fact_of point (Register r) value) }
         requires open { self.old.complete ≡ false }
-        ensures { Tells (state_of (reader P.timeline L.values) W.sets W.moves R.rules B.store self.old) (state_of (reader P.timeline L.values) W.sets W.moves R.rules B.store self.new) (fact_of point (Register r) value) result }
+        ensures { ToldAs (state_of (reader P.timeline L.values) W.sets W.moves R.rules B.store self.old) (state_of (reader P.timeline L.values) W.sets W.moves R.rules B.store self.new) (fact_of point (Register r) value) result }
     {
         let _number = r.number();
         let answer = self.known.learn_register(point, r, value);
@@ -58,7 +58,7 @@ impl<'a, P: Paths + Drop, L: LastValues + Drop, B: ByteFacts, W: Transfer, R: Ro
         requires brought { keep ≡ false → IsBrought (state_of (reader P.timeline L.values) W.sets W.moves R.rules B.store self.old) (fact_of point (Byte a) value) }
         requires place { HasPlace keep point a (state_of (reader P.timeline L.values) W.sets W.moves R.rules B.store self.old) }
         requires open { self.old.complete ≡ false }
-        ensures { TellsByte (state_of (reader P.timeline L.values) W.sets W.moves R.rules B.store self.old) (state_of (reader P.timeline L.values) W.sets W.moves R.rules B.store self.new) (fact_of point (Byte a) value) result }
+        ensures { ByteToldAs (state_of (reader P.timeline L.values) W.sets W.moves R.rules B.store self.old) (state_of (reader P.timeline L.values) W.sets W.moves R.rules B.store self.new) (fact_of point (Byte a) value) result }
     {
         let answer = self.known.learn_byte(point, a, value, keep);
         let _len = self.known.len();
@@ -152,10 +152,7 @@ impl<'a, P: Paths + Drop, L: LastValues + Drop, B: ByteFacts, W: Transfer, R: Ro
             return Ok(false);
         }
         match value {
-            Flat::Known(value) => {
-                let learnt = self.learn(point, r, value)?;
-                Ok(learnt)
-            }
+            Flat::Known(value) => self.learn(point, r, value),
             Flat::Unknown => Ok(false),
         }
     }

@@ -15,12 +15,13 @@ use super::Analysis;
 use crate::halt::Halt;
 use crate::stop::Stop;
 use rept_log::LastValues;
+use rept_reach::Reaches;
 use rept_report::{ConflictKind, Paths};
 use rept_span::Transfer;
 use rept_versions::ByteFacts;
 use rept_view::RowRules;
 
-impl<'a, P: Paths + Drop, L: LastValues + Drop, B: ByteFacts, W: Transfer, R: RowRules> Analysis<
+impl<'a, P: Reaches + Drop, L: LastValues + Drop, B: ByteFacts, W: Transfer, R: RowRules> Analysis<
     'a,
     P,
     L,

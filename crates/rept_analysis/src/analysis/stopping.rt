@@ -17,6 +17,7 @@ use super::Analysis;
 use crate::halt::Halt;
 use crate::stop::Stop;
 use rept_log::LastValues;
+use rept_reach::Reaches;
 use rept_reason::Cell;
 use rept_report::{ConflictKind, Paths};
 use rept_span::Transfer;
@@ -44,7 +45,7 @@ fn clash_kind(point: u32, cell: Cell, known: u32, value: u32) -> ConflictKind
     }
 }
 
-impl<'a, P: Paths + Drop, L: LastValues + Drop, B: ByteFacts, W: Transfer, R: RowRules> Analysis<
+impl<'a, P: Reaches + Drop, L: LastValues + Drop, B: ByteFacts, W: Transfer, R: RowRules> Analysis<
     'a,
     P,
     L,

@@ -14,7 +14,7 @@ use crate::halt::Halt;
 use rept_isa::{Reg, register};
 use rept_log::LastValues;
 use rept_partial::Flat;
-use rept_report::Paths;
+use rept_reach::Reaches;
 use rept_span::Transfer;
 use rept_versions::ByteFacts;
 use rept_view::RowRules;
@@ -22,7 +22,7 @@ use rept_view::RowRules;
 /// So many times all rows are drawn back and onward again in a round at most.
 const PASSES: u32 = 16;
 
-impl<'a, P: Paths + Drop, L: LastValues + Drop, B: ByteFacts, W: Transfer, R: RowRules> Analysis<
+impl<'a, P: Reaches + Drop, L: LastValues + Drop, B: ByteFacts, W: Transfer, R: RowRules> Analysis<
     'a,
     P,
     L,
@@ -48,7 +48,22 @@ impl<'a, P: Paths + Drop, L: LastValues + Drop, B: ByteFacts, W: Transfer, R: Ro
         Ok(learnt)
     }
 
-    /// All rows that may tell something new, from the first to the last.
+    /// The row before which a moment lies, if there is one and it may tell something new.
+    fn draw_at(&mut self, number: u32) -> Result<bool, Halt>
+        requires writings { AreWritings (state_of (reader P.timeline L.values) W.sets W.moves R.rules B.store self.old) }
+        requires open { self.old.complete ≡ false }
+        requires uncut { IsUncut (state_of (reader P.timeline L.values) W.sets W.moves R.rules B.store self.old) }
+        ensures grows { Grows (state_of (reader P.timeline L.values) W.sets W.moves R.rules B.store self.old) (state_of (reader P.timeline L.values) W.sets W.moves R.rules B.store self.new) }
+        ensures drew { IfOk result (λ learnt. Drew (state_of (reader P.timeline L.values) W.sets W.moves R.rules B.store self.old) (state_of (reader P.timeline L.values) W.sets W.moves R.rules B.store self.new) learnt (λ _. ⊤)) }
+        ensures halt { IfErr result (λ h. IsHalt (state_of (reader P.timeline L.values) W.sets W.moves R.rules B.store self.new) h) }
+    {
+        match self.row_at(number) {
+            None => Ok(false),
+            Some(i) => self.draw_fresh(i),
+        }
+    }
+
+    /// All rows that may tell something new, in the order of their moments.
     fn draw_onward(&mut self) -> Result<bool, Halt>
         requires writings { AreWritings (state_of (reader P.timeline L.values) W.sets W.moves R.rules B.store self.old) }
         requires open { self.old.complete ≡ false }
@@ -57,16 +72,16 @@ impl<'a, P: Paths + Drop, L: LastValues + Drop, B: ByteFacts, W: Transfer, R: Ro
         ensures drew { IfOk result (λ learnt. Drew (state_of (reader P.timeline L.values) W.sets W.moves R.rules B.store self.old) (state_of (reader P.timeline L.values) W.sets W.moves R.rules B.store self.new) learnt (λ _. ⊤)) }
         ensures halt { IfErr result (λ h. IsHalt (state_of (reader P.timeline L.values) W.sets W.moves R.rules B.store self.new) h) }
     {
-        let count = self.count();
+        let end = self.end();
         let mut learnt = false;
-        for i in 0..count {
-            let new = self.draw_fresh(i)?;
+        for number in 0..end {
+            let new = self.draw_at(number)?;
             learnt = learnt | new;
         }
         Ok(learnt)
     }
 
-    /// All rows that may tell something new, from the last to the first.
+    /// All of them in the opposite order.
     fn draw_fresh_back(&mut self) -> Result<bool, Halt>
         requires writings { AreWritings (state_of (reader P.timeline L.values) W.sets W.moves R.rules B.store self.old) }
         requires open { self.old.complete ≡ false }
@@ -75,10 +90,10 @@ impl<'a, P: Paths + Drop, L: LastValues + Drop, B: ByteFacts, W: Transfer, R: Ro
         ensures drew { IfOk result (λ learnt. Drew (state_of (reader P.timeline L.values) W.sets W.moves R.rules B.store self.old) (state_of (reader P.timeline L.values) W.sets W.moves R.rules B.store self.new) learnt (λ _. ⊤)) }
         ensures halt { IfErr result (λ h. IsHalt (state_of (reader P.timeline L.values) W.sets W.moves R.rules B.store self.new) h) }
     {
-        let count = self.count();
+        let end = self.end();
         let mut learnt = false;
-        for i in (0..count).rev() {
-            let new = self.draw_fresh(i)?;
+        for number in (0..end).rev() {
+            let new = self.draw_at(number)?;
             learnt = learnt | new;
         }
         Ok(learnt)
@@ -175,10 +190,7 @@ impl<'a, P: Paths + Drop, L: LastValues + Drop, B: ByteFacts, W: Transfer, R: Ro
         let point = self.end();
         match byte {
             None => Ok(false),
-            Some(v) => {
-                let learnt = self.learn_byte(point, a, v, false)?;
-                Ok(learnt)
-            }
+            Some(v) => self.learn_byte(point, a, v, false),
         }
     }
 
@@ -213,10 +225,7 @@ impl<'a, P: Paths + Drop, L: LastValues + Drop, B: ByteFacts, W: Transfer, R: Ro
         let span = self.span(point, r);
         match span.as_exact() {
             None => Ok(false),
-            Some(v) => {
-                let learnt = self.learn_if(point, r, Flat::Known(v))?;
-                Ok(learnt)
-            }
+            Some(v) => self.learn_if(point, r, Flat::Known(v)),
         }
     }
 
@@ -289,8 +298,7 @@ impl<'a, P: Paths + Drop, L: LastValues + Drop, B: ByteFacts, W: Transfer, R: Ro
         Ok(true)
     }
 
-    /// The values of all tracked bytes over all rows, and the bytes of the dump. In the first round, where the rows told news, nothing: then
-    /// the rows of the list may write anything.
+    /// The values of all tracked bytes over all rows, and the bytes of the dump; nothing where the rows told news, since rows carry the bytes that they look at by themselves.
     fn carry_rest(&mut self, has_news: bool) -> Result<bool, Halt>
         requires writings { AreWritings (state_of (reader P.timeline L.values) W.sets W.moves R.rules B.store self.old) }
         requires open { self.old.complete ≡ false }
@@ -299,9 +307,7 @@ impl<'a, P: Paths + Drop, L: LastValues + Drop, B: ByteFacts, W: Transfer, R: Ro
         ensures halt { IfErr result (λ h. IsHalt (state_of (reader P.timeline L.values) W.sets W.moves R.rules B.store self.new) h) }
     {
         if has_news {
-            if self.is_first_round() {
-                return Ok(false);
-            }
+            return Ok(false);
         }
         let carried = self.carry_tracked()?;
         let bytes = self.draw_last_bytes()?;

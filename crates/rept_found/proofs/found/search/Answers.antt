@@ -14,6 +14,14 @@ use Rattle.rept_found.proofs.Settings.{conflict_of, found_in, setting_is, still_
 use Rattle.rept_found.proofs.Trips.{no_history}
 use Rattle.rept_found.proofs.found.search.Goals as goal
 
+pub invariant_of-result : goal.invariant_of-result
+invariant_of-result g c =
+    let m = means g.W.Partial.sets g.W.Transfer.moves g.R.RowRules.rules in
+    let here : View g.row.W.Denot g.row.R.Denot = record { analysis = c.prepared.inside.analysis; ends = c.prepared.inside.ends.now; program = exe_of c.prepared.inside.dump.now; core = core_of c.prepared.inside.dump.now } in
+    let new : View g.row.W.Denot g.row.R.Denot = record { analysis = c.refine.new.self; ends = c.prepared.inside.ends.now; program = exe_of c.prepared.inside.dump.now; core = core_of c.prepared.inside.dump.now } in
+    let of : IsOfRun new = record { some = c.prepared.invariant.0.some; sound = c.prepared.invariant.0.sound; given = still_of m here.analysis new.analysis (given_on here.ends.course (ending_in here)) c.refine.ensures.path c.prepared.invariant.0.given } in
+    (c.in-Ok.ensures.complete, of, c.prepared.invariant.1)
+
 pub returns-in-Ok-clause-found : goal.returns-in-Ok-clause-found
 returns-in-Ok-clause-found g c =
     let m = means g.W.Partial.sets g.W.Transfer.moves g.R.RowRules.rules in

@@ -5,8 +5,8 @@ use Rattle.rept_moments.specs.Seen.{Seen}
 use Rattle.rept_timeline.specs.declared.run_paths.RunPaths.{RunPaths}
 use Rattle.rept_found.specs.Crash.{means}
 use Rattle.rept_found.specs.View.{View}
-use Rattle.rept_found.specs.declared.over.RunRows.{RunRows}
-use Rattle.rept_found.specs.declared.over.RunEnds.{RunEnds}
+use Rattle.rept_extents.specs.declared.run_rows.RunRows.{RunRows}
+use Rattle.rept_found.specs.declared.ends.RunEnds.{RunEnds}
 use Rattle.rept_found.specs.Ends.{Ends, last_values_in}
 use Rattle.rept_found.proofs.Settings.{given_is, points_are, scene_is, seen_same, trip_is, values_long}
 use Rattle.rept_found.proofs.prepared.prepare.Goals as goal
@@ -16,7 +16,7 @@ prepare-requires-clause-few g c =
     let all = points_are c.args.ends.now.course c.account.ensures.some in
     let few = c.account.ensures.few in
     let here : (seen_in c.args.paths.now.ways).legs.count ≤ 66560 = subst (λ (x : Seen). x.legs.count ≤ 66560) (sym (seen_same c.args.ends.now.course c.args.paths.now.ways c.requires.course)) (omega arith) in
-    subst (λ (x : RunPaths). (seen_in x.ways).legs.count ≤ 66560) (sym c.new-rows.ensures) here
+    subst (λ (x : RunPaths). (seen_in x.ways).legs.count ≤ 66560) (sym c.in_ok-rows.ensures) here
 
 pub prepare-requires-clause-registers : goal.prepare-requires-clause-registers
 prepare-requires-clause-registers g c = λ p. subst (λ (x : Ends). length (last_values_in x p) ≡ 32) (sym c.new-last.ensures) (values_long c.args.ends.now c.account.ensures.ends c.account.ensures.some p)
@@ -24,7 +24,7 @@ prepare-requires-clause-registers g c = λ p. subst (λ (x : Ends). length (last
 pub invariant_of-result : goal.invariant_of-result
 invariant_of-result g c =
     let its = c.in_ok-analysis.ensures in
-    let paths = ap (λ (x : RunRows). x.paths.now) its.path.0 ∙ c.new-rows.ensures in
+    let paths = ap (λ (x : RunRows). x.paths.now) its.path.0 ∙ c.in_ok-rows.ensures in
     let ends = ap (λ (x : RunEnds). x.ends.now) its.path.1 ∙ c.new-last.ensures in (
       record {
         some = c.account.ensures.some;

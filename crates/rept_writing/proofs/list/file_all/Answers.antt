@@ -1,5 +1,4 @@
 use Rattle.std.proofs.Common.{◌≡◌, ◌∙◌, List, length, refl, arith, subst}
-use Rattle.std.proofs.Math.ListN.{take}
 use Rattle.std.proofs.lemmas.List.{length-take-le}
 use Rattle.std.specs.Vec.{vec_len}
 use Rattle.rept_writing.specs.declared.list.Writing.{Writing}

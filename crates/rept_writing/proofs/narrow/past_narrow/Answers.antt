@@ -15,7 +15,7 @@ pub overflow_add-result : goal.overflow_add-result
 overflow_add-result c =
     let last = last_below c.args.narrow.now c.args.a c.args.k c.in-Err.at (hit 0 0) (omega (arith, c.if-k-eq0.false)) c.requires
     (place _ (hit c.args.a (c.args.k - 1)) _ c.requires c.in-Err.ensures.position) c.in-Err.ensures.bound c.if-at-gt0.true c.if-narrow-at.true in
-    let low = past_bound (λ j. Contains c.args.narrow.now (hit c.args.a j)) c.args.k _ last in
+    let low = past_bound (λ j. Contains c.args.narrow.now (hit c.args.a j)) 0 c.args.k _ c.args.k (omega arith) (omega arith) last in
     omega (arith, low)
 
 pub returns-else-at-gt0 : goal.returns-else-at-gt0

@@ -5,7 +5,7 @@ use Rattle.rept_report.specs.Log.{oldest}
 use Rattle.rept_report.specs.Conflicts.{IsQuiet}
 use Rattle.rept_report.proofs.Places.{oldest_all}
 use Rattle.rept_log.specs.Known.{Known}
-use Rattle.rept_analysis.specs.State.{state_of, Path, along, reader}
+use Rattle.rept_analysis.specs.State.{state_of, Subject, along, reader}
 use Rattle.rept_analysis.proofs.Ending.{Same_itself, Same_trans, back_to}
 use Rattle.rept_analysis.proofs.Stopping.{quiet_before}
 use Rattle.rept_analysis.proofs.analysis.Analysis.bisect.Goals as goal
@@ -30,7 +30,7 @@ loop-low-preserved-then-quiet g c =
     let i = c.loop-low.invariant in
     let less = c.loop-low-test.true in
     let middle = c.loop-low.low + (c.loop-low.high - c.loop-low.low) / 2 in
-    let here = back_to a b i.same (λ (P : Path g.row.W.Denot) (k : Known). IsQuiet (along P) (told (oldest middle k.log))) (c.is_quiet-quiet.ensures.quiet c.if-quiet.true) in
+    let here = back_to a b i.same (λ (P : Subject g.row.W.Denot) (k : Known). IsQuiet (along P) (told (oldest middle k.log))) (c.is_quiet-quiet.ensures.quiet c.if-quiet.true) in
     record {
       same = Same_trans a b _ i.same c.is_quiet-quiet.ensures.same;
       low = omega (arith, less);

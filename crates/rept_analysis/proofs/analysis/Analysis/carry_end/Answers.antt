@@ -2,7 +2,7 @@ use Rattle.std.proofs.Common.{◌≡◌, ◌+◌, ◌∙◌, ℕ, Some, sym, sub
 use Rattle.rept_report.specs.Spots.{passage}
 use Rattle.rept_analysis.specs.State.{State, state_of, reader}
 use Rattle.rept_analysis.specs.Drawing.{IsCarriedIf}
-use Rattle.rept_analysis.proofs.Drawn.{Drew_as, Drew_same}
+use Rattle.rept_analysis.proofs.Drawn.{Drew_if, Drew_same}
 use Rattle.rept_analysis.proofs.Listing.{some_pause}
 use Rattle.rept_analysis.proofs.analysis.Analysis.carry_end.Goals as goal
 
@@ -15,4 +15,4 @@ pub returns-clause-drew : goal.returns-clause-drew
 returns-clause-drew g c =
     let s = (state_of (reader g.P.Paths.timeline g.L.LastValues.values) g.W.Partial.sets g.W.Transfer.moves g.R.RowRules.rules g.B.ByteFacts.store c.args.self.now) in
     let P : State g.row.W.Denot → Type 0 = λ x. (i : ℕ) → c.args.m ≡ Some i → IsCarriedIf (passage c.args.a i (i + 1)) x in
-    Drew_as s _ c.in_ok-learnt.learnt (IsCarriedIf (passage c.args.a c.in-Some.m (c.in-Some.m + 1))) P c.in_ok-learnt.ensures.drew (λ h i is. subst (λ (n : ℕ). IsCarriedIf (passage c.args.a n (n + 1)) s) (some_pause (sym c.in-Some.is ∙ is)) h)
+    Drew_if s _ c.carry_step.result (IsCarriedIf (passage c.args.a c.in-Some.m (c.in-Some.m + 1))) P c.carry_step.ensures.drew (λ h i is. subst (λ (n : ℕ). IsCarriedIf (passage c.args.a n (n + 1)) s) (some_pause (sym c.in-Some.is ∙ is)) h)

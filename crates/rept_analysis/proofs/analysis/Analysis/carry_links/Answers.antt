@@ -4,7 +4,6 @@ use Rattle.rept_report.specs.Spots.{passage}
 use Rattle.rept_analysis.specs.State.{State, state_of, reader}
 use Rattle.rept_analysis.specs.Drawing.{IsCarriedIf, AreLinksBelow, AreLinks}
 use Rattle.rept_analysis.proofs.Drawn.{Drew_as, Drew_both, Drew_first, Drew_same, Grows_itself, Grows_trans}
-use Rattle.rept_analysis.proofs.Listing.{writings_after}
 use Rattle.rept_analysis.proofs.Going.{next_none, links_first, links_more, links_none, links_end}
 use Rattle.rept_analysis.proofs.analysis.Analysis.carry_links.Goals as goal
 
@@ -23,7 +22,7 @@ pub carry_link-requires-clause-next : goal.carry_link-requires-clause-next
 carry_link-requires-clause-next g c = (rw c.in-Some.is at c.next_from.ensures).0
 
 pub carry_link-requires-clause-writings : goal.carry_link-requires-clause-writings
-carry_link-requires-clause-writings g c = writings_after (state_of (reader g.P.Paths.timeline g.L.LastValues.values) g.W.Partial.sets g.W.Transfer.moves g.R.RowRules.rules g.B.ByteFacts.store c.args.self.now) (state_of (reader g.P.Paths.timeline g.L.LastValues.values) g.W.Partial.sets g.W.Transfer.moves g.R.RowRules.rules g.B.ByteFacts.store c.loop-least.self) c.loop-least.invariant.grows c.requires.writings
+carry_link-requires-clause-writings g c = c.loop-least.invariant.grows.writing c.requires.writings
 
 pub returns-in_err-new-clause-grows : goal.returns-in_err-new-clause-grows
 returns-in_err-new-clause-grows g c = Grows_trans _ _ _ c.loop-least.invariant.grows c.carry_link.ensures.grows

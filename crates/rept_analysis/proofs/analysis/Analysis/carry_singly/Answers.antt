@@ -5,7 +5,7 @@ use Rattle.rept_analysis.specs.State.{State, state_of, reader}
 use Rattle.rept_analysis.specs.Drawing.{IsCarriedIf, IsCarriedBelow, IsCarriedIn}
 use Rattle.rept_analysis.proofs.Drawn.{Drew_as, Drew_both, Drew_first, Drew_same, Grows_itself, Grows_trans}
 use Rattle.rept_analysis.proofs.Listing.{writings_after}
-use Rattle.rept_analysis.proofs.Going.{nexts_none, below_first, in_free, in_border, in_all, below_border, border_onward, next_after}
+use Rattle.rept_analysis.proofs.Going.{nexts_none, below_first, in_free, in_border, in_all, below_border, border_onward, strip_after}
 use Rattle.rept_analysis.proofs.analysis.Analysis.carry_singly.Goals as goal
 
 pub loop-from-init : goal.loop-from-init
@@ -29,25 +29,29 @@ returns-then-m-strip-clause-drew g c =
     let Q : State g.row.W.Denot → Type 0 = λ x. Nexts x.known.store.fact a from (Some c.in-Some.stretch) in
     Drew_first s t t c.loop-from.learnt false (IsCarriedBelow a c.args.strip from) Q (IsCarriedIn a c.args.strip) (Grows_itself t) refl c.loop-from.invariant.drew (Drew_same t Q (rw c.in-Some.is at c.stretch.ensures)) (λ p q. in_border s a from c.args.strip p c.in-Some.stretch q c.border-m.result c.border-m.ensures c.if-m-strip.true)
 
-pub carry_step-requires-clause-next : goal.carry_step-requires-clause-next
-carry_step-requires-clause-next g c =
-    let t = (state_of (reader g.P.Paths.timeline g.L.LastValues.values) g.W.Partial.sets g.W.Transfer.moves g.R.RowRules.rules g.B.ByteFacts.store c.loop-from.self) in
-    let onward = border_onward t c.args.a c.loop-from.from c.in-Some.stretch (rw c.in-Some.is at c.stretch.ensures) c.border-m.result c.border-m.ensures in
-    let least = c.loop-from.invariant.least in
-    let inside = c.if-m-strip.false in
-    next_after (state_of (reader g.P.Paths.timeline g.L.LastValues.values) g.W.Partial.sets g.W.Transfer.moves g.R.RowRules.rules g.B.ByteFacts.store c.args.self.now) t c.loop-from.invariant.grows c.border-m.result (c.border-m.result + 1) ((c.requires.strip.joined c.border-m.result (omega (arith, onward, least)) inside).next)
+pub carry_border-requires-clause-strip : goal.carry_border-requires-clause-strip
+carry_border-requires-clause-strip g c = strip_after (state_of (reader g.P.Paths.timeline g.L.LastValues.values) g.W.Partial.sets g.W.Transfer.moves g.R.RowRules.rules g.B.ByteFacts.store c.args.self.now) (state_of (reader g.P.Paths.timeline g.L.LastValues.values) g.W.Partial.sets g.W.Transfer.moves g.R.RowRules.rules g.B.ByteFacts.store c.loop-from.self) c.loop-from.invariant.grows c.args.strip.first c.args.strip c.requires.strip
 
-pub carry_step-requires-clause-writings : goal.carry_step-requires-clause-writings
-carry_step-requires-clause-writings g c = writings_after (state_of (reader g.P.Paths.timeline g.L.LastValues.values) g.W.Partial.sets g.W.Transfer.moves g.R.RowRules.rules g.B.ByteFacts.store c.args.self.now) (state_of (reader g.P.Paths.timeline g.L.LastValues.values) g.W.Partial.sets g.W.Transfer.moves g.R.RowRules.rules g.B.ByteFacts.store c.loop-from.self) c.loop-from.invariant.grows c.requires.writings
+pub carry_border-requires-clause-inside : goal.carry_border-requires-clause-inside
+carry_border-requires-clause-inside g c = c.if-m-strip.false
+
+pub carry_border-requires-clause-from : goal.carry_border-requires-clause-from
+carry_border-requires-clause-from g c =
+    let onward = border_onward (state_of (reader g.P.Paths.timeline g.L.LastValues.values) g.W.Partial.sets g.W.Transfer.moves g.R.RowRules.rules g.B.ByteFacts.store c.loop-from.self) c.args.a c.loop-from.from c.in-Some.stretch (rw c.in-Some.is at c.stretch.ensures) c.border-m.result c.border-m.ensures in
+    let least = c.loop-from.invariant.least in
+    omega (arith, onward, least)
+
+pub carry_border-requires-clause-writings : goal.carry_border-requires-clause-writings
+carry_border-requires-clause-writings g c = writings_after (state_of (reader g.P.Paths.timeline g.L.LastValues.values) g.W.Partial.sets g.W.Transfer.moves g.R.RowRules.rules g.B.ByteFacts.store c.args.self.now) (state_of (reader g.P.Paths.timeline g.L.LastValues.values) g.W.Partial.sets g.W.Transfer.moves g.R.RowRules.rules g.B.ByteFacts.store c.loop-from.self) c.loop-from.invariant.grows c.requires.writings
 
 pub returns-in_err-new-clause-grows : goal.returns-in_err-new-clause-grows
-returns-in_err-new-clause-grows g c = Grows_trans _ _ _ c.loop-from.invariant.grows c.carry_step.ensures.grows
+returns-in_err-new-clause-grows g c = Grows_trans _ _ _ c.loop-from.invariant.grows c.carry_border.ensures.grows
 
 pub loop-from-preserved : goal.loop-from-preserved
 loop-from-preserved g c =
     let s = (state_of (reader g.P.Paths.timeline g.L.LastValues.values) g.W.Partial.sets g.W.Transfer.moves g.R.RowRules.rules g.B.ByteFacts.store c.args.self.now) in
     let t = (state_of (reader g.P.Paths.timeline g.L.LastValues.values) g.W.Partial.sets g.W.Transfer.moves g.R.RowRules.rules g.B.ByteFacts.store c.loop-from.self) in
-    let u = (state_of (reader g.P.Paths.timeline g.L.LastValues.values) g.W.Partial.sets g.W.Transfer.moves g.R.RowRules.rules g.B.ByteFacts.store c.carry_step.new.self) in
+    let u = (state_of (reader g.P.Paths.timeline g.L.LastValues.values) g.W.Partial.sets g.W.Transfer.moves g.R.RowRules.rules g.B.ByteFacts.store c.carry_border.new.self) in
     let a = c.args.a in
     let from = c.loop-from.from in
     let m = c.border-m.result in

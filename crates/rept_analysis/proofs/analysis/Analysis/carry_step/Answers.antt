@@ -2,7 +2,7 @@ use Rattle.std.proofs.Common.{◌+◌, arith}
 use Rattle.rept_report.specs.Spots.{passage}
 use Rattle.rept_analysis.specs.State.{state_of, reader}
 use Rattle.rept_analysis.specs.Drawing.{IsCarriedFrom, IsCarriedIf}
-use Rattle.rept_analysis.proofs.Drawn.{Drew_as, Drew_same}
+use Rattle.rept_analysis.proofs.Drawn.{Drew_if, Drew_same}
 use Rattle.rept_analysis.proofs.Going.{blocked_if, step_if, spared_one}
 use Rattle.rept_analysis.proofs.analysis.Analysis.carry_step.Goals as goal
 
@@ -24,4 +24,4 @@ carry_segment-requires-clause-spared g c = spared_one (state_of (reader g.P.Path
 pub returns-clause-drew : goal.returns-clause-drew
 returns-clause-drew g c =
     let s = (state_of (reader g.P.Paths.timeline g.L.LastValues.values) g.W.Partial.sets g.W.Transfer.moves g.R.RowRules.rules g.B.ByteFacts.store c.args.self.now) in
-    Drew_as s _ c.in_ok-learnt.learnt (IsCarriedFrom c.args.a c.args.m (c.args.m + 1)) (IsCarriedIf (passage c.args.a c.args.m (c.args.m + 1))) c.in_ok-learnt.ensures.drew (λ h. step_if s c.args.a c.args.m h)
+    Drew_if s _ c.carry_segment.result (IsCarriedFrom c.args.a c.args.m (c.args.m + 1)) (IsCarriedIf (passage c.args.a c.args.m (c.args.m + 1))) c.carry_segment.ensures.drew (λ h. step_if s c.args.a c.args.m h)

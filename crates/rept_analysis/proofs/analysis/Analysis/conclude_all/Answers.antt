@@ -1,6 +1,6 @@
 use Rattle.std.proofs.Common.{◌∙◌, ◌+◌, ◌<◌, ◌≤◌, length, sym, subst, arith}
 use Rattle.rept_report.specs.Views.{instant_of}
-use Rattle.rept_analysis.specs.State.{Path, state_of, reader}
+use Rattle.rept_analysis.specs.State.{Subject, state_of, reader}
 use Rattle.rept_analysis.specs.Drawing.{Knows, KnowsDrawn, DrawnBelow}
 use Rattle.rept_analysis.proofs.Drawn.{Drew_both, Drew_as, Grows_trans, drawn_more}
 use Rattle.rept_analysis.proofs.Learning.{known_words}
@@ -31,7 +31,7 @@ loop-drawn-preserved g c =
       drew = Drew_both _ _ _ c.loop-drawn.learnt c.in_ok-new.new (DrawnBelow k list c.args.i) (KnowsDrawn c.args.i c.drawn-item.result) (DrawnBelow (k + 1) list c.args.i)
           c.loop-drawn.invariant.grows c.in_ok-new.ensures.grows c.loop-drawn.invariant.drew c.in_ok-new.ensures.drew
           (λ p q. drawn_more (state_of (reader g.P.Paths.timeline g.L.LastValues.values) g.W.Partial.sets g.W.Transfer.moves g.R.RowRules.rules g.B.ByteFacts.store c.args.self.now) c.args.i list k c.drawn-item.result at p q);
-      known = drawn_more u c.args.i list k c.drawn-item.result at (λ j d lt is. subst (λ (P : Path g.row.W.Denot). Knows (instant_of P.given.moments c.args.i d.when d.cell) d.cell d.value u) (sym c.in_ok-new.ensures.grows.path) (c.in_ok-new.ensures.grows.more _ _ _ (c.loop-drawn.invariant.known j d lt is))) c.in_ok-new.ensures.known;
+      known = drawn_more u c.args.i list k c.drawn-item.result at (λ j d lt is. subst (λ (P : Subject g.row.W.Denot). Knows (instant_of P.given.moments c.args.i d.when d.cell) d.cell d.value u) (sym c.in_ok-new.ensures.grows.path) (c.in_ok-new.ensures.grows.more _ _ _ (c.loop-drawn.invariant.known j d lt is))) c.in_ok-new.ensures.known;
       still = c.in_ok-new.ensures.still ∙ c.loop-drawn.invariant.still;
     }
 

@@ -1,6 +1,6 @@
 use Rattle.std.proofs.Common.{◌+◌, None, Some, sym, subst, arith}
 use Rattle.rept_report.specs.Timeline.{IsLastFrom}
-use Rattle.rept_analysis.specs.State.{Path, state_of, reader}
+use Rattle.rept_analysis.specs.State.{Subject, state_of, reader}
 use Rattle.rept_analysis.specs.Drawing.{LastPointKnown, LastKnownBelow}
 use Rattle.rept_analysis.proofs.Begun.{begun_by, begun_unless, lasts_grow}
 use Rattle.rept_analysis.proofs.Drawn.{Drew_both, Drew_as, Drew_same, Grows_itself, Grows_trans}
@@ -15,7 +15,7 @@ returns-in_default-clause-drew g c =
     let s = state_of (reader g.P.Paths.timeline g.L.LastValues.values) g.W.Partial.sets g.W.Transfer.moves g.R.RowRules.rules g.B.ByteFacts.store c.args.self.now in
     let t = state_of (reader g.P.Paths.timeline g.L.LastValues.values) g.W.Partial.sets g.W.Transfer.moves g.R.RowRules.rules g.B.ByteFacts.store c.loop-point.self in
     let none = last_none t.path.given.legs c.loop-point.least c.next_last.result c.in_default.not-Some c.next_last.ensures.last in
-    Drew_as s t c.loop-point.learnt (LastsBelow c.loop-point.least) (LastKnownBelow 32) c.loop-point.invariant.drew (λ h. lasts_all s c.loop-point.least (subst (λ (P : Path g.row.W.Denot). IsLastFrom P.given.legs c.loop-point.least None) c.loop-point.invariant.grows.path none) h)
+    Drew_as s t c.loop-point.learnt (LastsBelow c.loop-point.least) (LastKnownBelow 32) c.loop-point.invariant.drew (λ h. lasts_all s c.loop-point.least (subst (λ (P : Subject g.row.W.Denot). IsLastFrom P.given.legs c.loop-point.least None) c.loop-point.invariant.grows.path none) h)
 
 pub draw_last_point-requires-clause-point : goal.draw_last_point-requires-clause-point
 draw_last_point-requires-clause-point g c = let next = rw c.in-Some.is at c.next_last.ensures.last in (next.1, next.2)
@@ -30,11 +30,11 @@ loop-point-preserved g c =
     let u = state_of (reader g.P.Paths.timeline g.L.LastValues.values) g.W.Partial.sets g.W.Transfer.moves g.R.RowRules.rules g.B.ByteFacts.store c.draw_last_point.new.self in
     let i = c.loop-point.invariant in
     let here = rw c.in-Some.is at c.next_last.ensures.last in
-    let next = subst (λ (P : Path g.row.W.Denot). IsLastFrom P.given.legs c.loop-point.least (Some c.in-Some.point)) i.grows.path here in
+    let next = subst (λ (P : Subject g.row.W.Denot). IsLastFrom P.given.legs c.loop-point.least (Some c.in-Some.point)) i.grows.path here in
     record {
       grows = Grows_trans s t u i.grows c.in_ok-new.ensures.grows;
       drew = Drew_both s t u c.loop-point.learnt c.in_ok-new.new (LastsBelow c.loop-point.least) (LastPointKnown 32 c.in-Some.point) (LastsBelow (c.in-Some.point + 1)) i.grows c.in_ok-new.ensures.grows i.drew c.in_ok-new.ensures.drew (λ p q. lasts_more s c.loop-point.least c.in-Some.point next p q);
-      known = let after = subst (λ (P : Path g.row.W.Denot). IsLastFrom P.given.legs c.loop-point.least (Some c.in-Some.point)) (sym c.in_ok-new.ensures.grows.path) here in lasts_more u c.loop-point.least c.in-Some.point after (lasts_grow t u c.in_ok-new.ensures.grows c.loop-point.least i.known) c.in_ok-new.ensures.known;
+      known = let after = subst (λ (P : Subject g.row.W.Denot). IsLastFrom P.given.legs c.loop-point.least (Some c.in-Some.point)) (sym c.in_ok-new.ensures.grows.path) here in lasts_more u c.loop-point.least c.in-Some.point after (lasts_grow t u c.in_ok-new.ensures.grows c.loop-point.least i.known) c.in_ok-new.ensures.known;
       ends = λ h. c.in_ok-new.ensures.ends (i.ends h);
     }
 

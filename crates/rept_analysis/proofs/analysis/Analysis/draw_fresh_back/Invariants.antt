@@ -2,8 +2,8 @@ use Rattle.rept_analysis.specs.State.{State, state_of, reader}
 use Rattle.rept_analysis.specs.Drawing.{Grows, Drew}
 use Rattle.rept_analysis.proofs.analysis.Analysis.draw_fresh_back.Given as goal
 
-abbrev pub invariant-loop-i : goal.invariant-loop-i
-invariant-loop-i g l =
+abbrev pub invariant-loop-number : goal.invariant-loop-number
+invariant-loop-number g l =
     let st = state_of (reader g.P.Paths.timeline g.L.LastValues.values) g.W.Partial.sets g.W.Transfer.moves g.R.RowRules.rules g.B.ByteFacts.store in
     record {
       grows : Grows (st l.fn.self) (st l.self);

@@ -2,7 +2,7 @@ use Rattle.std.proofs.Common.{Some, sym, ap, ◌∙◌}
 use Rattle.rept_partial.specs.declared.flat.Flat.TheVariants.{Known}
 use Rattle.rept_analysis.specs.State.{state_of, reader}
 use Rattle.rept_analysis.specs.Drawing.{IsLearntAt, SingleKnown}
-use Rattle.rept_analysis.proofs.Drawn.{Drew_as, Drew_same}
+use Rattle.rept_analysis.proofs.Drawn.{Drew_if, Drew_same}
 use Rattle.rept_analysis.proofs.Learning.{known_words}
 use Rattle.rept_analysis.proofs.Following.{single_follows, single_known, no_single, same_flat}
 use Rattle.rept_analysis.proofs.analysis.Analysis.draw_single.Goals as goal
@@ -12,9 +12,9 @@ learn_if-requires-clause-follows g c =
     let s = state_of (reader g.P.Paths.timeline g.L.LastValues.values) g.W.Partial.sets g.W.Transfer.moves g.R.RowRules.rules g.B.ByteFacts.store c.args.self.now in
     λ v is named in_file small. single_follows s (record { sets = g.met.W.Partial.lawful; moves = g.met.W.Transfer.covers; rules = g.met.R.RowRules.lawful; legs = (g.met.P.Paths.lawful _).legs; moments = (g.met.P.Paths.lawful _).moments }) (known_words s c.held.ensures) c.held.ensures.once c.requires.fitted c.args.point c.args.r v c.span-span.result c.requires.point named in_file small c.span-span.ensures (sym c.as_exact.ensures ∙ c.in-Some.is ∙ ap Some (same_flat is))
 
-pub returns-in_ok-learnt-in-Some-clause-drew : goal.returns-in_ok-learnt-in-Some-clause-drew
-returns-in_ok-learnt-in-Some-clause-drew g c =
-    Drew_as _ _ c.in_ok-learnt-in-Some.learnt (IsLearntAt c.args.point c.args.r (Known c.in-Some.v)) (SingleKnown c.args.point c.args.r) c.in_ok-learnt-in-Some.ensures.drew (λ h. single_known (state_of (reader g.P.Paths.timeline g.L.LastValues.values) g.W.Partial.sets g.W.Transfer.moves g.R.RowRules.rules g.B.ByteFacts.store c.args.self.now) c.args.point c.args.r c.in-Some.v c.span-span.result c.span-span.ensures (sym c.as_exact.ensures ∙ c.in-Some.is) h)
+pub returns-in-Some-clause-drew : goal.returns-in-Some-clause-drew
+returns-in-Some-clause-drew g c =
+    Drew_if _ _ c.learn_if.result (IsLearntAt c.args.point c.args.r (Known c.in-Some.v)) (SingleKnown c.args.point c.args.r) c.learn_if.ensures.drew (λ h. single_known (state_of (reader g.P.Paths.timeline g.L.LastValues.values) g.W.Partial.sets g.W.Transfer.moves g.R.RowRules.rules g.B.ByteFacts.store c.args.self.now) c.args.point c.args.r c.in-Some.v c.span-span.result c.span-span.ensures (sym c.as_exact.ensures ∙ c.in-Some.is) h)
 
 pub returns-in-None-clause-drew : goal.returns-in-None-clause-drew
 returns-in-None-clause-drew g c = Drew_same (state_of (reader g.P.Paths.timeline g.L.LastValues.values) g.W.Partial.sets g.W.Transfer.moves g.R.RowRules.rules g.B.ByteFacts.store c.args.self.now) (SingleKnown c.args.point c.args.r) (no_single (state_of (reader g.P.Paths.timeline g.L.LastValues.values) g.W.Partial.sets g.W.Transfer.moves g.R.RowRules.rules g.B.ByteFacts.store c.args.self.now) c.args.point c.args.r c.span-span.result c.span-span.ensures (sym c.as_exact.ensures ∙ c.in-None.is))

@@ -1,12 +1,13 @@
-use Rattle.std.proofs.Common.{◌≡◌, ◌≤◌, ℕ}
 use Rattle.rept_reason.specs.Facts.{told}
 use Rattle.rept_report.specs.Log.{oldest}
 use Rattle.rept_analysis.specs.State.{setting_of, reader}
-use Rattle.rept_analysis.specs.Latest.{IsSought}
+use Rattle.rept_analysis.proofs.Latest.{IsNoneFrom}
 use Rattle.rept_analysis.proofs.analysis.Analysis.greatest.Given as goal
 
-abbrev pub invariant-loop-i : goal.invariant-loop-i
-invariant-loop-i g l = record {
-  none : (k : ℕ) → l.i ≤ k → IsSought (setting_of (reader g.P.Paths.timeline g.L.LastValues.values) g.W.Partial.sets g.W.Transfer.moves g.R.RowRules.rules l.self) (told (oldest l.self.filled l.self.known.log)) l.sought k → ⊥;
-  count : l.count ≡ (g.P.Paths.timeline l.self.paths).legs.count;
+abbrev pub invariant-loop-high : goal.invariant-loop-high
+invariant-loop-high g l = record {
+  none : IsNoneFrom (setting_of (reader g.P.Paths.timeline g.L.LastValues.values) g.W.Partial.sets g.W.Transfer.moves g.R.RowRules.rules l.self) (told (oldest l.self.filled l.self.known.log)) l.sought l.high;
 }
+
+abbrev pub decreases-loop-high : goal.decreases-loop-high
+decreases-loop-high g l = l.high

@@ -1,15 +1,18 @@
-use Rattle.std.proofs.Common.{ℕ}
+use Rattle.std.proofs.Common.{ℕ, ◌+◌, ◌-◌}
 use Rattle.rept_reason.specs.Facts.{told}
 use Rattle.rept_report.specs.Log.{oldest}
 use Rattle.rept_analysis.specs.State.{setting_of, reader}
 use Rattle.rept_analysis.specs.Latest.{IsSought}
-use Rattle.rept_analysis.proofs.Latest.{IsOnly}
+use Rattle.rept_analysis.proofs.Latest.{IsOnlyBelow}
 use Rattle.rept_analysis.proofs.analysis.Analysis.newest.Given as goal
 
-abbrev pub invariant-loop-i : goal.invariant-loop-i
-invariant-loop-i g l =
+abbrev pub invariant-loop-least : goal.invariant-loop-least
+invariant-loop-least g l =
     let Is : ℕ → Type 0 = IsSought (setting_of (reader g.P.Paths.timeline g.L.LastValues.values) g.W.Partial.sets g.W.Transfer.moves g.R.RowRules.rules l.self) (told (oldest l.self.filled l.self.known.log)) l.sought in
     record {
       one : Is l.best;
-      only : IsOnly (g.P.Paths.timeline l.self.paths).moments Is l.i l.top l.best;
+      only : IsOnlyBelow (g.P.Paths.timeline l.self.paths) Is l.least l.best;
     }
+
+abbrev pub decreases-loop-least : goal.decreases-loop-least
+decreases-loop-least g l = l.top + 1 - l.least

@@ -1,5 +1,5 @@
 use Rattle.std.proofs.Common.{◌≡◌, ◌+◌, ℕ, true, ap, sym, subst, arith}
-use Rattle.rept_analysis.specs.State.{Path, along, state_of, reader}
+use Rattle.rept_analysis.specs.State.{Subject, along, state_of, reader}
 use Rattle.rept_reason.specs.Facts.{told}
 use Rattle.rept_report.specs.Conflicts.{IsQuiet}
 use Rattle.rept_report.specs.Log.{oldest}
@@ -52,7 +52,7 @@ returns-in-Err-clause-plain g c =
     let t = (state_of (reader g.P.Paths.timeline g.L.LastValues.values) g.W.Partial.sets g.W.Transfer.moves g.R.RowRules.rules g.B.ByteFacts.store c.restart.new.self) in
     let u = (state_of (reader g.P.Paths.timeline g.L.LastValues.values) g.W.Partial.sets g.W.Transfer.moves g.R.RowRules.rules g.B.ByteFacts.store c.settle.new.self) in
     let both = Continues_trans s t u c.restart.ensures.continues c.settle.ensures.continues in
-    λ e joins lined. c.stop.ensures.plain (same_stop e) joins (subst (λ (P : Path g.row.W.Denot). (m w : ℕ) → P.given.moments.next m w ≡ true → w ≡ m + 1) (sym both.path) lined)
+    λ e joins lined. c.stop.ensures.plain (same_stop e) joins (subst (λ (P : Subject g.row.W.Denot). (m w : ℕ) → P.given.moments.next m w ≡ true → w ≡ m + 1) (sym both.path) lined)
 
 pub returns-in-Ok-true-clause-begins : goal.returns-in-Ok-true-clause-begins
 returns-in-Ok-true-clause-begins g c = λ h. begins_like (state_of (reader g.P.Paths.timeline g.L.LastValues.values) g.W.Partial.sets g.W.Transfer.moves g.R.RowRules.rules g.B.ByteFacts.store c.settle.new.self) (state_of (reader g.P.Paths.timeline g.L.LastValues.values) g.W.Partial.sets g.W.Transfer.moves g.R.RowRules.rules g.B.ByteFacts.store c.finish.new.self) c.finish.ensures.ended.path c.finish.ensures.log (c.settle.ensures.begins (begins_like (state_of (reader g.P.Paths.timeline g.L.LastValues.values) g.W.Partial.sets g.W.Transfer.moves g.R.RowRules.rules g.B.ByteFacts.store c.args.self.now) (state_of (reader g.P.Paths.timeline g.L.LastValues.values) g.W.Partial.sets g.W.Transfer.moves g.R.RowRules.rules g.B.ByteFacts.store c.restart.new.self) c.restart.ensures.continues.path (ap (λ (k : Held g.row.B.Denot). k.log) c.restart.ensures.facts) h))
@@ -66,11 +66,11 @@ returns-in-Err-clause-begins g c = λ h. begins_like (state_of (reader g.P.Paths
 pub returns-in-Ok-false-clause-ends : goal.returns-in-Ok-false-clause-ends
 returns-in-Ok-false-clause-ends g c = λ h quiet kind e.
     let both = Continues_trans (state_of (reader g.P.Paths.timeline g.L.LastValues.values) g.W.Partial.sets g.W.Transfer.moves g.R.RowRules.rules g.B.ByteFacts.store c.args.self.now) (state_of (reader g.P.Paths.timeline g.L.LastValues.values) g.W.Partial.sets g.W.Transfer.moves g.R.RowRules.rules g.B.ByteFacts.store c.restart.new.self) (state_of (reader g.P.Paths.timeline g.L.LastValues.values) g.W.Partial.sets g.W.Transfer.moves g.R.RowRules.rules g.B.ByteFacts.store c.settle.new.self) c.restart.ensures.continues c.settle.ensures.continues in
-    let calm = subst (λ (P : Path g.row.W.Denot). IsQuiet (along P) (ends_told (along P))) (sym both.path) quiet in
-    subst (λ (P : Path g.row.W.Denot). KnowsEnds (along P) (told (oldest c.stop_least.new.self.shown c.stop_least.new.self.known.log))) both.path (c.stop_least.ensures.ends (c.settle.ensures.begins (begins_like (state_of (reader g.P.Paths.timeline g.L.LastValues.values) g.W.Partial.sets g.W.Transfer.moves g.R.RowRules.rules g.B.ByteFacts.store c.args.self.now) (state_of (reader g.P.Paths.timeline g.L.LastValues.values) g.W.Partial.sets g.W.Transfer.moves g.R.RowRules.rules g.B.ByteFacts.store c.restart.new.self) c.restart.ensures.continues.path (ap (λ (k : Held g.row.B.Denot). k.log) c.restart.ensures.facts) h)) calm)
+    let calm = subst (λ (P : Subject g.row.W.Denot). IsQuiet (along P) (ends_told (along P))) (sym both.path) quiet in
+    subst (λ (P : Subject g.row.W.Denot). KnowsEnds (along P) (told (oldest c.stop_least.new.self.shown c.stop_least.new.self.known.log))) both.path (c.stop_least.ensures.ends (c.settle.ensures.begins (begins_like (state_of (reader g.P.Paths.timeline g.L.LastValues.values) g.W.Partial.sets g.W.Transfer.moves g.R.RowRules.rules g.B.ByteFacts.store c.args.self.now) (state_of (reader g.P.Paths.timeline g.L.LastValues.values) g.W.Partial.sets g.W.Transfer.moves g.R.RowRules.rules g.B.ByteFacts.store c.restart.new.self) c.restart.ensures.continues.path (ap (λ (k : Held g.row.B.Denot). k.log) c.restart.ensures.facts) h)) calm)
 
 pub returns-in-Err-clause-ends : goal.returns-in-Err-clause-ends
 returns-in-Err-clause-ends g c = λ h quiet kind e.
     let both = Continues_trans (state_of (reader g.P.Paths.timeline g.L.LastValues.values) g.W.Partial.sets g.W.Transfer.moves g.R.RowRules.rules g.B.ByteFacts.store c.args.self.now) (state_of (reader g.P.Paths.timeline g.L.LastValues.values) g.W.Partial.sets g.W.Transfer.moves g.R.RowRules.rules g.B.ByteFacts.store c.restart.new.self) (state_of (reader g.P.Paths.timeline g.L.LastValues.values) g.W.Partial.sets g.W.Transfer.moves g.R.RowRules.rules g.B.ByteFacts.store c.settle.new.self) c.restart.ensures.continues c.settle.ensures.continues in
-    let calm = subst (λ (P : Path g.row.W.Denot). IsQuiet (along P) (ends_told (along P))) (sym both.path) quiet in
-    subst (λ (P : Path g.row.W.Denot). KnowsEnds (along P) (told (oldest c.stop.new.self.shown c.stop.new.self.known.log))) both.path (c.stop.ensures.ends ((rw c.in-Err.is at c.settle.ensures.halted) (begins_like (state_of (reader g.P.Paths.timeline g.L.LastValues.values) g.W.Partial.sets g.W.Transfer.moves g.R.RowRules.rules g.B.ByteFacts.store c.args.self.now) (state_of (reader g.P.Paths.timeline g.L.LastValues.values) g.W.Partial.sets g.W.Transfer.moves g.R.RowRules.rules g.B.ByteFacts.store c.restart.new.self) c.restart.ensures.continues.path (ap (λ (k : Held g.row.B.Denot). k.log) c.restart.ensures.facts) h)) calm kind (same_err e))
+    let calm = subst (λ (P : Subject g.row.W.Denot). IsQuiet (along P) (ends_told (along P))) (sym both.path) quiet in
+    subst (λ (P : Subject g.row.W.Denot). KnowsEnds (along P) (told (oldest c.stop.new.self.shown c.stop.new.self.known.log))) both.path (c.stop.ensures.ends ((rw c.in-Err.is at c.settle.ensures.halted) (begins_like (state_of (reader g.P.Paths.timeline g.L.LastValues.values) g.W.Partial.sets g.W.Transfer.moves g.R.RowRules.rules g.B.ByteFacts.store c.args.self.now) (state_of (reader g.P.Paths.timeline g.L.LastValues.values) g.W.Partial.sets g.W.Transfer.moves g.R.RowRules.rules g.B.ByteFacts.store c.restart.new.self) c.restart.ensures.continues.path (ap (λ (k : Held g.row.B.Denot). k.log) c.restart.ensures.facts) h)) calm kind (same_err e))

@@ -3,7 +3,7 @@ use Rattle.rept_reason.specs.Facts.{told}
 use Rattle.rept_report.specs.Conflicts.{IsQuiet}
 use Rattle.rept_report.specs.Log.{oldest}
 use Rattle.rept_log.specs.Known.{Known}
-use Rattle.rept_analysis.specs.State.{State, state_of, Path, along, reader}
+use Rattle.rept_analysis.specs.State.{State, state_of, Subject, along, reader}
 use Rattle.rept_analysis.specs.Drawing.{IsSettled}
 use Rattle.rept_analysis.specs.Begun.{HasEndsFirst}
 use Rattle.rept_analysis.specs.Measure.{measure}
@@ -21,7 +21,7 @@ returns-then-not-quiet-clause-continues g c = Continues_trans _ (state_of (reade
 pub returns-then-not-quiet-clause-loud : goal.returns-then-not-quiet-clause-loud
 returns-then-not-quiet-clause-loud g c =
     let a = state_of (reader g.P.Paths.timeline g.L.LastValues.values) g.W.Partial.sets g.W.Transfer.moves g.R.RowRules.rules g.B.ByteFacts.store c.loop-len.self in
-    λ _ q. c.ready-quiet.ensures.loud c.if-not-quiet.true (quiet_part a c.len-len.result c.len-len.ensures.value (back_to a (state_of (reader g.P.Paths.timeline g.L.LastValues.values) g.W.Partial.sets g.W.Transfer.moves g.R.RowRules.rules g.B.ByteFacts.store c.ready-quiet.new.self) c.ready-quiet.ensures.same (λ (P : Path g.row.W.Denot) (k : Known). IsQuiet (along P) (told k.log)) q))
+    λ _ q. c.ready-quiet.ensures.loud c.if-not-quiet.true (quiet_part a c.len-len.result c.len-len.ensures.value (back_to a (state_of (reader g.P.Paths.timeline g.L.LastValues.values) g.W.Partial.sets g.W.Transfer.moves g.R.RowRules.rules g.B.ByteFacts.store c.ready-quiet.new.self) c.ready-quiet.ensures.same (λ (P : Subject g.row.W.Denot) (k : Known). IsQuiet (along P) (told k.log)) q))
 
 pub returns-in_err-learnt-clause-continues : goal.returns-in_err-learnt-clause-continues
 returns-in_err-learnt-clause-continues g c = Continues_trans _ (state_of (reader g.P.Paths.timeline g.L.LastValues.values) g.W.Partial.sets g.W.Transfer.moves g.R.RowRules.rules g.B.ByteFacts.store c.loop-len.self) _ c.loop-len.invariant.continues (Continues_trans _ (state_of (reader g.P.Paths.timeline g.L.LastValues.values) g.W.Partial.sets g.W.Transfer.moves g.R.RowRules.rules g.B.ByteFacts.store c.ready-quiet.new.self) _ (same_continues (state_of (reader g.P.Paths.timeline g.L.LastValues.values) g.W.Partial.sets g.W.Transfer.moves g.R.RowRules.rules g.B.ByteFacts.store c.loop-len.self) (state_of (reader g.P.Paths.timeline g.L.LastValues.values) g.W.Partial.sets g.W.Transfer.moves g.R.RowRules.rules g.B.ByteFacts.store c.ready-quiet.new.self) c.ready-quiet.ensures.same) (grows_continues (state_of (reader g.P.Paths.timeline g.L.LastValues.values) g.W.Partial.sets g.W.Transfer.moves g.R.RowRules.rules g.B.ByteFacts.store c.ready-quiet.new.self) (state_of (reader g.P.Paths.timeline g.L.LastValues.values) g.W.Partial.sets g.W.Transfer.moves g.R.RowRules.rules g.B.ByteFacts.store c.sweep.new.self) c.sweep.ensures.grows))
@@ -47,8 +47,8 @@ returns-clause-settled g c =
     let b = state_of (reader g.P.Paths.timeline g.L.LastValues.values) g.W.Partial.sets g.W.Transfer.moves g.R.RowRules.rules g.B.ByteFacts.store c.ready-quiet.new.self in
     let same = c.ready-quiet.ensures.same in
     let drew = c.in_ok-learnt.ensures.drew in
-    let long = forth a b same (λ (P : Path g.row.W.Denot) (k : Known). c.len-len.result ≡ length k.log) c.len-len.ensures.value in
-    let quiet = forth a b same (λ (P : Path g.row.W.Denot) (k : Known). IsQuiet (along P) (told (oldest c.len-len.result k.log))) (c.ready-quiet.ensures.quiet c.if-not-quiet.false) in
+    let long = forth a b same (λ (P : Subject g.row.W.Denot) (k : Known). c.len-len.result ≡ length k.log) c.len-len.ensures.value in
+    let quiet = forth a b same (λ (P : Subject g.row.W.Denot) (k : Known). IsQuiet (along P) (told (oldest c.len-len.result k.log))) (c.ready-quiet.ensures.quiet c.if-not-quiet.false) in
     let settled = settled_by b c.len-len.result long quiet (c.ready-quiet.ensures.fitted c.if-not-quiet.false) c.ready-quiet.ensures.limit (drew.closed c.if-not-learnt.true) in
     subst (λ (x : State g.row.W.Denot). IsSettled x) (sym (drew.unchanged c.if-not-learnt.true)) settled
 

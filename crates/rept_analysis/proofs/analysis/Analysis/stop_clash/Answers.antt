@@ -5,7 +5,7 @@ use Rattle.rept_report.specs.Closure.{ClosureHas}
 use Rattle.rept_report.specs.Log.{oldest}
 use Rattle.rept_report.specs.Why.{fact_of}
 use Rattle.rept_log.specs.Known.{Known}
-use Rattle.rept_analysis.specs.State.{state_of, Path, along, reader}
+use Rattle.rept_analysis.specs.State.{state_of, Subject, along, reader}
 use Rattle.rept_analysis.specs.Begun.{ends_told, KnowsEnds}
 use Rattle.rept_analysis.proofs.Begun.{begun_like, ends_among}
 use Rattle.rept_analysis.proofs.Ending.{forth, back_to, stopped_from, quiet_whole, quiet_part, shows_like}
@@ -15,7 +15,7 @@ use Rattle.rept_analysis.proofs.analysis.Analysis.stop_clash.Goals as goal
 pub stop_least-requires-clause-loud : goal.stop_least-requires-clause-loud
 stop_least-requires-clause-loud g c =
     let a = state_of (reader g.P.Paths.timeline g.L.LastValues.values) g.W.Partial.sets g.W.Transfer.moves g.R.RowRules.rules g.B.ByteFacts.store c.args.self.now in
-    λ q. c.is_quiet-quiet.ensures.loud c.if-not-quiet.true (quiet_part a c.len-len.result c.len-len.ensures.value (back_to a (state_of (reader g.P.Paths.timeline g.L.LastValues.values) g.W.Partial.sets g.W.Transfer.moves g.R.RowRules.rules g.B.ByteFacts.store c.is_quiet-quiet.new.self) c.is_quiet-quiet.ensures.same (λ (P : Path g.row.W.Denot) (k : Known). IsQuiet (along P) (told k.log)) q))
+    λ q. c.is_quiet-quiet.ensures.loud c.if-not-quiet.true (quiet_part a c.len-len.result c.len-len.ensures.value (back_to a (state_of (reader g.P.Paths.timeline g.L.LastValues.values) g.W.Partial.sets g.W.Transfer.moves g.R.RowRules.rules g.B.ByteFacts.store c.is_quiet-quiet.new.self) c.is_quiet-quiet.ensures.same (λ (P : Subject g.row.W.Denot) (k : Known). IsQuiet (along P) (told k.log)) q))
 
 pub returns-then-not-quiet-clause-ended : goal.returns-then-not-quiet-clause-ended
 returns-then-not-quiet-clause-ended g c = stopped_from (state_of (reader g.P.Paths.timeline g.L.LastValues.values) g.W.Partial.sets g.W.Transfer.moves g.R.RowRules.rules g.B.ByteFacts.store c.args.self.now) (state_of (reader g.P.Paths.timeline g.L.LastValues.values) g.W.Partial.sets g.W.Transfer.moves g.R.RowRules.rules g.B.ByteFacts.store c.is_quiet-quiet.new.self) c.is_quiet-quiet.ensures.same _ _ c.stop_least.ensures.ended
@@ -34,7 +34,7 @@ stop_at-requires-clause-kind g c =
     let a = state_of (reader g.P.Paths.timeline g.L.LastValues.values) g.W.Partial.sets g.W.Transfer.moves g.R.RowRules.rules g.B.ByteFacts.store c.args.self.now in
     let quiet = quiet_whole a c.len-len.result c.len-len.ensures.value (c.is_quiet-quiet.ensures.quiet c.if-not-quiet.false) in
     let found = clash_conflict a (record { sets = g.met.W.Partial.lawful; moves = g.met.W.Transfer.covers; rules = g.met.R.RowRules.lawful; legs = (g.met.P.Paths.lawful _).legs; moments = (g.met.P.Paths.lawful _).moments }) c.held.ensures c.args.point c.args.cell c.args.known c.args.value quiet c.requires.clash in
-    forth a (state_of (reader g.P.Paths.timeline g.L.LastValues.values) g.W.Partial.sets g.W.Transfer.moves g.R.RowRules.rules g.B.ByteFacts.store c.is_quiet-quiet.new.self) c.is_quiet-quiet.ensures.same (λ (P : Path g.row.W.Denot) (k : Known). ClosureHas (along P) c.clash_kind-kind.result) (rw c.clash_kind-kind.ensures found)
+    forth a (state_of (reader g.P.Paths.timeline g.L.LastValues.values) g.W.Partial.sets g.W.Transfer.moves g.R.RowRules.rules g.B.ByteFacts.store c.is_quiet-quiet.new.self) c.is_quiet-quiet.ensures.same (λ (P : Subject g.row.W.Denot) (k : Known). ClosureHas (along P) c.clash_kind-kind.result) (rw c.clash_kind-kind.ensures found)
 
 pub returns-clause-ended : goal.returns-clause-ended
 returns-clause-ended g c = stopped_from (state_of (reader g.P.Paths.timeline g.L.LastValues.values) g.W.Partial.sets g.W.Transfer.moves g.R.RowRules.rules g.B.ByteFacts.store c.args.self.now) (state_of (reader g.P.Paths.timeline g.L.LastValues.values) g.W.Partial.sets g.W.Transfer.moves g.R.RowRules.rules g.B.ByteFacts.store c.is_quiet-quiet.new.self) c.is_quiet-quiet.ensures.same (state_of (reader g.P.Paths.timeline g.L.LastValues.values) g.W.Partial.sets g.W.Transfer.moves g.R.RowRules.rules g.B.ByteFacts.store c.stop_at.new.self) c.clash_kind-kind.result c.stop_at.ensures.ended
@@ -56,8 +56,8 @@ returns-then-not-quiet-clause-ends g c = λ first quiet.
     let a = (state_of (reader g.P.Paths.timeline g.L.LastValues.values) g.W.Partial.sets g.W.Transfer.moves g.R.RowRules.rules g.B.ByteFacts.store c.args.self.now) in
     let b = (state_of (reader g.P.Paths.timeline g.L.LastValues.values) g.W.Partial.sets g.W.Transfer.moves g.R.RowRules.rules g.B.ByteFacts.store c.is_quiet-quiet.new.self) in
     let same = c.is_quiet-quiet.ensures.same in
-    let calm = subst (λ (P : Path g.row.W.Denot). IsQuiet (along P) (ends_told (along P))) (sym same.path) quiet in
-    subst (λ (P : Path g.row.W.Denot). KnowsEnds (along P) (told (oldest c.stop_least.new.self.shown c.stop_least.new.self.known.log))) same.path (c.stop_least.ensures.ends (inr (begun_like a b same.path (ap (λ (k : Known). k.log) c.is_quiet-quiet.ensures.same.known) first)) calm)
+    let calm = subst (λ (P : Subject g.row.W.Denot). IsQuiet (along P) (ends_told (along P))) (sym same.path) quiet in
+    subst (λ (P : Subject g.row.W.Denot). KnowsEnds (along P) (told (oldest c.stop_least.new.self.shown c.stop_least.new.self.known.log))) same.path (c.stop_least.ensures.ends (inr (begun_like a b same.path (ap (λ (k : Known). k.log) c.is_quiet-quiet.ensures.same.known) first)) calm)
 
 pub returns-clause-ends : goal.returns-clause-ends
 returns-clause-ends g c = λ first quiet.

@@ -5,19 +5,19 @@ use Rattle.rept_report.specs.Conflicts.{Shows}
 use Rattle.rept_report.specs.Closure.{ClosureHas}
 use Rattle.rept_report.specs.Log.{oldest}
 use Rattle.rept_log.specs.Known.{Known}
-use Rattle.rept_analysis.specs.State.{state_of, Path, along, reader}
+use Rattle.rept_analysis.specs.State.{state_of, Subject, along, reader}
 use Rattle.rept_analysis.proofs.Begun.{ends_among, ends_first}
 use Rattle.rept_analysis.proofs.Ending.{Same_trans, forth, back_to, stopped_from, least_later, shows_like}
 use Rattle.rept_analysis.proofs.Stopping.{shown_conflict}
 use Rattle.rept_analysis.proofs.analysis.Analysis.stop_least.Goals as goal
 
 pub look-requires-clause-within : goal.look-requires-clause-within
-look-requires-clause-within g c = forth (state_of (reader g.P.Paths.timeline g.L.LastValues.values) g.W.Partial.sets g.W.Transfer.moves g.R.RowRules.rules g.B.ByteFacts.store c.args.self.now) (state_of (reader g.P.Paths.timeline g.L.LastValues.values) g.W.Partial.sets g.W.Transfer.moves g.R.RowRules.rules g.B.ByteFacts.store c.bisect-limit.new.self) c.bisect-limit.ensures.same (λ (P : Path g.row.W.Denot) (k : Known). c.bisect-limit.result ≤ length k.log) c.bisect-limit.ensures.within
+look-requires-clause-within g c = forth (state_of (reader g.P.Paths.timeline g.L.LastValues.values) g.W.Partial.sets g.W.Transfer.moves g.R.RowRules.rules g.B.ByteFacts.store c.args.self.now) (state_of (reader g.P.Paths.timeline g.L.LastValues.values) g.W.Partial.sets g.W.Transfer.moves g.R.RowRules.rules g.B.ByteFacts.store c.bisect-limit.new.self) c.bisect-limit.ensures.same (λ (P : Subject g.row.W.Denot) (k : Known). c.bisect-limit.result ≤ length k.log) c.bisect-limit.ensures.within
 
 pub stop_at-requires-clause-within : goal.stop_at-requires-clause-within
 stop_at-requires-clause-within g c =
     let same = Same_trans (state_of (reader g.P.Paths.timeline g.L.LastValues.values) g.W.Partial.sets g.W.Transfer.moves g.R.RowRules.rules g.B.ByteFacts.store c.args.self.now) (state_of (reader g.P.Paths.timeline g.L.LastValues.values) g.W.Partial.sets g.W.Transfer.moves g.R.RowRules.rules g.B.ByteFacts.store c.bisect-limit.new.self) (state_of (reader g.P.Paths.timeline g.L.LastValues.values) g.W.Partial.sets g.W.Transfer.moves g.R.RowRules.rules g.B.ByteFacts.store c.look.new.self) c.bisect-limit.ensures.same c.look.ensures.same in
-    forth (state_of (reader g.P.Paths.timeline g.L.LastValues.values) g.W.Partial.sets g.W.Transfer.moves g.R.RowRules.rules g.B.ByteFacts.store c.args.self.now) (state_of (reader g.P.Paths.timeline g.L.LastValues.values) g.W.Partial.sets g.W.Transfer.moves g.R.RowRules.rules g.B.ByteFacts.store c.look.new.self) same (λ (P : Path g.row.W.Denot) (k : Known). c.bisect-limit.result ≤ length k.log) c.bisect-limit.ensures.within
+    forth (state_of (reader g.P.Paths.timeline g.L.LastValues.values) g.W.Partial.sets g.W.Transfer.moves g.R.RowRules.rules g.B.ByteFacts.store c.args.self.now) (state_of (reader g.P.Paths.timeline g.L.LastValues.values) g.W.Partial.sets g.W.Transfer.moves g.R.RowRules.rules g.B.ByteFacts.store c.look.new.self) same (λ (P : Subject g.row.W.Denot) (k : Known). c.bisect-limit.result ≤ length k.log) c.bisect-limit.ensures.within
 
 pub stop_at-requires-clause-later : goal.stop_at-requires-clause-later
 stop_at-requires-clause-later g c =
@@ -31,7 +31,7 @@ stop_at-requires-clause-shows g c =
     let d = (state_of (reader g.P.Paths.timeline g.L.LastValues.values) g.W.Partial.sets g.W.Transfer.moves g.R.RowRules.rules g.B.ByteFacts.store c.look.new.self) in
     let same = Same_trans a b d c.bisect-limit.ensures.same c.look.ensures.same in
     let found = c.look.ensures.conflict c.unwrap-kind.result c.unwrap-kind.ensures in
-    let here = back_to a b c.bisect-limit.ensures.same (λ (P : Path g.row.W.Denot) (k : Known). Shows (along P) (told (oldest c.bisect-limit.result k.log)) c.unwrap-kind.result) found in
+    let here = back_to a b c.bisect-limit.ensures.same (λ (P : Subject g.row.W.Denot) (k : Known). Shows (along P) (told (oldest c.bisect-limit.result k.log)) c.unwrap-kind.result) found in
     shows_like a d same.path same.known c.bisect-limit.result c.unwrap-kind.result (record { quiet = c.bisect-limit.ensures.quiet; shows = inl here })
 
 pub stop_at-requires-clause-kind : goal.stop_at-requires-clause-kind
@@ -41,9 +41,9 @@ stop_at-requires-clause-kind g c =
     let d = state_of (reader g.P.Paths.timeline g.L.LastValues.values) g.W.Partial.sets g.W.Transfer.moves g.R.RowRules.rules g.B.ByteFacts.store c.look.new.self in
     let same = Same_trans a b d c.bisect-limit.ensures.same c.look.ensures.same in
     let found = c.look.ensures.conflict c.unwrap-kind.result c.unwrap-kind.ensures in
-    let here = back_to a b c.bisect-limit.ensures.same (λ (P : Path g.row.W.Denot) (k : Known). Shows (along P) (told (oldest c.bisect-limit.result k.log)) c.unwrap-kind.result) found in
+    let here = back_to a b c.bisect-limit.ensures.same (λ (P : Subject g.row.W.Denot) (k : Known). Shows (along P) (told (oldest c.bisect-limit.result k.log)) c.unwrap-kind.result) found in
     let kind = shown_conflict a (record { sets = g.met.W.Partial.lawful; moves = g.met.W.Transfer.covers; rules = g.met.R.RowRules.lawful; legs = (g.met.P.Paths.lawful _).legs; moments = (g.met.P.Paths.lawful _).moments }) c.held.ensures c.bisect-limit.result c.bisect-limit.ensures.quiet c.unwrap-kind.result here in
-    forth a d same (λ (P : Path g.row.W.Denot) (k : Known). ClosureHas (along P) c.unwrap-kind.result) kind
+    forth a d same (λ (P : Subject g.row.W.Denot) (k : Known). ClosureHas (along P) c.unwrap-kind.result) kind
 
 pub returns-clause-ended : goal.returns-clause-ended
 returns-clause-ended g c =

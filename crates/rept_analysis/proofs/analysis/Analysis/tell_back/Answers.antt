@@ -3,7 +3,7 @@ use Rattle.rept_reason.specs.declared.fact.Cell.TheVariants.{Byte}
 use Rattle.rept_report.specs.Spots.{passage}
 use Rattle.rept_analysis.specs.State.{state_of, reader}
 use Rattle.rept_analysis.specs.Drawing.{Knows, IsCarriedIf}
-use Rattle.rept_analysis.proofs.Drawn.{Drew_as, Drew_same}
+use Rattle.rept_analysis.proofs.Drawn.{Drew_if, Drew_same}
 use Rattle.rept_analysis.proofs.Spreading.{brought_back}
 use Rattle.rept_analysis.proofs.Going.{same_if, free_if, none_found}
 use Rattle.rept_analysis.proofs.analysis.Analysis.tell_back.Goals as goal
@@ -24,4 +24,4 @@ pub returns-clause-drew : goal.returns-clause-drew
 returns-clause-drew g c =
     let s = (state_of (reader g.P.Paths.timeline g.L.LastValues.values) g.W.Partial.sets g.W.Transfer.moves g.R.RowRules.rules g.B.ByteFacts.store c.args.self.now) in
     let x = passage c.args.a c.args.m c.args.w in
-    Drew_as s _ c.in_ok-learnt.learnt (Knows c.args.m (Byte c.args.a) c.in-Some.value) (IsCarriedIf x) c.in_ok-learnt.ensures.drew (λ h. same_if s x c.in-Some.value h (sym c.known_byte.ensures ∙ c.in-Some.is))
+    Drew_if s _ c.tell_across.result (Knows c.args.m (Byte c.args.a) c.in-Some.value) (IsCarriedIf x) c.tell_across.ensures.drew (λ h. same_if s x c.in-Some.value h (sym c.known_byte.ensures ∙ c.in-Some.is))

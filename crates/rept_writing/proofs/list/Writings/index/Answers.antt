@@ -1,6 +1,7 @@
-use Rattle.std.proofs.Common.{List, subst, rules}
+use Rattle.std.proofs.Common.{List, ◌∙◌, arith, subst, rules}
 use Rattle.rept_writing.specs.declared.list.Writing.{Writing}
 use Rattle.rept_writing.specs.Filed.{IsFiled}
+use Rattle.rept_writing.specs.Falling.{AreColumns}
 use Rattle.rept_writing.proofs.Filing.{filed_sorted}
 use Rattle.rept_writing.proofs.list.Writings.index.Goals as goal
 
@@ -9,4 +10,10 @@ invariant_of-self c = record {
   filed = filed_sorted _ _ _ _ (subst (λ (xs : List Writing). IsFiled xs c.file_all.new.narrow.items c.file_all.new.wide.items) c.as_slice.ensures.value c.file_all.ensures.filed) c.sort_unstable.ensures.permutation;
   sorted = λ _. c.sort_unstable.ensures.sorted;
   room = search rules;
+  calls = λ _. subst (λ (xs : List Writing). AreColumns xs c.fill.new.self) c.as_slice-2.ensures.value c.fill.ensures.columns;
+  others = λ _. subst (λ (xs : List Writing). AreColumns xs c.fill-2.new.self) c.as_slice-3.ensures.value c.fill-2.ensures.columns;
+  are_calls = c.fill.ensures.kind ∙ c.self.invariant.are_calls;
+  are_others = c.fill-2.ensures.kind ∙ c.self.invariant.are_others;
+  calls_room = let a = c.self.invariant.calls_room in omega (arith, a, c.fill.ensures.room);
+  others_room = let a = c.self.invariant.others_room in omega (arith, a, c.fill-2.ensures.room);
 }

@@ -1,0 +1,42 @@
+use Rattle.std.proofs.Common.{ap, arith}
+use Rattle.rept_analysis.specs.State.{Subject, State, state_of, reader}
+use Rattle.rept_analysis.proofs.Drawn.{Drew_both, Grows_trans}
+use Rattle.rept_analysis.proofs.analysis.Analysis.carry_back.Goals as goal
+
+pub loop-low-init : goal.loop-low-init
+loop-low-init g c =
+    let down = c.in_ok-down.ensures.down in
+    let inside = c.requires.inside in
+    record { grows = c.in_ok-down.ensures.grows; drew = c.in_ok-down.ensures.drew; inside = omega (arith, down, inside) }
+
+pub carry_former-requires-clause-inside : goal.carry_former-requires-clause-inside
+carry_former-requires-clause-inside g c =
+    let inside = c.loop-low.invariant.inside in
+    let end = ap (λ (P : Subject g.row.W.Denot). P.given.moments.end) c.loop-low.invariant.grows.path in
+    omega (arith, inside, end)
+
+pub carry_former-requires-clause-writings : goal.carry_former-requires-clause-writings
+carry_former-requires-clause-writings g c = c.loop-low.invariant.grows.writing c.requires.writings
+
+pub returns-in_err-former-clause-grows : goal.returns-in_err-former-clause-grows
+returns-in_err-former-clause-grows g c = Grows_trans _ _ _ c.loop-low.invariant.grows c.carry_former.ensures.grows
+
+pub loop-low-preserved : goal.loop-low-preserved
+loop-low-preserved g c =
+    let down = c.in_ok-former.ensures.down in
+    let inside = c.loop-low.invariant.inside in
+    record {
+      grows = Grows_trans (state_of (reader g.P.Paths.timeline g.L.LastValues.values) g.W.Partial.sets g.W.Transfer.moves g.R.RowRules.rules g.B.ByteFacts.store c.args.self.now) (state_of (reader g.P.Paths.timeline g.L.LastValues.values) g.W.Partial.sets g.W.Transfer.moves g.R.RowRules.rules g.B.ByteFacts.store c.loop-low.self) (state_of (reader g.P.Paths.timeline g.L.LastValues.values) g.W.Partial.sets g.W.Transfer.moves g.R.RowRules.rules g.B.ByteFacts.store c.carry_former.new.self) c.loop-low.invariant.grows c.in_ok-former.ensures.grows;
+      drew = Drew_both (state_of (reader g.P.Paths.timeline g.L.LastValues.values) g.W.Partial.sets g.W.Transfer.moves g.R.RowRules.rules g.B.ByteFacts.store c.args.self.now) (state_of (reader g.P.Paths.timeline g.L.LastValues.values) g.W.Partial.sets g.W.Transfer.moves g.R.RowRules.rules g.B.ByteFacts.store c.loop-low.self) (state_of (reader g.P.Paths.timeline g.L.LastValues.values) g.W.Partial.sets g.W.Transfer.moves g.R.RowRules.rules g.B.ByteFacts.store c.carry_former.new.self) c.loop-low.learnt c.in_ok-former.former.0 (λ (x : State g.row.W.Denot). Unit {0}) (λ (x : State g.row.W.Denot). Unit {0}) (λ (x : State g.row.W.Denot). Unit {0}) c.loop-low.invariant.grows c.in_ok-former.ensures.grows c.loop-low.invariant.drew c.in_ok-former.ensures.drew (λ p q. tt);
+      inside = omega (arith, down, inside);
+    }
+
+pub loop-low-preserved-then-former : goal.loop-low-preserved-then-former
+loop-low-preserved-then-former g c =
+    let down = c.in_ok-former.ensures.down in
+    let inside = c.loop-low.invariant.inside in
+    record {
+      grows = Grows_trans (state_of (reader g.P.Paths.timeline g.L.LastValues.values) g.W.Partial.sets g.W.Transfer.moves g.R.RowRules.rules g.B.ByteFacts.store c.args.self.now) (state_of (reader g.P.Paths.timeline g.L.LastValues.values) g.W.Partial.sets g.W.Transfer.moves g.R.RowRules.rules g.B.ByteFacts.store c.loop-low.self) (state_of (reader g.P.Paths.timeline g.L.LastValues.values) g.W.Partial.sets g.W.Transfer.moves g.R.RowRules.rules g.B.ByteFacts.store c.carry_former.new.self) c.loop-low.invariant.grows c.in_ok-former.ensures.grows;
+      drew = Drew_both (state_of (reader g.P.Paths.timeline g.L.LastValues.values) g.W.Partial.sets g.W.Transfer.moves g.R.RowRules.rules g.B.ByteFacts.store c.args.self.now) (state_of (reader g.P.Paths.timeline g.L.LastValues.values) g.W.Partial.sets g.W.Transfer.moves g.R.RowRules.rules g.B.ByteFacts.store c.loop-low.self) (state_of (reader g.P.Paths.timeline g.L.LastValues.values) g.W.Partial.sets g.W.Transfer.moves g.R.RowRules.rules g.B.ByteFacts.store c.carry_former.new.self) c.loop-low.learnt c.in_ok-former.former.0 (λ (x : State g.row.W.Denot). Unit {0}) (λ (x : State g.row.W.Denot). Unit {0}) (λ (x : State g.row.W.Denot). Unit {0}) c.loop-low.invariant.grows c.in_ok-former.ensures.grows c.loop-low.invariant.drew c.in_ok-former.ensures.drew (λ p q. tt);
+      inside = omega (arith, down, inside);
+    }

@@ -1,0 +1,58 @@
+use Rattle.std.proofs.Common.{ap, arith}
+use Rattle.rept_analysis.specs.State.{Subject, State, state_of, reader}
+use Rattle.rept_analysis.specs.Drawing.{AreLinks}
+use Rattle.rept_analysis.proofs.Drawn.{Drew_as, Drew_both, Grows_trans}
+use Rattle.rept_analysis.proofs.analysis.Analysis.carry_forth.Goals as goal
+
+pub loop-last-init : goal.loop-last-init
+loop-last-init g c =
+    let inside = c.requires.inside in
+    let high = c.greatest_next-high.ensures in
+    let end = ap (λ (P : Subject g.row.W.Denot). P.given.moments.end) c.in_ok-learnt.ensures.grows.path in
+    record {
+      grows = c.in_ok-learnt.ensures.grows;
+      drew = Drew_as (state_of (reader g.P.Paths.timeline g.L.LastValues.values) g.W.Partial.sets g.W.Transfer.moves g.R.RowRules.rules g.B.ByteFacts.store c.args.self.now) (state_of (reader g.P.Paths.timeline g.L.LastValues.values) g.W.Partial.sets g.W.Transfer.moves g.R.RowRules.rules g.B.ByteFacts.store c.carry_links.new.self) c.in_ok-learnt.learnt (AreLinks c.args.a c.args.number) (λ (x : State g.row.W.Denot). Unit {0}) c.in_ok-learnt.ensures.drew (λ h. tt);
+      high = omega (arith, high, end);
+      inside = omega (arith, inside);
+    }
+
+pub carry_later-requires-clause-writings : goal.carry_later-requires-clause-writings
+carry_later-requires-clause-writings g c = c.loop-last.invariant.grows.writing c.requires.writings
+
+pub carry_later-requires-clause-inside : goal.carry_later-requires-clause-inside
+carry_later-requires-clause-inside g c =
+    let less = c.loop-last-test.true in
+    let high = c.loop-last.invariant.high in
+    let end = ap (λ (P : Subject g.row.W.Denot). P.given.moments.end) c.loop-last.invariant.grows.path in
+    omega (arith, less, high, end)
+
+pub returns-in_err-later-clause-grows : goal.returns-in_err-later-clause-grows
+returns-in_err-later-clause-grows g c = Grows_trans _ _ _ c.loop-last.invariant.grows c.carry_later.ensures.grows
+
+pub loop-last-preserved : goal.loop-last-preserved
+loop-last-preserved g c =
+    let high = c.loop-last.invariant.high in
+    let up = c.in_ok-later.ensures.up.1 in
+    let end = ap (λ (P : Subject g.row.W.Denot). P.given.moments.end) c.loop-last.invariant.grows.path in
+    let same = ap (λ (P : Subject g.row.W.Denot). P.given.moments.end) c.in_ok-later.ensures.grows.path in
+    record {
+      grows = Grows_trans (state_of (reader g.P.Paths.timeline g.L.LastValues.values) g.W.Partial.sets g.W.Transfer.moves g.R.RowRules.rules g.B.ByteFacts.store c.args.self.now) (state_of (reader g.P.Paths.timeline g.L.LastValues.values) g.W.Partial.sets g.W.Transfer.moves g.R.RowRules.rules g.B.ByteFacts.store c.loop-last.self) (state_of (reader g.P.Paths.timeline g.L.LastValues.values) g.W.Partial.sets g.W.Transfer.moves g.R.RowRules.rules g.B.ByteFacts.store c.carry_later.new.self) c.loop-last.invariant.grows c.in_ok-later.ensures.grows;
+      drew = Drew_both (state_of (reader g.P.Paths.timeline g.L.LastValues.values) g.W.Partial.sets g.W.Transfer.moves g.R.RowRules.rules g.B.ByteFacts.store c.args.self.now) (state_of (reader g.P.Paths.timeline g.L.LastValues.values) g.W.Partial.sets g.W.Transfer.moves g.R.RowRules.rules g.B.ByteFacts.store c.loop-last.self) (state_of (reader g.P.Paths.timeline g.L.LastValues.values) g.W.Partial.sets g.W.Transfer.moves g.R.RowRules.rules g.B.ByteFacts.store c.carry_later.new.self) c.loop-last.learnt c.in_ok-later.later.0 (λ (x : State g.row.W.Denot). Unit {0}) (λ (x : State g.row.W.Denot). Unit {0}) (λ (x : State g.row.W.Denot). Unit {0}) c.loop-last.invariant.grows c.in_ok-later.ensures.grows c.loop-last.invariant.drew c.in_ok-later.ensures.drew (λ p q. tt);
+      high = omega (arith, high, end, same);
+      inside = omega (arith, up, end);
+    }
+
+pub loop-last-preserved-then-later : goal.loop-last-preserved-then-later
+loop-last-preserved-then-later g c =
+    let most = c.max-high.ensures in
+    let reached = c.greatest_next.ensures in
+    let high = c.loop-last.invariant.high in
+    let up = c.in_ok-later.ensures.up.1 in
+    let end = ap (λ (P : Subject g.row.W.Denot). P.given.moments.end) c.loop-last.invariant.grows.path in
+    let same = ap (λ (P : Subject g.row.W.Denot). P.given.moments.end) c.in_ok-later.ensures.grows.path in
+    record {
+      grows = Grows_trans (state_of (reader g.P.Paths.timeline g.L.LastValues.values) g.W.Partial.sets g.W.Transfer.moves g.R.RowRules.rules g.B.ByteFacts.store c.args.self.now) (state_of (reader g.P.Paths.timeline g.L.LastValues.values) g.W.Partial.sets g.W.Transfer.moves g.R.RowRules.rules g.B.ByteFacts.store c.loop-last.self) (state_of (reader g.P.Paths.timeline g.L.LastValues.values) g.W.Partial.sets g.W.Transfer.moves g.R.RowRules.rules g.B.ByteFacts.store c.carry_later.new.self) c.loop-last.invariant.grows c.in_ok-later.ensures.grows;
+      drew = Drew_both (state_of (reader g.P.Paths.timeline g.L.LastValues.values) g.W.Partial.sets g.W.Transfer.moves g.R.RowRules.rules g.B.ByteFacts.store c.args.self.now) (state_of (reader g.P.Paths.timeline g.L.LastValues.values) g.W.Partial.sets g.W.Transfer.moves g.R.RowRules.rules g.B.ByteFacts.store c.loop-last.self) (state_of (reader g.P.Paths.timeline g.L.LastValues.values) g.W.Partial.sets g.W.Transfer.moves g.R.RowRules.rules g.B.ByteFacts.store c.carry_later.new.self) c.loop-last.learnt c.in_ok-later.later.0 (λ (x : State g.row.W.Denot). Unit {0}) (λ (x : State g.row.W.Denot). Unit {0}) (λ (x : State g.row.W.Denot). Unit {0}) c.loop-last.invariant.grows c.in_ok-later.ensures.grows c.loop-last.invariant.drew c.in_ok-later.ensures.drew (λ p q. tt);
+      high = omega (arith, high, most, reached, end, same);
+      inside = omega (arith, up, end);
+    }

@@ -1,0 +1,82 @@
+use Rattle.std.proofs.Common.{◌+◌, ◌||◌, false, refl, ap, arith}
+use Rattle.rept_analysis.specs.State.{Subject, State, timeline_of, state_of, reader}
+use Rattle.rept_report.specs.Timeline.{IsStrip}
+use Rattle.rept_analysis.specs.Drawing.{IsCarriedIn, AreLinks, IsCarriedUpTo, IsCarriedAlong}
+use Rattle.rept_analysis.proofs.Drawn.{Drew_as, Drew_both, Drew_first, Drew_same, Grows_itself, Grows_trans}
+use Rattle.rept_analysis.proofs.Going.{strip_at, up_to_none, up_to_more, up_to_all}
+use Rattle.rept_analysis.proofs.analysis.Analysis.carry_onward.Goals as goal
+
+pub loop-from-init : goal.loop-from-init
+loop-from-init g c = record { grows = Grows_itself _; drew = Drew_same _ _ (up_to_none _ c.args.a); end_is = c.end-end.ensures.value }
+
+pub carry_strip-requires-clause-strip : goal.carry_strip-requires-clause-strip
+carry_strip-requires-clause-strip g c = let its = c.strip-strip.ensures in strip_at _ c.loop-from.from c.strip-strip.result.first c.strip-strip.result its (omega arith) (let low = its.from in let high = its.to in omega (arith, low, high))
+
+pub carry_strip-requires-clause-writings : goal.carry_strip-requires-clause-writings
+carry_strip-requires-clause-writings g c = c.loop-from.invariant.grows.writing c.requires.writings
+
+pub leap_up-requires-clause-inside : goal.leap_up-requires-clause-inside
+leap_up-requires-clause-inside g c =
+    let inside = c.strip-strip.ensures.inside in
+    let end = ap (λ (P : Subject g.row.W.Denot). P.given.moments.end) c.in_ok-inside.ensures.grows.path in
+    omega (arith, inside, end)
+
+pub leap_up-requires-clause-writings : goal.leap_up-requires-clause-writings
+leap_up-requires-clause-writings g c = c.in_ok-inside.ensures.grows.writing (c.loop-from.invariant.grows.writing c.requires.writings)
+
+pub carry_links-requires-clause-inside : goal.carry_links-requires-clause-inside
+carry_links-requires-clause-inside g c =
+    let inside = c.strip-strip.ensures.inside in
+    let end = ap (λ (P : Subject g.row.W.Denot). P.given.moments.end) c.in_ok-inside.ensures.grows.path in
+    let same = ap (λ (P : Subject g.row.W.Denot). P.given.moments.end) c.in_ok-up.ensures.grows.path in
+    omega (arith, inside, end, same)
+
+pub carry_links-requires-clause-writings : goal.carry_links-requires-clause-writings
+carry_links-requires-clause-writings g c = c.in_ok-up.ensures.grows.writing (c.in_ok-inside.ensures.grows.writing (c.loop-from.invariant.grows.writing c.requires.writings))
+
+pub carry_links-requires-clause-tracked : goal.carry_links-requires-clause-tracked
+carry_links-requires-clause-tracked g c = c.in_ok-up.ensures.grows.tracked c.args.a (c.in_ok-inside.ensures.grows.tracked c.args.a (c.loop-from.invariant.grows.tracked c.args.a c.requires.tracked))
+
+pub returns-in_err-inside-clause-grows : goal.returns-in_err-inside-clause-grows
+returns-in_err-inside-clause-grows g c = Grows_trans _ _ _ c.loop-from.invariant.grows c.carry_strip.ensures.grows
+
+pub returns-in_err-up-clause-grows : goal.returns-in_err-up-clause-grows
+returns-in_err-up-clause-grows g c = Grows_trans _ _ _ (Grows_trans _ _ _ c.loop-from.invariant.grows c.in_ok-inside.ensures.grows) c.leap_up.ensures.grows
+
+pub returns-in_err-links-clause-grows : goal.returns-in_err-links-clause-grows
+returns-in_err-links-clause-grows g c = Grows_trans _ _ _ (Grows_trans _ _ _ (Grows_trans _ _ _ c.loop-from.invariant.grows c.in_ok-inside.ensures.grows) c.in_ok-up.ensures.grows) c.carry_links.ensures.grows
+
+pub loop-from-preserved : goal.loop-from-preserved
+loop-from-preserved g c =
+    let s = (state_of (reader g.P.Paths.timeline g.L.LastValues.values) g.W.Partial.sets g.W.Transfer.moves g.R.RowRules.rules g.B.ByteFacts.store c.args.self.now) in
+    let t = (state_of (reader g.P.Paths.timeline g.L.LastValues.values) g.W.Partial.sets g.W.Transfer.moves g.R.RowRules.rules g.B.ByteFacts.store c.loop-from.self) in
+    let u = (state_of (reader g.P.Paths.timeline g.L.LastValues.values) g.W.Partial.sets g.W.Transfer.moves g.R.RowRules.rules g.B.ByteFacts.store c.carry_strip.new.self) in
+    let x = (state_of (reader g.P.Paths.timeline g.L.LastValues.values) g.W.Partial.sets g.W.Transfer.moves g.R.RowRules.rules g.B.ByteFacts.store c.leap_up.new.self) in
+    let v = (state_of (reader g.P.Paths.timeline g.L.LastValues.values) g.W.Partial.sets g.W.Transfer.moves g.R.RowRules.rules g.B.ByteFacts.store c.carry_links.new.self) in
+    let a = c.args.a in
+    let from = c.loop-from.from in
+    let strip = c.strip-strip.result in
+    let i = c.loop-from.invariant in
+    let P : State g.row.W.Denot → Type 0 = λ y. IsStrip (timeline_of y) from strip × IsCarriedIn a strip y in
+    let R : State g.row.W.Denot → Type 0 = λ y. IsCarriedUpTo a from y × P y in
+    let to = Grows_trans s t u i.grows c.in_ok-inside.ensures.grows in
+    let further = Grows_trans s u x to c.in_ok-up.ensures.grows in
+    let inside = Drew_both s t u c.loop-from.learnt c.in_ok-inside.inside (IsCarriedUpTo a from) P R i.grows c.in_ok-inside.ensures.grows i.drew
+    (Drew_as t u c.in_ok-inside.inside (IsCarriedIn a strip) P c.in_ok-inside.ensures.drew (λ h. (c.strip-strip.ensures, h))) (λ p q. (p, q)) in
+    let up = Drew_both s u x (c.loop-from.learnt || c.in_ok-inside.inside) c.in_ok-up.up.0 R (λ (y : State g.row.W.Denot). Unit {0}) R to c.in_ok-up.ensures.grows inside c.in_ok-up.ensures.drew (λ p q. p) in
+    let links = Drew_both s x v (c.loop-from.learnt || c.in_ok-inside.inside || c.in_ok-up.up.0) c.in_ok-links.links R (AreLinks a strip.last) (IsCarriedUpTo a (strip.last + 1)) further c.in_ok-links.ensures.grows up c.in_ok-links.ensures.drew
+    (λ p q. up_to_more s a from from strip p.1.0 (p.1.0).from p.0 p.1.1 q) in
+    let Q : State g.row.W.Denot → Type 0 = λ y. IsCarriedUpTo a (strip.last + 1) y → IsCarriedUpTo a c.uneven_from-from.result y in
+    record {
+      grows = Grows_trans s x v further c.in_ok-links.ensures.grows;
+      drew = Drew_first s v v (c.loop-from.learnt || c.in_ok-inside.inside || c.in_ok-up.up.0 || c.in_ok-links.links) false (IsCarriedUpTo a (strip.last + 1)) Q (IsCarriedUpTo a c.uneven_from-from.result) (Grows_itself v) refl links (Drew_same v Q c.uneven_from-from.ensures.up) (λ p q. q p);
+      end_is = i.end_is;
+    }
+
+pub returns-clause-drew : goal.returns-clause-drew
+returns-clause-drew g c =
+    let s = (state_of (reader g.P.Paths.timeline g.L.LastValues.values) g.W.Partial.sets g.W.Transfer.moves g.R.RowRules.rules g.B.ByteFacts.store c.args.self.now) in
+    let t = (state_of (reader g.P.Paths.timeline g.L.LastValues.values) g.W.Partial.sets g.W.Transfer.moves g.R.RowRules.rules g.B.ByteFacts.store c.loop-from.self) in
+    let end = c.loop-from.invariant.end_is in
+    let ended = c.loop-from-test.false in
+    Drew_as s t c.loop-from.learnt (IsCarriedUpTo c.args.a c.loop-from.from) (IsCarriedAlong c.args.a) c.loop-from.invariant.drew (λ p. up_to_all s c.args.a c.loop-from.from (g.met.P.Paths.lawful c.args.self.now.paths).moments.inside (omega (arith, end, ended)) p)

@@ -1,0 +1,418 @@
+//! How far a byte's value goes at once, and over all moments.
+
+ghost use Rattle.std.specs.Prelude.{◌≡◌, ◌+◌, ◌<◌, ◌≤◌, ℕ, false, true, IfOk, IfErr, ⊤};
+ghost use Rattle.rept_reason.specs.declared.fact.Cell.TheVariants.{Byte};
+ghost use Rattle.rept_reach.specs.Reaching.{IsLeaving, IsReachedUp, IsReachedDown};
+ghost use Rattle.rept_analysis.specs.State.{state_of, reader};
+ghost use Rattle.rept_analysis.specs.Drawing.{Knows, IsTracked, Grows, Drew, IsHalt, AreWritings, IsEven, IsCarriedUpTo, IsCarriedAlong, AllCarried, IsLeapUp, IsLeapDown};
+
+use super::Analysis;
+use super::carrying::border;
+use crate::halt::Halt;
+use crate::leap::Leap;
+use rept_log::LastValues;
+use rept_reach::{Reaches, Window};
+use rept_report::paths::Strip;
+use rept_span::Transfer;
+use rept_versions::ByteFacts;
+use rept_view::RowRules;
+
+impl<'a, P: Reaches + Drop, L: LastValues + Drop, B: ByteFacts, W: Transfer, R: RowRules> Analysis<
+    'a,
+    P,
+    L,
+    B,
+    W,
+    R,
+> {
+    /// A number from one on, up to another one, before which no number from there on has a next one that isn't among these.
+    fn leaving_from(&self, least: u32, most: u32) -> u32
+        requires order { least ≤ most }
+        requires inside { most ≤ (P.timeline self.now.paths).moments.end }
+        ensures { IsLeaving (P.timeline self.now.paths).moments least most result }
+    {
+        self.paths.leaving_from(least, most)
+    }
+
+    /// A number up to which, but no further than another one, each number after those of a window is next to an earlier one that isn't below the window.
+    fn reached_up(&self, known: Window, most: u32) -> u32
+        requires order { known.from < known.to }
+        requires inside { known.to ≤ (P.timeline self.now.paths).moments.end + 1 }
+        ensures { IsReachedUp (P.timeline self.now.paths).moments known most result }
+    {
+        self.paths.reached_up(known, most)
+    }
+
+    /// A number down to which, but no further than another one, each number before those of a window has a next one after it that isn't past the window.
+    fn reached_down(&self, known: Window, least: u32) -> u32
+        requires order { known.from < known.to }
+        requires inside { known.to ≤ (P.timeline self.now.paths).moments.end + 1 }
+        ensures { IsReachedDown (P.timeline self.now.paths).moments known least result }
+    {
+        self.paths.reached_down(known, least)
+    }
+
+    /// A number up to which from another one on the same is known of a byte: the last before its value begins or at which it ends.
+    pub(super) fn even_to(&self, a: u32, from: u32) -> u32
+        requires { from ≤ (P.timeline self.now.paths).moments.end }
+        ensures even { IsEven a from result (state_of (reader P.timeline L.values) W.sets W.moves R.rules B.store self.now) }
+        ensures order { from ≤ result }
+        ensures inside { result ≤ (P.timeline self.now.paths).moments.end }
+    {
+        let end = self.end();
+        match self.stretch(a, from) {
+            None => end,
+            Some(stretch) => end.min(border(&stretch, from)),
+        }
+    }
+
+    /// A number from one on, before which a byte is carried no further: the same is known of it at each number from there on and at those next to it.
+    fn uneven_from(&self, a: u32, from: u32) -> u32
+        ensures order { from ≤ result }
+        ensures up { IsCarriedUpTo a from (state_of (reader P.timeline L.values) W.sets W.moves R.rules B.store self.now) → IsCarriedUpTo a result (state_of (reader P.timeline L.values) W.sets W.moves R.rules B.store self.now) }
+    {
+        if from > self.end() {
+            return from;
+        }
+        let most = self.even_to(a, from);
+        self.leaving_from(from, most)
+    }
+
+    /// Whether a byte is known anywhere, so that it is tracked.
+    pub(super) fn has_value(&self, a: u32) -> bool
+        ensures { result ≡ true → IsTracked a (state_of (reader P.timeline L.values) W.sets W.moves R.rules B.store self.now) }
+    {
+        self.held();
+        self.stretch(a, 0).is_some()
+    }
+
+    /// Whether all numbers stand in this strip.
+    pub(super) fn is_whole(&self, strip: Strip) -> bool {
+        strip.first == 0 && strip.last == self.end()
+    }
+
+    /// How far up a byte goes from the numbers between two, if its value is known at them.
+    fn reach_up(&self, a: u32, first: u32, last: u32) -> u32
+        requires order { first ≤ last }
+        requires inside { last ≤ (P.timeline self.now.paths).moments.end }
+        requires writings { AreWritings (state_of (reader P.timeline L.values) W.sets W.moves R.rules B.store self.now) }
+        ensures { IsLeapUp (record { address = a; first = first; last = last; to = result }) (state_of (reader P.timeline L.values) W.sets W.moves R.rules B.store self.now) }
+    {
+        let from = self.free_since(last, a).max(first);
+        let until = self.free_until(last, a);
+        if from > last || until <= last + 1 {
+            return last;
+        }
+        let known = Window { from, to: last + 1 };
+        self.reached_up(known, until - 1)
+    }
+
+    /// How far down it goes.
+    fn reach_down(&self, a: u32, first: u32, last: u32) -> u32
+        requires order { first ≤ last }
+        requires inside { last ≤ (P.timeline self.now.paths).moments.end }
+        requires writings { AreWritings (state_of (reader P.timeline L.values) W.sets W.moves R.rules B.store self.now) }
+        ensures { IsLeapDown (record { address = a; first = first; last = last; to = result }) (state_of (reader P.timeline L.values) W.sets W.moves R.rules B.store self.now) }
+    {
+        let since = self.free_since(first, a);
+        let until = self.free_until(first, a).min(last + 1);
+        if until <= first || since >= first {
+            return first;
+        }
+        let known = Window {
+            from: first,
+            to: until,
+        };
+        self.reached_down(known, since)
+    }
+
+    /// The value of a byte at the numbers between two, at those after them to which it goes.
+    fn spread_up(&mut self, leap: Leap, value: u8) -> Result<bool, Halt>
+        requires order { leap.first ≤ leap.last }
+        requires known { (q : ℕ) → leap.first ≤ q → q ≤ leap.last → Knows q (Byte leap.address) value (state_of (reader P.timeline L.values) W.sets W.moves R.rules B.store self.old) }
+        requires led { IsLeapUp leap (state_of (reader P.timeline L.values) W.sets W.moves R.rules B.store self.old) }
+        requires open { self.old.complete ≡ false }
+        ensures grows { Grows (state_of (reader P.timeline L.values) W.sets W.moves R.rules B.store self.old) (state_of (reader P.timeline L.values) W.sets W.moves R.rules B.store self.new) }
+        ensures drew { IfOk result (λ learnt. Drew (state_of (reader P.timeline L.values) W.sets W.moves R.rules B.store self.old) (state_of (reader P.timeline L.values) W.sets W.moves R.rules B.store self.new) learnt (λ _. ⊤)) }
+        ensures halt { IfErr result (λ h. IsHalt (state_of (reader P.timeline L.values) W.sets W.moves R.rules B.store self.new) h) }
+    {
+        self.spread_led(leap.address, leap.last, leap.to, value)
+    }
+
+    /// At those before them.
+    fn spread_down(&mut self, leap: Leap, value: u8) -> Result<bool, Halt>
+        requires order { leap.first ≤ leap.last }
+        requires inside { leap.last ≤ (P.timeline self.old.paths).moments.end }
+        requires known { (q : ℕ) → leap.first ≤ q → q ≤ leap.last → Knows q (Byte leap.address) value (state_of (reader P.timeline L.values) W.sets W.moves R.rules B.store self.old) }
+        requires led { IsLeapDown leap (state_of (reader P.timeline L.values) W.sets W.moves R.rules B.store self.old) }
+        requires open { self.old.complete ≡ false }
+        ensures grows { Grows (state_of (reader P.timeline L.values) W.sets W.moves R.rules B.store self.old) (state_of (reader P.timeline L.values) W.sets W.moves R.rules B.store self.new) }
+        ensures drew { IfOk result (λ learnt. Drew (state_of (reader P.timeline L.values) W.sets W.moves R.rules B.store self.old) (state_of (reader P.timeline L.values) W.sets W.moves R.rules B.store self.new) learnt (λ _. ⊤)) }
+        ensures halt { IfErr result (λ h. IsHalt (state_of (reader P.timeline L.values) W.sets W.moves R.rules B.store self.new) h) }
+    {
+        self.spread_led(leap.address, leap.first, leap.to, value)
+    }
+
+    /// The value of a byte around a number, up as far as it goes at once. Answers whether it was new, and the last number of it.
+    fn leap_up(&mut self, a: u32, number: u32) -> Result<(bool, u32), Halt>
+        requires inside { number ≤ (P.timeline self.old.paths).moments.end }
+        requires writings { AreWritings (state_of (reader P.timeline L.values) W.sets W.moves R.rules B.store self.old) }
+        requires open { self.old.complete ≡ false }
+        ensures grows { Grows (state_of (reader P.timeline L.values) W.sets W.moves R.rules B.store self.old) (state_of (reader P.timeline L.values) W.sets W.moves R.rules B.store self.new) }
+        ensures drew { IfOk result (λ ended. Drew (state_of (reader P.timeline L.values) W.sets W.moves R.rules B.store self.old) (state_of (reader P.timeline L.values) W.sets W.moves R.rules B.store self.new) ended.0 (λ _. ⊤)) }
+        ensures halt { IfErr result (λ h. IsHalt (state_of (reader P.timeline L.values) W.sets W.moves R.rules B.store self.new) h) }
+        ensures up { IfOk result (λ ended. (number ≤ ended.1) × (ended.1 ≤ (P.timeline self.old.paths).moments.end)) }
+    {
+        let Some(stretch) = self.stretch(a, number) else {
+            return Ok((false, number));
+        };
+        if stretch.first > number {
+            return Ok((false, number));
+        }
+        let last = self.end().min(stretch.last);
+        let to = self.reach_up(a, stretch.first, last);
+        if to == last {
+            return Ok((false, last));
+        }
+        let leap = Leap {
+            address: a,
+            first: stretch.first,
+            last,
+            to,
+        };
+        let new = self.spread_up(leap, stretch.value)?;
+        Ok((new, to))
+    }
+
+    /// The same down. Answers the first number of it, too.
+    fn leap_down(&mut self, a: u32, number: u32) -> Result<(bool, u32), Halt>
+        requires inside { number ≤ (P.timeline self.old.paths).moments.end }
+        requires writings { AreWritings (state_of (reader P.timeline L.values) W.sets W.moves R.rules B.store self.old) }
+        requires open { self.old.complete ≡ false }
+        ensures grows { Grows (state_of (reader P.timeline L.values) W.sets W.moves R.rules B.store self.old) (state_of (reader P.timeline L.values) W.sets W.moves R.rules B.store self.new) }
+        ensures drew { IfOk result (λ ended. Drew (state_of (reader P.timeline L.values) W.sets W.moves R.rules B.store self.old) (state_of (reader P.timeline L.values) W.sets W.moves R.rules B.store self.new) ended.0 (λ _. ⊤)) }
+        ensures halt { IfErr result (λ h. IsHalt (state_of (reader P.timeline L.values) W.sets W.moves R.rules B.store self.new) h) }
+        ensures down { IfOk result (λ ended. ended.1 ≤ number) }
+    {
+        let Some(stretch) = self.stretch(a, number) else {
+            return Ok((false, number));
+        };
+        if stretch.first > number {
+            return Ok((false, number));
+        }
+        let last = self.end().min(stretch.last);
+        let to = self.reach_down(a, stretch.first, last);
+        if to == stretch.first {
+            return Ok((false, to));
+        }
+        let leap = Leap {
+            address: a,
+            first: stretch.first,
+            last,
+            to,
+        };
+        let new = self.spread_down(leap, stretch.value)?;
+        Ok((new, to))
+    }
+
+    /// The least number to which one is next, or itself.
+    fn least_former(&self, number: u32) -> u32
+        requires { number ≤ (P.timeline self.now.paths).moments.end }
+    {
+        match self.paths.former_from(number, 0) {
+            None => number,
+            Some(former) => former.min(number),
+        }
+    }
+
+    /// The greatest number that is next to one, or itself.
+    fn greatest_next(&self, number: u32) -> u32
+        requires { number ≤ (P.timeline self.now.paths).moments.end }
+        ensures { result ≤ (P.timeline self.now.paths).moments.end }
+    {
+        let end = self.end();
+        let mut found = number;
+        let mut least = 0;
+        while least <= end {
+            let Some(next) = self.next_from(number, least) else {
+                return found;
+            };
+            found = found.max(next);
+            least = next + 1;
+        }
+        found
+    }
+
+    /// The value of a byte in the strip that ends before a number, between its end and the numbers next to it, and down from it. Answers whether it was new, and a number up to
+    /// which it was looked for.
+    fn carry_former(&mut self, a: u32, first: u32) -> Result<(bool, u32), Halt>
+        requires some { 0 < first }
+        requires inside { first ≤ (P.timeline self.old.paths).moments.end }
+        requires tracked { IsTracked a (state_of (reader P.timeline L.values) W.sets W.moves R.rules B.store self.old) }
+        requires writings { AreWritings (state_of (reader P.timeline L.values) W.sets W.moves R.rules B.store self.old) }
+        requires open { self.old.complete ≡ false }
+        ensures grows { Grows (state_of (reader P.timeline L.values) W.sets W.moves R.rules B.store self.old) (state_of (reader P.timeline L.values) W.sets W.moves R.rules B.store self.new) }
+        ensures drew { IfOk result (λ ended. Drew (state_of (reader P.timeline L.values) W.sets W.moves R.rules B.store self.old) (state_of (reader P.timeline L.values) W.sets W.moves R.rules B.store self.new) ended.0 (λ _. ⊤)) }
+        ensures halt { IfErr result (λ h. IsHalt (state_of (reader P.timeline L.values) W.sets W.moves R.rules B.store self.new) h) }
+        ensures down { IfOk result (λ ended. ended.1 < first) }
+    {
+        let former = self.strip(first - 1);
+        let links = self.carry_links(a, former.last)?;
+        let inside = self.carry_strip(a, former)?;
+        if !(links | inside) {
+            return Ok((false, former.first));
+        }
+        let down = self.leap_down(a, former.first)?;
+        Ok((true, down.1))
+    }
+
+    /// The value of a byte down from the first number of a strip, and back through the strips before it that lead to one where it was new. That this is done at once saves rounds: no
+    /// clause rests on it.
+    pub(super) fn carry_back(&mut self, a: u32, number: u32) -> Result<bool, Halt>
+        requires inside { number ≤ (P.timeline self.old.paths).moments.end }
+        requires tracked { IsTracked a (state_of (reader P.timeline L.values) W.sets W.moves R.rules B.store self.old) }
+        requires writings { AreWritings (state_of (reader P.timeline L.values) W.sets W.moves R.rules B.store self.old) }
+        requires open { self.old.complete ≡ false }
+        ensures grows { Grows (state_of (reader P.timeline L.values) W.sets W.moves R.rules B.store self.old) (state_of (reader P.timeline L.values) W.sets W.moves R.rules B.store self.new) }
+        ensures drew { IfOk result (λ learnt. Drew (state_of (reader P.timeline L.values) W.sets W.moves R.rules B.store self.old) (state_of (reader P.timeline L.values) W.sets W.moves R.rules B.store self.new) learnt (λ _. ⊤)) }
+        ensures halt { IfErr result (λ h. IsHalt (state_of (reader P.timeline L.values) W.sets W.moves R.rules B.store self.new) h) }
+    {
+        let down = self.leap_down(a, number)?;
+        let mut learnt = down.0;
+        let mut first = down.1;
+        let mut low = self.least_former(first);
+        while first > low {
+            let former = self.carry_former(a, first)?;
+            learnt = learnt | former.0;
+            first = former.1;
+            if former.0 {
+                low = low.min(self.least_former(first));
+            }
+        }
+        Ok(learnt)
+    }
+
+    /// The value of a byte in the strip around a number, up from it, and on to the numbers next to it. Answers whether it was new, and its last number.
+    fn carry_later(&mut self, a: u32, first: u32) -> Result<(bool, u32), Halt>
+        requires inside { first ≤ (P.timeline self.old.paths).moments.end }
+        requires tracked { IsTracked a (state_of (reader P.timeline L.values) W.sets W.moves R.rules B.store self.old) }
+        requires writings { AreWritings (state_of (reader P.timeline L.values) W.sets W.moves R.rules B.store self.old) }
+        requires open { self.old.complete ≡ false }
+        ensures grows { Grows (state_of (reader P.timeline L.values) W.sets W.moves R.rules B.store self.old) (state_of (reader P.timeline L.values) W.sets W.moves R.rules B.store self.new) }
+        ensures drew { IfOk result (λ ended. Drew (state_of (reader P.timeline L.values) W.sets W.moves R.rules B.store self.old) (state_of (reader P.timeline L.values) W.sets W.moves R.rules B.store self.new) ended.0 (λ _. ⊤)) }
+        ensures halt { IfErr result (λ h. IsHalt (state_of (reader P.timeline L.values) W.sets W.moves R.rules B.store self.new) h) }
+        ensures up { IfOk result (λ ended. (first ≤ ended.1) × (ended.1 ≤ (P.timeline self.old.paths).moments.end)) }
+    {
+        let later = self.strip(first);
+        let inside = self.carry_strip(a, later)?;
+        let up = self.leap_up(a, later.last)?;
+        let last = self.strip(up.1).last;
+        let links = self.carry_links(a, last)?;
+        Ok((inside | up.0 | links, last))
+    }
+
+    /// The value of a byte at the last number of a strip, on through those strips to which one leads where it was new.
+    pub(super) fn carry_forth(&mut self, a: u32, number: u32) -> Result<bool, Halt>
+        requires inside { number ≤ (P.timeline self.old.paths).moments.end }
+        requires tracked { IsTracked a (state_of (reader P.timeline L.values) W.sets W.moves R.rules B.store self.old) }
+        requires writings { AreWritings (state_of (reader P.timeline L.values) W.sets W.moves R.rules B.store self.old) }
+        requires open { self.old.complete ≡ false }
+        ensures grows { Grows (state_of (reader P.timeline L.values) W.sets W.moves R.rules B.store self.old) (state_of (reader P.timeline L.values) W.sets W.moves R.rules B.store self.new) }
+        ensures drew { IfOk result (λ learnt. Drew (state_of (reader P.timeline L.values) W.sets W.moves R.rules B.store self.old) (state_of (reader P.timeline L.values) W.sets W.moves R.rules B.store self.new) learnt (λ _. ⊤)) }
+        ensures halt { IfErr result (λ h. IsHalt (state_of (reader P.timeline L.values) W.sets W.moves R.rules B.store self.new) h) }
+    {
+        let mut learnt = self.carry_links(a, number)?;
+        let mut last = number;
+        let mut high = self.greatest_next(last);
+        while last < high {
+            let later = self.carry_later(a, last + 1)?;
+            learnt = learnt | later.0;
+            last = later.1;
+            if later.0 {
+                high = high.max(self.greatest_next(last));
+            }
+        }
+        Ok(learnt)
+    }
+
+    /// The value of a byte back from the beginning of each of its stretches.
+    fn carry_edges(&mut self, a: u32) -> Result<bool, Halt>
+        requires tracked { IsTracked a (state_of (reader P.timeline L.values) W.sets W.moves R.rules B.store self.old) }
+        requires writings { AreWritings (state_of (reader P.timeline L.values) W.sets W.moves R.rules B.store self.old) }
+        requires open { self.old.complete ≡ false }
+        ensures grows { Grows (state_of (reader P.timeline L.values) W.sets W.moves R.rules B.store self.old) (state_of (reader P.timeline L.values) W.sets W.moves R.rules B.store self.new) }
+        ensures drew { IfOk result (λ learnt. Drew (state_of (reader P.timeline L.values) W.sets W.moves R.rules B.store self.old) (state_of (reader P.timeline L.values) W.sets W.moves R.rules B.store self.new) learnt (λ _. ⊤)) }
+        ensures halt { IfErr result (λ h. IsHalt (state_of (reader P.timeline L.values) W.sets W.moves R.rules B.store self.new) h) }
+    {
+        let end = self.end();
+        let mut learnt = false;
+        let mut from = 0;
+        while from <= end {
+            let Some(stretch) = self.stretch(a, from) else {
+                return Ok(learnt);
+            };
+            let strip = self.strip(end.min(from.max(stretch.first)));
+            let inside = self.carry_strip(a, strip)?;
+            let back = self.carry_back(a, strip.first)?;
+            learnt = learnt | inside | back;
+            from = strip.last.max(end.min(stretch.last)) + 1;
+        }
+        Ok(learnt)
+    }
+
+    /// The value of a byte over all that may not write it: strip by strip, and from the last number of each to those next to it.
+    fn carry_onward(&mut self, a: u32) -> Result<bool, Halt>
+        requires tracked { IsTracked a (state_of (reader P.timeline L.values) W.sets W.moves R.rules B.store self.old) }
+        requires writings { AreWritings (state_of (reader P.timeline L.values) W.sets W.moves R.rules B.store self.old) }
+        requires open { self.old.complete ≡ false }
+        ensures grows { Grows (state_of (reader P.timeline L.values) W.sets W.moves R.rules B.store self.old) (state_of (reader P.timeline L.values) W.sets W.moves R.rules B.store self.new) }
+        ensures drew { IfOk result (λ learnt. Drew (state_of (reader P.timeline L.values) W.sets W.moves R.rules B.store self.old) (state_of (reader P.timeline L.values) W.sets W.moves R.rules B.store self.new) learnt (IsCarriedAlong a)) }
+        ensures halt { IfErr result (λ h. IsHalt (state_of (reader P.timeline L.values) W.sets W.moves R.rules B.store self.new) h) }
+    {
+        let end = self.end();
+        let mut learnt = false;
+        let mut from = 0;
+        while from <= end {
+            self.held();
+            let strip = self.strip(from);
+            let inside = self.carry_strip(a, strip)?;
+            let up = self.leap_up(a, strip.last)?;
+            let links = self.carry_links(a, strip.last)?;
+            learnt = learnt | inside | up.0 | links;
+            from = self.uneven_from(a, strip.last + 1);
+        }
+        Ok(learnt)
+    }
+
+    /// So, and before that back from the beginning of each of its stretches.
+    fn carry_address(&mut self, a: u32) -> Result<bool, Halt>
+        requires tracked { IsTracked a (state_of (reader P.timeline L.values) W.sets W.moves R.rules B.store self.old) }
+        requires writings { AreWritings (state_of (reader P.timeline L.values) W.sets W.moves R.rules B.store self.old) }
+        requires open { self.old.complete ≡ false }
+        ensures grows { Grows (state_of (reader P.timeline L.values) W.sets W.moves R.rules B.store self.old) (state_of (reader P.timeline L.values) W.sets W.moves R.rules B.store self.new) }
+        ensures drew { IfOk result (λ learnt. Drew (state_of (reader P.timeline L.values) W.sets W.moves R.rules B.store self.old) (state_of (reader P.timeline L.values) W.sets W.moves R.rules B.store self.new) learnt (IsCarriedAlong a)) }
+        ensures halt { IfErr result (λ h. IsHalt (state_of (reader P.timeline L.values) W.sets W.moves R.rules B.store self.new) h) }
+    {
+        let back = self.carry_edges(a)?;
+        let onward = self.carry_onward(a)?;
+        Ok(back | onward)
+    }
+
+    /// The values of all tracked bytes.
+    pub(super) fn carry_tracked(&mut self) -> Result<bool, Halt>
+        requires writings { AreWritings (state_of (reader P.timeline L.values) W.sets W.moves R.rules B.store self.old) }
+        requires open { self.old.complete ≡ false }
+        ensures grows { Grows (state_of (reader P.timeline L.values) W.sets W.moves R.rules B.store self.old) (state_of (reader P.timeline L.values) W.sets W.moves R.rules B.store self.new) }
+        ensures drew { IfOk result (λ learnt. Drew (state_of (reader P.timeline L.values) W.sets W.moves R.rules B.store self.old) (state_of (reader P.timeline L.values) W.sets W.moves R.rules B.store self.new) learnt (AllCarried)) }
+        ensures halt { IfErr result (λ h. IsHalt (state_of (reader P.timeline L.values) W.sets W.moves R.rules B.store self.new) h) }
+    {
+        let count = self.tracked_count();
+        let mut learnt = false;
+        for k in 0..count {
+            let a = self.address(k);
+            let new = self.carry_address(a)?;
+            learnt = learnt | new;
+        }
+        Ok(learnt)
+    }
+}

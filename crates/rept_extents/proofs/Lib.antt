@@ -1,0 +1,4 @@
+mod Bounds
+mod Coming
+mod Falling
+pub mod Going

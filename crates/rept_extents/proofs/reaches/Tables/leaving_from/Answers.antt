@@ -1,0 +1,13 @@
+use Rattle.std.proofs.Common.{subst}
+use Rattle.rept_extents.specs.declared.reaches.Tables.{Tables}
+use Rattle.rept_extents.specs.Tables.{AreTables}
+use Rattle.rept_extents.proofs.Going.{are_tables, leaving, leaving_one}
+use Rattle.rept_extents.proofs.reaches.Tables.leaving_from.Goals as goal
+
+pub returns-in-Many : goal.returns-in-Many
+returns-in-Many c = λ M tables.
+    let its = subst (λ (t : Tables). AreTables M t) c.in-Many.is (are_tables M c.args.self.now tables) in
+    leaving M c.in-Many.nexts c.args.least c.args.most c.up_to.result its.next c.up_to.ensures.from c.up_to.ensures.to c.up_to.ensures.all
+
+pub returns-in-One : goal.returns-in-One
+returns-in-One c = λ M tables. leaving_one M c.args.least c.args.most c.requires (subst (λ (t : Tables). AreTables M t) c.in-One.is (are_tables M c.args.self.now tables))

@@ -1,0 +1,12 @@
+use Rattle.std.proofs.Common.{◌≡◌, ◌≤◌, ◌<◌, ◌-◌, ℕ, suc, length, Some, slice_get}
+use Rattle.rept_extents.proofs.times.count_before.Given as goal
+
+abbrev pub invariant-loop-low : goal.invariant-loop-low
+invariant-loop-low l = record {
+  order : l.low ≤ l.high;
+  within : l.high ≤ length l.times;
+  last : (k t : ℕ) → l.low ≡ suc k → slice_get l.times k ≡ Some t → t < l.time;
+}
+
+abbrev pub decreases-loop-low : goal.decreases-loop-low
+decreases-loop-low l = l.high - l.low

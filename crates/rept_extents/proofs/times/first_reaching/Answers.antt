@@ -1,0 +1,5 @@
+use Rattle.rept_extents.proofs.Coming.{all_before}
+use Rattle.rept_extents.proofs.times.first_reaching.Goals as goal
+
+pub returns : goal.returns
+returns c = all_before c.args.many.now c.args.ends.now c.args.time c.count_before.result c.requires.times c.count_before.ensures.few c.count_before.ensures.last

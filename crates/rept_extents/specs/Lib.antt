@@ -1,0 +1,4 @@
+pub mod Extents
+pub mod Hulls
+pub mod Tables
+pub mod Times

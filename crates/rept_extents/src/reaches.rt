@@ -1,0 +1,263 @@
+//! How far a byte's value goes at once from the numbers at which it is known.
+
+ghost use Rattle.std.specs.Prelude.{◌≡◌, ◌≤◌, ◌<◌, ◌+◌, ℕ, true, IfOk, IfSome, IsOk};
+ghost use Rattle.rept_report.specs.Moments.{Moments, AreMoments};
+ghost use Rattle.rept_moments.specs.Courses.{seen_in, is_one};
+ghost use Rattle.rept_reach.specs.Reaching.{IsLeaving, IsReachedUp, IsReachedDown};
+ghost use Rattle.rept_extents.specs.Tables.{AreEach, AreTables, NextsLieIn, IsUp, IsDown};
+
+use crate::hulls::{Hull, Hulls};
+use rept_carry::Ways;
+use rept_moments::Course;
+use rept_reach::Window;
+use std::alloc::{AllocError as OutOfMemory, Global};
+
+/// So many numbers next to one, or to which it is next, are looked at: where many threads take turns there may be one for each of them, and going over all for each number would take long.
+const FEW: u32 = 32;
+
+/// Where of so many numbers too many others are next to them, no more are looked at.
+const CROWDED: u32 = 1024;
+
+/// Which numbers are next to each, and by which ones each is reached.
+#[derive(Drop)]
+pub enum Tables {
+    /// Of one thread alone none are kept: no number but the one after it is next to a number.
+    One,
+    /// Of several threads they are listed by the numbers before the end.
+    Many {
+        /// Bounds of the numbers that are next to each, where these are few.
+        nexts: Hulls,
+        /// The greatest number, among the first few, that the one after each is next to, if that is an earlier one and nothing that isn't told falls between. It stands as the least of bounds.
+        ups: Hulls,
+        /// The least number after each that is next to it, if there is one and nothing that isn't told falls between. It stands as the greatest of bounds.
+        downs: Hulls,
+    },
+}
+
+/// Bounds, made so wide that a number lies within them.
+fn wider(hull: Hull, number: u32) -> Hull
+    ensures least { result.least ≤ hull.least }
+    ensures most { hull.most ≤ result.most }
+    ensures above { result.least ≤ number }
+    ensures below { number ≤ result.most }
+{
+    Hull {
+        least: hull.least.min(number),
+        most: hull.most.max(number),
+    }
+}
+
+/// Bounds of the numbers that are next to one, if these are few.
+fn nexts_of(course: &Course<'_>, number: u32) -> Option<Hull>
+    requires inside { number ≤ (seen_in course.now).moments.end }
+    requires laws { AreMoments (seen_in course.now).legs (seen_in course.now).moments }
+    ensures { IfSome result (NextsLieIn (seen_in course.now).moments number) }
+{
+    let end = course.end();
+    let mut hull = Hull {
+        least: number,
+        most: number,
+    };
+    let mut least = 0;
+    for _turn in 0..FEW {
+        let next = match course.next_from(number, least) {
+            Some(next) => next,
+            None => return Some(hull),
+        };
+        hull = wider(hull, next);
+        if next >= end {
+            return Some(hull);
+        }
+        least = next + 1;
+    }
+    None
+}
+
+/// The greatest number before one to which it is next, among the first few of these.
+fn former_of(ways: &Ways<'_>, number: u32) -> Option<u32>
+    ensures { IfSome result (λ m. (m < number) × ((seen_in ways.now).moments.next m number ≡ true)) }
+{
+    let mut found = None;
+    let mut least = 0;
+    for _turn in 0..FEW {
+        let former = match ways.previous_from(number, least) {
+            Some(former) => former,
+            None => return found,
+        };
+        if former >= number {
+            return found;
+        }
+        found = Some(former);
+        least = former + 1;
+    }
+    found
+}
+
+/// The greatest number that the one after a number is next to, if that is an earlier one and nothing that isn't told falls between.
+fn up_of(ways: &Ways<'_>, number: u32) -> Option<Hull>
+    requires { number < (seen_in ways.now).moments.end }
+    ensures { IfSome result (IsUp (seen_in ways.now).moments number) }
+{
+    let course = ways.course();
+    let _end = course.end();
+    let former = match former_of(ways, number + 1) {
+        Some(former) => former,
+        None => return None,
+    };
+    if course.is_dark_between(former, number + 1) {
+        return None;
+    }
+    Some(Hull {
+        least: former,
+        most: 0,
+    })
+}
+
+/// The least number after one that is next to it, if there is one and nothing that isn't told falls between.
+fn down_of(course: &Course<'_>, number: u32) -> Option<Hull>
+    requires { number < (seen_in course.now).moments.end }
+    ensures { IfSome result (IsDown (seen_in course.now).moments number) }
+{
+    let _end = course.end();
+    let next = match course.next_from(number, number + 1) {
+        Some(next) => next,
+        None => return None,
+    };
+    if course.is_dark_between(number, next) {
+        return None;
+    }
+    Some(Hull {
+        least: u32::MAX,
+        most: next,
+    })
+}
+
+/// Bounds of the numbers that are next to one, unless those of so many numbers were too many before; and of how many they were.
+fn nexts_unless(course: &Course<'_>, number: u32, crowded: u32) -> (Option<Hull>, u32)
+    requires inside { number ≤ (seen_in course.now).moments.end }
+    requires laws { AreMoments (seen_in course.now).legs (seen_in course.now).moments }
+    ensures { IfSome result.0 (NextsLieIn (seen_in course.now).moments number) }
+{
+    if crowded >= CROWDED {
+        return (None, crowded);
+    }
+    match nexts_of(course, number) {
+        Some(hull) => (Some(hull), crowded),
+        None => (None, crowded + 1),
+    }
+}
+
+/// Bounds of the numbers that are next to each.
+fn all_nexts(alloc: Global, course: &Course<'_>) -> Result<Vec<Option<Hull>>, OutOfMemory>
+    requires { AreMoments (seen_in course.now).legs (seen_in course.now).moments }
+    ensures { IfOk result (λ v. AreEach (NextsLieIn (seen_in course.now).moments) v.items) }
+{
+    let mut list = Vec::new(alloc);
+    let mut crowded = 0;
+    for number in 0..course.end() {
+        let bounds = nexts_unless(course, number, crowded);
+        list.push(bounds.0)?;
+        crowded = bounds.1;
+    }
+    Ok(list)
+}
+
+/// By which number the one after each is reached.
+fn all_ups(alloc: Global, ways: &Ways<'_>) -> Result<Vec<Option<Hull>>, OutOfMemory>
+    ensures { IfOk result (λ v. AreEach (IsUp (seen_in ways.now).moments) v.items) }
+{
+    let mut list = Vec::new(alloc);
+    for number in 0..ways.course().end() {
+        list.push(up_of(ways, number))?;
+    }
+    Ok(list)
+}
+
+/// Which number each reaches.
+fn all_downs(alloc: Global, course: &Course<'_>) -> Result<Vec<Option<Hull>>, OutOfMemory>
+    ensures { IfOk result (λ v. AreEach (IsDown (seen_in course.now).moments) v.items) }
+{
+    let mut list = Vec::new(alloc);
+    for number in 0..course.end() {
+        list.push(down_of(course, number))?;
+    }
+    Ok(list)
+}
+
+/// The tables of several threads.
+fn many(alloc: Global, ways: &Ways<'_>) -> Result<Tables, OutOfMemory>
+    ensures { IfOk result (λ t. AreTables (seen_in ways.now).moments t) }
+{
+    let course = ways.course();
+    let nexts = Hulls::new(alloc, all_nexts(alloc, course)?)?;
+    let ups = Hulls::new(alloc, all_ups(alloc, ways)?)?;
+    let downs = Hulls::new(alloc, all_downs(alloc, course)?)?;
+    Ok(Tables::Many { nexts, ups, downs })
+}
+
+impl Tables {
+    /// Those of a course. Of one thread alone it takes no memory, else memory for some three entries a number.
+    pub fn new(alloc: Global, ways: &Ways<'_>) -> Result<Tables, OutOfMemory>
+        ensures tables { IfOk result (λ t. AreTables (seen_in ways.now).moments t) }
+        ensures alone { is_one ways.now ≡ true → IsOk result }
+    {
+        match ways.course() {
+            Course::One { .. } => Ok(Tables::One),
+            Course::Many(_) => many(alloc, ways),
+        }
+    }
+
+    /// A number from one on, up to another one, before which no number from there on has a next one that isn't among these.
+    pub fn leaving_from(&self, least: u32, most: u32) -> u32
+        requires { least ≤ most }
+        ensures { (M : Moments) → ∥ AreTables M self.now ∥₁ → IsLeaving M least most result }
+    {
+        match self {
+            Tables::One => most,
+            Tables::Many { nexts, .. } => nexts.up_to(least, most, Hull { least, most }),
+        }
+    }
+
+    /// A number up to which, but no further than another one, each number after those of a window is next to an earlier one that isn't below the window.
+    pub fn up(&self, known: Window, most: u32) -> u32
+        requires { known.from < known.to }
+        ensures { (M : Moments) → ∥ AreTables M self.now ∥₁ → known.to ≤ M.end + 1 → IsReachedUp M known most result }
+    {
+        let last = known.to - 1;
+        if most <= last {
+            return last;
+        }
+        match self {
+            Tables::One => last,
+            Tables::Many { ups, .. } => ups.up_to(
+                last,
+                most,
+                Hull {
+                    least: known.from,
+                    most: u32::MAX,
+                },
+            ),
+        }
+    }
+
+    /// A number down to which, but no further than another one, each number before those of a window has a next one after it that isn't past the window.
+    pub fn down(&self, known: Window, least: u32) -> u32
+        requires { known.from < known.to }
+        ensures { (M : Moments) → ∥ AreTables M self.now ∥₁ → IsReachedDown M known least result }
+    {
+        if known.from <= least {
+            return known.from;
+        }
+        match self {
+            Tables::One => known.from,
+            Tables::Many { downs, .. } => downs.down_to(
+                least,
+                known.from,
+                Hull {
+                    least: 0,
+                    most: known.to - 1,
+                },
+            ),
+        }
+    }
+}

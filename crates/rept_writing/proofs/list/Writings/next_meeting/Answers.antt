@@ -1,0 +1,24 @@
+use Rattle.std.proofs.Common.{◌≡◌, ℕ, Bool, List, ◌∙◌, ap, length, subst}
+use Rattle.std.specs.List.{Contains}
+use Rattle.rept_writing.specs.declared.list.Writing.{Writing}
+use Rattle.rept_writing.specs.Hits.{IsMeeting, Listed}
+use Rattle.rept_writing.specs.Filed.{IsFirst}
+use Rattle.rept_writing.specs.Falling.{AreColumns, IsAround}
+use Rattle.rept_writing.proofs.Meeting.{meeting_of, sooner_meeting}
+use Rattle.rept_writing.proofs.list.Writings.next_meeting.Goals as goal
+
+pub returns-then-self : goal.returns-then-self
+returns-then-self c =
+    let list = c.args.self.now.list in
+    let e : c.as_slice-list.result.now ≡ list = c.as_slice-list.ensures.value ∙ ap (λ (v : Listed). v.list) c.self.view_is in
+    let calls = subst (λ (v : Listed). AreColumns v.list c.self.inside.calls) c.self.view_is (c.self.invariant.calls c.if-self.true) in
+    let within = subst (λ (b : Bool). IsAround list b (record { from = c.args.m; to = c.args.w; address = 0 }) c.around-low.result.0 c.around-low.result.1) c.self.invariant.are_others (subst (λ (xs : List Writing). IsAround xs c.self.inside.others.is_call (record { from = c.args.m; to = c.args.w; address = 0 }) c.around-low.result.0 c.around-low.result.1) e c.around-low.ensures) in
+    let other = subst (λ (n : ℕ). IsFirst (λ j. IsMeeting list (record { from = c.args.m; to = c.args.w; address = c.args.a }) j) n c.around-low.result.1 c.meeting_below-other.result) c.max.ensures c.meeting_below-other.ensures in
+    let call = subst (λ (xs : List Writing). IsFirst (λ j. Contains c.self.inside.calls.places.items j × IsMeeting xs (record { from = c.args.m; to = c.args.w; address = c.args.a }) j) c.args.k (length xs) c.next_meeting-call.result) e c.next_meeting-call.ensures in
+    rw c.sooner.ensures (sooner_meeting list c.self.inside.calls c.args.k c.args.m c.args.w c.args.a c.around-low.result.0 c.around-low.result.1 _ _ calls c.self.invariant.are_calls within other call)
+
+pub returns-else-self : goal.returns-else-self
+returns-else-self c =
+    let list = c.args.self.now.list in
+    let e : c.as_slice-list.result.now ≡ list = c.as_slice-list.ensures.value ∙ ap (λ (v : Listed). v.list) c.self.view_is in
+    meeting_of list (record { from = c.args.m; to = c.args.w; address = c.args.a }) c.args.k c.meeting_below.result (subst (λ (xs : List Writing). IsFirst (λ j. IsMeeting list (record { from = c.args.m; to = c.args.w; address = c.args.a }) j) c.args.k (length xs) c.meeting_below.result) e c.meeting_below.ensures)

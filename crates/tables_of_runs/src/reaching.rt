@@ -1,0 +1,74 @@
+//! Between which moments a row falls, and how far a byte's value goes at once.
+
+ghost use Rattle.rept_steps.specs.Course.{IsSound};
+ghost use Rattle.rept_steps.specs.Runs.{course_of};
+ghost use Rattle.rept_moments.specs.Courses.{IsCourseOf};
+
+use rept_extents::RunRows;
+use rept_reach::{Reaches, Window};
+use rept_report::Paths;
+use rept_steps::Run;
+use rept_timeline::RunPaths;
+use std::alloc::{AllocError, Global};
+use test_lines::Numbers;
+
+/// An answer on the rows of a run.
+pub fn reaching(
+    alloc: Global,
+    run: &Run,
+    paths: &RunPaths<'_>,
+    asked: &str,
+    n: &Numbers,
+) -> Result<String, AllocError>
+    requires sound { IsSound (course_of run.now) }
+    requires course { IsCourseOf (course_of run.now) paths.now.ways }
+{
+    let rows = RunRows::new(alloc, run, paths)?;
+    match asked {
+        "falls" => falls(alloc, &rows, n),
+        "extent" => extent(alloc, &rows, n.word(0)),
+        "leaving" => leaving(alloc, &rows, n.word(0), n.word(1)),
+        _ => reached(alloc, &rows, n.word(0), n.word(1)),
+    }
+}
+
+/// Whether a row falls between two moments.
+fn falls(alloc: Global, rows: &RunRows<'_>, n: &Numbers) -> Result<String, AllocError> {
+    let (row, m, w) = (n.word(0), n.word(1), n.word(2));
+    if rows.row(row).is_none() || m > rows.end() {
+        return String::from_str(alloc, "no such row or moment");
+    }
+    match rows.next_from(m, w) {
+        Some(next) => format!(in alloc; "{next} {}", rows.falls(row, m, next)),
+        None => String::from_str(alloc, "not next"),
+    }
+}
+
+/// The numbers between which a row falls.
+fn extent(alloc: Global, rows: &RunRows<'_>, row: u32) -> Result<String, AllocError> {
+    if rows.row(row).is_none() {
+        return String::from_str(alloc, "no row");
+    }
+    let window = rows.extent(row);
+    format!(in alloc; "{} to {}", window.from, window.to)
+}
+
+/// Of numbers one after the other the first from which a value may go elsewhere, or the last.
+fn leaving(alloc: Global, rows: &RunRows<'_>, least: u32, most: u32) -> Result<String, AllocError> {
+    if least > most || most > rows.end() {
+        return String::from_str(alloc, "no such moments");
+    }
+    format!(in alloc; "{}", rows.leaving_from(least, most))
+}
+
+/// Up and down to which numbers a value goes from the one to the other.
+fn reached(alloc: Global, rows: &RunRows<'_>, from: u32, last: u32) -> Result<String, AllocError> {
+    let end = rows.end();
+    if from > last || last > end {
+        return String::from_str(alloc, "no such moments");
+    }
+    let known = Window { from, to: last + 1 };
+    let up = rows.reached_up(known, end);
+    let down = rows.reached_down(known, 0);
+    format!(in alloc; "{down} to {up}")
+}
