@@ -2,10 +2,10 @@
 use Rattle.std.proofs.Common.{◌≡◌, ℕ, ◌+◌, ◌-◌, ◌%◌, ◌^◌, ◌<◌, ◌≤◌, ◌⊎◌, true, false, inl, inr, refl, sym, subst, ◌∙◌, Bool, ◌==◌, arith}
 use Rattle.std.specs.Prelude.{ℤ, pos, negsuc, ◌+ℤ◌, ◌≤ℤ◌, ◌<ℤ◌}
 use Rattle.std.proofs.lemmas.Int.{ints}
-use Rattle.rept_isa.specs.Numbers.{plus, word}
+use Rattle.rept_isa.specs.Numbers.{plus, word, beside}
 use Rattle.rept_partial.specs.declared.range.Range.{Range}
 use Rattle.rept_alias.specs.declared.addresses.Access.{Access}
-use Rattle.rept_alias.specs.Accesses.{hits, distance, beside, between, everywhere, stays_inside, access_of, IsWithin}
+use Rattle.rept_alias.specs.Accesses.{hits, distance, between, everywhere, stays_inside, access_of, IsWithin}
 
 -- an address that whole numbers give
 plus-whole : (v : ℕ) (imm : ℤ) → v < 2 ^ 32 → pos 0 ≤ℤ (pos v +ℤ imm) → (pos v +ℤ imm) <ℤ pos (2 ^ 32) → pos (plus v imm) ≡ (pos v +ℤ imm)

@@ -2,14 +2,10 @@
 -- the sign-extended immediate, modulo 2 ^ 32, and the bytes follow each other), where the base is one of a range. Sets of
 -- addresses by a first and a last one are this project's own.
 use Rattle.std.specs.Prelude.{ℕ, ◌+◌, ◌-◌, ◌%◌, ◌^◌, ◌≤◌, nat_le, ◌==◌, Bool, true, false, ◌||◌, ◌&&◌, if◌then◌else◌, ℤ, pos, ◌+ℤ◌, int_lt, Option, Some, None, not}
-use Rattle.rept_isa.specs.Numbers.{plus}
+use Rattle.rept_isa.specs.Numbers.{plus, beside}
 use Rattle.rept_partial.specs.declared.range.Range.{Range}
 use Rattle.rept_alias.specs.declared.addresses.Access.{Access}
 use Rattle.rept_alias.specs.declared.addresses.CallAccess.{CallAccess}
-
--- the address so many bytes after another, modulo 2 ^ 32
-abbrev pub beside : ℕ → ℕ → ℕ
-beside base k = (base + k) % 2 ^ 32
 
 -- how many steps lead upwards from one address to another, past the end of the address space if need be
 abbrev pub distance : ℕ → ℕ → ℕ

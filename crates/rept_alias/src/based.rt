@@ -1,9 +1,9 @@
 //! The addresses that an access of a known range of its base may touch.
 
 ghost use Rattle.std.specs.Prelude.{◌≡◌, ◌⊎◌, ℕ, ◌<◌, ◌≤◌, ◌^◌, true, pos, ◌+ℤ◌, int_lt, not};
-ghost use Rattle.rept_isa.specs.Numbers.{plus};
+ghost use Rattle.rept_isa.specs.Numbers.{plus, beside};
 ghost use Rattle.rept_partial.specs.declared.range.Range.{Range};
-ghost use Rattle.rept_alias.specs.Accesses.{hits, beside, stays_inside, access_of, IsWithin};
+ghost use Rattle.rept_alias.specs.Accesses.{hits, stays_inside, access_of, IsWithin};
 
 use crate::addresses::Access;
 use rept_isa::number::plus;

@@ -2,9 +2,8 @@
 use Rattle.std.proofs.Common.{◌≡◌, ℕ, ◌<◌, ◌≤◌, Option, Some, None, inl, inr, refl, sym, ◌∙◌, arith, is_some, min}
 use Rattle.std.proofs.lemmas.Bool.{cases_lt}
 use Rattle.rept_isa.specs.declared.row.StepRow.{StepRow}
-use Rattle.rept_isa.specs.Numbers.{plus}
+use Rattle.rept_isa.specs.Numbers.{plus, beside}
 use Rattle.rept_isa.specs.Operands.{first_read, second_read, written_by}
-use Rattle.rept_machine.specs.Arithmetic.{beside}
 use Rattle.rept_reason.specs.declared.fact.Cell.{Cell}
 use Rattle.rept_reason.specs.declared.fact.Cell.TheVariants.{Register, Byte}
 use Rattle.rept_view.specs.declared.drawn.When.{When}

@@ -85,6 +85,15 @@ module _ {W : Type 0} (a b c : State W) (x y : Bool) (P Q R : State W → Type 0
     uncut = λ u. q.uncut (p.uncut u);
   }
 
+  -- the first of which changed nothing
+  pub Drew_second : x ≡ false → Grows a b → Drew a b x P → Drew b c y Q → (P a → Q a → R a) → Drew a c y R
+  Drew_second calm g p q r = record {
+    news = λ e. news_before a b c g (q.news e);
+    unchanged = λ e. q.unchanged e ∙ p.unchanged calm;
+    closed = λ e. r (p.closed calm) (subst Q (p.unchanged calm) (q.closed e));
+    uncut = λ u. q.uncut (p.uncut u);
+  }
+
   -- the first of which brought news
   pub Drew_further : Grows b c → x ≡ true → Drew a b x P → Drew b c y Q → Drew a c true R
   Drew_further h loud p q = record {

@@ -4,10 +4,9 @@ use Rattle.std.specs.Option.{IsSome}
 use Rattle.std.proofs.lemmas.Option.{slice_get-get_or, same_Some}
 use Rattle.std.proofs.lemmas.Bool.{cases_Bool, cond-true, cond-false, ne_eqb, cases_lt, cases_order, lt-ltb, le-ltb, false≢true}
 use mathlib.Core.Path.{fun_ext}
-use Rattle.rept_isa.specs.Numbers.{plus}
+use Rattle.rept_isa.specs.Numbers.{plus, beside}
 use Rattle.rept_isa.specs.declared.row.StepRow.{StepRow}
 use Rattle.rept_isa.specs.Operands.{written_by, first_read}
-use Rattle.rept_machine.specs.Arithmetic.{beside}
 use Rattle.rept_alias.specs.declared.addresses.CallAccess.{CallAccess}
 use Rattle.rept_alias.specs.Accesses.{call_hits}
 use Rattle.rept_partial.specs.declared.flat.Flat.{Flat}
@@ -80,12 +79,6 @@ kept_at s i r x read named on off = record { onward = λ v h. on v (told_known s
 pub kept_equal : {W : Type 0} (s : State W) (i r : ℕ) (x y : Flat) → x ≡ flat (register_known (told s.known.log) i r) → y ≡ flat (register_known (told s.known.log) (i + 1) r) → x ≡ y → 0 < r → IsKeptAt i r s
 kept_equal s i r x y before after same named = record { onward = λ v h. known_told s (i + 1) r v y after (sym same ∙ told_known s i r v x before h named) named; back = λ v h. known_told s i r v x before (same ∙ told_known s (i + 1) r v y after h named) named }
 
--- what is known of a register is known later
-pub read_after : {W : Type 0} (s t : State W) (p r v : ℕ) (x : Flat) → Grows s t → x ≡ flat (register_known (told s.known.log) p r) → x ≡ Known v → x ≡ flat (register_known (told t.known.log) p r)
-read_after s t p r v x g read is =
-    let known : register_known (told s.known.log) p r ≡ Some v = flat_known (register_known (told s.known.log) p r) v (sym read ∙ is) in
-    read ∙ ap flat (known ∙ sym (known_more (told s.known.log) (told t.known.log) (λ q k w e. g.more q (Register k) w e) p r v known))
-
 pub back_known : {W : Type 0} (s : State W) (i r : ℕ) (x : Flat) → x ≡ flat (register_known (told s.known.log) (i + 1) r) → IsLearntAt i r x s → (v : ℕ) → 0 < r → Knows (i + 1) (Register r) v s → Knows i (Register r) v s
 back_known s i r x read learnt v named h = learnt v (told_known s (i + 1) r v x read h named) named
 
@@ -140,12 +133,43 @@ learnt_at s p r w x is h v is' named = h ∙ ap Some (same (sym is ∙ is'))
     same e = cc
 
 -- the bytes of a row are tracked, where those from its address on are
-pub row_tracked : {W : Type 0} (s : State W) (i : ℕ) (row : StepRow) (r base start count : ℕ) (x : Flat) → first_read row.instr ≡ Some r → x ≡ flat (register_known (told s.known.log) i r) → x ≡ Known base → start ≡ plus base (offset_of row.instr) → count ≡ min (s.path.rules.places row) 4 → AreTrackedFrom start count s → IsRowTracked row i s
-row_tracked s i row r base start count x reads read is from few tracked a h =
-    let register : r ≡ h.base_register = same_some (sym reads ∙ h.read) in
-    let known : register_known (told s.known.log) i r ≡ Some base = flat_known (register_known (told s.known.log) i r) base (sym read ∙ is) in
-    let here : register_known (told s.known.log) i r ≡ Some h.base = rw register h.base_known in
-    let same : base ≡ h.base = same_some (sym known ∙ here) in
+-- the register of a base that is known
+pub record BaseRead (row : StepRow) (k : LogKnown) (i base : ℕ) : Type 0 where
+  pub register : ℕ
+  pub read : first_read row.instr ≡ Some register
+  pub known : register_known (told k.log) i register ≡ Some base
+
+pub base_read : (row : StepRow) (moments : Moments) (k : LogKnown) (i base : ℕ) → base_known (first_read row.instr) (around moments k i) ≡ Some base → BaseRead row k i base
+base_read row moments k i base is = by_register (first_read row.instr) refl is
+  where
+    by_register : (x : Option ℕ) → first_read row.instr ≡ x → base_known x (around moments k i) ≡ Some base → BaseRead row k i base
+    by_register None e known = absurd (none_some known)
+    by_register (Some r) e known = record { register = r; read = e; known = known }
+
+pub base_at : (row : StepRow) (moments : Moments) (k : LogKnown) (i r : ℕ) (x : Flat) (found : Option ℕ) → first_read row.instr ≡ Some r → x ≡ flat (register_known (told k.log) i r) → x ≡ flat found → found ≡ base_known (first_read row.instr) (around moments k i)
+base_at row moments k i r x found reads read is = rw reads (flat_same found (register_known (told k.log) i r) (sym is ∙ read))
+  where
+    flat_same : (a b : Option ℕ) → flat a ≡ flat b → a ≡ b
+    flat_same None None e = refl
+    flat_same None (Some w) e = cc
+    flat_same (Some v) None e = cc
+    flat_same (Some v) (Some w) e = cc
+
+pub base_after : {W : Type 0} (s t : State W) (row : StepRow) (i base : ℕ) → Grows s t → base_known (first_read row.instr) (around s.path.given.moments s.known i) ≡ Some base → base_known (first_read row.instr) (around t.path.given.moments t.known i) ≡ Some base
+base_after s t row i base g at =
+    let b = base_read row s.path.given.moments s.known i base at in
+    rw b.read (known_more (told s.known.log) (told t.known.log) (λ q k w e. g.more q (Register k) w e) i b.register base b.known)
+
+-- where it isn't known, a row's rules look at no byte
+pub none_tracked : {W : Type 0} (s : State W) (i : ℕ) (row : StepRow) → base_known (first_read row.instr) (around s.path.given.moments s.known i) ≡ None → IsRowTracked row i s
+none_tracked s i row none a h =
+    let here : base_known (first_read row.instr) (around s.path.given.moments s.known i) ≡ Some h.base = rw h.read h.base_known in
+    absurd (none_some (sym none ∙ here))
+
+pub row_tracked : {W : Type 0} (s : State W) (i : ℕ) (row : StepRow) (base start count : ℕ) → base_known (first_read row.instr) (around s.path.given.moments s.known i) ≡ Some base → start ≡ plus base (offset_of row.instr) → count ≡ min (s.path.rules.places row) 4 → AreTrackedFrom start count s → IsRowTracked row i s
+row_tracked s i row base start count at from few tracked a h =
+    let here : base_known (first_read row.instr) (around s.path.given.moments s.known i) ≡ Some h.base = rw h.read h.base_known in
+    let same : base ≡ h.base = same_some (sym at ∙ here) in
     let below : h.k < count = let p = h.below_places in let q = h.below_four in rw few (omega (arith, p, q)) in
     subst (λ (y : ℕ). IsTracked y s) (sym (h.address ∙ ap (λ (b : ℕ). beside (plus b (offset_of row.instr)) h.k) (sym same) ∙ ap (λ (z : ℕ). beside z h.k) (sym from))) (tracked h.k below)
 
@@ -296,17 +320,14 @@ pub words_below : {W : Type 0} (s : State W) (t : ℕ) → OnceEach s.known.log 
 words_below s t once words p r v e = words p r v (oldest_less t s.known.log once p (Register r) v e)
 
 -- the bytes of a row whose base is known
-pub row_bytes : (rules : Rules) (row : StepRow) (moments : Moments) (k : LogKnown) (i r base start count n : ℕ) (x : Flat) → first_read row.instr ≡ Some r → x ≡ flat (register_known (told k.log) i r) → x ≡ Known base → start ≡ plus base (offset_of row.instr) → count ≡ min (rules.places row) 4 → n ≡ bytes_from (around moments k i) start count → n ≡ bytes_known rules row (around moments k i) (base_known (first_read row.instr) (around moments k i))
-row_bytes rules row moments k i r base start count n x reads read is from few counted =
-    let known : register_known (told k.log) i r ≡ Some base = flat_known (register_known (told k.log) i r) base (sym read ∙ is) in
-    let there : base_known (first_read row.instr) (around moments k i) ≡ Some base = rw reads known in
-    rw there (rw (← from, ← few) counted)
+pub row_bytes : (rules : Rules) (row : StepRow) (moments : Moments) (k : LogKnown) (i base start count n : ℕ) → base_known (first_read row.instr) (around moments k i) ≡ Some base → start ≡ plus base (offset_of row.instr) → count ≡ min (rules.places row) 4 → n ≡ bytes_from (around moments k i) start count → n ≡ bytes_known rules row (around moments k i) (base_known (first_read row.instr) (around moments k i))
+row_bytes rules row moments k i base start count n there from few counted = rw there (rw (← from, ← few) counted)
 
 -- the bytes that a row's rules look at, from its address on
-pub row_addresses : {W : Type 0} (s : State W) (i : ℕ) (row : StepRow) (r base start count : ℕ) (x : Flat) → s.path.given.legs.row i ≡ Some row → first_read row.instr ≡ Some r → x ≡ flat (register_known (told s.known.log) i r) → x ≡ Known base → start ≡ plus base (offset_of row.instr) → count ≡ min (s.path.rules.places row) 4 → AreRowAddresses start count s
-row_addresses s i row r base start count x found reads read is from few k lt =
-    let known : register_known (told s.known.log) i r ≡ Some base = flat_known (register_known (told s.known.log) i r) base (sym read ∙ is) in
-    (i, k, record { row = row; found = found; base_register = r; base = base; read = reads; known = known; below_places = omega (arith, lt, few); below_four = omega (arith, lt, few); address = ap (λ (z : ℕ). beside z k) from })
+pub row_addresses : {W : Type 0} (s : State W) (i : ℕ) (row : StepRow) (base start count : ℕ) → s.path.given.legs.row i ≡ Some row → base_known (first_read row.instr) (around s.path.given.moments s.known i) ≡ Some base → start ≡ plus base (offset_of row.instr) → count ≡ min (s.path.rules.places row) 4 → AreRowAddresses start count s
+row_addresses s i row base start count found at from few k lt =
+    let b = base_read row s.path.given.moments s.known i base at in
+    (i, k, record { row = row; found = found; base_register = b.register; base = base; read = b.read; known = b.known; below_places = omega (arith, lt, few); below_four = omega (arith, lt, few); address = ap (λ (z : ℕ). beside z k) from })
 
 -- they stay so where no less is known
 pub addresses_after : {W : Type 0} (s t : State W) (start count : ℕ) → Grows s t → AreRowAddresses start count s → AreRowAddresses start count t

@@ -15,7 +15,7 @@ use Rattle.rept_analysis.specs.Kept.{IsKept}
 use Rattle.rept_analysis.specs.State.{State, Subject, timeline_of, along}
 use Rattle.rept_analysis.proofs.Spreading.{bridged_still}
 use Rattle.rept_reach.specs.Reaching.{IsLeaving}
-use Rattle.rept_analysis.specs.Drawing.{Knows, Grows, IsCalm, IsCarriedFrom, IsCarriedIf, IsBridged, IsSparedBetween, IsBlocked, IsEnd, IsPiece, IsCarriedBeside, IsCarriedBelow, IsCarriedIn, IsCarriedAlong, IsEven, AreLinksBelow, AreLinks, IsCarriedUpTo}
+use Rattle.rept_analysis.specs.Drawing.{Knows, Grows, IsCalm, IsCarriedFrom, IsCarriedIf, IsBridged, IsSparedBetween, IsBlocked, AreBlocked, IsEnd, IsPiece, IsCarriedBeside, IsCarriedBelow, IsCarriedIn, IsCarriedAlong, IsEven, AreLinksBelow, AreLinks, IsCarriedUpTo}
 
 module _ {W : Type 0} (s : State W) where
   pub blocked_if : (x : Passage) → IsBlocked x s → IsCarriedIf x s
@@ -226,6 +226,13 @@ module _ {W : Type 0} (s : State W) (a m least : ℕ) (below : AreLinksBelow a m
     onward = λ v carries h. (below w (let most = (inside m w carries.next).1 in omega (arith, most, far)) exact).onward v carries h;
     back = λ v carries h. (below w (let most = (inside m w carries.next).1 in omega (arith, most, far)) exact).back v carries h;
   }
+
+-- where the byte is carried to no number that is next to one, all links of that one are closed
+pub links_blocked : {W : Type 0} (s : State W) (a m : ℕ) → AreBlocked a m s → AreLinks a m s
+links_blocked s a m blocked w exact = record {
+  onward = λ v carries h. absurd (blocked w carries.next exact carries);
+  back = λ v carries h. absurd (blocked w carries.next exact carries);
+}
 
 -- strip by strip
 module _ {W : Type 0} (s : State W) (a from number : ℕ) (strip : Strip) (its : IsStrip (record { legs = s.path.given.legs; moments = s.path.given.moments }) number strip) (least : strip.first ≤ from) where

@@ -1,5 +1,5 @@
 -- A byte's value goes at once to all numbers that come from known ones, up to a row that may write it.
-use Rattle.std.proofs.Common.{◌≡◌, ℕ, ◌+◌, ◌-◌, ◌<◌, ◌≤◌, ◌^◌, ◌⊎◌, true, Option, Some, None, inl, inr, sym, subst, arith, max, min}
+use Rattle.std.proofs.Common.{◌≡◌, ℕ, ◌+◌, ◌-◌, ◌<◌, ◌≤◌, ◌^◌, ◌⊎◌, true, Option, Some, None, Result, Ok, Err, IfOk, inl, inr, sym, subst, arith, max, min}
 use Rattle.std.specs.Option.{is_some}
 use Rattle.std.proofs.lemmas.Bool.{cases_lt, false≢true}
 use Rattle.rept_reason.specs.declared.fact.Cell.TheVariants.{Byte}
@@ -10,9 +10,11 @@ use Rattle.rept_report.specs.Spots.{passage}
 use Rattle.rept_versions.specs.declared.facts.Stretch.{Stretch}
 use Rattle.rept_versions.specs.Facts.{Nexts}
 use Rattle.rept_analysis.specs.declared.leap.Leap.{Leap}
+use Rattle.rept_analysis.specs.declared.link.Link.{Link}
 use Rattle.rept_analysis.specs.State.{State}
 use Rattle.rept_analysis.specs.Kept.{IsKept}
-use Rattle.rept_analysis.specs.Drawing.{Knows, IsTracked, AreWritings, IsBridged, IsLeapUp, IsLeapDown, IsLed}
+use Rattle.rept_analysis.specs.Drawing.{Knows, IsTracked, Drew, AreWritings, IsBridged, IsLeapUp, IsLeapDown, IsLed}
+use Rattle.rept_analysis.proofs.Drawn.{Drew_as}
 use Rattle.rept_analysis.proofs.Listing.{spared_by}
 
 module _ {W : Type 0} (s : State W) (x : Leap) (v : ℕ) (order : x.first ≤ x.last) (known : (q : ℕ) → x.first ≤ q → q ≤ x.last → Knows q (Byte x.address) v s) where
@@ -107,3 +109,8 @@ stays_down s a first last = record { from = omega arith; ways = λ k least befor
 pub tracked_by : {W : Type 0} (s : State W) → IsKept s → (a : ℕ) (o : Option Stretch) → Nexts s.known.store.fact a 0 o → is_some o ≡ true → IsTracked a s
 tracked_by s kept a None h some = absurd (false≢true some)
 tracked_by s kept a (Some stretch) h some = let ordered = h.run.ordered in kept.listed stretch.first a stretch.value (h.run.value stretch.first (omega arith) ordered)
+
+-- what came of a call on a number and those that are next to it, by what else it promises
+pub linked_if : {W E : Type 0} (s t : State W) (r : Result Link E) (P Q : State W → Type 0) → IfOk r (λ x. Drew s t x.has_news P) → (P s → Q s) → IfOk r (λ x. Drew s t x.has_news Q)
+linked_if s t (Ok x) P Q d f = Drew_as s t x.has_news P Q d f
+linked_if s t (Err e) P Q d f = tt

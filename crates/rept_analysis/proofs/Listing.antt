@@ -1,5 +1,5 @@
 -- The list of the rows that may write, and the numbers between which a byte is carried by it.
-use Rattle.std.proofs.Common.{◌≡◌, ℕ, zero, suc, ◌+◌, ◌<◌, ◌≤◌, ◌^◌, ◌⊎◌, Bool, true, false, List, [], ◌∷◌, ◌++◌, length, Option, Some, None, inl, inr, refl, sym, ap, subst, ◌∙◌, arith, slice_get, get_or, max, min}
+use Rattle.std.proofs.Common.{◌≡◌, ℕ, zero, suc, ◌+◌, ◌<◌, ◌≤◌, ◌^◌, ◌⊎◌, Bool, true, false, List, [], ◌∷◌, ◌++◌, length, Option, Some, None, inl, inr, refl, sym, ap, subst, ◌∙◌, arith, slice_get, get_or, max, min, is_some}
 use Rattle.std.specs.Option.{IsSome}
 use Rattle.std.proofs.lemmas.Bool.{cases_Bool, cases_lt, cases_eq, cases_order, false≢true}
 use Rattle.std.proofs.lemmas.Option.{slice_get-get_or, slice_get_within}
@@ -7,7 +7,7 @@ use Rattle.std.proofs.lemmas.List.{length_push, get_or_append_left, get_or_push}
 use Rattle.rept_alias.specs.Accesses.{call_hits}
 use Rattle.rept_alias.specs.declared.addresses.CallAccess.{CallAccess}
 use Rattle.rept_isa.specs.declared.row.StepRow.{StepRow}
-use Rattle.rept_reach.specs.Reaching.{IsExtent}
+use Rattle.rept_reach.specs.Reaching.{IsExtent, IsBar}
 use Rattle.rept_writing.specs.Hits.{hits_at, IsFirstHit, IsNextHitBelow, IsMeeting, IsNextMeeting, IsPastHitFrom, IsSplitAt, AreInOrder}
 use Rattle.rept_writing.specs.declared.list.Writing.{Writing}
 use Rattle.rept_reason.specs.Facts.{Knowledge, told}
@@ -18,7 +18,7 @@ use Rattle.rept_report.specs.Spots.{Passage, passage}
 use Rattle.rept_report.specs.Log.{oldest}
 use Rattle.rept_analysis.specs.State.{State, Subject, timeline_of, with_writing}
 use Rattle.rept_analysis.specs.declared.piece.Piece.{Piece}
-use Rattle.rept_analysis.specs.Drawing.{Grows, IsAccess, IsSpared, IsBridged, IsSparedBetween, IsSilent, IsListed, past, IsWriting, AreWritingsBefore, AreBarriers, AreWritings, AreExact, SameFacts, IsFitted, IsBlocked, IsCalm, IsLooseEnd, IsLooseBefore, IsEnd, IsPiece}
+use Rattle.rept_analysis.specs.Drawing.{Grows, IsAccess, IsSpared, IsBridged, IsSparedBetween, IsSilent, IsListed, past, IsWriting, AreWritingsBefore, AreBarriers, AreWritings, AreExact, SameFacts, IsFitted, IsBlocked, AreBlocked, Blocks, IsBlocker, IsCalm, IsLooseEnd, IsLooseBefore, IsEnd, IsPiece}
 use Rattle.rept_analysis.proofs.Barriers.{past_at}
 
 -- the same rows may write where path, facts and sets are the same
@@ -291,6 +291,56 @@ module _ {W : Type 0} (s : State W) (h : AreWritings s) (a : ℕ) (small : a < 2
   blocked_meeting m w hit x meeting at falls =
       let hits : call_hits x.access a ≡ true = subst (λ (y : Writing). call_hits y.access a ≡ true) (same_writing (sym meeting.stands ∙ at)) meeting.hits in
       blocked_by m w hit x at (same_hit list hit a x at ∙ hits) falls
+
+  -- the index of an entry that may write the byte and falls, or that there is none
+  pub blocker_meeting : (m w hit : ℕ) (x : Writing) → IsMeeting list (record { from = m; to = w; address = a }) hit → slice_get list hit ≡ Some x → s.path.given.moments.falls x.row m w ≡ true → Blocks (passage a m w) s hit
+  blocker_meeting m w hit x meeting at falls = record {
+    writing = x;
+    found = at;
+    hits = subst (λ (y : Writing). call_hits y.access a ≡ true) (same_writing (sym meeting.stands ∙ at)) meeting.hits;
+    falls = falls;
+  }
+
+  pub no_blocker : (m w k : ℕ) (o : Option ℕ) → ((y : ℕ) → o ≡ Some y → ⊥) → s.path.given.moments.next m w ≡ true → IsNextMeeting list k (record { from = m; to = w; address = a }) o → DoNoneFall m w k → IsBlocker (passage a m w) s None
+  no_blocker m w k (Some y) never next none below j x = never y refl
+  no_blocker m w k None never next none below j x =
+      elim (cases_lt j k) [
+        | inl early ↦ false≢true (sym (below j x.writing early x.found x.hits) ∙ x.falls)
+        | inr late ↦ none j late (meeting_by m w j x.writing next x.found x.hits x.falls)
+      ]
+
+  -- where there is none the byte is carried
+  pub bridged_unless : (m w : ℕ) → s.path.given.moments.next m w ≡ true → s.path.given.moments.dark m w ≡ false → IsBlocker (passage a m w) s None → IsBridged (passage a m w) s
+  bridged_unless m w next light none = record {
+    next = next;
+    light = light;
+    spared = λ i falls. spared_by i (λ j x found row hits. none j (record {
+      writing = x;
+      found = found;
+      hits = hits;
+      falls = subst (λ (n : ℕ). s.path.given.moments.falls n m w ≡ true) (sym row) falls;
+    }));
+  }
+
+  -- where there is one it isn't
+  pub blocked_if_blocks : (m w k : ℕ) → Blocks (passage a m w) s k → IsBlocked (passage a m w) s
+  blocked_if_blocks m w k x = blocked_by m w k x.writing x.found (same_hit list k a x.writing x.found ∙ x.hits) x.falls
+
+  pub blocked_some : (m w : ℕ) (o : Option ℕ) → is_some o ≡ true → IsBlocker (passage a m w) s o → IsBlocked (passage a m w) s
+  blocked_some m w None some x = absurd (false≢true some)
+  blocked_some m w (Some k) some x = blocked_if_blocks m w k x
+
+  pub bridged_not_some : (m w : ℕ) (o : Option ℕ) → s.path.given.moments.next m w ≡ true → s.path.given.moments.dark m w ≡ false → is_some o ≡ false → IsBlocker (passage a m w) s o → IsBridged (passage a m w) s
+  bridged_not_some m w None next light none x = bridged_unless m w next light x
+  bridged_not_some m w (Some k) next light none x = absurd (false≢true (sym none))
+
+  -- an entry that may write the byte, whose row falls there
+  pub blocked_if_falls : (m w k : ℕ) (x : Writing) → slice_get list k ≡ Some x → call_hits x.access a ≡ true → s.path.given.moments.falls x.row m w ≡ true → IsBlocked (passage a m w) s
+  blocked_if_falls m w k x found hits falls = blocked_by m w k x found (same_hit list k a x found ∙ hits) falls
+
+  -- an entry that may write the byte, whose row falls between a number and each one that is next to it
+  pub blocked_by_bar : (m k : ℕ) (x : Writing) → slice_get list k ≡ Some x → call_hits x.access a ≡ true → IsBar s.path.given.moments x.row m → AreBlocked a m s
+  blocked_by_bar m k x found hits bar w next = blocked_by m w k x found (same_hit list k a x found ∙ hits) (bar w next)
 
 pub blocked_dark : {W : Type 0} (s : State W) (x : Passage) → s.path.given.moments.dark x.from x.to ≡ true → IsBlocked x s
 blocked_dark s x dark exact carries = false≢true (sym carries.light ∙ dark)

@@ -6,9 +6,8 @@ use Rattle.std.proofs.lemmas.List.{length_push}
 use Rattle.std.proofs.lemmas.List.Elements.{Contains-append_left, Contains-push}
 use Rattle.std.proofs.lemmas.List.Sums.{sum_by-cons, sum_by_push, sum_by-le-sum_by, get_or-le-sum_by}
 use Rattle.rept_isa.specs.declared.row.StepRow.{StepRow}
-use Rattle.rept_isa.specs.Numbers.{plus}
+use Rattle.rept_isa.specs.Numbers.{plus, beside}
 use Rattle.rept_isa.specs.Operands.{first_read}
-use Rattle.rept_machine.specs.Arithmetic.{beside}
 use Rattle.rept_reason.specs.declared.fact.Fact.{Fact}
 use Rattle.rept_reason.specs.declared.fact.Cell.{Cell}
 use Rattle.rept_reason.specs.declared.fact.Cell.TheVariants.{Register, Byte}

@@ -1,9 +1,8 @@
 -- How many of a row's registers and bytes are known. This project's own.
 use Rattle.std.specs.Prelude.{ℕ, ◌+◌, min, Option, Some, None, is_some}
 use Rattle.rept_isa.specs.declared.row.StepRow.{StepRow}
-use Rattle.rept_isa.specs.Numbers.{plus}
+use Rattle.rept_isa.specs.Numbers.{plus, beside}
 use Rattle.rept_isa.specs.Operands.{written_by, first_read, second_read}
-use Rattle.rept_machine.specs.Arithmetic.{beside}
 use Rattle.rept_view.specs.declared.drawn.When.{When}
 use Rattle.rept_view.specs.declared.drawn.When.TheVariants.{Before, After}
 use Rattle.rept_view.specs.Seen.{Seen}

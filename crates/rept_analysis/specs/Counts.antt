@@ -2,17 +2,14 @@
 -- are is in the RISC-V unprivileged manual 20191213, chapters 2.6 and 2.8.
 use Rattle.std.specs.Prelude.{◌≡◌, ℕ, ◌+◌, Bool, true, false, not, Option, Some, None, is_some}
 use Rattle.rept_isa.specs.declared.instr.Instr.{Instr}
-use Rattle.rept_isa.specs.declared.instr.Instr.TheVariants.{Store, Ecall}
+use Rattle.rept_isa.specs.declared.instr.Instr.TheVariants.{Store}
 use Rattle.rept_isa.specs.declared.row.StepRow.{StepRow}
+use Rattle.rept_isa.specs.Operands.{is_call}
 use Rattle.rept_reason.specs.Facts.{Knowledge, register_known, register_fact}
 use Rattle.rept_span.specs.Ranges.{Legs}
 use Rattle.rept_report.specs.Setting.{Setting}
 use Rattle.rept_report.specs.declared.counts.Counts.{Counts}
 use Rattle.rept_analysis.specs.Sums.{count_true, sum_to}
-
-abbrev pub is_call : Instr → Bool
-is_call Ecall = true
-is_call _ = false
 
 -- the register of a store's base
 abbrev pub base_of : Instr → Option ℕ

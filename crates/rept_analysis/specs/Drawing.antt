@@ -3,10 +3,10 @@ use Rattle.std.specs.Prelude.{◌≡◌, ◌≢◌, ℕ, zero, suc, ◌+◌, ◌
 use Rattle.std.specs.Option.{IsSome}
 use Rattle.rept_isa.specs.declared.row.StepRow.{StepRow}
 use Rattle.rept_isa.specs.Operands.{written_by}
+use Rattle.rept_isa.specs.Numbers.{beside}
 use Rattle.rept_versions.specs.Facts.{Between, Carry}
 use Rattle.rept_alias.specs.declared.addresses.CallAccess.{CallAccess}
 use Rattle.rept_alias.specs.Accesses.{call_hits}
-use Rattle.rept_machine.specs.Arithmetic.{beside}
 use Rattle.rept_partial.specs.declared.flat.Flat.{Flat}
 use Rattle.rept_partial.specs.declared.flat.Flat.TheVariants.{Known}
 use Rattle.rept_reason.specs.declared.fact.Fact.{Fact}
@@ -367,6 +367,22 @@ IsCarriedAlong a s = AreExact s → (m w : ℕ) → IsCarriedOver (passage a m w
 -- the byte isn't carried over, where the list is exact
 abbrev pub IsBlocked : {W : Type 0} → Passage → State W → Type 0
 IsBlocked x s = AreExact s → Carries (along s.path) (told (oldest s.filled s.known.log)) x → ⊥
+
+-- nor to any moment that is next to one
+abbrev pub AreBlocked : {W : Type 0} → ℕ → ℕ → State W → Type 0
+AreBlocked a m s = (w : ℕ) → s.path.given.moments.next m w ≡ true → IsBlocked (passage a m w) s
+
+-- the row at an index of the list may write the byte, and falls between the two moments
+pub record Blocks {W : Type 0} (x : Passage) (s : State W) (k : ℕ) : Type 0 where
+  pub writing : Writing
+  pub found : slice_get s.work.writing k ≡ Some writing
+  pub hits : call_hits writing.access x.address ≡ true
+  pub falls : s.path.given.moments.falls writing.row x.from x.to ≡ true
+
+-- the index of such a row, or that there is none
+abbrev pub IsBlocker : {W : Type 0} → Passage → State W → Option ℕ → Type 0
+IsBlocker x s None = (k : ℕ) → Blocks x s k → ⊥
+IsBlocker x s (Some k) = Blocks x s k
 
 -- nothing that may write the byte falls at the pause of a strip, if it has one
 abbrev pub IsCalm : {W : Type 0} → ℕ → Strip → State W → Type 0

@@ -23,7 +23,7 @@ sought_by S K m (Some a) i = IsCandidate S K (spot m a) i
 abbrev pub IsSought : {W : Type 0} → Setting W → Knowledge → Sought → ℕ → Type 0
 IsSought S K x i = sought_by S K x.moment x.address i
 
--- what is said of the row that last wrote, where each of some rows may have written and no other did: exactly one of the three fits
+-- what is said of the row that last wrote, where each of some rows may have written and no other did: at most one of the four fits, and never the first
 abbrev pub IsPossibleWriter : Moments → (ℕ → Type 0) → Writer → Type 0
 IsPossibleWriter moments Is (writers.TheVariants.Writes j) = ⊥
 IsPossibleWriter moments Is (writers.TheVariants.MayWrite j) = IsLatest moments Is j

@@ -44,7 +44,9 @@ mod why;
 
 use crate::fresh::Fresh;
 use crate::pass::Passes;
+use crate::recent::Recent;
 use crate::stop::Stop;
+use crate::tables::Tables;
 use rept_dump::Dump;
 use rept_isa::{Reg, StepRow};
 use rept_log::{FactLog, LastValues};
@@ -100,6 +102,8 @@ pub struct Analysis<
     has_put: bool,
     /// the rows beside which something was learnt since they were looked at
     fresh: Fresh,
+    /// the bytes of which something was learnt lately
+    recent: Recent,
 }
 
 impl<'a, P: Reaches + Drop, L: LastValues + Drop, B: ByteFacts, W: Transfer, R: RowRules> Model
@@ -166,11 +170,15 @@ impl<'a, P: Reaches + Drop, L: LastValues + Drop, B: ByteFacts, W: Transfer, R: 
     {
         let bytes = access_bytes::<P, R>(&paths);
         let count = paths.last_point();
-        let known = FactLog::new(alloc, count, bytes)?;
-        let spans = Spans::new(alloc, count + 1)?;
-        let writing = Writings::new(alloc, paths.end() as usize + 1, bytes as usize)?;
-        let drawn = Passes::new(alloc, count as usize)?;
-        let fresh = Fresh::new(alloc, count as usize)?;
+        let tables = Tables::new(alloc, count, paths.end(), bytes)?;
+        let Tables {
+            known,
+            spans,
+            writing,
+            drawn,
+            fresh,
+            recent,
+        } = tables;
         Ok(Analysis {
             alloc,
             paths,
@@ -188,6 +196,7 @@ impl<'a, P: Reaches + Drop, L: LastValues + Drop, B: ByteFacts, W: Transfer, R: 
             is_freed: false,
             has_put: false,
             fresh,
+            recent,
         })
     }
 

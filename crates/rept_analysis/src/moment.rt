@@ -4,12 +4,12 @@ ghost use Rattle.std.specs.Prelude.{◌≡◌, ◌+◌, ◌<◌, ◌≤◌, ◌^
 ghost use Rattle.rept_reason.specs.declared.fact.Cell.TheVariants.{Register};
 ghost use Rattle.rept_reason.specs.Facts.{told};
 ghost use Rattle.rept_report.specs.Log.{oldest};
-ghost use Rattle.rept_report.specs.Views.{bounds};
 
 use rept_isa::Reg;
 use rept_log::FactLog;
 use rept_log::views::{known_or, point_at};
-use rept_partial::{Flat, Partial, Range};
+use rept_partial::{Flat, Range};
+use rept_report::bounds;
 use rept_span::{Spans, Transfer};
 use rept_versions::ByteFacts;
 use rept_view::{RowView, When};
@@ -29,16 +29,6 @@ pub struct Moment<'k, B: ByteFacts, W: Transfer> {
     ghost near: { facts.now.last ≤ 66560 },
     ghost sized: { spans.now.points ≡ facts.now.last + 1 },
     ghost words: { (p r v : ℕ) → told (oldest limit facts.now.log) p (Register r) ≡ Some v → v < 2 ^ 32 },
-}
-
-/// The values from a set's lower to its upper bound, or the only one that it has.
-fn bounds<W: Transfer>(set: W) -> Range
-    ensures { result ≡ bounds W.sets (Some set) }
-{
-    match set.as_exact() {
-        Some(v) => Range::exact(v),
-        None => Range::new(set.lo(), set.hi()),
-    }
 }
 
 impl<'k, B: ByteFacts, W: Transfer> RowView for Moment<'k, B, W> {

@@ -1,30 +1,39 @@
 -- The exits of the call that loads the files of a core file's list.
-use Rattle.std.proofs.Common.{◌≡◌, ◌⊎◌, ℕ, suc, ◌+◌, ◌<◌, ◌≤◌, List, length, Option, None, Some, IfSome, Result, Ok, inl, inr, refl, sym, subst, ◌∙◌, arith}
-use Rattle.std.specs.Prelude.{slice_get}
+use Rattle.std.proofs.Common.{◌≡◌, ◌⊎◌, ℕ, suc, ◌+◌, ◌≤◌, List, length, Option, None, Some, IfSome, Result, Ok, inl, inr, refl, sym, subst, ◌∙◌, arith}
+use Rattle.rept_maps.specs.Views.{desc_of}
 use Rattle.rept_maps.specs.declared.fault.MapFault.{MapFault}
 use Rattle.rept_mapped.specs.Mapped.{Mapping}
 use Rattle.rept_mapfiles.specs.Kept.{asked_names, loads_after}
-use Rattle.rept_ports.specs.Causes.{Rose}
 use Rattle.rept_ports.specs.Port.{Port, Move, move}
 use Rattle.rept_ports.specs.Shelves.{Files, Shelved}
-use Rattle.rept_app.specs.Delivered.{Delivers, Says}
-use Rattle.rept_app.specs.Ends.{EndsSession, Stopped}
+use Rattle.rept_app.specs.Delivered.{Delivers, Says, SaysOrNoMemory}
+use Rattle.rept_app.specs.Ends.{EndsSession, Stopped, Yields}
 use Rattle.rept_app.specs.Examine.{Examines, FilesEnd, FilesExclude, FilesHold, IsExamined}
 use Rattle.rept_app.specs.Forms.{core_image_fault}
+use Rattle.rept_app.specs.Lines.{status_of}
+use Rattle.rept_app.specs.Listed.{AreLoaded, HasNoFiles, IsListRefused, LoadStops}
 use Rattle.rept_app.specs.Loading.{CoreBytes, parts_bytes}
 use Rattle.rept_app.specs.Mapped.{ListSays, NamesLoaded, mapped_crash, mapped_files}
 use Rattle.rept_app.specs.MappedEnds.{ExaminesMapped, IsExaminedMapped, MappedCall, MappedEnd, MappedExcludes, MappedHolds, TellsName, mapped_call, port_moves}
+use Rattle.rept_app.specs.declared.listed.ListStop.TheVariants as stops
+use Rattle.rept_app.specs.declared.listed.ListedFiles.{ListedFiles}
+use Rattle.rept_app.specs.declared.refusal.Refusal.{Refusal}
 use Rattle.rept_app.specs.declared.refusal.Refusal.TheVariants as refusal
 use Rattle.rept_app.specs.declared.status.Status.{Status}
 use Rattle.rept_app.specs.declared.status.Status.TheVariants as ends
-use Rattle.rept_app.proofs.DeliveredLemmas.{delivers_as}
+use Rattle.rept_app.proofs.DeliveredLemmas.{delivers_as, ends_told, not_yielded, told_ports}
 use Rattle.rept_app.proofs.MadeLemmas.{memory_ports}
-use Rattle.rept_app.proofs.MappedLemmas.{Ended, calm_move, ended_move, examined_so, files_excluded, files_held, files_written, list_ends, memory_stopped, name_ports, name_told, name_written, named_so, named_yields, never_loading, stopped_move, stopped_so, stopped_yields, where_both, where_files}
+use Rattle.rept_app.proofs.MappedLemmas.{Ended, calm_move, core_ends, core_not_loading, ended_move, examined_so, files_excluded, files_held, files_written, idle_move, image_written, image_yields, list_ends, list_written, list_yields, memory_stopped, name_ports, name_told, name_written, named_so, named_yields, never_loading, stopped_move, stopped_so, stopped_yields, where_both, where_files}
 
 -- so many loads of the names of a list
 pub are_asked : (core desc : List ℕ) (asked : Move ℕ) (status : Status) (count : ℕ) → ListSays core (Ok desc) → count ≤ length (asked_names desc) → asked.after ≡ loads_after count asked.before
     → (count ≡ length (asked_names desc)) ⊎ (status ≡ ends.LoadFault) ⊎ Stopped status → NamesLoaded core asked status
 are_asked core desc asked status count listed within loads all = inr (desc, listed, record { count = count; within = within; loads = loads; all = all })
+
+-- all files of the list were asked for
+pub loaded_all : (core : List ℕ) (shelf : Move Shelved) (l : ListedFiles) (status : Status) → AreLoaded core shelf l → NamesLoaded core (move shelf.before.loads shelf.after.loads) status
+loaded_all core shelf l status is =
+    are_asked core (desc_of l.maps) (move shelf.before.loads shelf.after.loads) status (length (asked_names (desc_of l.maps))) is.listed (omega arith) is.loads (inl refl)
 
 -- there was no memory
 module _ (c : CoreBytes) (old new : Shelved) (source : Port) (out : Move Port) (status : Status) (d : Delivers (Says refusal.OutOfMemory) out status) where
@@ -61,24 +70,102 @@ module _ (c : CoreBytes) (old new : Shelved) (source : Port) (out : Move Port) (
       never (inr (inl h)) = let bad : ends.OutputFault ≡ ends.Inconsistent = sym h ∙ e in let no : ⊥ = cc in absurd no
       never (inr (inr h)) = let bad : ends.OutOfMemory ≡ ends.Inconsistent = sym h ∙ e in let no : ⊥ = cc in absurd no
 
-  module _ (desc : List ℕ) (listed : ListSays c.core (Ok desc)) (place : ℕ) (loads : new.loads ≡ loads_after (suc place) old.loads) where
-    pub name_lines : core_image_fault c.core ≡ None → slice_get (asked_names desc) place ≡ Some name → (left : Option (List ℕ))
+  module _ (stop : LoadStops c.core (move old new) name) where
+    pub name_lines : (left : Option (List ℕ))
         → IfSome old.files (λ told. IfSome source.bytes (λ input. Delivers (ExaminesMapped (mapped_call (mapped_crash told c) (move old.loads new.loads) (record { input = input; left = left }))) out status))
-    name_lines accepted named left = where_both old.files source.bytes _ (λ told input.
+    name_lines left = where_both old.files source.bytes _ (λ told input.
         let call : MappedCall = mapped_call (mapped_crash told c) (move old.loads new.loads) (record { input = input; left = left }) in
-        delivers_as (TellsName name) (ExaminesMapped call) out status (λ text s h. name_written call text s accepted desc listed place name named loads h) d)
+        delivers_as (TellsName name) (ExaminesMapped call) out status (λ text s h. name_written call text s stop.accepted stop.desc stop.listed stop.place name stop.named stop.loads h) d)
 
-    pub name_causes : place < length (asked_names desc) → new.files ≡ old.files → old.faults ≤ new.faults → IfSome old.files (λ _. new.faults ≤ old.faults + 1) → Rose old.faults new.faults
-        → IsExaminedMapped c (port_moves (move old new) (move source source) out) status
-    name_causes within files later once rose =
+    pub name_causes : new.files ≡ old.files → old.faults ≤ new.faults → IfSome old.files (λ _. new.faults ≤ old.faults + 1) → IsExaminedMapped c (port_moves (move old new) (move source source) out) status
+    name_causes files later once =
         let so = name_told name out status d in
+        let within = stop.within in
         record {
           ports = name_ports name source out status d;
-          shelf = ended_move old new status files later once so (λ _. rose);
-          loads = are_asked c.core desc (move old.loads new.loads) status (suc place) listed within loads (inr so);
+          shelf = ended_move old new status files later once so (λ _. stop.rose);
+          loads = are_asked c.core stop.desc (move old.loads new.loads) status (suc stop.place) stop.listed (omega (arith, within)) stop.loads (inr so);
           ends_so = named_so status so;
           yields = named_yields old.files c status so;
         }
+
+-- the core file or its list is refused, or there was no memory for it
+module _ (c : CoreBytes) (old new : Shelved) (source : Port) (out : Move Port) (status : Status) (r : Refusal) (why : HasNoFiles c.core (move old new) (stops.Refused r)) (d : Delivers (SaysOrNoMemory r) out status) where
+  -- what is written of a refusal is that of the same one
+  told_as : (other : Refusal) → r ≡ other → Delivers (SaysOrNoMemory other) out status
+  told_as other is = subst (λ (x : Refusal). Delivers (SaysOrNoMemory x) out status) is d
+
+  no_memory : r ≡ refusal.OutOfMemory → Delivers (Says refusal.OutOfMemory) out status
+  no_memory is = delivers_as (SaysOrNoMemory refusal.OutOfMemory) (Says refusal.OutOfMemory) out status (λ text s told. alike text s told) (told_as refusal.OutOfMemory is)
+    where
+      alike : (text : List ℕ) (s : Status) → SaysOrNoMemory refusal.OutOfMemory text s → Says refusal.OutOfMemory text s
+      alike text s (inl says) = says
+      alike text s (inr says) = says
+
+  refused_written : (call : MappedCall) → call.crash.bytes ≡ c → (text : List ℕ) (s : Status) → SaysOrNoMemory r text s → ExaminesMapped call text s
+  refused_written call same text s told = by why
+    where
+      said_as : (other : Refusal) → r ≡ other → SaysOrNoMemory other text s
+      said_as other is = subst (λ (x : Refusal). SaysOrNoMemory x text s) is told
+
+      either : SaysOrNoMemory refusal.OutOfMemory text s → ExaminesMapped call text s
+      either (inl says) = inr (inl says)
+      either (inr says) = inr (inl says)
+
+      at : IsListRefused call.crash.bytes.core r → ExaminesMapped call text s
+      at (inl (fault, refused, is)) = image_written call text s fault (sym refused) (said_as (refusal.CoreImage fault) is)
+      at (inr (fault, accepted, listed, only, is)) = list_written call text s fault accepted listed (said_as (refusal.Maps fault) is)
+
+      by : HasNoFiles c.core (move old new) (stops.Refused r) → ExaminesMapped call text s
+      by (inl (refused, idle)) = at (subst (λ (b : CoreBytes). IsListRefused b.core r) (sym same) refused)
+      by (inr (is, cut)) = either (said_as refusal.OutOfMemory is)
+
+  pub refused_lines : (left : Option (List ℕ)) → IfSome old.files (λ told. IfSome source.bytes (λ input. Delivers (ExaminesMapped (mapped_call (mapped_crash told c) (move old.loads new.loads) (record { input = input; left = left }))) out status))
+  refused_lines left = where_both old.files source.bytes _ (λ told input.
+      let call : MappedCall = mapped_call (mapped_crash told c) (move old.loads new.loads) (record { input = input; left = left }) in
+      delivers_as (SaysOrNoMemory r) (ExaminesMapped call) out status (λ text s told. refused_written call refl text s told) d)
+
+  -- a refusal of the core file or its list, after which the shelf is as it was
+  core_causes : (f : Refusal) → r ≡ f → (status_of f ≡ ends.Core) → (Yields ends.Core status → Ended old.files c status) → new ≡ old → IsExaminedMapped c (port_moves (move old new) (move source source) out) status
+  core_causes f is core yields idle =
+      let its = told_as f is in
+      let so = subst (λ (e : Status). Yields e status) core (ends_told f out status its) in
+      subst (λ (s : Shelved). IsExaminedMapped c (port_moves (move old s) (move source source) out) status) (sym idle)
+      (record {
+        ports = told_ports f source out status (λ e. not_input (sym core ∙ e)) (λ e. not_output (sym core ∙ e)) its;
+        shelf = idle_move old status (core_not_loading status so);
+        loads = inl (refl, so);
+        ends_so = core_ends status so;
+        yields = yields so;
+      })
+    where
+      not_input : ends.Core ≡ ends.InputFault → ⊥
+      not_input same = cc
+
+      not_output : ends.Core ≡ ends.OutputFault → ⊥
+      not_output same = cc
+
+  pub refused_causes : new.files ≡ old.files → old.faults ≤ new.faults → IfSome old.files (λ _. new.faults ≤ old.faults + 1) → IsExaminedMapped c (port_moves (move old new) (move source source) out) status
+  refused_causes files later once = by why
+    where
+      by : HasNoFiles c.core (move old new) (stops.Refused r) → IsExaminedMapped c (port_moves (move old new) (move source source) out) status
+      by (inl (inl (fault, refused, is), idle)) = core_causes (refusal.CoreImage fault) is refl (image_yields old.files c status fault (sym refused)) idle
+      by (inl (inr (fault, accepted, listed, only, is), idle)) = core_causes (refusal.Maps fault) is refl (list_yields old.files c status fault accepted only) idle
+      by (inr (is, cut)) =
+          memory_causes c old new source out status (no_memory is) files later once (λ s. are_asked c.core cut.desc (move old.loads new.loads) status cut.count cut.listed cut.within cut.loads (inr (inr s)))
+
+  pub refused_impossible : {P : Type 0} → status ≡ ends.Inconsistent → P
+  refused_impossible {P} e = by why
+    where
+      never : (f : Refusal) → status_of f ≡ ends.Core → r ≡ f → P
+      never f core is =
+          absurd (not_yielded ends.Core ends.Inconsistent status (λ (same : ends.Core ≡ ends.Inconsistent). cc) (λ (same : ends.Inconsistent ≡ ends.OutputFault). cc) (λ (same : ends.Inconsistent ≡ ends.OutOfMemory). cc)
+          (subst (λ (s : Status). Yields s status) core (ends_told f out status (told_as f is))) e)
+
+      by : HasNoFiles c.core (move old new) (stops.Refused r) → P
+      by (inl (inl (fault, refused, is), idle)) = never (refusal.CoreImage fault) refl is
+      by (inl (inr (fault, accepted, listed, only, is), idle)) = never (refusal.Maps fault) refl is
+      by (inr (is, cut)) = memory_impossible c old new source out status (no_memory is) e
 
 -- all that are there were loaded, and the files are examined
 module _ (c : CoreBytes) (old new : Shelved) (source out : Move Port) (status : Status) (desc : List ℕ) (ms : List Mapping) (program : IfSome old.files (λ files. ms ≡ mapped_files files desc)) (accepted : core_image_fault c.core ≡ None) (listed : ListSays c.core (Ok desc)) where

@@ -26,7 +26,7 @@ use Rattle.rept_app.specs.Ends.{FaultEnds, PortsEnd, Stopped, Yields}
 use Rattle.rept_app.specs.Examine.{Examines, FilesExclude, FilesHold, IsWalkStatus}
 use Rattle.rept_app.specs.Forms.{core_image_fault, crash_in}
 use Rattle.rept_app.specs.Loading.{CoreBytes, parts_bytes}
-use Rattle.rept_app.specs.Mapped.{ListSays, MappedCrash, NamesLoaded, NamesMove, kept_of, mapped_bytes, mapped_crash, mapped_files, mapped_part, parts_from}
+use Rattle.rept_app.specs.Mapped.{ListSays, MappedCrash, NamesMove, kept_of, mapped_bytes, mapped_crash, mapped_files, mapped_part, parts_from}
 use Rattle.rept_app.specs.MappedEnds.{ExaminesMapped, ListEnds, MappedCall, MappedEnd, MappedExcludes, MappedHolds, TellsName}
 use Rattle.rept_app.specs.Reading.{HasNoCrash, NotesRefuse}
 use Rattle.rept_app.specs.Told.{Examined, crash_trace, trace_in}
@@ -347,10 +347,7 @@ pub same_count : (o : Option Files) (n : ℕ) → IfSome o (λ _. n ≤ n + 1)
 same_count None n = tt
 same_count (Some files) n = omega arith
 
--- no load
-pub idle_loads : (core : List ℕ) (loads : ℕ) (status : Status) → Stopped status → NamesLoaded core (move loads loads) status
-idle_loads core loads status s = inl (refl, inr s)
-
+-- how many of the names
 pub within_names : (count names asked : ℕ) → count ≤ names → names ≡ asked → count ≤ asked
 within_names count names asked h e = omega (arith, h, e)
 

@@ -10,7 +10,7 @@ use Rattle.rept_moments.specs.Points.{points_in}
 use Rattle.rept_timeline.specs.Small.{IsSmall}
 use Rattle.rept_timeline.proofs.Counting.{all_points}
 use Rattle.rept_moments.specs.declared.course.Course as courses
-use Rattle.rept_ports.specs.Port.{Port, Move}
+use Rattle.rept_ports.specs.Port.{Port, Move, move}
 use Rattle.rept_report.specs.Closure.{ClosureHas, IsConsistent}
 use Rattle.rept_report.specs.OneThread.{along}
 use Rattle.rept_report.specs.Setting.{Setting}
@@ -28,19 +28,21 @@ use Rattle.rept_found.specs.declared.contradiction.Contradiction.{Contradiction}
 use Rattle.rept_found.proofs.Alone.{alone_setting}
 use Rattle.rept_found.proofs.Settings.{found_there}
 use Rattle.rept_serve.specs.Serving.{Reading}
-use Rattle.rept_app.specs.Delivered.{SaysOrNoMemory}
+use Rattle.rept_app.specs.Delivered.{Delivers, SaysOrNoMemory}
 use Rattle.rept_app.specs.Ends.{Stopped, Yields, EndsSession, IsCaused, PortsEnd}
 use Rattle.rept_app.specs.Held.{IsHeldSession}
 use Rattle.rept_app.specs.Reading.{AreNotesOf}
-use Rattle.rept_app.specs.Study.{AreEndsOf, Studies, IsStudied}
+use Rattle.rept_app.specs.Study.{AreEndsOf, HasNoReport, Studies, IsStudied}
 use Rattle.rept_words.specs.declared.request.Domain.{Domain}
 use Rattle.rept_app.specs.Domains.{SetsOf, means_of}
 use Rattle.rept_app.specs.Told.{CrashRun, crash_run, contradiction_in}
 use Rattle.rept_app.specs.TraceRun.{FitsDump}
 use Rattle.rept_app.specs.True.{IsExcluded}
+use Rattle.rept_app.specs.declared.refusal.Refusal.{Refusal}
 use Rattle.rept_app.specs.declared.refusal.Refusal.TheVariants as refusal
 use Rattle.rept_app.specs.declared.status.Status.{Status}
 use Rattle.rept_app.specs.declared.status.Status.TheVariants as ends
+use Rattle.rept_app.proofs.DeliveredLemmas.{ends_told, not_yielded, told_ports}
 use Rattle.rept_app.proofs.RunLemmas.{IsWhole, some_first}
 
 module _ {W : Type 0} (m : Means W) (crash : Crash) (run : Run) (reading : Reading) where
@@ -98,6 +100,38 @@ memory_causes m crash run source sink status ports so = record {
     stops : Yields ends.OutOfMemory status → Stopped status
     stops (inl h) = inr h
     stops (inr h) = h
+
+-- where there is no report
+module _ {W : Type 0} (m : Means W) (crash : Crash) (run : Run) (r : Refusal) (why : HasNoReport (crash_run m crash run) r) where
+  pub refused_studies : (reading : Reading) (text : List ℕ) (status : Status) → SaysOrNoMemory r text status → Studies (crash_run m crash run) reading text status
+  refused_studies reading text status told = by why
+    where
+      by : HasNoReport (crash_run m crash run) r → Studies (crash_run m crash run) reading text status
+      by (inl (kind, has, none, is)) = conflict_studies m crash run reading kind (contradiction_on (course_of run) kind) refl has text status (subst (λ (x : Refusal). SaysOrNoMemory x text status) is told)
+      by (inr is) = no_memory_studies m crash run reading text status (subst (λ (x : Refusal). SaysOrNoMemory x text status) is told)
+
+  pub refused_causes : (source : Port) (out : Move Port) (status : Status) → Delivers (SaysOrNoMemory r) out status → IsStudied (crash_run m crash run) (move source source) out status
+  refused_causes source out status told = by why
+    where
+      by : HasNoReport (crash_run m crash run) r → IsStudied (crash_run m crash run) (move source source) out status
+      by (inl (kind, has, none, is)) =
+          let conflict = refusal.Inconsistent (contradiction_on (course_of run) kind) in
+          let its = subst (λ (x : Refusal). Delivers (SaysOrNoMemory x) out status) is told in
+          told_causes m crash run (move source source) out status kind has
+          (told_ports conflict source out status (λ (same : ends.Inconsistent ≡ ends.InputFault). cc) (λ (same : ends.Inconsistent ≡ ends.OutputFault). cc) its) (ends_told conflict out status its)
+      by (inr is) =
+          let its = subst (λ (x : Refusal). Delivers (SaysOrNoMemory x) out status) is told in
+          memory_causes m crash run (move source source) out status
+          (told_ports refusal.OutOfMemory source out status (λ (same : ends.OutOfMemory ≡ ends.InputFault). cc) (λ (same : ends.OutOfMemory ≡ ends.OutputFault). cc) its) (ends_told refusal.OutOfMemory out status its)
+
+  pub refused_excludes : (out : Move Port) (status : Status) → Delivers (SaysOrNoMemory r) out status → status ≡ ends.Inconsistent → IsExcluded (crash_run m crash run)
+  refused_excludes out status told e = by why
+    where
+      by : HasNoReport (crash_run m crash run) r → IsExcluded (crash_run m crash run)
+      by (inl (kind, has, none, is)) = none
+      by (inr is) =
+          absurd (not_yielded ends.OutOfMemory ends.Inconsistent status (λ (same : ends.OutOfMemory ≡ ends.Inconsistent). cc) (λ (same : ends.Inconsistent ≡ ends.OutputFault). cc) (λ (same : ends.Inconsistent ≡ ends.OutOfMemory). cc)
+          (ends_told refusal.OutOfMemory out status (subst (λ (x : Refusal). Delivers (SaysOrNoMemory x) out status) is told)) e)
 
 -- a session doesn't end as a conflict does
 pub not_inconsistent : (status : Status) → EndsSession status → status ≡ ends.Inconsistent → ⊥

@@ -6,6 +6,7 @@ pub mod Examine
 pub mod Forms
 pub mod Held
 pub mod Lines
+pub mod Listed
 pub mod Loading
 pub mod MadeRun
 pub mod Mapped

@@ -1,9 +1,11 @@
 //! The top call: words, files, run, analysis and session.
 #![tactic(auto)]
 
+mod analysis;
 mod dumping;
 mod examine;
 mod hold;
+mod listed;
 mod load;
 mod made_run;
 mod mapped;
@@ -17,7 +19,9 @@ mod telling;
 mod texts;
 mod top;
 
+pub use analysis::{Basis, analyse, basis_of};
 pub use dumping::read_dump;
+pub use listed::{ListStop, ListedFiles, images_in, load_listed};
 pub use load::{Asked, CoreFiles, CrashFiles, Manner, load_files};
 pub use mapped::tell_failed;
 pub use refusal::{FileKind, Refusal};

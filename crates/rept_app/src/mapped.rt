@@ -1,10 +1,9 @@
 //! From a core file that lists the files of its program to the study of its run.
 
-ghost use Rattle.std.specs.Prelude.{◌≡◌, ◌⊎◌, ◌<◌, ◌^◌, List, None, Ok, Result, ℕ, length, IfOk, IfSome};
+ghost use Rattle.std.specs.Prelude.{◌≡◌, ◌⊎◌, ◌<◌, ◌^◌, None, length, IfOk, IfSome};
 ghost use Rattle.rept_elf.specs.Image.{file_of};
 ghost use Rattle.rept_maps.specs.FileMap.{map_count};
 ghost use Rattle.rept_maps.specs.Views.{desc_of};
-ghost use Rattle.rept_maps.specs.declared.fault.MapFault.{MapFault};
 ghost use Rattle.rept_mapped.specs.Mapped.{mappings};
 ghost use Rattle.rept_ports.specs.Port.{move};
 ghost use Rattle.rept_app.specs.Delivered.{Delivers};
@@ -12,21 +11,21 @@ ghost use Rattle.rept_app.specs.Ends.{EndsSession};
 ghost use Rattle.rept_app.specs.Examine.{Examines, FilesExclude, FilesHold, IsExamined};
 ghost use Rattle.rept_app.specs.Forms.{core_image_fault};
 ghost use Rattle.rept_app.specs.Loading.{core_bytes, parts_bytes};
-ghost use Rattle.rept_app.specs.Mapped.{ListSays, mapped_crash, name_line};
+ghost use Rattle.rept_app.specs.Mapped.{mapped_crash, name_line};
 ghost use Rattle.rept_app.specs.MappedEnds.{ExaminesMapped, IsExaminedMapped, MappedExcludes, MappedHolds, TellsName, mapped_call, port_moves};
 
 use crate::examine::walk;
+use crate::listed::{ListStop, images_in, load_listed};
 use crate::load::CoreFiles;
 use crate::refusal::Refusal;
 use crate::status::Status;
 use crate::telling::{deliver, tell, tell_no_memory};
-use crate::texts::push_visible;
 use rept_dump::Dump;
-use rept_elf::{Image, Want};
-use rept_mapfiles::{LoadStop, asked_names, images_of, load_names};
+use rept_elf::Image;
 use rept_maps::{Images, Maps};
 use rept_ports::{Shelf, Sink, Source};
 use rept_runs::is_several;
+use rept_session::push_visible;
 use rept_word::{OutOfMemory, Text};
 use std::alloc::Global;
 
@@ -45,50 +44,16 @@ pub fn examine_mapped<H: Shelf, S: Source, K: Sink>(
     ensures stays { let bytes = core_bytes files.now.core.items files.now.trace.items files.now.manner in (input.new ≡ input.old) ⊎ (EndsSession result × IfSome (H.port shelf.old).files (λ told. MappedHolds (mapped_crash told bytes) result)) }
     ensures impossible { let bytes = core_bytes files.now.core.items files.now.trace.items files.now.manner in result ≡ Status.Inconsistent → IfSome (H.port shelf.old).files (λ told. MappedExcludes (mapped_crash told bytes)) }
 {
-    let core = match Image::read(files.core.as_slice(), Want::Core) {
-        Ok(core) => core,
-        Err(fault) => return tell(alloc, out, &Refusal::CoreImage(fault)),
+    let listed = match load_listed(alloc, shelf, files.core.as_slice()) {
+        Ok(listed) => listed,
+        Err(ListStop::Refused(refusal)) => return tell(alloc, out, &refusal),
+        Err(ListStop::LoadFault(name)) => return tell_failed(alloc, out, name),
     };
-    match Maps::read(core) {
-        Ok(maps) => study_mapped(alloc, shelf, maps, core, files, input, out),
-        Err(fault) => tell(alloc, out, &Refusal::Maps(fault)),
-    }
-}
-
-/// The same of a list, with the core file's image.
-fn study_mapped<H: Shelf, S: Source, K: Sink>(
-    alloc: Global,
-    shelf: &mut H,
-    maps: Maps<'_>,
-    core: Image<'_>,
-    files: &CoreFiles,
-    input: &mut S,
-    out: &mut K,
-) -> Status
-    requires short { length files.now.trace.items < 2 ^ 32 }
-    requires accepted { core_image_fault (file_of core) ≡ None }
-    requires listed { ListSays (file_of core) (Ok (desc_of maps)) }
-    requires only { (said : Result (List ℕ) MapFault) → ListSays (file_of core) said → said ≡ Ok (desc_of maps) }
-    ensures text { let bytes = core_bytes (file_of core.entry) files.now.trace.items files.now.manner in IfSome (H.port shelf.old).files (λ told. IfSome (S.port input.old).bytes (λ left.
-        Delivers (ExaminesMapped (mapped_call (mapped_crash told bytes) (move (H.port shelf.old).loads (H.port shelf.new).loads) (record { input = left; left = (S.port input.new).bytes }))) (move (K.port out.old) (K.port out.new)) result)) }
-    ensures causes { IsExaminedMapped (core_bytes (file_of core.entry) files.now.trace.items files.now.manner) (port_moves (move (H.port shelf.old) (H.port shelf.new)) (move (S.port input.old) (S.port input.new)) (move (K.port out.old) (K.port out.new))) result }
-    ensures stays { let bytes = core_bytes (file_of core.entry) files.now.trace.items files.now.manner in (input.new ≡ input.old) ⊎ (EndsSession result × IfSome (H.port shelf.old).files (λ told. MappedHolds (mapped_crash told bytes) result)) }
-    ensures impossible { let bytes = core_bytes (file_of core.entry) files.now.trace.items files.now.manner in result ≡ Status.Inconsistent → IfSome (H.port shelf.old).files (λ told. MappedExcludes (mapped_crash told bytes)) }
-{
-    let names = match asked_names(alloc, &maps) {
-        Ok(names) => names,
-        Err(_) => return tell_no_memory(out),
-    };
-    let kept = match load_names(alloc, shelf, names.as_slice()) {
-        Ok(kept) => kept,
-        Err(LoadStop::Failed(place)) => return tell_failed(alloc, out, names[place]),
-        Err(LoadStop::OutOfMemory) => return tell_no_memory(out),
-    };
-    let images = match images_of(alloc, &maps, names.as_slice(), kept.as_slice()) {
+    let images = match images_in(alloc, &listed) {
         Ok(images) => images,
         Err(_) => return tell_no_memory(out),
     };
-    examine_images(alloc, maps, &images, core, files, input, out)
+    examine_images(alloc, listed.maps, &images, listed.core, files, input, out)
 }
 
 /// The same of the images of the list's entries, by place.

@@ -1,33 +1,28 @@
 //! From a run and its dump to the session, or the line of a conflict.
 
 ghost use Rattle.std.specs.Prelude.{◌≡◌, ◌⊎◌, ℕ, List, IfSome};
-ghost use Rattle.rept_steps.specs.Runs.{course_of};
-ghost use Rattle.rept_moments.specs.Courses.{IsCourseOf};
 ghost use Rattle.rept_ports.specs.Port.{move};
 ghost use Rattle.rept_found.specs.Crash.{crash_of, means};
 ghost use Rattle.rept_amo.specs.Atomic.{atomic_rules};
 ghost use Rattle.rept_app.specs.Delivered.{Delivers};
 ghost use Rattle.rept_app.specs.Domains.{means_of};
 ghost use Rattle.rept_app.specs.Reading.{AreNotesOf};
-ghost use Rattle.rept_app.specs.Study.{AreEndsOf, Studies, IsStudied, StudyHolds};
+ghost use Rattle.rept_app.specs.Study.{Studies, IsStudied, StudyHolds};
 ghost use Rattle.rept_app.specs.Told.{crash_run};
 ghost use Rattle.rept_app.specs.TraceRun.{FitsDump};
 ghost use Rattle.rept_app.specs.True.{IsExcluded};
 
+use crate::analysis::{analyse, basis_of};
 use crate::hold::hold;
 use crate::refusal::Refusal;
 use crate::status::Status;
 use crate::telling::tell;
-use rept_amo::Atomic;
-use rept_analysis::Stop;
 use rept_dump::Dump;
-use rept_found::{ThreadEnds, name_conflict, prepare, reports_are_true, search};
 use rept_known::Both;
 use rept_partial::Range;
 use rept_ports::{Sink, Source};
 use rept_span::Transfer;
 use rept_steps::Run;
-use rept_timeline::RunPaths;
 use rept_words::Domain;
 use std::alloc::Global;
 
@@ -66,44 +61,11 @@ fn study_by<W: Transfer, S: Source, K: Sink>(
     ensures stays { (notes : List (List ℕ)) → AreNotesOf dump.now notes → (input.new ≡ input.old) ⊎ StudyHolds (crash_run (means W.sets W.moves atomic_rules) (crash_of dump.now notes) run.now) result }
     ensures impossible { (notes : List (List ℕ)) → AreNotesOf dump.now notes → result ≡ Status.Inconsistent → IsExcluded (crash_run (means W.sets W.moves atomic_rules) (crash_of dump.now notes) run.now) }
 {
-    let ends = match ThreadEnds::new(alloc, run, dump) {
-        Ok(ends) => ends,
-        Err(_) => return tell(alloc, out, &Refusal::OutOfMemory),
+    let Ok(basis) = basis_of(alloc, run, dump) else {
+        return tell(alloc, out, &Refusal::OutOfMemory);
     };
-    match RunPaths::new(alloc, run) {
-        Ok(paths) => study_paths::<W, S, K>(alloc, run, &paths, &ends, dump, input, out),
-        Err(_) => tell(alloc, out, &Refusal::OutOfMemory),
-    }
-}
-
-/// The same of the paths of the run, and of how its threads ended.
-fn study_paths<W: Transfer, S: Source, K: Sink>(
-    alloc: Global,
-    run: &Run,
-    paths: &RunPaths<'_>,
-    ends: &ThreadEnds<'_>,
-    dump: &Dump<'_>,
-    input: &mut S,
-    out: &mut K,
-) -> Status
-    requires fits { FitsDump dump.now run.now }
-    requires course { IsCourseOf (course_of run.now) paths.now.ways }
-    requires ended { AreEndsOf dump.now run.now ends.now }
-    ensures text { (notes : List (List ℕ)) → AreNotesOf dump.now notes → IfSome (S.port input.old).bytes (λ bytes. Delivers (Studies (crash_run (means W.sets W.moves atomic_rules) (crash_of dump.now notes) run.now) (record { input = bytes; left = (S.port input.new).bytes })) (move (K.port out.old) (K.port out.new)) result) }
-    ensures causes { (notes : List (List ℕ)) → AreNotesOf dump.now notes → IsStudied (crash_run (means W.sets W.moves atomic_rules) (crash_of dump.now notes) run.now) (move (S.port input.old) (S.port input.new)) (move (K.port out.old) (K.port out.new)) result }
-    ensures stays { (notes : List (List ℕ)) → AreNotesOf dump.now notes → (input.new ≡ input.old) ⊎ StudyHolds (crash_run (means W.sets W.moves atomic_rules) (crash_of dump.now notes) run.now) result }
-    ensures impossible { (notes : List (List ℕ)) → AreNotesOf dump.now notes → result ≡ Status.Inconsistent → IsExcluded (crash_run (means W.sets W.moves atomic_rules) (crash_of dump.now notes) run.now) }
-{
-    reports_are_true::<W, Atomic>();
-    match prepare::<W, Atomic>(alloc, paths, ends, dump, Atomic::new()) {
-        Ok(prepared) => match search(prepared) {
-            Ok(mut found) => hold(alloc, &mut found, run.skipped, input, out),
-            Err(Stop::Conflict(kind)) => {
-                let conflict = name_conflict(paths.ways().course(), kind);
-                tell(alloc, out, &Refusal::Inconsistent(conflict))
-            }
-            Err(Stop::OutOfMemory) => tell(alloc, out, &Refusal::OutOfMemory),
-        },
-        Err(_) => tell(alloc, out, &Refusal::OutOfMemory),
+    match analyse::<W>(alloc, run, &basis, dump) {
+        Ok(mut found) => hold(alloc, &mut found, run.skipped, input, out),
+        Err(refusal) => tell(alloc, out, &refusal),
     }
 }

@@ -1,17 +1,15 @@
 -- The least number of which something holds, found among those of which something wider does.
-use Rattle.std.proofs.Common.{◌≡◌, ℕ, ◌+◌, ◌<◌, ◌≤◌, true, Option, Some, None, inl, inr, sym, ◌∙◌, subst, arith}
-use Rattle.std.proofs.lemmas.Bool.{false≢true, cases_lt}
-use Rattle.rept_report.specs.Moments.{Moments}
-use Rattle.rept_moments.specs.Seen.{IsNextFrom}
-use Rattle.rept_report.specs.Timeline.{IsLeastFrom}
+use Rattle.std.proofs.Common.{◌≡◌, ℕ, ◌+◌, ◌<◌, ◌≤◌, Option, Some, None, inl, inr, subst, arith}
+use Rattle.std.proofs.lemmas.Bool.{cases_lt}
+use Rattle.rept_report.specs.Timeline.{IsLeastFrom, IsGreatestTo}
 
 pub least_same : (P Q : ℕ → Type 0) → ((w : ℕ) → P w → Q w) → ((w : ℕ) → Q w → P w) → (least : ℕ) (r : Option ℕ) → IsLeastFrom P least r → IsLeastFrom Q least r
 least_same P Q onward back least None its = λ w low q. its w low (back w q)
 least_same P Q onward back least (Some m) its = (onward m its.0, its.1, λ v low less q. its.2 v low less (back v q))
 
-pub next_least : (M : Moments) (m least : ℕ) (r : Option ℕ) → IsNextFrom M m least r → IsLeastFrom (λ (w : ℕ). M.next m w ≡ true) least r
-next_least M m least None next = λ w low e. false≢true (sym (next w low) ∙ e)
-next_least M m least (Some w) next = (next.0, next.1, λ v low less e. false≢true (sym (next.2 v low less) ∙ e))
+pub greatest_same : (P Q : ℕ → Type 0) → ((w : ℕ) → P w → Q w) → ((w : ℕ) → Q w → P w) → (most : ℕ) (r : Option ℕ) → IsGreatestTo P most r → IsGreatestTo Q most r
+greatest_same P Q onward back most None its = λ w low q. its w low (back w q)
+greatest_same P Q onward back most (Some m) its = (onward m its.0, its.1, λ v over low q. its.2 v over low (back v q))
 
 -- none of the numbers between two
 abbrev pub IsNoneBetween : (ℕ → Type 0) → ℕ → ℕ → Type 0

@@ -1,3 +1,4 @@
+pub mod Inserting
 pub mod Linking
 pub mod Carrying
 pub mod Sparing

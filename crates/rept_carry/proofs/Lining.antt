@@ -7,7 +7,7 @@ use Rattle.rept_report.specs.declared.paths.Line.{Line}
 use Rattle.rept_report.specs.Moments.{Moments, AreMoments, points_of}
 use Rattle.rept_report.specs.Timeline.{IsJoined, IsLine}
 use Rattle.rept_report.proofs.Line.{next_is, is_next}
-use Rattle.rept_moments.specs.Seen.{IsNextFrom}
+use Rattle.rept_carry.specs.Links.{IsNextFrom, IsNextTo}
 use Rattle.rept_moments.proofs.Places.{get_end, get_before}
 use Rattle.rept_carry.specs.Lines.{IsLineFrom, AreLinesBelow, whole}
 
@@ -41,17 +41,17 @@ module _ (M : Moments) where
     only = λ w e.
         elim (cases_order w next) [
           | inl here ↦ here ∙ same
-          | inr (inl below) ↦ absurd (false≢true (sym (its.2 w (omega arith) below) ∙ e))
+          | inr (inl below) ↦ absurd (its.2 w (omega arith) below e)
           | inr (inr over) ↦ absurd (false≢true (sym (none w over) ∙ e))
         ];
   }
 
   -- the least number that is next to one is not the one after it
   pub not_joined_over : (m next : ℕ) → IsNextFrom M m 0 (Some next) → m + 1 < next → IsJoined M m → ⊥
-  not_joined_over m next its over j = false≢true (sym (its.2 (m + 1) (omega arith) over) ∙ j.next)
+  not_joined_over m next its over j = its.2 (m + 1) (omega arith) over j.next
 
   pub none_joined : (m : ℕ) → IsNextFrom M m 0 None → IsJoined M m → ⊥
-  none_joined m none j = false≢true (sym (none (m + 1) (omega arith)) ∙ j.next)
+  none_joined m none j = none (m + 1) (omega arith) j.next
 
   pub no_more : (legs : Legs) → AreMoments legs M → (m next : ℕ) → M.end ≤ next → (w : ℕ) → next < w → M.next m w ≡ false
   no_more legs laws m next past w over = not_so (M.next m w) (λ e. let most = (laws.inside m w e).1 in omega arith)

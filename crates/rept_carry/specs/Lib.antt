@@ -1,3 +1,4 @@
+pub mod Rising
 pub mod Links
 pub mod Course
 pub mod Passing

@@ -1,54 +1,73 @@
--- Pairs of numbers of which the second is next to the first. This project's own.
-use Rattle.std.specs.Prelude.{◌≡◌, ℕ, ◌<◌, ◌⊎◌, ◌↔◌, ◌==◌, nat_lt, nat_le, if◌then◌else◌, true, List, Option, Some, None}
+-- Which numbers are next to each, and to which ones each is next, in lists by numbers. This project's own.
+use Rattle.std.specs.Prelude.{◌≡◌, ℕ, ◌+◌, ◌⊎◌, ◌↔◌, true, List, [], length, slice_index_or, Option}
 use Rattle.std.specs.List.{Contains}
 use Rattle.rept_report.specs.Moments.{Moments}
-use Rattle.rept_report.specs.Timeline.{IsLeastFrom}
-use Rattle.rept_carry.specs.declared.links.Link.{Link}
+use Rattle.rept_report.specs.Timeline.{IsLeastFrom, IsGreatestTo}
+use Rattle.rept_carry.specs.declared.links.Links.{Links}
 
-abbrev pub link : ℕ → ℕ → Link
-link m w = record { from = m; to = w }
+-- the list of a number; past the last one there is none
+abbrev pub listed : List (List ℕ) → ℕ → List ℕ
+listed lists k = slice_index_or lists k []
 
-abbrev pub no_link : Link
-no_link = link 0 0
+-- so many lists, all of them empty
+pub record AreEmpty (count : ℕ) (lists : List (List ℕ)) : Type 0 where
+  pub many : length lists ≡ count
+  pub none : (k : ℕ) → listed lists k ≡ []
 
--- the pairs listed are all
-abbrev pub AreLinks : Moments → List Link → Type 0
-AreLinks moments links = (m w : ℕ) → Contains links (link m w) ↔ (moments.next m w ≡ true)
+-- a number was added to the list of another one
+abbrev pub AddsAt : ℕ → ℕ → List (List ℕ) → List (List ℕ) → Type 0
+AddsAt at n old new = (m w : ℕ) → Contains (listed new m) w ↔ (Contains (listed old m) w ⊎ ((m ≡ at) × (w ≡ n)))
 
--- those from the numbers below one are
-abbrev pub AreLinksBelow : Moments → ℕ → List Link → Type 0
-AreLinksBelow moments n links = (m w : ℕ) → Contains links (link m w) ↔ ((m < n) × (moments.next m w ≡ true))
+-- from the one number a link leads to the other, by the lists onward and by those back
+abbrev pub Leads : Links → ℕ → ℕ → Type 0
+Leads links m w = Contains (listed links.onward.items m) w
 
--- those of others, and those from a number to the numbers below one
-pub record Adds : Type 0 where
-  pub moments : Moments
-  pub from : ℕ
-  pub others : List Link
+abbrev pub Comes : Links → ℕ → ℕ → Type 0
+Comes links m w = Contains (listed links.back.items w) m
 
-abbrev pub AddsBelow : Adds → ℕ → List Link → Type 0
-AddsBelow x least links = (m w : ℕ) → Contains links (link m w) ↔ (Contains x.others (link m w) ⊎ ((m ≡ x.from) × (w < least) × (x.moments.next m w ≡ true)))
+-- there are links of so many numbers, none at first
+pub record AreNone (count : ℕ) (links : Links) : Type 0 where
+  pub onward : AreEmpty count links.onward.items
+  pub back : AreEmpty count links.back.items
 
--- and from it to all numbers
-abbrev pub AddsAll : Adds → List Link → Type 0
-AddsAll x links = (m w : ℕ) → Contains links (link m w) ↔ (Contains x.others (link m w) ⊎ ((m ≡ x.from) × (x.moments.next m w ≡ true)))
+-- for each number there is a list onward and one back
+pub record AreRoomFor (moments : Moments) (links : Links) : Type 0 where
+  pub onward : length links.onward.items ≡ moments.end + 1
+  pub back : length links.back.items ≡ moments.end + 1
 
--- the least number from one on that is linked to a number
-abbrev pub IsLinkedFrom : List Link → ℕ → ℕ → Option ℕ → Type 0
-IsLinkedFrom links w least found = IsLeastFrom (λ m. Contains links (link m w)) least found
+-- the links are the pairs of which something is so
+pub record AreLinked (Is : ℕ → ℕ → Type 0) (links : Links) : Type 0 where
+  pub onward : (m w : ℕ) → Leads links m w ↔ Is m w
+  pub back : (m w : ℕ) → Comes links m w ↔ Is m w
 
--- the least number from one on to which a number is next
+-- of the pairs of which the second number is next to the first
+abbrev pub AreLinks : Moments → Links → Type 0
+AreLinks moments = AreLinked (λ m w. moments.next m w ≡ true)
+
+-- the pairs of which something is so were added
+pub record Adds (Is : ℕ → ℕ → Type 0) (old new : Links) : Type 0 where
+  pub onward : (m w : ℕ) → Leads new m w ↔ (Leads old m w ⊎ Is m w)
+  pub back : (m w : ℕ) → Comes new m w ↔ (Comes old m w ⊎ Is m w)
+
+-- one pair; those of a number with others; and those of a number with all that are next to it
+abbrev pub IsPair : ℕ → ℕ → ℕ → ℕ → Type 0
+IsPair from to m w = (m ≡ from) × (w ≡ to)
+
+abbrev pub IsPairOf : ℕ → List ℕ → ℕ → ℕ → Type 0
+IsPairOf from list m w = (m ≡ from) × Contains list w
+
+abbrev pub IsNextOf : Moments → ℕ → ℕ → ℕ → Type 0
+IsNextOf moments from m w = (m ≡ from) × (moments.next m w ≡ true)
+
+-- the least number from one on, and the greatest one up to one, that is next to a number, and to which a number is next
+abbrev pub IsNextFrom : Moments → ℕ → ℕ → Option ℕ → Type 0
+IsNextFrom moments m least found = IsLeastFrom (λ w. moments.next m w ≡ true) least found
+
+abbrev pub IsNextTo : Moments → ℕ → ℕ → Option ℕ → Type 0
+IsNextTo moments m most found = IsGreatestTo (λ w. moments.next m w ≡ true) most found
+
 abbrev pub IsPreviousFrom : Moments → ℕ → ℕ → Option ℕ → Type 0
 IsPreviousFrom moments w least found = IsLeastFrom (λ m. moments.next m w ≡ true) least found
 
--- the first number of a pair, if the second one is this
-abbrev pub leads_to : ℕ → Option Link → Option ℕ
-leads_to to None = None
-leads_to to (Some x) = if x.to == to then Some x.from else None
-
--- the lower one of two numbers, of which the second counts from one on
-abbrev pub lower : Option ℕ → ℕ → Option ℕ
-lower None n = Some n
-lower (Some k) n = if nat_le k n then Some k else Some n
-
-abbrev pub taken : ℕ → Option ℕ → ℕ → Option ℕ
-taken least found n = if nat_lt n least then found else lower found n
+abbrev pub IsPreviousTo : Moments → ℕ → ℕ → Option ℕ → Type 0
+IsPreviousTo moments w most found = IsGreatestTo (λ m. moments.next m w ≡ true) most found

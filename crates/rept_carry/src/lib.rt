@@ -5,6 +5,7 @@ pub mod laws;
 mod lines;
 mod links;
 mod passing;
+mod rising;
 mod ways;
 
 pub use laws::what_passes_is_carried;

@@ -6,6 +6,7 @@ ghost use Rattle.rept_report.specs.Timeline.{IsJoined, IsLine};
 ghost use Rattle.rept_moments.specs.Courses.{seen_in, is_one};
 ghost use Rattle.rept_carry.specs.Lines.{IsLineFrom, AreLinesBelow, AreLines, IsIn};
 
+use crate::ways::Ways;
 use rept_moments::Course;
 use rept_report::paths::Line;
 use std::alloc::{AllocError as OutOfMemory, Global};
@@ -26,32 +27,32 @@ pub enum Lines {
 }
 
 /// Whether no number after another one is next to a number.
-fn none_after(course: &Course<'_>, number: u32, next: u32) -> bool
-    requires number { number ≤ (seen_in course.now).moments.end }
-    requires next { next ≤ (seen_in course.now).moments.end }
-    requires laws { AreMoments (seen_in course.now).legs (seen_in course.now).moments }
-    ensures yes { result ≡ true → (w : ℕ) → next < w → (seen_in course.now).moments.next number w ≡ false }
-    ensures no { result ≡ false → (w : ℕ) × (next < w) × ((seen_in course.now).moments.next number w ≡ true) }
+fn none_after(ways: &Ways<'_>, number: u32, next: u32) -> bool
+    requires number { number ≤ (seen_in ways.now).moments.end }
+    requires next { next ≤ (seen_in ways.now).moments.end }
+    requires laws { AreMoments (seen_in ways.now).legs (seen_in ways.now).moments }
+    ensures yes { result ≡ true → (w : ℕ) → next < w → (seen_in ways.now).moments.next number w ≡ false }
+    ensures no { result ≡ false → (w : ℕ) × (next < w) × ((seen_in ways.now).moments.next number w ≡ true) }
 {
-    let end = course.end();
+    let end = ways.course().end();
     if next >= end {
         return true;
     }
-    match course.next_from(number, next + 1) {
+    match ways.next_from(number, next + 1) {
         None => true,
         Some(_) => false,
     }
 }
 
 /// Whether the number after one is next to it, and no other.
-fn is_joined(course: &Course<'_>, number: u32) -> bool
-    requires inside { number < (seen_in course.now).moments.end }
-    requires laws { AreMoments (seen_in course.now).legs (seen_in course.now).moments }
-    ensures yes { result ≡ true → IsJoined (seen_in course.now).moments number }
-    ensures no { result ≡ false → IsJoined (seen_in course.now).moments number → ⊥ }
+fn is_joined(ways: &Ways<'_>, number: u32) -> bool
+    requires inside { number < (seen_in ways.now).moments.end }
+    requires laws { AreMoments (seen_in ways.now).legs (seen_in ways.now).moments }
+    ensures yes { result ≡ true → IsJoined (seen_in ways.now).moments number }
+    ensures no { result ≡ false → IsJoined (seen_in ways.now).moments number → ⊥ }
 {
-    let _end = course.end();
-    match course.next_from(number, 0) {
+    let _end = ways.course().end();
+    match ways.next_from(number, 0) {
         None => false,
         Some(next) => {
             if next > number + 1 {
@@ -60,21 +61,21 @@ fn is_joined(course: &Course<'_>, number: u32) -> bool
             if next < number + 1 {
                 return false;
             }
-            none_after(course, number, next)
+            none_after(ways, number, next)
         }
     }
 }
 
 /// The last number to which a line leads from one on.
-fn last_from(course: &Course<'_>, first: u32) -> u32
-    requires inside { first ≤ (seen_in course.now).moments.end }
-    requires laws { AreMoments (seen_in course.now).legs (seen_in course.now).moments }
-    ensures { IsLineFrom (seen_in course.now).moments first result }
+fn last_from(ways: &Ways<'_>, first: u32) -> u32
+    requires inside { first ≤ (seen_in ways.now).moments.end }
+    requires laws { AreMoments (seen_in ways.now).legs (seen_in ways.now).moments }
+    ensures { IsLineFrom (seen_in ways.now).moments first result }
 {
-    let end = course.end();
+    let end = ways.course().end();
     let mut last = first;
     while last < end {
-        if !is_joined(course, last) {
+        if !is_joined(ways, last) {
             return last;
         }
         last += 1;
@@ -83,53 +84,53 @@ fn last_from(course: &Course<'_>, first: u32) -> u32
 }
 
 /// The line of a number, from that of the number before it.
-fn line_after(course: &Course<'_>, line: Line, number: u32) -> Line
-    requires inside { number < (seen_in course.now).moments.end }
-    requires laws { AreMoments (seen_in course.now).legs (seen_in course.now).moments }
-    requires line { IsLine (seen_in course.now).moments number line }
-    ensures { IsLine (seen_in course.now).moments (number + 1) result }
+fn line_after(ways: &Ways<'_>, line: Line, number: u32) -> Line
+    requires inside { number < (seen_in ways.now).moments.end }
+    requires laws { AreMoments (seen_in ways.now).legs (seen_in ways.now).moments }
+    requires line { IsLine (seen_in ways.now).moments number line }
+    ensures { IsLine (seen_in ways.now).moments (number + 1) result }
 {
-    let _end = course.end();
+    let _end = ways.course().end();
     if number < line.last {
         line
     } else {
         Line {
             first: number + 1,
-            last: last_from(course, number + 1),
+            last: last_from(ways, number + 1),
         }
     }
 }
 
 /// The line of each number.
-fn all_lines(alloc: Global, course: &Course<'_>) -> Result<Vec<Line>, OutOfMemory>
-    requires { AreMoments (seen_in course.now).legs (seen_in course.now).moments }
-    ensures { IfOk result (λ v. AreLinesBelow (seen_in course.now).moments ((seen_in course.now).moments.end + 1) v.items) }
+fn all_lines(alloc: Global, ways: &Ways<'_>) -> Result<Vec<Line>, OutOfMemory>
+    requires { AreMoments (seen_in ways.now).legs (seen_in ways.now).moments }
+    ensures { IfOk result (λ v. AreLinesBelow (seen_in ways.now).moments ((seen_in ways.now).moments.end + 1) v.items) }
 {
     let mut list = Vec::new(alloc);
     let mut line = Line {
         first: 0,
-        last: last_from(course, 0),
+        last: last_from(ways, 0),
     };
+    let course = ways.course();
     for number in 0..course.end() {
         list.push(line)?;
-        line = line_after(course, line, number);
+        line = line_after(ways, line, number);
     }
     list.push(line)?;
     Ok(list)
 }
 
 impl Lines {
-    /// The lines of a course whose moments keep the laws of the report. Of one thread alone it takes no memory, else memory for one entry a number.
-    pub fn new(alloc: Global, course: &Course<'_>) -> Result<Lines, OutOfMemory>
-        requires { AreMoments (seen_in course.now).legs (seen_in course.now).moments }
-        ensures lines { IfOk result (λ l. AreLines (seen_in course.now).moments l) }
-        ensures inside { IfOk result (λ l. (m : ℕ) → m ≤ (seen_in course.now).moments.end → IsIn l m) }
-        ensures alone { is_one course.now ≡ true → IsOk result }
+    /// The lines of a course. Of one thread alone it takes no memory, else memory for one entry a number.
+    pub fn new(alloc: Global, ways: &Ways<'_>) -> Result<Lines, OutOfMemory>
+        ensures lines { IfOk result (λ l. AreLines (seen_in ways.now).moments l) }
+        ensures inside { IfOk result (λ l. (m : ℕ) → m ≤ (seen_in ways.now).moments.end → IsIn l m) }
+        ensures alone { is_one ways.now ≡ true → IsOk result }
     {
-        match course {
+        match ways.course() {
             Course::One { steps } => Ok(Lines::One { end: steps.len() }),
             Course::Many(_) => {
-                let list = all_lines(alloc, course)?;
+                let list = all_lines(alloc, ways)?;
                 Ok(Lines::Many { list })
             }
         }

@@ -1,171 +1,170 @@
-//! Pairs of numbers of which the second is next to the first.
+//! Which numbers are next to each, and to which ones each is next.
 
-ghost use Rattle.std.specs.Prelude.{◌≡◌, ◌≤◌, ◌<◌, ◌⊎◌, ℕ, [], Some, length, IfOk, IfSome, OnOk, slice_index_or, slice_get};
-ghost use Rattle.std.specs.List.Sorted.{IsPermutation, IsNonDecreasingBy};
+ghost use Rattle.std.specs.Prelude.{◌≡◌, ◌≤◌, ◌<◌, [], length, IfOk, OnOk};
+ghost use Rattle.std.specs.List.{All, Contains};
 ghost use Rattle.rept_report.specs.Moments.{AreMoments};
+ghost use Rattle.rept_report.specs.Timeline.{IsLeastFrom, IsGreatestTo};
 ghost use Rattle.rept_moments.specs.Courses.{seen_in};
-ghost use Rattle.rept_moments.specs.Seen.{IsNextFrom};
-ghost use Rattle.rept_carry.specs.Links.{no_link, AreLinks, AddsAll, IsLinkedFrom, leads_to, taken};
+ghost use Rattle.rept_carry.specs.Links.{listed, AreEmpty, AddsAt, AreNone, AreRoomFor, AreLinks, Adds, IsPair, IsPairOf, IsNextOf};
 
+use crate::rising::Rising;
 use rept_moments::Course;
 use std::alloc::{AllocError as OutOfMemory, Global};
-use std::marker::Model;
 
-/// A number, and one that is next to it.
-#[derive(Clone, Copy)]
-pub struct Link {
-    /// The number.
-    pub from: u32,
-    /// The one that is next to it.
-    pub to: u32,
-}
-
-/// Pairs of numbers in the order of the second ones. Contracts see a list.
+/// The numbers next to each number, and those to which each is next.
 #[derive(Drop)]
 pub struct Links {
-    list: Vec<Link>,
+    /// The numbers next to each.
+    pub onward: Vec<Rising>,
+    /// The numbers to which each is next.
+    pub back: Vec<Rising>,
 }
 
-impl Model for Links {
-    ghost use Rattle.std.specs.Prelude.{List};
-    ghost use Rattle.std.specs.List.Sorted.{IsNonDecreasingBy};
-    ghost use Rattle.rept_carry.specs.declared.links.Link.{Link};
-
-    ghost Value = { List Link };
-
-    ghost view = { λ l. l.list.items };
-
-    ghost invariant = { λ l. IsNonDecreasingBy (λ x. x.to) l.list.items };
-}
-
-/// The least of the numbers next to one, from a number on, which is no later than the end.
-pub fn following(course: &Course<'_>, number: u32, from: u32) -> Option<u32>
-    requires inside { number ≤ (seen_in course.now).moments.end }
-    requires laws { AreMoments (seen_in course.now).legs (seen_in course.now).moments }
-    ensures next { IsNextFrom (seen_in course.now).moments number from result }
-    ensures few { IfSome result (λ w. w ≤ (seen_in course.now).moments.end) }
+/// So many lists, all of them empty.
+fn empty(alloc: Global, count: usize) -> Result<Vec<Rising>, OutOfMemory>
+    ensures { IfOk result (λ v. AreEmpty count v.items) }
 {
-    course.next_from(number, from)
-}
-
-/// Adds the pairs of a number.
-fn add_links(list: &mut Vec<Link>, course: &Course<'_>, from: u32) -> Result<(), OutOfMemory>
-    requires inside { from ≤ (seen_in course.now).moments.end }
-    requires laws { AreMoments (seen_in course.now).legs (seen_in course.now).moments }
-    ensures { OnOk result (AddsAll (record { moments = (seen_in course.now).moments; from = from; others = list.old.items }) list.new.items) }
-{
-    let end = course.end();
-    let mut least = 0;
-    loop {
-        let to = match following(course, from, least) {
-            Some(to) => to,
-            None => return Ok(()),
-        };
-        list.push(Link { from, to })?;
-        if to >= end {
-            return Ok(());
-        }
-        least = to + 1;
+    let mut lists = Vec::new(alloc);
+    for _list in 0..count {
+        lists.push(Rising::none(alloc))?;
     }
+    Ok(lists)
 }
 
-/// All pairs.
-fn all_links(alloc: Global, course: &Course<'_>) -> Result<Vec<Link>, OutOfMemory>
-    requires laws { AreMoments (seen_in course.now).legs (seen_in course.now).moments }
-    ensures { IfOk result (λ v. AreLinks (seen_in course.now).moments v.items) }
+/// Adds a number to the list of another one.
+fn add_at(lists: &mut Vec<Rising>, at: u32, number: u32) -> Result<(), OutOfMemory>
+    requires { at < length lists.old.items }
+    ensures count { length lists.new.items ≡ length lists.old.items }
+    ensures adds { OnOk result (AddsAt at number lists.old.items lists.new.items) }
 {
-    let end = course.end();
-    let mut list = Vec::new(alloc);
-    for from in 0..end {
-        add_links(&mut list, course, from)?;
-    }
-    add_links(&mut list, course, end)?;
-    Ok(list)
-}
-
-/// Puts them into the order of the second numbers.
-fn sort(list: &mut Vec<Link>) -> Result<(), OutOfMemory>
-    ensures same { IsPermutation list.old.items list.new.items }
-    ensures sorted { OnOk result (IsNonDecreasingBy (λ x. x.to) list.new.items) }
-{
-    list.sort_by_key(|link| link.to)?;
+    let list = &mut lists[at as usize];
+    list.add(number)?;
     Ok(())
 }
 
-/// The lower one of the numbers that count.
-fn taken(found: Option<u32>, least: u32, number: u32) -> Option<u32>
-    ensures { result ≡ taken least found number }
+/// The least number from one on in the list of another one.
+fn least_at(lists: &[Rising], at: u32, least: u32) -> Option<u32>
+    ensures { IsLeastFrom (Contains (listed lists.now at)) least result }
 {
-    match found {
-        _ if number < least => found,
-        Some(known) if known <= number => found,
-        _ => Some(number),
+    match lists.get(at as usize) {
+        Some(list) => list.from(least),
+        None => None,
     }
 }
 
+/// The greatest number up to one in the list of another one.
+fn greatest_at(lists: &[Rising], at: u32, most: u32) -> Option<u32>
+    ensures { IsGreatestTo (Contains (listed lists.now at)) most result }
+{
+    match lists.get(at as usize) {
+        Some(list) => list.to(most),
+        None => None,
+    }
+}
+
+/// Links among so many numbers, of which there are none.
+fn unlinked(alloc: Global, count: usize) -> Result<Links, OutOfMemory>
+    ensures { IfOk result (AreNone count) }
+{
+    let onward = empty(alloc, count)?;
+    let back = empty(alloc, count)?;
+    Ok(Links { onward, back })
+}
+
 impl Links {
-    /// No pairs. It takes no memory.
-    pub fn none(alloc: Global) -> Links
-        ensures { result ≡ [] }
-    {
+    /// No links among no numbers. It takes no memory.
+    pub fn none(alloc: Global) -> Links {
         Links {
-            list: Vec::new(alloc),
+            onward: Vec::new(alloc),
+            back: Vec::new(alloc),
         }
     }
 
-    /// The pairs of a course. It takes memory for each of them, twice while it is made.
+    /// Links a number to another one.
+    fn add(&mut self, from: u32, to: u32) -> Result<(), OutOfMemory>
+        requires from { from < length self.old.onward.items }
+        requires to { to < length self.old.back.items }
+        ensures onward { length self.new.onward.items ≡ length self.old.onward.items }
+        ensures back { length self.new.back.items ≡ length self.old.back.items }
+        ensures adds { OnOk result (Adds (IsPair from to) self.old self.new) }
+    {
+        add_at(&mut self.onward, from, to)?;
+        add_at(&mut self.back, to, from)?;
+        Ok(())
+    }
+
+    /// Links a number to others.
+    fn add_all(&mut self, from: u32, list: &[u32]) -> Result<(), OutOfMemory>
+        requires from { from < length self.old.onward.items }
+        requires to { All (λ to. to < length self.old.back.items) list.now }
+        ensures onward { length self.new.onward.items ≡ length self.old.onward.items }
+        ensures back { length self.new.back.items ≡ length self.old.back.items }
+        ensures adds { OnOk result (Adds (IsPairOf from list.now) self.old self.new) }
+    {
+        for to in list {
+            self.add(from, *to)?;
+        }
+        Ok(())
+    }
+
+    /// Links a number to those next to it.
+    fn add_nexts(
+        &mut self,
+        alloc: Global,
+        course: &Course<'_>,
+        from: u32,
+    ) -> Result<(), OutOfMemory>
+        requires inside { from ≤ (seen_in course.now).moments.end }
+        requires laws { AreMoments (seen_in course.now).legs (seen_in course.now).moments }
+        requires room { AreRoomFor (seen_in course.now).moments self.old }
+        ensures room { OnOk result (AreRoomFor (seen_in course.now).moments self.new) }
+        ensures adds { OnOk result (Adds (IsNextOf (seen_in course.now).moments from) self.old self.new) }
+    {
+        let mut list = Vec::new(alloc);
+        course.add_nexts(from, &mut list)?;
+        self.add_all(from, list.as_slice())?;
+        Ok(())
+    }
+
+    /// The links of a course. It takes memory for two lists a number and for two entries a link.
     pub fn new(alloc: Global, course: &Course<'_>) -> Result<Links, OutOfMemory>
         requires laws { AreMoments (seen_in course.now).legs (seen_in course.now).moments }
-        ensures { IfOk result (λ l. AreLinks (seen_in course.now).moments l) }
+        ensures { IfOk result (AreLinks (seen_in course.now).moments) }
     {
-        let mut list = all_links(alloc, course)?;
-        sort(&mut list)?;
-        Ok(Links { list })
+        let end = course.end();
+        let mut links = unlinked(alloc, end as usize + 1)?;
+        for from in 0..end {
+            links.add_nexts(alloc, course, from)?;
+        }
+        links.add_nexts(alloc, course, end)?;
+        Ok(links)
     }
 
-    /// The place of the first pair whose second number isn't below one, found by halves.
-    fn begin(&self, to: u32) -> usize
-        ensures few { result ≤ length self.now }
-        ensures before { (k : ℕ) → k < result → (slice_index_or self.now k no_link).to < to }
-        ensures after { (k : ℕ) → result ≤ k → k < length self.now → to ≤ (slice_index_or self.now k no_link).to }
+    /// The least number from one on that is next to a number.
+    pub fn next_from(&self, number: u32, least: u32) -> Option<u32>
+        ensures { IsLeastFrom (Contains (listed self.now.onward.items number)) least result }
     {
-        let mut low = 0;
-        let mut high = self.list.len();
-        while low < high {
-            let middle = low + (high - low) / 2;
-            if self.list[middle].to >= to {
-                high = middle;
-            } else {
-                low = middle + 1;
-            }
-        }
-        low
+        least_at(self.onward.as_slice(), number, least)
     }
 
-    /// The first number of the pair at a place, if the second one is this.
-    fn leads(&self, place: usize, to: u32) -> Option<u32>
-        ensures { result ≡ leads_to to (slice_get self.now place) }
+    /// The greatest number up to one that is next to a number.
+    pub fn next_to(&self, number: u32, most: u32) -> Option<u32>
+        ensures { IsGreatestTo (Contains (listed self.now.onward.items number)) most result }
     {
-        match self.list.get(place) {
-            Some(link) if link.to == to => Some(link.from),
-            _ => None,
-        }
+        greatest_at(self.onward.as_slice(), number, most)
     }
 
-    /// The least number from one on that is linked to a number.
-    pub fn linked_from(&self, to: u32, least: u32) -> Option<u32>
-        ensures { IsLinkedFrom self.now to least result }
+    /// The least number from one on to which a number is next.
+    pub fn previous_from(&self, number: u32, least: u32) -> Option<u32>
+        ensures { IsLeastFrom (Contains (listed self.now.back.items number)) least result }
     {
-        let count = self.list.len();
-        let mut found = None;
-        let mut place = self.begin(to);
-        while place < count {
-            match self.leads(place, to) {
-                Some(from) => found = taken(found, least, from),
-                None => return found,
-            }
-            place += 1;
-        }
-        found
+        least_at(self.back.as_slice(), number, least)
+    }
+
+    /// The greatest number up to one to which a number is next.
+    pub fn previous_to(&self, number: u32, most: u32) -> Option<u32>
+        ensures { IsGreatestTo (Contains (listed self.now.back.items number)) most result }
+    {
+        greatest_at(self.back.as_slice(), number, most)
     }
 }

@@ -1,6 +1,6 @@
 //! A course whose moments are gone through in both directions.
 
-ghost use Rattle.std.specs.Prelude.{◌≡◌, ◌≤◌, ◌<◌, ℕ, true, length, IfOk, IsOk, IsSome, IfSome};
+ghost use Rattle.std.specs.Prelude.{◌≡◌, ◌≤◌, ◌<◌, ◌↔◌, ℕ, Some, true, length, IfOk, IsOk, IsSome, IfSome};
 ghost use Rattle.std.specs.List.{All};
 ghost use Rattle.rept_steps.specs.Course.{IsSound};
 ghost use Rattle.rept_steps.specs.Runs.{course_of};
@@ -9,19 +9,19 @@ ghost use Rattle.rept_report.specs.Moments.{AreMoments, points_of};
 ghost use Rattle.rept_moments.specs.Points.{points_in};
 ghost use Rattle.rept_moments.specs.Seen.{seen, alone_by};
 ghost use Rattle.rept_moments.specs.Courses.{seen_in, threads_in, first_in, is_one, IsCourseOf};
-ghost use Rattle.rept_report.specs.Timeline.{IsLeastFrom};
-ghost use Rattle.rept_carry.specs.Links.{IsPreviousFrom};
+ghost use Rattle.rept_report.specs.Timeline.{IsLeastFrom, IsGreatestTo};
+ghost use Rattle.rept_carry.specs.Links.{IsNextFrom, IsNextTo, IsPreviousFrom, IsPreviousTo};
 ghost use Rattle.rept_carry.specs.Passing.{Ground, Passes, ground_of};
 ghost use Rattle.rept_carry.specs.Course.{AreWays};
 
-use crate::links::{Links, following};
+use crate::links::Links;
 use crate::passing::passes;
 use rept_moments::{Course, numbers_are_names};
 use rept_steps::Run;
 use std::alloc::{AllocError as OutOfMemory, Global};
 use std::marker::Model;
 
-/// A course with what leads back from each of its numbers. Contracts see the course.
+/// A course with what leads onward and back from each of its numbers. Contracts see the course.
 #[derive(Drop)]
 pub struct Ways<'a> {
     course: Course<'a>,
@@ -64,17 +64,46 @@ fn with_links<'a>(alloc: Global, course: Course<'a>) -> Result<Ways<'a>, OutOfMe
     Ok(Ways { course, links })
 }
 
-/// The number before one, from a number on, where the numbers are the points of one thread.
-fn one_before(last: u32, number: u32, least: u32) -> Option<u32>
-    ensures { IsPreviousFrom (points_of last) number least result }
+/// The number after one, where the numbers are the points of one thread.
+fn one_after(last: u32, number: u32) -> Option<u32>
+    ensures { (w : ℕ) → ((points_of last).next number w ≡ true) ↔ (result ≡ Some w) }
 {
-    if number > last {
-        return None;
+    if number < last {
+        Some(number + 1)
+    } else {
+        None
     }
-    if least >= number {
-        return None;
+}
+
+/// The number before one, where the numbers are the points of one thread.
+fn one_before(last: u32, number: u32) -> Option<u32>
+    ensures { (m : ℕ) → ((points_of last).next m number ≡ true) ↔ (result ≡ Some m) }
+{
+    if number == 0 || number > last {
+        None
+    } else {
+        Some(number - 1)
     }
-    Some(number - 1)
+}
+
+/// A number, if there is one and it isn't below another one.
+fn not_below(number: Option<u32>, least: u32) -> Option<u32>
+    ensures { IsLeastFrom (λ w. number ≡ Some w) least result }
+{
+    match number {
+        Some(number) if number >= least => Some(number),
+        _ => None,
+    }
+}
+
+/// A number, if there is one and it isn't above another one.
+fn not_above(number: Option<u32>, most: u32) -> Option<u32>
+    ensures { IsGreatestTo (λ w. number ≡ Some w) most result }
+{
+    match number {
+        Some(number) if number <= most => Some(number),
+        _ => None,
+    }
 }
 
 impl<'a> Ways<'a> {
@@ -102,14 +131,53 @@ impl<'a> Ways<'a> {
         &self.course
     }
 
+    /// The least of the numbers next to one, from a number on: those of later moments, with none between.
+    pub fn next_from(&self, number: u32, least: u32) -> Option<u32>
+        ensures { IsNextFrom (seen_in self.now).moments number least result }
+    {
+        match &self.course {
+            Course::One { steps } => not_below(one_after(steps.len(), number), least),
+            Course::Many(_) => self.links.next_from(number, least),
+        }
+    }
+
+    /// The greatest of the numbers next to one, up to a number.
+    pub fn next_to(&self, number: u32, most: u32) -> Option<u32>
+        ensures { IsNextTo (seen_in self.now).moments number most result }
+    {
+        match &self.course {
+            Course::One { steps } => not_above(one_after(steps.len(), number), most),
+            Course::Many(_) => self.links.next_to(number, most),
+        }
+    }
+
     /// The least of the numbers to which one is next, from a number on: those of earlier moments, with none between.
     pub fn previous_from(&self, number: u32, least: u32) -> Option<u32>
         ensures { IsPreviousFrom (seen_in self.now).moments number least result }
     {
         match &self.course {
-            Course::One { steps } => one_before(steps.len(), number, least),
-            Course::Many(_) => self.links.linked_from(number, least),
+            Course::One { steps } => not_below(one_before(steps.len(), number), least),
+            Course::Many(_) => self.links.previous_from(number, least),
         }
+    }
+
+    /// The greatest of the numbers to which one is next, up to a number.
+    pub fn previous_to(&self, number: u32, most: u32) -> Option<u32>
+        ensures { IsPreviousTo (seen_in self.now).moments number most result }
+    {
+        match &self.course {
+            Course::One { steps } => not_above(one_before(steps.len(), number), most),
+            Course::Many(_) => self.links.previous_to(number, most),
+        }
+    }
+
+    /// The least of the numbers next to one, from a number on, which is no later than the end.
+    fn following(&self, number: u32, from: u32) -> Option<u32>
+        ensures next { IsNextFrom (seen_in self.now).moments number from result }
+        ensures few { IfSome result (λ w. w ≤ (seen_in self.now).moments.end) }
+    {
+        let _course = self.course();
+        self.next_from(number, from)
     }
 
     /// The least of the numbers to which one is next, from a number on, which is no later than the end.
@@ -125,14 +193,13 @@ impl<'a> Ways<'a> {
     /// write the byte, and nothing that isn't told. It takes no memory.
     pub fn carried_from(&self, rows: &[u32], number: u32, least: u32) -> Option<u32>
         requires rows { All (λ i. IsSome ((seen_in self.now).legs.row i)) rows.now }
-        requires inside { number ≤ (seen_in self.now).moments.end }
         ensures { IsLeastFrom (λ w. Passes (ground_of self.now rows.now) number w) least result }
     {
         let course = self.course();
         let end = course.end();
         let mut from = least;
         loop {
-            let to = match following(course, number, from) {
+            let to = match self.following(number, from) {
                 Some(to) => to,
                 None => return None,
             };

@@ -4,7 +4,7 @@ use Rattle.std.specs.Option.{is_some}
 use Rattle.std.proofs.lemmas.Bool.{false≢true, cases_Bool, cases_eq, and_from}
 use Rattle.rept_steps.specs.Course.{Course, Row, IsRow, IsSound}
 use Rattle.rept_order.specs.Events.{Event, first_event, last_event, Precedes, PrecedesOrIs}
-use Rattle.rept_order.specs.Moments.{Moment, IsMoment, NotLater, Act, IsAct, Stretch, stretch, Falls, may_by, stores, IsQuietStep, Forth}
+use Rattle.rept_order.specs.Moments.{Moment, IsMoment, NotLater, Act, IsAct, Stretch, stretch, Falls, may_by, stores, IsUntouchedStep, Forth}
 use Rattle.rept_order.specs.Moments.Moment.{before, after, at_end}
 use Rattle.rept_order.specs.Moments.Act.{row, dark}
 use Rattle.rept_order.specs.Times.{falls_between}
@@ -66,13 +66,13 @@ module _ {W : Type 0} (sets : Sets W) (moves : Moves W) (rules : Rules) (C : Cou
             (N.name x ∷ rest.0, (carries, rest.1))
       ]
 
-  pub carried_along : (m w : Moment) → IsMoment C m → IsMoment C w → IsQuietStep C (may_in S K C) (stretch m w) a → (ns : List ℕ) × CarriedAlong S K a (N.name m) ns (N.name w)
+  pub carried_along : (m w : Moment) → IsMoment C m → IsMoment C w → IsUntouchedStep C (may_in S K C) (stretch m w) a → (ns : List ℕ) × CarriedAlong S K a (N.name m) ns (N.name w)
   carried_along m w is its quiet =
       let steps = step_by_step C sound (may_in S K C) a m w is its quiet in
       along steps.0 m w is steps.1
 
   -- what is carried between two names is quiet between two of their moments, where a row that can't write memory may not
-  pub carried_quiet : ((r : Row) → may_in S K C r a ≡ true → stores C r ≡ true) → (m w : ℕ) → Carries S K (passage a m w) → (x : Stretch) × IsLink C N m w x × IsQuietStep C (may_in S K C) x a
+  pub carried_quiet : ((r : Row) → may_in S K C r a ≡ true → stores C r ≡ true) → (m w : ℕ) → Carries S K (passage a m w) → (x : Stretch) × IsLink C N m w x × IsUntouchedStep C (may_in S K C) x a
   carried_quiet only m w h =
       let found = some_is (N.link m w) h.next in
       let link = names.links m w found.0 found.1 in

@@ -7,7 +7,7 @@ use Rattle.rept_isa.specs.declared.row.StepRow.{StepRow}
 use Rattle.rept_steps.specs.declared.threads.ThreadRows.{ThreadRows}
 use Rattle.rept_steps.specs.Course.{no_thread, Course, Row, row_of, rows_of, IsRow, row_at, IsSound}
 use Rattle.rept_order.specs.Events.IsBefore.{by_row}
-use Rattle.rept_order.specs.Moments.{Moment, IsMoment, NotLater, Act, IsAct, WhollyBefore, WhollyAfter, IsNext, IsQuiet, Stretch, stretch, Falls, may_by, is_writing, stores, ArePause, AreOne}
+use Rattle.rept_order.specs.Moments.{Moment, IsMoment, NotLater, Act, IsAct, WhollyBefore, WhollyAfter, IsNext, IsUntouched, Stretch, stretch, Falls, may_by, is_writing, stores, ArePause, AreOne}
 use Rattle.rept_order.specs.Moments.Moment.{before, after, at_end}
 use Rattle.rept_order.specs.Moments.Act.{row, dark}
 use Rattle.rept_order.specs.Moments.ArePause.{between, last}
@@ -357,7 +357,7 @@ module _ (C : Course) (sound : IsSound C) (N : Names) (names : AreNames C N) whe
     pub light : (moments_of C N).dark m w ≡ false
     pub spared : (i : ℕ) → (moments_of C N).falls i m w ≡ true → may (row_on C i) a ≡ false
 
-  pub quiet_carried : (may : Row → ℕ → Bool) (a : ℕ) (m w : Moment) → IsMoment C m → IsMoment C w → IsNext C m w → N.name m ≢ N.name w → IsQuiet C may (stretch m w) a → IsCarriedBy may a (N.name m) (N.name w)
+  pub quiet_carried : (may : Row → ℕ → Bool) (a : ℕ) (m w : Moment) → IsMoment C m → IsMoment C w → IsNext C m w → N.name m ≢ N.name w → IsUntouched C may (stretch m w) a → IsCarriedBy may a (N.name m) (N.name w)
   quiet_carried may a m w at to next other quiet =
       let some = some_is (N.link (N.name m) (N.name w)) (is_some_from (N.link (N.name m) (N.name w)) (names.linked m w at to next other)) in
       let link = names.links (N.name m) (N.name w) some.0 some.1 in

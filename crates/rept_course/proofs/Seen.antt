@@ -4,12 +4,11 @@ use Rattle.std.specs.Option.{is_some}
 use Rattle.std.proofs.lemmas.Bool.{false≢true, cases_lt, lt-ltb, le-ltb, and_from}
 use Rattle.std.proofs.lemmas.Option.{slice_get_cases}
 use mathlib.Core.Path.{fun_ext}
-use Rattle.rept_isa.specs.declared.instr.Instr.{Instr}
-use Rattle.rept_isa.specs.declared.instr.Instr.TheVariants.{Ecall}
 use Rattle.rept_isa.specs.declared.row.StepRow.{StepRow}
+use Rattle.rept_isa.specs.Operands.{is_call}
 use Rattle.rept_machine.specs.Step.{IsStep}
 use Rattle.rept_steps.specs.declared.threads.ThreadRows.{ThreadRows}
-use Rattle.rept_steps.specs.Course.{no_thread, Course, Row, rows_of, IsRow, row_at, is_call, is_call_row, calls, IsSound}
+use Rattle.rept_steps.specs.Course.{no_thread, Course, Row, rows_of, IsRow, row_at, is_call_row, calls, IsSound}
 use Rattle.rept_order.specs.Moments.{Moment, IsMoment, Act, IsAct, Stretch, stretch, Falls, is_writing, stores}
 use Rattle.rept_order.specs.Moments.Moment.{before, after, at_end}
 use Rattle.rept_order.specs.Moments.Act.{row, dark}
@@ -28,7 +27,7 @@ use Rattle.rept_partial.specs.Sets.{Sets}
 use Rattle.rept_span.specs.Moves.{Moves}
 use Rattle.rept_view.specs.Rules.{Rules}
 use Rattle.rept_report.specs.Setting.{Setting, IsLast}
-use Rattle.rept_report.specs.Runs.{Run, Runs, StepWrites, is_call as calls_out}
+use Rattle.rept_report.specs.Runs.{Run, Runs, StepWrites}
 use Rattle.rept_report.specs.Runs as runs
 use Rattle.rept_course.specs.Names.{Names, IsLink, AreNames}
 use Rattle.rept_course.specs.Numbered.{row_on, falls_by, dark_by, setting_of, run_seen}
@@ -36,10 +35,6 @@ use Rattle.rept_course.proofs.Naming.{some_is, row_inside, last_end, points_next
 
 one_more : (k : ℕ) → suc k ≡ k + 1
 one_more k = omega arith
-
-call_same : (instr : Instr) → is_call instr ≡ calls_out instr
-call_same Ecall = refl
-call_same _ = refl
 
 some_none : {A : Type 0} {x : A} → Some x ≡ None → ⊥
 some_none e = cc
@@ -81,12 +76,12 @@ module _ {W : Type 0} (sets : Sets W) (moves : Moves W) (rules : Rules) (C : Cou
   steps i its_row is =
       let inside : IsRow C (row_on C i) = row_inside C (row_on C i) its_row is in
       let base = x.steps (row_on C i) its_row is in
-      let call : calls C (row_on C i) ≡ calls_out its_row.instr = ap is_call_row is ∙ call_same its_row.instr in
-      let to_memory = after_memory (row_on C i) (calls C (row_on C i)) (calls_out its_row.instr) inside call in
+      let call : calls C (row_on C i) ≡ is_call its_row.instr = ap is_call_row is in
+      let to_memory = after_memory (row_on C i) (calls C (row_on C i)) (is_call its_row.instr) inside call in
       let one = subst (λ (f : ℕ → ℕ). IsStep D.image_end its_row (state_from (run.register (leg_of C (row_on C i))) (run.memory (before (row_on C i)))) (state_from (run.register (suc (leg_of C (row_on C i)))) f)) to_memory base in
-      let two = subst (λ (f : ℕ → ℕ). IsStep D.image_end its_row (state_from (run.register (leg_of C (row_on C i))) f) (state_from (run.register (suc (leg_of C (row_on C i)))) (run.memory (N.last (cond (calls_out its_row.instr) (N.name (before (row_on C i))) (N.name (after (row_on C i)))))))) (sym (memory_last (before (row_on C i)) inside)) one in
-      let three = subst (λ (k : ℕ). IsStep D.image_end its_row (state_from (run.register k) (run.memory (N.last (N.name (before (row_on C i)))))) (state_from (run.register (suc k)) (run.memory (N.last (cond (calls_out its_row.instr) (N.name (before (row_on C i))) (N.name (after (row_on C i)))))))) (number_point C i) two in
-      subst (λ (k : ℕ). IsStep D.image_end its_row (state_from (run.register i) (run.memory (N.last (N.name (before (row_on C i)))))) (state_from (run.register k) (run.memory (N.last (cond (calls_out its_row.instr) (N.name (before (row_on C i))) (N.name (after (row_on C i)))))))) (one_more i) three
+      let two = subst (λ (f : ℕ → ℕ). IsStep D.image_end its_row (state_from (run.register (leg_of C (row_on C i))) f) (state_from (run.register (suc (leg_of C (row_on C i)))) (run.memory (N.last (cond (is_call its_row.instr) (N.name (before (row_on C i))) (N.name (after (row_on C i)))))))) (sym (memory_last (before (row_on C i)) inside)) one in
+      let three = subst (λ (k : ℕ). IsStep D.image_end its_row (state_from (run.register k) (run.memory (N.last (N.name (before (row_on C i)))))) (state_from (run.register (suc k)) (run.memory (N.last (cond (is_call its_row.instr) (N.name (before (row_on C i))) (N.name (after (row_on C i)))))))) (number_point C i) two in
+      subst (λ (k : ℕ). IsStep D.image_end its_row (state_from (run.register i) (run.memory (N.last (N.name (before (row_on C i)))))) (state_from (run.register k) (run.memory (N.last (cond (is_call its_row.instr) (N.name (before (row_on C i))) (N.name (after (row_on C i)))))))) (one_more i) three
 
   registers_end : (p r v : ℕ) → IsLast S p → 0 < r → slice_get (S.last p) r ≡ Some v → run.register p r ≡ v
   registers_end p r v final some e =

@@ -2,7 +2,7 @@
 
 ghost use Rattle.std.specs.Prelude.{◌≡◌, ◌<◌, ◌↔◌, ◌&&◌, not, ℕ, true, List, length, Some};
 ghost use Rattle.rept_steps.specs.Course.{Course, Row, IsRow, IsSound};
-ghost use Rattle.rept_order.specs.Moments.{Moment, IsMoment, Act, WhollyBefore, WhollyAfter, Stretch, stretch, stores, IsQuietStep};
+ghost use Rattle.rept_order.specs.Moments.{Moment, IsMoment, Act, WhollyBefore, WhollyAfter, Stretch, stretch, stores, IsUntouchedStep};
 ghost use Rattle.rept_order.specs.History.{History, Ending, IsExecution};
 ghost use Rattle.rept_order.specs.Interleaved.{CourseRun, IsCourseRun, run_of_history};
 ghost use Rattle.rept_reason.specs.Facts.{Knowledge};
@@ -43,8 +43,8 @@ pub fn courses_have_names()
 /// A byte that is quiet between two moments, by what is known, is carried step by step from the name of the one to that of the other. What is
 /// carried between two names is quiet between two of their moments, if the rules let no row write that is no store and no call.
 pub fn quiet_is_carried<W: Transfer, R: RowRules>()
-    ensures carried { (C : Course) (D : Ending) (N : Names) (K : Knowledge) (a : ℕ) (m w : Moment) → IsSound C → AreNames C N → IsMoment C m → IsMoment C w → IsQuietStep C (may_in (setting_of W.sets W.moves R.rules C D N) K C) (stretch m w) a → (ns : List ℕ) × CarriedAlong (setting_of W.sets W.moves R.rules C D N) K a (N.name m) ns (N.name w) }
-    ensures quiet { (C : Course) (D : Ending) (N : Names) (K : Knowledge) (a m w : ℕ) → IsSound C → AreNames C N → ((r : Row) → may_in (setting_of W.sets W.moves R.rules C D N) K C r a ≡ true → stores C r ≡ true) → Carries (setting_of W.sets W.moves R.rules C D N) K (passage a m w) → (x : Stretch) × IsLink C N m w x × IsQuietStep C (may_in (setting_of W.sets W.moves R.rules C D N) K C) x a }
+    ensures carried { (C : Course) (D : Ending) (N : Names) (K : Knowledge) (a : ℕ) (m w : Moment) → IsSound C → AreNames C N → IsMoment C m → IsMoment C w → IsUntouchedStep C (may_in (setting_of W.sets W.moves R.rules C D N) K C) (stretch m w) a → (ns : List ℕ) × CarriedAlong (setting_of W.sets W.moves R.rules C D N) K a (N.name m) ns (N.name w) }
+    ensures quiet { (C : Course) (D : Ending) (N : Names) (K : Knowledge) (a m w : ℕ) → IsSound C → AreNames C N → ((r : Row) → may_in (setting_of W.sets W.moves R.rules C D N) K C r a ≡ true → stores C r ≡ true) → Carries (setting_of W.sets W.moves R.rules C D N) K (passage a m w) → (x : Stretch) × IsLink C N m w x × IsUntouchedStep C (may_in (setting_of W.sets W.moves R.rules C D N) K C) x a }
 {}
 
 /// What the record of moments says of rows that may write, and of the dark, is the order of the course: what lies wholly before a name, or

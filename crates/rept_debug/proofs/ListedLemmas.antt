@@ -15,11 +15,13 @@ use Rattle.rept_words.specs.Words.{Meaning}
 use Rattle.rept_words.specs.Words.Meaning.{Open, Maps, Made}
 use Rattle.rept_app.specs.Forms.{core_image_fault}
 use Rattle.rept_app.specs.Lines.{status_of}
+use Rattle.rept_app.specs.Listed.{HasNoFiles, LoadStops}
 use Rattle.rept_app.specs.Loading.{CoreBytes, LoadsBoth, ShelfMoves, core_loads_to, parts_bytes}
 use Rattle.rept_app.specs.Mapped.{ListSays, MappedCrash, mapped_bytes, mapped_crash, mapped_files}
 use Rattle.rept_app.specs.Reading.{NotesSay}
 use Rattle.rept_app.specs.Told.{CrashTrace, ReadsNotes, crash_trace}
 use Rattle.rept_app.specs.Top.{FaultsEnd}
+use Rattle.rept_app.specs.declared.listed.ListStop.TheVariants as stops
 use Rattle.rept_app.specs.declared.refusal.FileKind.TheVariants as file
 use Rattle.rept_app.specs.declared.refusal.Refusal.{Refusal}
 use Rattle.rept_app.specs.declared.refusal.Refusal.TheVariants as refusal
@@ -73,10 +75,19 @@ module _ (o : Option Files) (ms : List Mapping) (b : CoreBytes) (desc : List ℕ
       over_files o (λ files. ms ≡ mapped_files files desc) (λ files. IsUnheld (mapped_crash files b) asked (no_talk.Refused r))
       (λ files same. inl (files_refused (mapped_crash files b) r desc accepted listed (subst (λ (parts : List Mapping). IsRefusedCrash (parts_bytes parts b) r) same h))) program
 
--- a load that failed
-pub name_unheld : (m : MappedCrash) (asked : Move ℕ) (name : List ℕ) (why : NoTalk) → NameStops m asked name → IsLoadFault name why → IsUnheld m asked why
-name_unheld m asked name (no_talk.Refused r) h e = inr (ap status_of e)
-name_unheld m asked name (no_talk.LoadFault told) h e = subst (NameStops m asked) (sym e) h
+-- why no files are listed
+module _ (m : MappedCrash) (shelf : Move Shelved) where
+  pub refused_unheld : (asked : Move ℕ) (r : Refusal) → HasNoFiles m.bytes.core shelf (stops.Refused r) → IsUnheld m asked (no_talk.Refused r)
+  refused_unheld asked r (inl (inl (fault, refused, is), idle)) = inl (image_refused m r fault (sym refused) is)
+  refused_unheld asked r (inl (inr (fault, accepted, listed, only, is), idle)) = inl (list_refused m r fault accepted listed is)
+  refused_unheld asked r (inr (is, cut)) = inr (ap status_of is)
+
+  name_stops : (name : List ℕ) → LoadStops m.bytes.core shelf name → NameStops m (move shelf.before.loads shelf.after.loads) name
+  name_stops name stop = record { accepted = stop.accepted; desc = stop.desc; listed = stop.listed; place = stop.place; named = stop.named; loads = stop.loads }
+
+  pub name_unheld : (name : List ℕ) (why : NoTalk) → LoadStops m.bytes.core shelf name → IsLoadFault name why → IsUnheld m (move shelf.before.loads shelf.after.loads) why
+  name_unheld name (no_talk.Refused r) stop e = inr (ap status_of e)
+  name_unheld name (no_talk.LoadFault told) stop e = subst (NameStops m (move shelf.before.loads shelf.after.loads)) (sym e) (name_stops name stop)
 
 -- whatever is said of all files
 pub where_any : (o : Option Files) (P : Files → Type 0) → ((files : Files) → P files) → IfSome o P

@@ -6,8 +6,6 @@ use Rattle.rept_dump.specs.Dump.{registers_of}
 use Rattle.rept_path.specs.declared.fault.PathFault.{PathFault}
 use Rattle.rept_path.specs.declared.fault.PathFault.TheVariants as fault
 use Rattle.rept_ports.specs.Port.{Port, Move}
-use Rattle.rept_report.specs.Closure.{ClosureHas}
-use Rattle.rept_report.specs.declared.conflict.ConflictKind.{ConflictKind}
 use Rattle.rept_runs.specs.Kind.{is_several}
 use Rattle.rept_steps.specs.Runs.{course_of}
 use Rattle.rept_steps.specs.declared.run.Run.{Run}
@@ -20,9 +18,9 @@ use Rattle.rept_dialog.specs.declared.conversation.Conversed.{Conversed}
 use Rattle.rept_app.specs.Lines.{status_of}
 use Rattle.rept_app.specs.Loading.{crash_bytes}
 use Rattle.rept_app.specs.Reading.{AreNotesOf, IsDumpOf}
-use Rattle.rept_app.specs.Told.{CrashRun, CrashTrace, contradiction_in, crash_run, crash_trace, run_in, setting_of}
+use Rattle.rept_app.specs.Study.{HasNoReport}
+use Rattle.rept_app.specs.Told.{CrashRun, CrashTrace, crash_run, crash_trace, run_in}
 use Rattle.rept_app.specs.TraceRun.{IsRunOf}
-use Rattle.rept_app.specs.True.{IsExcluded}
 use Rattle.rept_app.specs.declared.load.Manner.{Manner}
 use Rattle.rept_app.specs.declared.refusal.Refusal.{Refusal}
 use Rattle.rept_app.specs.declared.refusal.Refusal.TheVariants as refusal
@@ -46,9 +44,10 @@ module _ {W R : Type 0} (m : Means W) (v : View W R) (crash : Crash) (run : Run)
     talks = subst (λ (s : ℕ). Converses (parties_on (route m crash (course_of run)) s) source sink end) is (subst (λ (t : Trip W). Converses (parties_on t signal) source sink end) found.trip h);
   }
 
--- the refusal of a run whose closure has a conflict
-pub refused_conflict : {W : Type 0} (p : CrashRun W) (kind : ConflictKind) (r : Refusal) → ClosureHas (setting_of p) kind → IsExcluded p → r ≡ refusal.Inconsistent (contradiction_in p kind) → IsRefusedRun p r
-refused_conflict p kind r has none is = inl (kind, has, none, is)
+-- the refusal of a run that has no report
+pub refused_run : {W : Type 0} (p : CrashRun W) (r : Refusal) → HasNoReport p r → IsRefusedRun p r
+refused_run p r (inl conflict) = inl conflict
+refused_run p r (inr memory) = inr (ap status_of memory)
 
 -- of a trace
 module _ (t : CrashTrace) where

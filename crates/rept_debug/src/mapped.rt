@@ -1,6 +1,6 @@
 //! From a core file that lists the files of its program to the end of the dialog.
 
-ghost use Rattle.std.specs.Prelude.{◌≡◌, ◌≤◌, ◌<◌, ◌+◌, ◌^◌, None, Ok, Result, length, IfOk, IfErr, IfSome, OnOk};
+ghost use Rattle.std.specs.Prelude.{◌≡◌, ◌≤◌, ◌<◌, ◌+◌, ◌^◌, None, length, IfOk, IfErr, IfSome, OnOk};
 ghost use Rattle.rept_elf.specs.Image.{file_of};
 ghost use Rattle.rept_maps.specs.FileMap.{map_count};
 ghost use Rattle.rept_maps.specs.Views.{desc_of};
@@ -8,15 +8,14 @@ ghost use Rattle.rept_mapped.specs.Mapped.{mappings};
 ghost use Rattle.rept_ports.specs.Port.{move};
 ghost use Rattle.rept_app.specs.Forms.{core_image_fault};
 ghost use Rattle.rept_app.specs.Loading.{core_bytes, parts_bytes};
-ghost use Rattle.rept_app.specs.Mapped.{ListSays, mapped_crash};
+ghost use Rattle.rept_app.specs.Mapped.{mapped_crash};
 ghost use Rattle.rept_debug.specs.Debugged.{IsHeld, IsHeldMapped, IsRefusedCrash, IsUnheld, Notices, streams};
 
 use crate::no_talk::{NoTalk, load_fault};
 use crate::talk::{Talk, debug_trace};
-use rept_app::{CoreFiles, Refusal};
+use rept_app::{CoreFiles, ListStop, Refusal, images_in, load_listed};
 use rept_dump::Dump;
-use rept_elf::{Image, Want};
-use rept_mapfiles::{LoadStop, asked_names, images_of, load_names};
+use rept_elf::Image;
 use rept_maps::{Images, Maps};
 use rept_ports::{Shelf, Sink, Source};
 use rept_runs::is_several;
@@ -41,53 +40,25 @@ pub fn debug_mapped<H: Shelf, S: Source, K: Sink, E: Sink>(
     ensures once { IfSome (H.port shelf.old).files (λ _. (H.port shelf.new).faults ≤ (H.port shelf.old).faults + 1) }
     ensures calm { OnOk result (IfSome (H.port shelf.old).files (λ _. (H.port shelf.new).faults ≡ (H.port shelf.old).faults)) }
 {
-    let core = match Image::read(files.core.as_slice(), Want::Core) {
-        Ok(core) => core,
-        Err(fault) => return Err(NoTalk::Refused(Refusal::CoreImage(fault))),
+    let listed = match load_listed(alloc, shelf, files.core.as_slice()) {
+        Ok(listed) => listed,
+        Err(ListStop::Refused(refusal)) => return Err(NoTalk::Refused(refusal)),
+        Err(ListStop::LoadFault(name)) => return Err(load_fault(alloc, name)),
     };
-    match Maps::read(core) {
-        Ok(maps) => debug_listed(alloc, shelf, maps, core, files, input, out, errors),
-        Err(fault) => Err(NoTalk::Refused(Refusal::Maps(fault))),
-    }
-}
-
-/// The same of a list, with the core file's image.
-fn debug_listed<H: Shelf, S: Source, K: Sink, E: Sink>(
-    alloc: Global,
-    shelf: &mut H,
-    maps: Maps<'_>,
-    core: Image<'_>,
-    files: &CoreFiles,
-    input: &mut S,
-    out: &mut K,
-    errors: &mut E,
-) -> Result<Talk, NoTalk>
-    requires short { length files.now.trace.items < 2 ^ 32 }
-    requires accepted { core_image_fault (file_of core) ≡ None }
-    requires listed { ListSays (file_of core) (Ok (desc_of maps)) }
-    ensures held { IfOk result (λ talk. IfSome (H.port shelf.old).files (λ told. IsHeldMapped (mapped_crash told (core_bytes (file_of core.entry) files.now.trace.items files.now.manner)) (streams (move (S.port input.old) (S.port input.new)) (move (K.port out.old) (K.port out.new)) (move (E.port errors.old) (E.port errors.new))) talk)) }
-    ensures unheld { IfErr result (λ why. IfSome (H.port shelf.old).files (λ told. IsUnheld (mapped_crash told (core_bytes (file_of core.entry) files.now.trace.items files.now.manner)) (move (H.port shelf.old).loads (H.port shelf.new).loads) why)) }
-    ensures unread { IfErr result (λ _. (input.new ≡ input.old) × (out.new ≡ out.old)) }
-    ensures noticed { IfErr result (λ _. Notices (move (E.port errors.old) (E.port errors.new))) }
-    ensures files { (H.port shelf.new).files ≡ (H.port shelf.old).files }
-    ensures later { (H.port shelf.old).faults ≤ (H.port shelf.new).faults }
-    ensures once { IfSome (H.port shelf.old).files (λ _. (H.port shelf.new).faults ≤ (H.port shelf.old).faults + 1) }
-    ensures calm { OnOk result (IfSome (H.port shelf.old).files (λ _. (H.port shelf.new).faults ≡ (H.port shelf.old).faults)) }
-{
-    let names = match asked_names(alloc, &maps) {
-        Ok(names) => names,
-        Err(_) => return Err(NoTalk::Refused(Refusal::OutOfMemory)),
-    };
-    let kept = match load_names(alloc, shelf, names.as_slice()) {
-        Ok(kept) => kept,
-        Err(LoadStop::Failed(place)) => return Err(load_fault(alloc, names[place])),
-        Err(LoadStop::OutOfMemory) => return Err(NoTalk::Refused(Refusal::OutOfMemory)),
-    };
-    let images = match images_of(alloc, &maps, names.as_slice(), kept.as_slice()) {
+    let images = match images_in(alloc, &listed) {
         Ok(images) => images,
         Err(_) => return Err(NoTalk::Refused(Refusal::OutOfMemory)),
     };
-    match debug_images(alloc, maps, &images, core, files, input, out, errors) {
+    match debug_images(
+        alloc,
+        listed.maps,
+        &images,
+        listed.core,
+        files,
+        input,
+        out,
+        errors,
+    ) {
         Ok(talk) => Ok(talk),
         Err(refusal) => Err(NoTalk::Refused(refusal)),
     }

@@ -1,34 +1,27 @@
 //! From a trace to the end of the dialog over its report.
 
 ghost use Rattle.std.specs.Prelude.{◌≡◌, ◌<◌, ◌^◌, ℕ, List, length, IfOk, IfErr};
-ghost use Rattle.rept_steps.specs.Runs.{course_of};
-ghost use Rattle.rept_moments.specs.Courses.{IsCourseOf};
 ghost use Rattle.rept_runs.specs.Kind.{is_several};
 ghost use Rattle.rept_ports.specs.Port.{move};
 ghost use Rattle.rept_found.specs.Crash.{crash_of, means};
 ghost use Rattle.rept_amo.specs.Atomic.{atomic_rules};
 ghost use Rattle.rept_app.specs.Domains.{means_of};
 ghost use Rattle.rept_app.specs.Reading.{AreNotesOf, HasNotes};
-ghost use Rattle.rept_app.specs.Study.{AreEndsOf};
 ghost use Rattle.rept_app.specs.Told.{crash_run, crash_trace};
 ghost use Rattle.rept_app.specs.TraceRun.{FitsDump};
 ghost use Rattle.rept_debug.specs.Debugged.{IsHeldTrace, IsRefusedRun, IsRefusedTrace, Notices, TalksOver, streams};
 
 use crate::begin::begin_run;
 use crate::notice::noticed;
-use rept_amo::Atomic;
-use rept_analysis::Stop;
-use rept_app::{Manner, Refusal};
+use rept_app::{Manner, Refusal, analyse, basis_of};
 use rept_dialog::{Conversed, converse};
 use rept_dump::Dump;
-use rept_found::{ThreadEnds, name_conflict, prepare, reports_are_true, search};
 use rept_known::Both;
 use rept_partial::Range;
 use rept_ports::{Sink, Source};
 use rept_span::Transfer;
 use rept_steps::Run;
 use rept_stub::Setting;
-use rept_timeline::RunPaths;
 use rept_words::Domain;
 use std::alloc::Global;
 
@@ -108,38 +101,10 @@ fn hold_by<W: Transfer, S: Source, K: Sink>(
     ensures refused { (notes : List (List ℕ)) → AreNotesOf dump.now notes → IfErr result (IsRefusedRun (crash_run (means W.sets W.moves atomic_rules) (crash_of dump.now notes) run.now)) }
     ensures unread { IfErr result (λ _. (input.new ≡ input.old) × (out.new ≡ out.old)) }
 {
-    let ends = match ThreadEnds::new(alloc, run, dump) {
-        Ok(ends) => ends,
-        Err(_) => return Err(Refusal::OutOfMemory),
-    };
-    match RunPaths::new(alloc, run) {
-        Ok(paths) => hold_paths::<W, S, K>(alloc, run, &paths, &ends, dump, input, out),
-        Err(_) => Err(Refusal::OutOfMemory),
-    }
-}
-
-/// The same of the paths of the run, and of how its threads ended.
-fn hold_paths<W: Transfer, S: Source, K: Sink>(
-    alloc: Global,
-    run: &Run,
-    paths: &RunPaths<'_>,
-    ends: &ThreadEnds<'_>,
-    dump: &Dump<'_>,
-    input: &mut S,
-    out: &mut K,
-) -> Result<Conversed, Refusal>
-    requires fits { FitsDump dump.now run.now }
-    requires course { IsCourseOf (course_of run.now) paths.now.ways }
-    requires ended { AreEndsOf dump.now run.now ends.now }
-    ensures held { (notes : List (List ℕ)) → AreNotesOf dump.now notes → IfOk result (TalksOver (crash_run (means W.sets W.moves atomic_rules) (crash_of dump.now notes) run.now) (move (S.port input.old) (S.port input.new)) (move (K.port out.old) (K.port out.new))) }
-    ensures refused { (notes : List (List ℕ)) → AreNotesOf dump.now notes → IfErr result (IsRefusedRun (crash_run (means W.sets W.moves atomic_rules) (crash_of dump.now notes) run.now)) }
-    ensures unread { IfErr result (λ _. (input.new ≡ input.old) × (out.new ≡ out.old)) }
-{
-    reports_are_true::<W, Atomic>();
-    let Ok(prepared) = prepare::<W, Atomic>(alloc, paths, ends, dump, Atomic::new()) else {
+    let Ok(basis) = basis_of(alloc, run, dump) else {
         return Err(Refusal::OutOfMemory);
     };
-    match search(prepared) {
+    match analyse::<W>(alloc, run, &basis, dump) {
         Ok(mut found) => {
             let setting = Setting {
                 skipped: run.skipped,
@@ -147,10 +112,6 @@ fn hold_paths<W: Transfer, S: Source, K: Sink>(
             };
             Ok(converse(alloc, &mut found, setting, input, out))
         }
-        Err(Stop::Conflict(kind)) => {
-            let conflict = name_conflict(paths.ways().course(), kind);
-            Err(Refusal::Inconsistent(conflict))
-        }
-        Err(Stop::OutOfMemory) => Err(Refusal::OutOfMemory),
+        Err(refusal) => Err(refusal),
     }
 }

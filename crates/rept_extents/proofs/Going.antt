@@ -5,7 +5,9 @@ use Rattle.std.proofs.Common.{◌≡◌, ℕ, ◌+◌, ◌-◌, ◌≤◌, ◌<�
 use Rattle.std.specs.Option.{IfSome}
 use Rattle.std.proofs.lemmas.Bool.{cases_lt}
 use Rattle.std.proofs.lemmas.List.{get_or_append_left, get_or_push, get_or_past}
-use Rattle.rept_report.specs.Moments.{Moments}
+use Rattle.rept_span.specs.Ranges.{Legs}
+use Rattle.rept_report.specs.Moments.{Moments, AreMoments}
+use Rattle.rept_carry.specs.Links.{IsNextFrom, IsNextTo}
 use Rattle.rept_reach.specs.declared.reaches.Window.{Window}
 use Rattle.rept_reach.specs.Reaching.{IsLit, IsLeaving, IsReachedUp, IsReachedDown}
 use Rattle.rept_extents.specs.declared.hulls.Hull.{Hull}
@@ -140,3 +142,16 @@ module _ (M : Moments) where
     from = inr refl;
     ways = λ k past less. absurd (omega arith);
   }
+
+-- the numbers next to one lie between the least and the greatest of them
+pub nexts_lie : (L : Legs) (M : Moments) (number end least most : ℕ) → AreMoments L M → end ≡ M.end → IsNextFrom M number 0 (Some least) → IsNextTo M number end (Some most) → NextsLieIn M number (record { least = least; most = most })
+nexts_lie L M number end least most laws last low high w e = (
+  elim (cases_lt w least) [
+    | inl under ↦ absurd (low.2 w (omega arith) under e)
+    | inr up ↦ up
+  ],
+  elim (cases_lt most w) [
+    | inl over ↦ let few = (laws.inside number w e).1 in absurd (high.2 w over (omega arith) e)
+    | inr down ↦ down
+  ],
+)

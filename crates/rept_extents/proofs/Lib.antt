@@ -1,3 +1,4 @@
+mod Barring
 mod Bounds
 mod Coming
 mod Falling

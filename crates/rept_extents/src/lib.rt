@@ -1,6 +1,7 @@
 //! Tables of a run by the numbers of its moments: between which of them each row falls, and how far a byte's value goes at once.
 #![tactic(auto)]
 
+mod bars;
 mod extents;
 mod hulls;
 mod reaches;

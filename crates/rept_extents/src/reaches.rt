@@ -12,12 +12,6 @@ use rept_moments::Course;
 use rept_reach::Window;
 use std::alloc::{AllocError as OutOfMemory, Global};
 
-/// So many numbers next to one, or to which it is next, are looked at: where many threads take turns there may be one for each of them, and going over all for each number would take long.
-const FEW: u32 = 32;
-
-/// Where of so many numbers too many others are next to them, no more are looked at.
-const CROWDED: u32 = 1024;
-
 /// Which numbers are next to each, and by which ones each is reached.
 #[derive(Drop)]
 pub enum Tables {
@@ -25,84 +19,39 @@ pub enum Tables {
     One,
     /// Of several threads they are listed by the numbers before the end.
     Many {
-        /// Bounds of the numbers that are next to each, where these are few.
+        /// Bounds of the numbers that are next to each.
         nexts: Hulls,
-        /// The greatest number, among the first few, that the one after each is next to, if that is an earlier one and nothing that isn't told falls between. It stands as the least of bounds.
+        /// The greatest earlier number that the one after each is next to, if there is one and nothing that isn't told falls between. It stands as the least of bounds.
         ups: Hulls,
         /// The least number after each that is next to it, if there is one and nothing that isn't told falls between. It stands as the greatest of bounds.
         downs: Hulls,
     },
 }
 
-/// Bounds, made so wide that a number lies within them.
-fn wider(hull: Hull, number: u32) -> Hull
-    ensures least { result.least ≤ hull.least }
-    ensures most { hull.most ≤ result.most }
-    ensures above { result.least ≤ number }
-    ensures below { number ≤ result.most }
+/// Bounds of the numbers that are next to one, if there are some.
+fn nexts_of(ways: &Ways<'_>, number: u32) -> Option<Hull>
+    ensures { IfSome result (NextsLieIn (seen_in ways.now).moments number) }
 {
-    Hull {
-        least: hull.least.min(number),
-        most: hull.most.max(number),
-    }
-}
-
-/// Bounds of the numbers that are next to one, if these are few.
-fn nexts_of(course: &Course<'_>, number: u32) -> Option<Hull>
-    requires inside { number ≤ (seen_in course.now).moments.end }
-    requires laws { AreMoments (seen_in course.now).legs (seen_in course.now).moments }
-    ensures { IfSome result (NextsLieIn (seen_in course.now).moments number) }
-{
+    let course = ways.course();
     let end = course.end();
-    let mut hull = Hull {
-        least: number,
-        most: number,
+    let Some(least) = ways.next_from(number, 0) else {
+        return None;
     };
-    let mut least = 0;
-    for _turn in 0..FEW {
-        let next = match course.next_from(number, least) {
-            Some(next) => next,
-            None => return Some(hull),
-        };
-        hull = wider(hull, next);
-        if next >= end {
-            return Some(hull);
-        }
-        least = next + 1;
-    }
-    None
+    let Some(most) = ways.next_to(number, end) else {
+        return None;
+    };
+    Some(Hull { least, most })
 }
 
-/// The greatest number before one to which it is next, among the first few of these.
-fn former_of(ways: &Ways<'_>, number: u32) -> Option<u32>
-    ensures { IfSome result (λ m. (m < number) × ((seen_in ways.now).moments.next m number ≡ true)) }
-{
-    let mut found = None;
-    let mut least = 0;
-    for _turn in 0..FEW {
-        let former = match ways.previous_from(number, least) {
-            Some(former) => former,
-            None => return found,
-        };
-        if former >= number {
-            return found;
-        }
-        found = Some(former);
-        least = former + 1;
-    }
-    found
-}
-
-/// The greatest number that the one after a number is next to, if that is an earlier one and nothing that isn't told falls between.
+/// The greatest earlier number that the one after a number is next to, if there is one and nothing that isn't told falls between.
 fn up_of(ways: &Ways<'_>, number: u32) -> Option<Hull>
     requires { number < (seen_in ways.now).moments.end }
     ensures { IfSome result (IsUp (seen_in ways.now).moments number) }
 {
     let course = ways.course();
     let _end = course.end();
-    let former = match former_of(ways, number + 1) {
-        Some(former) => former,
-        None => return None,
+    let Some(former) = ways.previous_to(number + 1, number) else {
+        return None;
     };
     if course.is_dark_between(former, number + 1) {
         return None;
@@ -114,14 +63,14 @@ fn up_of(ways: &Ways<'_>, number: u32) -> Option<Hull>
 }
 
 /// The least number after one that is next to it, if there is one and nothing that isn't told falls between.
-fn down_of(course: &Course<'_>, number: u32) -> Option<Hull>
-    requires { number < (seen_in course.now).moments.end }
-    ensures { IfSome result (IsDown (seen_in course.now).moments number) }
+fn down_of(ways: &Ways<'_>, number: u32) -> Option<Hull>
+    requires { number < (seen_in ways.now).moments.end }
+    ensures { IfSome result (IsDown (seen_in ways.now).moments number) }
 {
+    let course = ways.course();
     let _end = course.end();
-    let next = match course.next_from(number, number + 1) {
-        Some(next) => next,
-        None => return None,
+    let Some(next) = ways.next_from(number, number + 1) else {
+        return None;
     };
     if course.is_dark_between(number, next) {
         return None;
@@ -132,32 +81,13 @@ fn down_of(course: &Course<'_>, number: u32) -> Option<Hull>
     })
 }
 
-/// Bounds of the numbers that are next to one, unless those of so many numbers were too many before; and of how many they were.
-fn nexts_unless(course: &Course<'_>, number: u32, crowded: u32) -> (Option<Hull>, u32)
-    requires inside { number ≤ (seen_in course.now).moments.end }
-    requires laws { AreMoments (seen_in course.now).legs (seen_in course.now).moments }
-    ensures { IfSome result.0 (NextsLieIn (seen_in course.now).moments number) }
-{
-    if crowded >= CROWDED {
-        return (None, crowded);
-    }
-    match nexts_of(course, number) {
-        Some(hull) => (Some(hull), crowded),
-        None => (None, crowded + 1),
-    }
-}
-
 /// Bounds of the numbers that are next to each.
-fn all_nexts(alloc: Global, course: &Course<'_>) -> Result<Vec<Option<Hull>>, OutOfMemory>
-    requires { AreMoments (seen_in course.now).legs (seen_in course.now).moments }
-    ensures { IfOk result (λ v. AreEach (NextsLieIn (seen_in course.now).moments) v.items) }
+fn all_nexts(alloc: Global, ways: &Ways<'_>) -> Result<Vec<Option<Hull>>, OutOfMemory>
+    ensures { IfOk result (λ v. AreEach (NextsLieIn (seen_in ways.now).moments) v.items) }
 {
     let mut list = Vec::new(alloc);
-    let mut crowded = 0;
-    for number in 0..course.end() {
-        let bounds = nexts_unless(course, number, crowded);
-        list.push(bounds.0)?;
-        crowded = bounds.1;
+    for number in 0..ways.course().end() {
+        list.push(nexts_of(ways, number))?;
     }
     Ok(list)
 }
@@ -174,12 +104,12 @@ fn all_ups(alloc: Global, ways: &Ways<'_>) -> Result<Vec<Option<Hull>>, OutOfMem
 }
 
 /// Which number each reaches.
-fn all_downs(alloc: Global, course: &Course<'_>) -> Result<Vec<Option<Hull>>, OutOfMemory>
-    ensures { IfOk result (λ v. AreEach (IsDown (seen_in course.now).moments) v.items) }
+fn all_downs(alloc: Global, ways: &Ways<'_>) -> Result<Vec<Option<Hull>>, OutOfMemory>
+    ensures { IfOk result (λ v. AreEach (IsDown (seen_in ways.now).moments) v.items) }
 {
     let mut list = Vec::new(alloc);
-    for number in 0..course.end() {
-        list.push(down_of(course, number))?;
+    for number in 0..ways.course().end() {
+        list.push(down_of(ways, number))?;
     }
     Ok(list)
 }
@@ -188,10 +118,9 @@ fn all_downs(alloc: Global, course: &Course<'_>) -> Result<Vec<Option<Hull>>, Ou
 fn many(alloc: Global, ways: &Ways<'_>) -> Result<Tables, OutOfMemory>
     ensures { IfOk result (λ t. AreTables (seen_in ways.now).moments t) }
 {
-    let course = ways.course();
-    let nexts = Hulls::new(alloc, all_nexts(alloc, course)?)?;
+    let nexts = Hulls::new(alloc, all_nexts(alloc, ways)?)?;
     let ups = Hulls::new(alloc, all_ups(alloc, ways)?)?;
-    let downs = Hulls::new(alloc, all_downs(alloc, course)?)?;
+    let downs = Hulls::new(alloc, all_downs(alloc, ways)?)?;
     Ok(Tables::Many { nexts, ups, downs })
 }
 

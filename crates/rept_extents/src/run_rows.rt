@@ -8,6 +8,7 @@ ghost use Rattle.rept_timeline.specs.Times.{time_of};
 ghost use Rattle.rept_extents.specs.Extents.{AreExtents};
 ghost use Rattle.rept_extents.specs.Tables.{AreTables};
 
+use crate::bars::bars;
 use crate::extents::Extents;
 use crate::reaches::Tables;
 use rept_isa::StepRow;
@@ -158,6 +159,10 @@ impl<'a> Paths for RunRows<'a> {
 impl<'a> Reaches for RunRows<'a> {
     fn falls(&self, row: u32, number: u32, next: u32) -> bool {
         self.paths.ways().course().falls(row, number, next)
+    }
+
+    fn bars(&self, row: u32, number: u32) -> bool {
+        bars(self.paths.ways().course(), row, number)
     }
 
     fn extent(&self, row: u32) -> Window {

@@ -5,6 +5,7 @@ use Rattle.std.specs.Prelude.{bit_and}
 use Rattle.std.proofs.lemmas.Bool.{cases_eq, cond-true, cond-false, eq-eqb, ne_eqb, leb-true, leb-false}
 use Rattle.std.proofs.lemmas.List.Elements.{All-weaker}
 use Rattle.rept_isa.specs.declared.row.StepRow.{StepRow}
+use Rattle.rept_isa.specs.Operands.{is_call}
 use Rattle.rept_machine.specs.State.{State}
 use Rattle.rept_partial.specs.Sets.{AreLawful as AreLawfulSets}
 use Rattle.rept_reason.specs.declared.fact.Fact.{Fact}
@@ -15,7 +16,7 @@ use Rattle.rept_reason.specs.Facts.{Knowledge, register_known}
 use Rattle.rept_span.specs.Moves.{AreMoves}
 use Rattle.rept_span.specs.Ranges.{range}
 use Rattle.rept_report.specs.Setting.{Setting, Uses, way_of}
-use Rattle.rept_report.specs.Runs.{Runs, StepWrites as RowWrites, is_call}
+use Rattle.rept_report.specs.Runs.{Runs, StepWrites as RowWrites}
 use Rattle.rept_report.specs.OneThread.{run_of_states}
 use Rattle.rept_report.specs.Spots.{spot}
 use Rattle.rept_report.specs.declared.writer.Writer.{Writer}

@@ -4,7 +4,7 @@ use crate::found::Found;
 use rept_elf::Symbol;
 use rept_isa::{Reg, StepRow};
 use rept_moments::Course;
-use rept_partial::{Flat, Range};
+use rept_partial::{Partial, Range};
 use rept_places::{place_of, point_of};
 use rept_reason::{Fact, Reason};
 use rept_report::{Counts, Paths, Writer, bounds};
@@ -82,10 +82,7 @@ impl<'a, W: Transfer, R: RowRules> Findings for Found<'a, W, R> {
 
     fn reg(&self, point: u32, register: Reg) -> Option<u32> {
         self.analysis.account();
-        match self.analysis.reg(point, register) {
-            Flat::Known(value) => Some(value),
-            Flat::Unknown => None,
-        }
+        self.analysis.reg(point, register).as_exact()
     }
 
     fn range(&self, point: u32, register: Reg) -> Range {

@@ -14,3 +14,7 @@ plus base imm = (base + word imm) % 2 ^ 32
 -- the address of the instruction that follows one of four bytes at this address
 abbrev pub following : ℕ → ℕ
 following from = (from + 4) % 2 ^ 32
+
+-- the address so many bytes after another, modulo 2 ^ 32
+abbrev pub beside : ℕ → ℕ → ℕ
+beside base k = (base + k) % 2 ^ 32

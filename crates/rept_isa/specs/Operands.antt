@@ -1,6 +1,6 @@
 -- Which registers an instruction reads and writes, its kind, and which way a branch went (RISC-V unprivileged manual
 -- 20191213, chapters 2.2, 2.4 to 2.6, 7 and 8; RISC-V psABI, for the register of a call's answer).
-use Rattle.std.specs.Prelude.{ℕ, ◌==◌, Option, Some, None, if◌then◌else◌}
+use Rattle.std.specs.Prelude.{ℕ, ◌==◌, Bool, true, false, Option, Some, None, if◌then◌else◌}
 use Rattle.rept_isa.specs.declared.instr.Instr.{Instr}
 use Rattle.rept_isa.specs.declared.instr.Instr.TheVariants.{Lui, Auipc, Jal, Jalr, Branch, Load, Store, Imm, Op, Amo, Fence, Ecall, Ebreak, Counter}
 use Rattle.rept_isa.specs.declared.instr.AmoOp.{AmoOp}
@@ -12,6 +12,11 @@ use Rattle.rept_isa.specs.declared.class.Turn.{Turn}
 use Rattle.rept_isa.specs.declared.class.Turn.TheVariants.{Taken, NotTaken, Either, NoBranch}
 use Rattle.rept_isa.specs.Numbers.{plus, following}
 use Rattle.rept_isa.specs.Rows.{Addresses, addresses_of}
+
+-- a call into the kernel (RISC-V unprivileged manual 20191213, chapter 2.8)
+abbrev pub is_call : Instr → Bool
+is_call Ecall = true
+is_call _ = false
 
 -- a destination: x0 takes no value
 abbrev pub unless_zero : ℕ → Option ℕ

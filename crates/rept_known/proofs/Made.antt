@@ -5,7 +5,8 @@ use Rattle.std.proofs.Math.Nat.{ℕ_set}
 use Rattle.std.proofs.Math.Bridge.{le_prop}
 use Rattle.rept_known.specs.declared.bits.Bits.{Bits}
 use Rattle.rept_known.specs.Masks.{but}
-use Rattle.rept_known.specs.Bits.{word, agreeing, none_open, in_word, outside}
+use Rattle.rept_partial.specs.Ranges.{word}
+use Rattle.rept_known.specs.Bits.{agreeing, none_open, in_word, outside}
 
 -- their proofs are alike
 same_proofs : (v m : ℕ) (a b : bit_and v m ≡ 0) (s t : v + m < 2 ^ 32) → agreeing v m a s ≡ agreeing v m b t

@@ -1,13 +1,11 @@
 -- Words of which some bits are known, as sets of values: the known bits of compilers (LLVM's KnownBits), the tristate numbers
 -- of the Linux kernel (tnum).
 use Rattle.std.proofs.Common.{arith}
-use Rattle.std.specs.Prelude.{◌≡◌, ℕ, ◌+◌, ◌<◌, ◌%◌, ◌^◌, Bool, ◌&&◌, nat_lt, ◌==◌, if◌then◌else◌, Option, Some, None, bit_and, bit_or, bit_xor}
+use Rattle.std.specs.Prelude.{◌≡◌, ℕ, ◌+◌, ◌<◌, ◌^◌, Bool, ◌&&◌, nat_lt, ◌==◌, if◌then◌else◌, Option, Some, None, bit_and, bit_or, bit_xor}
 use Rattle.rept_known.specs.declared.bits.Bits.{Bits}
 use Rattle.rept_known.specs.Masks.{but, but_apart, but_le, apart_small}
 use Rattle.rept_partial.specs.Sets.{Sets}
-
-abbrev pub word : ℕ → ℕ
-word v = v % 2 ^ 32
+use Rattle.rept_partial.specs.Ranges.{word}
 
 -- the words that agree with a word outside some bits, in which it has none
 abbrev pub agreeing : (value loose : ℕ) → bit_and value loose ≡ 0 → value + loose < 2 ^ 32 → Bits

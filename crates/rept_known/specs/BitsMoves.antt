@@ -16,21 +16,22 @@ use Rattle.rept_isa.specs.declared.instr.BranchOp.TheVariants.{Beq, Bne, Blt, Bg
 use Rattle.rept_isa.specs.declared.row.StepRow.{StepRow}
 use Rattle.rept_isa.specs.declared.class.Turn.{Turn}
 use Rattle.rept_isa.specs.declared.class.Turn.TheVariants.{Taken, NotTaken, Either, NoBranch}
-use Rattle.rept_isa.specs.Numbers.{plus, following}
+use Rattle.rept_isa.specs.Numbers.{plus, following, beside}
 use Rattle.rept_isa.specs.Numbers as numbers
 use Rattle.rept_isa.specs.Operands.{written_by, unless_zero, first_read, second_read, way, turn_of, turn_by}
 use Rattle.rept_isa.specs.Rows.{Addresses, from_of, addresses_of}
-use Rattle.rept_machine.specs.Arithmetic.{computed, computed_imm, register_form, branch_holds, beside, loaded, signed_word, below_signed}
+use Rattle.rept_machine.specs.Arithmetic.{computed, computed_imm, register_form, branch_holds, loaded, signed_word, below_signed}
 use Rattle.rept_machine.specs.State.{State, IsState}
 use Rattle.rept_machine.specs.Step.{HasEffect}
 use Rattle.rept_machine.specs.Ways.{TurnTells, way_tells}
 use Rattle.rept_partial.specs.Sets.{IsWithin}
+use Rattle.rept_partial.specs.Ranges.{word}
 use Rattle.rept_span.specs.Laws.RangeBounds.{word_small}
 use Rattle.rept_span.specs.Laws.RangeMoves.{named_target}
 use Rattle.rept_span.specs.Moves.{Moves, Covers, StepsFrom, AreWithin, AreMoves}
 use Rattle.rept_known.specs.declared.bits.Bits.{Bits}
 use Rattle.rept_known.specs.Masks.{bit_of_word}
-use Rattle.rept_known.specs.Bits.{word, bits_has, bits_meet, bits_sets}
+use Rattle.rept_known.specs.Bits.{bits_has, bits_meet, bits_sets}
 use Rattle.rept_known.specs.Laws.BitsLaws.{Agrees, KnowsAll, value_small, loose_small, has_parts, has_agrees, agrees_has, within_knows, knows_within, in_outside, all_agree, one_agrees, bits_lawful}
 use Rattle.rept_known.specs.Operations.{all_open, all_known, low_open, amount, operation_bits, loaded_bits, applied_bits, tells_equal, with_both, left_bits, narrowed_bits}
 use Rattle.rept_known.specs.Laws.Sums.{sum_covers, sum_knows, difference_covers, difference_knows}

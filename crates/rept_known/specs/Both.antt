@@ -8,13 +8,13 @@ use Rattle.std.proofs.lemmas.Nat.Bits.{bit_at_and, bit_at_ones, bit_at_above}
 use Rattle.std.proofs.lemmas.Bool.{cases_lt}
 use Rattle.rept_partial.specs.declared.range.Range.{Range}
 use Rattle.rept_partial.specs.Sets.{Sets}
-use Rattle.rept_partial.specs.Ranges.{bounded, range_has, range_meet, range_exact}
+use Rattle.rept_partial.specs.Ranges.{bounded, range_has, range_meet, range_exact, word}
 use Rattle.rept_span.specs.Tables.{digits, cover}
 use Rattle.rept_span.specs.Laws.RangeBounds.{digits_hold}
 use Rattle.rept_known.specs.declared.bits.Bits.{Bits}
 use Rattle.rept_known.specs.declared.both.Both.{Both}
 use Rattle.rept_known.specs.Masks.{bit_cases}
-use Rattle.rept_known.specs.Bits.{word, outside, bits_has, bits_meet}
+use Rattle.rept_known.specs.Bits.{outside, bits_has, bits_meet}
 use Rattle.rept_known.specs.Laws.BitsLaws.{Agrees, has_parts, has_agrees, agrees_has, least_agrees, greatest_agrees, in_outside}
 use Rattle.rept_known.specs.Laws.Sums.{xor_alike}
 use Rattle.rept_known.specs.Operations.{all_open, all_known}

@@ -14,15 +14,15 @@ use Rattle.rept_isa.specs.declared.instr.ImmOp.TheVariants.{Addi, Slti, Sltiu, X
 use Rattle.rept_isa.specs.declared.instr.LoadOp.{LoadOp}
 use Rattle.rept_isa.specs.declared.instr.LoadOp.TheVariants.{Lb, Lh, Lw, Lbu, Lhu}
 use Rattle.rept_isa.specs.declared.row.StepRow.{StepRow}
-use Rattle.rept_isa.specs.Numbers.{following}
+use Rattle.rept_isa.specs.Numbers.{following, beside}
 use Rattle.rept_isa.specs.Numbers as numbers
 use Rattle.rept_isa.specs.Operands.{written_by, first_read, second_read}
 use Rattle.rept_isa.specs.Rows.{from_of}
-use Rattle.rept_machine.specs.Arithmetic.{computed, computed_imm, register_form, beside, below_signed}
+use Rattle.rept_machine.specs.Arithmetic.{computed, computed_imm, register_form, below_signed}
 use Rattle.rept_machine.specs.State.{State}
 use Rattle.rept_partial.specs.declared.range.Range.{Range}
 use Rattle.rept_partial.specs.Sets.{IsWithin}
-use Rattle.rept_partial.specs.Ranges.{range_has, range_sets}
+use Rattle.rept_partial.specs.Ranges.{range_has, range_sets, word}
 use Rattle.rept_span.specs.Tables.{full, applied_range, operation_range, immediate_range, loaded_range, narrowed_range}
 use Rattle.rept_span.specs.Laws.RangeBounds.{IsIn, in_has, in_from_to, in_full, in_one, word_small, shifted_small}
 use Rattle.rept_span.specs.Laws.RangeCovering.{upper_small}
@@ -32,7 +32,7 @@ use Rattle.rept_span.specs.Moves.{Moves, Covers, StepsFrom, AreWithin, AreMoves}
 use Rattle.rept_known.specs.declared.bits.Bits.{Bits}
 use Rattle.rept_known.specs.declared.both.Both.{Both}
 use Rattle.rept_known.specs.Masks.{bit_of_word}
-use Rattle.rept_known.specs.Bits.{word, bits_has, bits_sets}
+use Rattle.rept_known.specs.Bits.{bits_has, bits_sets}
 use Rattle.rept_known.specs.Laws.BitsLaws.{Agrees, has_agrees, agrees_has, in_outside, all_agree, one_agrees}
 use Rattle.rept_known.specs.Operations.{all_open, all_known, operation_bits, loaded_bits, applied_bits, narrowed_bits}
 use Rattle.rept_known.specs.BitsMoves.{bits_moves, bits_covers, low_agrees}

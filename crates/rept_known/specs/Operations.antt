@@ -14,12 +14,13 @@ use Rattle.rept_isa.specs.declared.row.StepRow.{StepRow}
 use Rattle.rept_isa.specs.declared.class.Turn.{Turn}
 use Rattle.rept_isa.specs.declared.class.Turn.TheVariants.{Taken, NotTaken}
 use Rattle.rept_isa.specs.Operands.{turn_of}
-use Rattle.rept_isa.specs.Numbers.{following}
+use Rattle.rept_isa.specs.Numbers.{following, beside}
 use Rattle.rept_isa.specs.Numbers as numbers
-use Rattle.rept_machine.specs.Arithmetic.{computed, register_form, beside}
+use Rattle.rept_machine.specs.Arithmetic.{computed, register_form}
 use Rattle.rept_known.specs.declared.bits.Bits.{Bits}
 use Rattle.rept_known.specs.Masks.{but}
-use Rattle.rept_known.specs.Bits.{word, outside, bits_meet}
+use Rattle.rept_partial.specs.Ranges.{word}
+use Rattle.rept_known.specs.Bits.{outside, bits_meet}
 
 abbrev pub all_open : Bits
 all_open = outside 0 4294967295

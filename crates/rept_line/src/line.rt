@@ -165,6 +165,10 @@ impl<'a> Reaches for OnePath<'a> {
         row == number
     }
 
+    fn bars(&self, row: u32, number: u32) -> bool {
+        row == number
+    }
+
     fn extent(&self, row: u32) -> Window {
         Window {
             from: row + 1,

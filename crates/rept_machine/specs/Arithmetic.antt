@@ -15,7 +15,7 @@ use Rattle.rept_isa.specs.declared.instr.ImmOp.{ImmOp}
 use Rattle.rept_isa.specs.declared.instr.ImmOp.TheVariants.{Addi, Slti, Sltiu, Xori, Ori, Andi, Slli, Srli, Srai}
 use Rattle.rept_isa.specs.declared.instr.RegOp.{RegOp}
 use Rattle.rept_isa.specs.declared.instr.RegOp.TheVariants.{Add, Sub, Sll, Slt, Sltu, Xor, Srl, Sra, Or, And, Mul, Mulh, Mulhsu, Mulhu, Div, Divu, Rem, Remu}
-use Rattle.rept_isa.specs.Numbers.{word}
+use Rattle.rept_isa.specs.Numbers.{word, beside}
 
 abbrev pub signed_word : ℕ → ℤ
 signed_word a = cast_signed w32 a
@@ -88,10 +88,6 @@ branch_holds Blt a b = below_signed a b
 branch_holds Bge a b = not (below_signed a b)
 branch_holds Bltu a b = nat_lt a b
 branch_holds Bgeu a b = not (nat_lt a b)
-
--- the address so many bytes after another, modulo 2 ^ 32
-abbrev pub beside : ℕ → ℕ → ℕ
-beside base k = (base + k) % 2 ^ 32
 
 -- a number of so many bits, with its highest bit repeated up to bit 31
 abbrev pub extended : ℕ → ℕ → ℕ

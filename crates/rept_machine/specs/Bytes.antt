@@ -4,7 +4,8 @@ use Rattle.std.specs.Ordering.{nat_cmp}
 use Rattle.std.specs.BTreeMap.{get}
 use Rattle.rept_machine.specs.Entries.{byte_in}
 use Rattle.rept_machine.specs.declared.memory.Memory.{Memory}
-use Rattle.rept_machine.specs.Arithmetic.{beside, byte_of}
+use Rattle.rept_isa.specs.Numbers.{beside}
+use Rattle.rept_machine.specs.Arithmetic.{byte_of}
 use Rattle.rept_machine.specs.State.{State}
 
 abbrev pub byte_at : Memory → ℕ → ℕ

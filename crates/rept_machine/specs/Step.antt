@@ -7,10 +7,10 @@ use Rattle.rept_isa.specs.declared.instr.AmoOp.{AmoOp}
 use Rattle.rept_isa.specs.declared.instr.AmoOp.TheVariants as atomic
 use Rattle.rept_isa.specs.declared.instr.StoreOp.{StoreOp}
 use Rattle.rept_isa.specs.declared.row.StepRow.{StepRow}
-use Rattle.rept_isa.specs.Numbers.{plus, following}
+use Rattle.rept_isa.specs.Numbers.{plus, following, beside}
 use Rattle.rept_isa.specs.Rows.{Addresses, addresses_of}
 use Rattle.rept_machine.specs.State.{State}
-use Rattle.rept_machine.specs.Arithmetic.{computed, computed_imm, branch_holds, beside, word_at, combined, loaded, store_width, byte_of}
+use Rattle.rept_machine.specs.Arithmetic.{computed, computed_imm, branch_holds, word_at, combined, loaded, store_width, byte_of}
 use Rattle.rept_machine.specs.Calls.{MayChange}
 
 abbrev pub SameRegisters : State → State → Type 0

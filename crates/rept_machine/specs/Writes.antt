@@ -4,8 +4,8 @@ use Rattle.rept_isa.specs.declared.instr.Instr.{Instr}
 use Rattle.rept_isa.specs.declared.instr.Instr.TheVariants.{Store, Amo, Ecall}
 use Rattle.rept_isa.specs.declared.instr.AmoOp.{AmoOp}
 use Rattle.rept_isa.specs.declared.instr.AmoOp.TheVariants as atomic
-use Rattle.rept_isa.specs.Numbers.{plus}
-use Rattle.rept_machine.specs.Arithmetic.{beside, store_width}
+use Rattle.rept_isa.specs.Numbers.{plus, beside}
+use Rattle.rept_machine.specs.Arithmetic.{store_width}
 use Rattle.rept_machine.specs.Calls.{MayChange}
 use Rattle.rept_machine.specs.State.{State}
 

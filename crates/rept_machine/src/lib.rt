@@ -9,3 +9,4 @@ mod registers;
 mod store;
 
 pub use machine::{Halt, Machine};
+pub use store::store_width;

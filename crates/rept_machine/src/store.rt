@@ -20,7 +20,8 @@ pub fn store(memory: &mut Memory, op: StoreOp, base: u32, value: u32) -> Result<
     Ok(())
 }
 
-fn store_width(op: StoreOp) -> u32
+/// How many bytes a store writes.
+pub fn store_width(op: StoreOp) -> u32
     ensures value { result ≡ store_width op }
     ensures small { result ≤ 4 }
 {

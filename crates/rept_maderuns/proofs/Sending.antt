@@ -8,8 +8,8 @@ use Rattle.rept_isa.specs.declared.instr.Instr.TheVariants.{Lui, Auipc, Jal, Jal
 use Rattle.rept_isa.specs.declared.row.StepRow.{StepRow}
 use Rattle.rept_isa.specs.Numbers.{word, plus, following}
 use Rattle.rept_isa.specs.Rows.{Addresses, addresses_of}
+use Rattle.rept_isa.specs.Operands.{is_call}
 use Rattle.rept_steps.specs.declared.threads.ThreadRows.{ThreadRows}
-use Rattle.rept_steps.specs.Course.{is_call}
 use Rattle.rept_path.specs.Code.{flow_of, jumps_far}
 use Rattle.rept_encode.specs.Walkable.{MayLead, calls, IsStepped}
 use Rattle.rept_turns.specs.declared.turn.Turn.{Turn}

@@ -8,10 +8,10 @@ use Rattle.rept_isa.specs.declared.instr.LoadOp.TheVariants.{Lw}
 use Rattle.rept_isa.specs.declared.instr.StoreOp.{StoreOp}
 use Rattle.rept_isa.specs.declared.instr.ImmOp.TheVariants.{Addi}
 use Rattle.std.proofs.lemmas.Bool.{cases_eq}
-use Rattle.rept_isa.specs.Numbers.{word, plus}
+use Rattle.rept_isa.specs.Numbers.{word, plus, beside}
 use Rattle.rept_isa.specs.Rows.{Addresses}
 use Rattle.rept_machine.specs.State.{State}
-use Rattle.rept_machine.specs.Arithmetic.{beside, loaded, store_width}
+use Rattle.rept_machine.specs.Arithmetic.{loaded, store_width}
 use Rattle.rept_machine.specs.Step.{SameMemory, HasEffect}
 use Rattle.rept_machine.specs.Choices.{Picks}
 use Rattle.rept_make.specs.Code.{IsTame, IsPlaced}

@@ -14,8 +14,7 @@ pub mod Turns
 pub mod Beginning
 pub mod Offers
 pub mod Neighbours
-pub mod Offering
-pub mod Choosing
+pub mod Adding
 pub mod Reaching
 pub mod Alone
 pub mod Standing

@@ -1,5 +1,6 @@
--- The numbers that are offered are those that are next to a number.
+-- The numbers that are added are those that are next to a number.
 use Rattle.std.proofs.Common.{◌≡◌, ◌≢◌, ℕ, zero, suc, ◌+◌, ◌<◌, ◌≤◌, ◌⊎◌, ◌&&◌, ◌||◌, eqb, nat_lt, nat_le, cond, Bool, true, false, List, [], ◌∷◌, ◌++◌, length, Option, Some, None, inl, inr, refl, sym, ap, ◌∙◌, subst, arith}
+use Rattle.std.specs.List.{Contains}
 use Rattle.std.specs.Option.{is_some}
 use Rattle.std.proofs.lemmas.Bool.{false≢true, cases_Bool, cases_lt, cases_eq, and_from, eq-eqb, ne_eqb, lt-ltb, le-ltb, leb-true, le-leb}
 use Rattle.rept_steps.specs.Course.{Course, Row, row_of, rows_of, IsRow, row_at, IsSound}
@@ -15,14 +16,13 @@ use Rattle.rept_course.specs.Numbered.{row_on}
 use Rattle.rept_course.proofs.Naming.{some_is}
 use Rattle.rept_course.proofs.Making.{next_last, last_named}
 use Rattle.rept_moments.specs.declared.side.Side.{Side}
-use Rattle.rept_moments.specs.declared.search.Search.{Search}
 use Rattle.rept_moments.specs.Ordering.{moment_at, in_order}
 use Rattle.rept_moments.specs.Merging.{merged_at}
 use Rattle.rept_moments.specs.Numbers.{numbers_of, numbered, unless}
 use Rattle.rept_moments.specs.Numbering.{at_place, Numbered}
-use Rattle.rept_moments.specs.Seen.{IsNextFrom}
+use Rattle.rept_moments.specs.Seen.{AddsNexts}
 use Rattle.rept_moments.specs.Tables.{moments_at}
-use Rattle.rept_moments.specs.Nexts.{nexts_of, merged_nexts, point_nexts, side_nexts, last_nexts, ends_to, numbers_next, lower, offered, offered_all, Member}
+use Rattle.rept_moments.specs.Nexts.{nexts_of, merged_nexts, point_nexts, side_nexts, last_nexts, ends_to, numbers_next, Member, Adds}
 use Rattle.rept_moments.proofs.Places.{row_there, there_row, point_of_row, row_point, next_row}
 use Rattle.rept_moments.proofs.Listing.{are_listed, row_at_side}
 use Rattle.rept_moments.proofs.Numbering.{count_same, told}
@@ -58,136 +58,6 @@ before_end e = cc
 
 after_end : {q : Row} → after q ≡ at_end → ⊥
 after_end e = cc
-
--- a search for the least of some numbers
-pub record IsSearch (S : ℕ → Type 0) (s : Search) : Type 0 where
-  pub none : s.found ≡ None → (v : ℕ) → S v → v ≢ s.own → s.least ≤ v → ⊥
-  pub one : (w : ℕ) → s.found ≡ Some w → S w × (w ≢ s.own) × (s.least ≤ w) × ((v : ℕ) → S v → v ≢ s.own → s.least ≤ v → w ≤ v)
-
-widen : (S T : ℕ → Type 0) (s : Search) → ((v : ℕ) → S v → T v) → ((v : ℕ) → T v → S v) → IsSearch S s → IsSearch T s
-widen S T s to from its = record {
-  none = λ e v h other low. its.none e v (from v h) other low;
-  one = λ w e. let k = its.one w e in (to w k.0, k.1, k.2, λ v h other low. k.3 v (from v h) other low);
-}
-
-lower_none : (o : Option ℕ) (n : ℕ) → lower o n ≡ None → ⊥
-lower_none None n e = some_none e
-lower_none (Some k) n e =
-    elim (cases_Bool (nat_le k n)) [
-      | inl low ↦ some_none (sym (ap (λ (b : Bool). cond b (Some k) (Some n)) low) ∙ e)
-      | inr high ↦ some_none (sym (ap (λ (b : Bool). cond b (Some k) (Some n)) high) ∙ e)
-    ]
-
-module _ (S : ℕ → Type 0) (s : Search) (n : ℕ) (its : IsSearch S s) where
-  left_out : (n ≡ s.own) ⊎ (n < s.least) → IsSearch (λ v. (n ≡ v) ⊎ S v) s
-  left_out why = record {
-    none = λ e v h other low.
-        elim h [
-          | inl same ↦ out v same other low
-          | inr k ↦ its.none e v k other low
-        ];
-    one = λ w e. let k = its.one w e in (
-      inr k.0,
-      k.1,
-      k.2,
-      λ v h other low.
-          elim h [
-            | inl same ↦ absurd (out v same other low)
-            | inr j ↦ k.3 v j other low
-          ],
-    );
-  }
-    where
-      out : (v : ℕ) → n ≡ v → v ≢ s.own → s.least ≤ v → ⊥
-      out v same other low =
-          elim why [
-            | inl own ↦ other (sym same ∙ own)
-            | inr less ↦ absurd (omega arith)
-          ]
-
-  taken_by : (o : Option ℕ) → s.found ≡ o → n ≢ s.own → s.least ≤ n → IsSearch (λ v. (n ≡ v) ⊎ S v) (record { own = s.own; least = s.least; found = lower o n })
-  taken_by None e other low = record {
-    none = λ k. absurd (some_none k);
-    one = λ w k.
-        let same : n ≡ w = some_same k in (
-          inl same,
-          λ own. other (same ∙ own),
-          omega arith,
-          λ v h out least.
-              elim h [
-                | inl is ↦ omega arith
-                | inr j ↦ absurd (its.none e v j out least)
-              ],
-        );
-  }
-  taken_by (Some k) e other low =
-      let old = its.one k e in
-      elim (cases_lt n k) [
-        | inl less ↦ rw (over k n less) (record {
-          none = λ j. absurd (some_none j);
-          one = λ w j.
-              let same : n ≡ w = some_same j in (
-                inl same,
-                λ own. other (same ∙ own),
-                omega arith,
-                λ v h out least.
-                    elim h [
-                      | inl is ↦ omega arith
-                      | inr i ↦ let most = old.3 v i out least in omega arith
-                    ],
-              );
-        })
-        | inr past ↦ rw (le-leb k n past) (record {
-          none = λ j. absurd (some_none j);
-          one = λ w j.
-              let same : k ≡ w = some_same j in (
-                inr (subst S same old.0),
-                λ own. old.1 (same ∙ own),
-                subst (λ (i : ℕ). s.least ≤ i) same old.2,
-                λ v h out least.
-                    elim h [
-                      | inl is ↦ omega arith
-                      | inr i ↦ let most = old.3 v i out least in omega arith
-                    ],
-              );
-        })
-      ]
-    where
-      over : (a b : ℕ) → b < a → nat_le a b ≡ false
-      over a b less = not_so (nat_le a b) (λ t. let j = leb-true a b t in omega arith)
-
-  step : IsSearch (λ v. (n ≡ v) ⊎ S v) (offered s n)
-  step =
-      elim (cases_eq n s.own) [
-        | inl own ↦ rw (eq-eqb n s.own own) (left_out (inl own))
-        | inr other ↦
-            elim (cases_lt n s.least) [
-              | inl less ↦ rw (ne_eqb n s.own other, lt-ltb n s.least less) (left_out (inr less))
-              | inr low ↦ rw (ne_eqb n s.own other, le-ltb n s.least low) (taken_by s.found refl other low)
-            ]
-      ]
-
-all_steps : (S : ℕ → Type 0) (s : Search) (ns : List ℕ) → IsSearch S s → IsSearch (λ v. Member ns v ⊎ S v) (offered_all s ns)
-all_steps S s [] its = widen S (λ v. ⊥ ⊎ S v) s (λ v h. inr h) (λ v h. elim h [ inl k ↦ absurd k | inr k ↦ k ]) its
-all_steps S s (n ∷ ns) its =
-    widen (λ v. Member ns v ⊎ ((n ≡ v) ⊎ S v)) (λ v. ((n ≡ v) ⊎ Member ns v) ⊎ S v) (offered_all (offered s n) ns)
-    (λ v h. elim h [ inl k ↦ inl (inr k) | inr k ↦ elim k [ inl same ↦ inl (inl same) | inr j ↦ inr j ] ])
-    (λ v h. elim h [ inl k ↦ elim k [ inl same ↦ inr (inl same) | inr j ↦ inl j ] | inr k ↦ inr (inr k) ])
-    (all_steps (λ v. (n ≡ v) ⊎ S v) (offered s n) ns (step S s n its))
-
-pub searched : (own least : ℕ) (ns : List ℕ) → IsSearch (λ v. Member ns v ⊎ ⊥) (offered_all (record { own = own; least = least; found = None }) ns)
-searched own least ns = all_steps (λ v. ⊥) (record { own = own; least = least; found = None }) ns (record { none = λ e v h other low. h; one = λ w e. absurd (none_some e) })
-
-keeps_by : (b : Bool) (s : Search) (o : Option ℕ) → ((cond b s (record { own = s.own; least = s.least; found = o })).own ≡ s.own) × ((cond b s (record { own = s.own; least = s.least; found = o })).least ≡ s.least)
-keeps_by true s o = (refl, refl)
-keeps_by false s o = (refl, refl)
-
-keeps_own : (s : Search) (n : ℕ) → ((offered s n).own ≡ s.own) × ((offered s n).least ≡ s.least)
-keeps_own s n = keeps_by (eqb n s.own || nat_lt n s.least) s (lower s.found n)
-
-pub keeps_all : (s : Search) (ns : List ℕ) → ((offered_all s ns).own ≡ s.own) × ((offered_all s ns).least ≡ s.least)
-keeps_all s [] = (refl, refl)
-keeps_all s (n ∷ ns) = let rest = keeps_all (offered s n) ns in let one = keeps_own s n in (rest.0 ∙ one.0, rest.1 ∙ one.1)
 
 module _ (C : Course) (sound : IsSound C) where
   names : AreNames C (numbers_of C)
@@ -238,7 +108,7 @@ module _ (C : Course) (sound : IsSound C) where
       let inside : suc (row_on C g).step < length (rows_of C (row_on C g).thread) = subst (λ (q : Row). IsRow C q) next its in
       ap (λ (b : Bool). cond b (before (row_of (row_on C g).thread (suc (row_on C g).step))) at_end) (lt-ltb (suc (row_on C g).step) (length (rows_of C (row_on C g).thread)) inside) ∙ ap before (sym next)
 
-  -- what is offered is next
+  -- what is added is next
   merged_by : (b : Bool) (g n v : ℕ) → merged_at C g ≡ b → (merged_at C g ≡ true → (numbers_of C).name (after (row_on C g)) ≡ n) → Member (cond b (nexts_of C (after (row_on C g))) []) v → IsStep n v
   merged_by true g n v e name h =
       let is = there_row C (row_on C g) (still_at g e).0 in
@@ -288,7 +158,7 @@ module _ (C : Course) (sound : IsSound C) where
         | inr k ↦ last_step t (length (rows_of C t)) v refl k
       ]
 
-  -- and all that is next is offered
+  -- and all that is next is added
   ends_in : (n t v : ℕ) → t < n → Member (last_nexts C t (length (rows_of C t))) v → Member (ends_to C n) v
   ends_in zero t v less h = absurd (omega arith)
   ends_in (suc n) t v less h =
@@ -397,35 +267,16 @@ module _ (C : Course) (sound : IsSound C) where
         subst (λ (k : ℕ). IsStep k v) same (ends_step (length C.threads) v h)
     steps_by (Some s) v e h = subst (λ (k : ℕ). IsStep k v) (name_placed C sound num kept n s e) (side_step s v (row_placed C sound num kept n s e) h)
 
-    module _ (least : ℕ) where
-      abbrev numbers : List ℕ
-      numbers = numbers_next C (at_place num.list n)
+    pub nexts_added : (old new : List ℕ) → Adds n (Member (numbers_next C (at_place num.list n))) old new → AddsNexts (numbered C) n old new
+    nexts_added old new its w = (forth, back)
+      where
+        forth : Contains new w → Contains old w ⊎ ((numbered C).next n w ≡ true)
+        forth h =
+            elim ((its w).0 h) [
+              | inl k ↦ inl k
+              | inr k ↦ inr (step_next n w (λ same. k.1 (sym same)) (steps_by (at_place num.list n) w refl k.0))
+            ]
 
-      abbrev start : Search
-      start = record { own = n; least = least; found = None }
-
-      by_result : (r : Option ℕ) → (offered_all start numbers).found ≡ r → IsNextFrom (numbered C) n least r
-      by_result None e =
-          let its = searched n least numbers in
-          let kept_own = keeps_all start numbers in
-          λ w low. not_so ((numbered C).next n w) (λ t.
-          let st = next_step n w t in
-          its.none e w (inl (covered n w st.1 (at_place num.list n) told_here)) (λ same. st.0 (sym (same ∙ kept_own.0))) (subst (λ (k : ℕ). k ≤ w) (sym kept_own.1) low))
-      by_result (Some w) e =
-          let its = searched n least numbers in
-          let kept_own = keeps_all start numbers in
-          let k = its.one w e in (
-            step_next n w (λ same. k.1 (sym same ∙ sym kept_own.0)) (steps_by (at_place num.list n) w refl (member_of w k.0)),
-            subst (λ (i : ℕ). i ≤ w) kept_own.1 k.2,
-            λ v low less. not_so ((numbered C).next n v) (λ t.
-                let st = next_step n v t in
-                let most : w ≤ v = k.3 v (inl (covered n v st.1 (at_place num.list n) told_here)) (λ same. st.0 (sym (same ∙ kept_own.0))) (subst (λ (i : ℕ). i ≤ v) (sym kept_own.1) low) in
-                omega arith),
-          )
-        where
-          member_of : (w : ℕ) → Member numbers w ⊎ ⊥ → Member numbers w
-          member_of w (inl h) = h
-          member_of w (inr h) = absurd h
-
-      pub next_from_is : IsNextFrom (numbered C) n least (offered_all start numbers).found
-      next_from_is = by_result (offered_all start numbers).found refl
+        back : Contains old w ⊎ ((numbered C).next n w ≡ true) → Contains new w
+        back (inl k) = (its w).1 (inl k)
+        back (inr e) = let st = next_step n w e in (its w).1 (inr (covered n w st.1 (at_place num.list n) told_here, λ same. st.0 (sym same)))

@@ -1,4 +1,4 @@
--- The numbers that are offered are those of the moments next to one.
+-- The numbers of the moments next to one.
 use Rattle.std.proofs.Common.{◌≡◌, ℕ, ◌⊎◌, ◌&&◌, not, cond, Bool, true, false, List, [], ◌∷◌, ◌++◌, length, inl, inr, refl, sym, ap, subst}
 use Rattle.std.proofs.lemmas.Bool.{and_parts, and_from}
 use Rattle.rept_steps.specs.Course.{Course, IsSound}

@@ -11,22 +11,20 @@ use Rattle.rept_order.specs.Legs.{leg_row}
 use Rattle.rept_order.proofs.Nexts.{earlier_trans}
 use Rattle.rept_course.specs.Numbered.{row_on}
 use Rattle.rept_moments.specs.declared.begins.Begun.{Begun}
-use Rattle.rept_moments.specs.declared.search.Later.{Later}
-use Rattle.rept_moments.specs.declared.search.Search.{Search}
+use Rattle.rept_moments.specs.declared.nexts.Later.{Later}
 use Rattle.rept_moments.specs.declared.side.Side.{Side}
 use Rattle.rept_moments.specs.Ordering.{moment_at}
 use Rattle.rept_moments.specs.Edges.{begin_at, end_at}
 use Rattle.rept_moments.specs.Begins.{former_at, following_at, same_end, is_alike, is_first_by, is_first_at, sooner_end, later_from, IsBy, AreBegins}
 use Rattle.rept_moments.specs.Writers.{not_past}
 use Rattle.rept_moments.specs.Numbers.{numbers_of}
-use Rattle.rept_moments.specs.Nexts.{nexts_of, offered, offered_all, Member, IsOffered, IsAfter, IsOther, end_with, IsLaterBy, offers_at, none_late, is_first_later, first_offer, IsOffer}
+use Rattle.rept_moments.specs.Nexts.{nexts_of, Member, Adds, IsAfter, IsOther, end_with, IsLaterBy, offers_at, none_late, is_first_later, first_offer, IsOffer}
 use Rattle.rept_moments.proofs.Places.{row_there, there_row}
 use Rattle.rept_moments.proofs.Apart.{are_numbers}
 use Rattle.rept_moments.proofs.Turns.{turn, turn_same, past_parts, past_from, is_moment, in_turn, turn_order, late_earlier, earlier_late, side_from, following_is, following_none, former_is, former_row, former_none}
 use Rattle.rept_moments.proofs.Beginning.{by_left, by_right, one_of}
 use Rattle.rept_moments.proofs.Offers.{IsNeighbour, has_next, neighbour_has, member_left, member_right, member_parts, one_by, held_by}
-use Rattle.rept_moments.proofs.Offering.{offered_step}
-use Rattle.rept_moments.proofs.Choosing.{offered_alike}
+use Rattle.rept_moments.proofs.Adding.{adds_none, adds_as, adds_both}
 
 none_some : {A : Type 0} {x : A} → None ≡ Some x → ⊥
 none_some e = cc
@@ -345,30 +343,33 @@ module _ (C : Course) (sound : IsSound C) where
           name = refl;
         }
 
-        all_held : (ns : List ℕ) → ((v : ℕ) → IsOffer C s later.last v → Member ns v) → Member (offers_at C later.last (following_at C s) ++ ns) ((numbers_of C).name (moment_at C u))
-        all_held ns all =
+        all_held : Member (offers_at C later.last (following_at C s)) ((numbers_of C).name (moment_at C u)) ⊎ IsOffer C s later.last ((numbers_of C).name (moment_at C u))
+        all_held =
             elim (cases_eq (row_on C s.point).thread (row_on C u.point).thread) [
-              | inl same ↦ member_left (offers_at C later.last (following_at C s)) ns ((numbers_of C).name (moment_at C u)) (own_held (following_at C s) refl same)
-              | inr apart ↦ member_right (offers_at C later.last (following_at C s)) ns ((numbers_of C).name (moment_at C u)) (all ((numbers_of C).name (moment_at C u)) (first_held apart))
+              | inl same ↦ inl (own_held (following_at C s) refl same)
+              | inr apart ↦ inr (first_held apart)
             ]
 
-      row_held : (ns : List ℕ) → ((v : ℕ) → IsOffer C s later.last v → Member ns v) → (q : Moment) → IsNext C (moment_at C s) q → (u : Side) × IsRow C (row_on C u.point) × (moment_at C u ≡ q) → Member (offers_at C later.last (following_at C s) ++ ns) ((numbers_of C).name q)
-      row_held ns all q next found = subst (λ (y : Moment). Member (offers_at C later.last (following_at C s) ++ ns) ((numbers_of C).name y)) found.2 (all_held found.0 found.1 (subst (λ (y : Moment). IsNext C (moment_at C s) y) (sym found.2) next) ns all)
+      -- it is the next one of the thread, or a first one of another thread
+      abbrev IsFound : ℕ → Type 0
+      IsFound v = Member (offers_at C later.last (following_at C s)) v ⊎ IsOffer C s later.last v
 
-      next_held : (ns : List ℕ) → ((v : ℕ) → IsOffer C s later.last v → Member ns v) → later.some ≡ true → (q : Moment) → IsMoment C q → IsNext C (moment_at C s) q → Member (offers_at C later.last (following_at C s) ++ ns) ((numbers_of C).name q)
-      next_held ns all some (before r) iq next = row_held ns all (before r) next (side_from C sound (before r) iq (λ k. end_before k))
-      next_held ns all some (after r) iq next = row_held ns all (after r) next (side_from C sound (after r) iq (λ k. end_after k))
-      next_held ns all some at_end iq next = let found = its.some some in absurd (next.none (moment_at C found.0) (is_moment C sound found.0 (leads found.0 found.1.row)) found.1.later (to_end found.0))
+      row_held : (q : Moment) → IsNext C (moment_at C s) q → (u : Side) × IsRow C (row_on C u.point) × (moment_at C u ≡ q) → IsFound ((numbers_of C).name q)
+      row_held q next found = subst (λ (y : Moment). IsFound ((numbers_of C).name y)) found.2 (all_held found.0 found.1 (subst (λ (y : Moment). IsNext C (moment_at C s) y) (sym found.2) next))
 
-      pub nexts_found : (search found new : Search) → later.some ≡ true → found ≡ offered_all search (offers_at C later.last (following_at C s)) → IsOffered (IsOffer C s later.last) found new → new ≡ offered_all search (nexts_of C (moment_at C s))
-      nexts_found search found new some was more =
-          offered_step search found new (offers_at C later.last (following_at C s)) more.numbers was more.found
-          ∙ offered_alike search (offers_at C later.last (following_at C s) ++ more.numbers) (nexts_of C (moment_at C s))
-          (λ v h. neighbour_has C sound (moment_at C s) (is_moment C sound s is) v (elim (member_parts (offers_at C later.last (following_at C s)) more.numbers v h) [
+      next_held : later.some ≡ true → (q : Moment) → IsMoment C q → IsNext C (moment_at C s) q → IsFound ((numbers_of C).name q)
+      next_held some (before r) iq next = row_held (before r) next (side_from C sound (before r) iq (λ k. end_before k))
+      next_held some (after r) iq next = row_held (after r) next (side_from C sound (after r) iq (λ k. end_after k))
+      next_held some at_end iq next = let found = its.some some in absurd (next.none (moment_at C found.0) (is_moment C sound found.0 (leads found.0 found.1.row)) found.1.later (to_end found.0))
+
+      pub nexts_found : (own : ℕ) (start old new : List ℕ) → later.some ≡ true → Adds own (Member (offers_at C later.last (following_at C s))) start old → Adds own (IsOffer C s later.last) old new → Adds own (Member (nexts_of C (moment_at C s))) start new
+      nexts_found own start old new some =
+          adds_both own (Member (offers_at C later.last (following_at C s))) (IsOffer C s later.last) (Member (nexts_of C (moment_at C s))) start old new
+          (λ v h. neighbour_has C sound (moment_at C s) (is_moment C sound s is) v (elim h [
             | inl k ↦ own_offers (following_at C s) refl v k
-            | inr k ↦ first_offers v (more.only v k)
+            | inr k ↦ first_offers v k
           ]))
-          (λ v h. let nb = has_next C sound (moment_at C s) (is_moment C sound s is) v h in subst (λ (k : ℕ). Member (offers_at C later.last (following_at C s) ++ more.numbers) k) nb.name (next_held more.numbers more.all some nb.moment nb.is_one nb.next))
+          (λ v h. let nb = has_next C sound (moment_at C s) (is_moment C sound s is) v h in subst IsFound nb.name (next_held some nb.moment nb.is_one nb.next))
 
       -- where nothing is later only the end is next
       own_nothing : later.some ≡ false → (o : Option Side) → following_at C s ≡ o → (w : Side) → IsRow C (row_on C w.point) → (row_on C s.point).thread ≡ (row_on C w.point).thread → Earlier C (moment_at C s) (moment_at C w) → ⊥
@@ -399,15 +400,14 @@ module _ (C : Course) (sound : IsSound C) where
       end_next none v (inl same) = record { moment = at_end; is_one = tt; next = record { later = to_end s; none = end_none none }; name = (are_numbers C sound).end ∙ same }
       end_next none v (inr h) = absurd h
 
-      pub nexts_end : (search new : Search) (n : ℕ) → later.some ≡ false → n ≡ (numbers_of C).end → new ≡ offered search n → new ≡ offered_all search (nexts_of C (moment_at C s))
-      nexts_end search new n none end e =
-          e
-          ∙ ap (offered search) end
-          ∙ offered_alike search ((numbers_of C).end ∷ []) (nexts_of C (moment_at C s))
+      pub nexts_end : (own : ℕ) (old new : List ℕ) (n : ℕ) → later.some ≡ false → n ≡ (numbers_of C).end → Adds own (Member (n ∷ [])) old new → Adds own (Member (nexts_of C (moment_at C s))) old new
+      nexts_end own old new n none end e =
+          adds_as own (Member ((numbers_of C).end ∷ [])) (Member (nexts_of C (moment_at C s))) old new
           (λ v h. neighbour_has C sound (moment_at C s) (is_moment C sound s is) v (end_next none v h))
           (λ v h. let nb = has_next C sound (moment_at C s) (is_moment C sound s is) v h in subst (λ (k : ℕ). Member ((numbers_of C).end ∷ []) k) nb.name (end_held none nb.moment nb.is_one nb.next))
+          (subst (λ (k : ℕ). Adds own (Member (k ∷ [])) old new) end e)
 
--- the numbers that were offered, of the slices from one place to another
+-- the numbers that were added, of the slices from one place to another
 pub record IsTaken (C : Course) (s : Side) (last : Option ℕ) (list : List Begun) (low high v : ℕ) : Type 0 where
   pub offer : IsOffer C s last v
   pub place : ℕ
@@ -417,51 +417,12 @@ pub record IsTaken (C : Course) (s : Side) (last : Option ℕ) (list : List Begu
   pub from : low ≤ place
   pub below : place < high
 
-pub taken_none : (C : Course) (s : Side) (last : Option ℕ) (list : List Begun) (search : Search) (low : ℕ) → IsOffered (IsTaken C s last list low low) search search
-taken_none C s last list search low = record {
-  numbers = [];
-  only = λ v h. absurd h;
-  all = λ v h. let from = h.from in let below = h.below in absurd (omega arith);
-  found = refl;
-}
+pub taken_none : (C : Course) (s : Side) (last : Option ℕ) (list : List Begun) (own : ℕ) (old : List ℕ) (low : ℕ) → Adds own (IsTaken C s last list low low) old old
+taken_none C s last list own old low = adds_none own (IsTaken C s last list low low) old (λ v h. let from = h.from in let below = h.below in absurd (omega arith))
 
 module _ (C : Course) (sound : IsSound C) (s : Side) (last : Option ℕ) (list : List Begun) (are : AreBegins C list) (low high : ℕ) (late : (k : ℕ) (b : Begun) → low ≤ k → slice_get list k ≡ Some b → not_past (end_at C s) b.begin ≡ false) (in_time : (k : ℕ) (b : Begun) → k < high → slice_get list k ≡ Some b → not_past last b.begin ≡ true) where
-  pub taken_more : (search found new : Search) (place : ℕ) (first : Side) → place < high → high ≤ length list → low ≤ place → ((b : Begun) → slice_get list place ≡ Some b → first ≡ b.side) → IsOffered (IsTaken C s last list low place) search found → new ≡ offered_all found (first_offer C s first) → IsOffered (IsTaken C s last list low (place + 1)) search new
-  taken_more search found new place first less few order is_side its e = record {
-    numbers = its.numbers ++ first_offer C s first;
-    only = λ v h.
-        elim (member_parts its.numbers (first_offer C s first) v h) [
-          | inl k ↦ let t = its.only v k in let below = t.below in record { offer = t.offer; place = t.place; at = t.at; there = t.there; side = t.side; from = t.from; below = omega arith }
-          | inr k ↦
-              let one = one_by (is_first_later C s first) ((numbers_of C).name (moment_at C first)) v k in
-              record {
-                offer = record {
-                  first = first;
-                  row = subst (λ (x : Side). IsSome (leg_row C x.point)) (sym same) (are.row place its_at there);
-                  late = subst (λ (t : ℕ). not_past (end_at C s) t ≡ false) (are.begin place its_at there ∙ ap (begin_at C) (sym same)) (late place its_at order there);
-                  is = one.0;
-                  in_time = subst (λ (t : ℕ). not_past last t ≡ true) (are.begin place its_at there ∙ ap (begin_at C) (sym same)) (in_time place its_at less there);
-                  name = one.1;
-                };
-                place = place;
-                at = its_at;
-                there = there;
-                side = sym same;
-                from = order;
-                below = omega arith;
-              }
-        ];
-    all = λ v t.
-        elim (cases_lt t.place place) [
-          | inl below ↦ member_left its.numbers (first_offer C s first) v (its.all v (record { offer = t.offer; place = t.place; at = t.at; there = t.there; side = t.side; from = t.from; below = below }))
-          | inr past ↦
-              let below = t.below in
-              let one : t.place ≡ place = omega arith in
-              let here : first ≡ t.offer.first = is_side t.at (ap (slice_get list) (sym one) ∙ t.there) ∙ t.side in
-              member_right its.numbers (first_offer C s first) v (held_by (is_first_later C s first) ((numbers_of C).name (moment_at C first)) v (ap (is_first_later C s) here ∙ t.offer.is) (ap (λ (x : Side). (numbers_of C).name (moment_at C x)) here ∙ t.offer.name))
-        ];
-    found = offered_step search found new its.numbers (first_offer C s first) its.found e;
-  }
+  pub taken_more : (own : ℕ) (start old new : List ℕ) (place : ℕ) (first : Side) → place < high → high ≤ length list → low ≤ place → ((b : Begun) → slice_get list place ≡ Some b → first ≡ b.side) → Adds own (IsTaken C s last list low place) start old → Adds own (Member (first_offer C s first)) old new → Adds own (IsTaken C s last list low (place + 1)) start new
+  taken_more own start old new place first less few order is_side = adds_both own (IsTaken C s last list low place) (Member (first_offer C s first)) (IsTaken C s last list low (place + 1)) start old new taken parted
     where
       its_at : Begun
       its_at = get_or list place (record { begin = 0; side = first; least = None })
@@ -472,6 +433,38 @@ module _ (C : Course) (sound : IsSound C) (s : Side) (last : Option ℕ) (list :
       same : first ≡ (get_or list place (record { begin = 0; side = first; least = None })).side
       same = is_side (get_or list place (record { begin = 0; side = first; least = None })) there
 
+      taken : (v : ℕ) → IsTaken C s last list low place v ⊎ Member (first_offer C s first) v → IsTaken C s last list low (place + 1) v
+      taken v (inl t) = let below = t.below in record { offer = t.offer; place = t.place; at = t.at; there = t.there; side = t.side; from = t.from; below = omega arith }
+      taken v (inr k) =
+          let one = one_by (is_first_later C s first) ((numbers_of C).name (moment_at C first)) v k in
+          record {
+            offer = record {
+              first = first;
+              row = subst (λ (x : Side). IsSome (leg_row C x.point)) (sym same) (are.row place its_at there);
+              late = subst (λ (t : ℕ). not_past (end_at C s) t ≡ false) (are.begin place its_at there ∙ ap (begin_at C) (sym same)) (late place its_at order there);
+              is = one.0;
+              in_time = subst (λ (t : ℕ). not_past last t ≡ true) (are.begin place its_at there ∙ ap (begin_at C) (sym same)) (in_time place its_at less there);
+              name = one.1;
+            };
+            place = place;
+            at = its_at;
+            there = there;
+            side = sym same;
+            from = order;
+            below = omega arith;
+          }
+
+      parted : (v : ℕ) → IsTaken C s last list low (place + 1) v → IsTaken C s last list low place v ⊎ Member (first_offer C s first) v
+      parted v t =
+          elim (cases_lt t.place place) [
+            | inl below ↦ inl (record { offer = t.offer; place = t.place; at = t.at; there = t.there; side = t.side; from = t.from; below = below })
+            | inr past ↦
+                let below = t.below in
+                let one : t.place ≡ place = omega arith in
+                let here : first ≡ t.offer.first = is_side t.at (ap (slice_get list) (sym one) ∙ t.there) ∙ t.side in
+                inr (held_by (is_first_later C s first) ((numbers_of C).name (moment_at C first)) v (ap (is_first_later C s) here ∙ t.offer.is) (ap (λ (x : Side). (numbers_of C).name (moment_at C x)) here ∙ t.offer.name))
+          ]
+
   first_at : (u : Side) → IsRow C (row_on C u.point) → not_past (end_at C s) (begin_at C u) ≡ false → (o : Option Side) → former_at C u ≡ o → none_late C s o ≡ true → is_first_at C u ≡ true
   first_at u is past None e none = ap (λ (o : Option Side). is_first_by C o u) e
   first_at u is past (Some p) e none = ap (λ (o : Option Side). is_first_by C o u) e ∙ ap not (not_so (is_alike C p u) (λ k.
@@ -479,34 +472,29 @@ module _ (C : Course) (sound : IsSound C) (s : Side) (last : Option ℕ) (list :
       false≢true (sym past ∙ ap (not_past (end_at C s)) (sym same) ∙ none)))
 
   -- all of them, where no slice before begins late, and none after in time
-  pub taken_all : ((k : ℕ) (b : Begun) → k < low → slice_get list k ≡ Some b → not_past (end_at C s) b.begin ≡ true) → ((k : ℕ) (b : Begun) → high ≤ k → slice_get list k ≡ Some b → not_past last b.begin ≡ false) → (search found : Search) (place : ℕ) → high ≤ place → IsOffered (IsTaken C s last list low place) search found → IsOffered (IsOffer C s last) search found
-  taken_all early past search found place over its = record {
-    numbers = its.numbers;
-    only = λ v h. (its.only v h).offer;
-    all = λ v o.
-        let is = there_row C (row_on C o.first.point) o.row in
-        let parts = and_parts (not (eqb (row_on C s.point).thread (row_on C o.first.point).thread)) (none_late C s (former_at C o.first)) o.is in
-        let entry = are.all o.first o.row (first_at o.first is o.late (former_at C o.first) refl parts.1) in
-        let begin : entry.1.begin ≡ begin_at C o.first = are.begin entry.0 entry.1 entry.2 ∙ ap (begin_at C) entry.3 in
-        its.all v (record {
-          offer = o;
-          place = entry.0;
-          at = entry.1;
-          there = entry.2;
-          side = entry.3;
-          from =
-              elim (cases_lt entry.0 low) [
-                | inl under ↦ absurd (false≢true (sym o.late ∙ ap (not_past (end_at C s)) (sym begin) ∙ early entry.0 entry.1 under entry.2))
-                | inr upward ↦ upward
-              ];
-          below =
-              elim (cases_lt entry.0 high) [
-                | inl under ↦ omega arith
-                | inr upward ↦ absurd (false≢true (sym (past entry.0 entry.1 upward entry.2) ∙ ap (not_past last) begin ∙ o.in_time))
-              ];
-        });
-    found = its.found;
-  }
+  pub taken_all : ((k : ℕ) (b : Begun) → k < low → slice_get list k ≡ Some b → not_past (end_at C s) b.begin ≡ true) → ((k : ℕ) (b : Begun) → high ≤ k → slice_get list k ≡ Some b → not_past last b.begin ≡ false) → (own : ℕ) (start new : List ℕ) (place : ℕ) → high ≤ place → Adds own (IsTaken C s last list low place) start new → Adds own (IsOffer C s last) start new
+  taken_all early past own start new place over = adds_as own (IsTaken C s last list low place) (IsOffer C s last) start new (λ v t. t.offer) (λ v o.
+      let is = there_row C (row_on C o.first.point) o.row in
+      let parts = and_parts (not (eqb (row_on C s.point).thread (row_on C o.first.point).thread)) (none_late C s (former_at C o.first)) o.is in
+      let entry = are.all o.first o.row (first_at o.first is o.late (former_at C o.first) refl parts.1) in
+      let begin : entry.1.begin ≡ begin_at C o.first = are.begin entry.0 entry.1 entry.2 ∙ ap (begin_at C) entry.3 in
+      record {
+        offer = o;
+        place = entry.0;
+        at = entry.1;
+        there = entry.2;
+        side = entry.3;
+        from =
+            elim (cases_lt entry.0 low) [
+              | inl under ↦ absurd (false≢true (sym o.late ∙ ap (not_past (end_at C s)) (sym begin) ∙ early entry.0 entry.1 under entry.2))
+              | inr upward ↦ upward
+            ];
+        below =
+            elim (cases_lt entry.0 high) [
+              | inl under ↦ omega arith
+              | inr upward ↦ absurd (false≢true (sym (past entry.0 entry.1 upward entry.2) ∙ ap (not_past last) begin ∙ o.in_time))
+            ];
+      })
 
 pub slice_leads : (C : Course) (list : List Begun) → AreBegins C list → (place : ℕ) (first : Side) → place < length list → ((b : Begun) → slice_get list place ≡ Some b → first ≡ b.side) → IsSome (leg_row C first.point)
 slice_leads C list are place first less is_side =

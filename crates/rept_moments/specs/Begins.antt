@@ -4,7 +4,7 @@ use Rattle.std.specs.Option.{IsSome, is_some}
 use Rattle.rept_steps.specs.Course.{Course}
 use Rattle.rept_order.specs.Legs.{leg_row}
 use Rattle.rept_moments.specs.declared.begins.Begun.{Begun}
-use Rattle.rept_moments.specs.declared.search.Later.{Later}
+use Rattle.rept_moments.specs.declared.nexts.Later.{Later}
 use Rattle.rept_moments.specs.declared.side.Side.{Side}
 use Rattle.rept_moments.specs.Ordering.{side}
 use Rattle.rept_moments.specs.Edges.{begin_at, end_at}

@@ -1,5 +1,6 @@
 -- The moments that are next to one, and their numbers; and how these are found among the slices in the order of their begins. This project's own.
-use Rattle.std.specs.Prelude.{◌≡◌, ◌≢◌, ◌⊎◌, ℕ, zero, suc, ◌==◌, ◌&&◌, ◌||◌, not, nat_lt, nat_le, if◌then◌else◌, Bool, true, false, List, [], ◌∷◌, ◌++◌, length, Option, Some, None}
+use Rattle.std.specs.Prelude.{◌≡◌, ◌≢◌, ◌⊎◌, ◌↔◌, ℕ, zero, suc, ◌==◌, ◌&&◌, not, if◌then◌else◌, Bool, true, false, List, [], ◌∷◌, ◌++◌, length, Option, Some, None}
+use Rattle.std.specs.List.{Contains}
 use Rattle.std.specs.Option.{IsSome}
 use Rattle.rept_steps.specs.Course.{Course, rows_of}
 use Rattle.rept_order.specs.Moments.{Moment, Earlier, stretch}
@@ -8,8 +9,7 @@ use Rattle.rept_order.specs.Legs.{number_of, leg_row}
 use Rattle.rept_course.specs.Making.{is_next, moments_in}
 use Rattle.rept_course.specs.Numbered.{row_on}
 use Rattle.rept_moments.specs.declared.side.Side.{Side}
-use Rattle.rept_moments.specs.declared.search.Search.{Search}
-use Rattle.rept_moments.specs.declared.search.Later.{Later}
+use Rattle.rept_moments.specs.declared.nexts.Later.{Later}
 use Rattle.rept_moments.specs.Ordering.{moment_at}
 use Rattle.rept_moments.specs.Edges.{begin_at, end_at}
 use Rattle.rept_moments.specs.Begins.{former_at, sooner_end, IsBy}
@@ -51,29 +51,14 @@ abbrev pub numbers_next : Course → Option Side → List ℕ
 numbers_next C None = ends_to C (length C.threads)
 numbers_next C (Some s) = side_nexts C s
 
--- a search for the least number from one on, without one
-abbrev pub lower : Option ℕ → ℕ → Option ℕ
-lower None n = Some n
-lower (Some k) n = if nat_le k n then Some k else Some n
-
-abbrev pub offered : Search → ℕ → Search
-offered s n = if (n == s.own) || nat_lt n s.least then s else record { own = s.own; least = s.least; found = lower s.found n }
-
-abbrev pub offered_all : Search → List ℕ → Search
-offered_all s [] = s
-offered_all s (n ∷ ns) = offered_all (offered s n) ns
-
 -- the number is in the list
 abbrev pub Member : List ℕ → ℕ → Type 0
 Member [] v = ⊥
 Member (n ∷ ns) v = (n ≡ v) ⊎ Member ns v
 
--- a search goes on with numbers, of which it is said which ones they are
-pub record IsOffered (Is : ℕ → Type 0) (old new : Search) : Type 0 where
-  pub numbers : List ℕ
-  pub only : (v : ℕ) → Member numbers v → Is v
-  pub all : (v : ℕ) → Is v → Member numbers v
-  pub found : new ≡ offered_all old numbers
+-- numbers of which something is so, all of them but one that is left out, were added to a list
+abbrev pub Adds : ℕ → (ℕ → Type 0) → List ℕ → List ℕ → Type 0
+Adds own Is old new = (v : ℕ) → Contains new v ↔ (Contains old v ⊎ (Is v × (v ≢ own)))
 
 -- a moment of a row that is later than one of a row
 pub record IsAfter (C : Course) (s u : Side) : Type 0 where

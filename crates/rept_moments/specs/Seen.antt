@@ -1,6 +1,7 @@
 -- The rows and moments of a run as an analysis takes them. Of one thread in one slice, all of which is told, the moments are its points. This project's
 -- own.
-use Rattle.std.specs.Prelude.{◌≡◌, ◌≢◌, ℕ, ◌<◌, ◌≤◌, true, false, List, [], ◌∷◌, length, Option, Some, None}
+use Rattle.std.specs.Prelude.{◌≡◌, ◌≢◌, ◌⊎◌, ◌↔◌, ℕ, ◌<◌, ◌≤◌, true, false, List, [], ◌∷◌, length, Option, Some, None}
+use Rattle.std.specs.List.{Contains}
 use Rattle.std.specs.Option.{IsSome}
 use Rattle.rept_isa.specs.declared.row.StepRow.{StepRow}
 use Rattle.rept_steps.specs.declared.slice.Slice.{Slice}
@@ -45,10 +46,9 @@ moment_by moments (Some row) p = moments.before p
 abbrev pub moment_in : Seen → ℕ → ℕ
 moment_in x p = moment_by x.moments (x.legs.row p) p
 
--- the least number from one on that is next to a number, or that there is none
-abbrev pub IsNextFrom : Moments → ℕ → ℕ → Option ℕ → Type 0
-IsNextFrom moments m least None = (w : ℕ) → least ≤ w → moments.next m w ≡ false
-IsNextFrom moments m least (Some w) = (moments.next m w ≡ true) × (least ≤ w) × ((v : ℕ) → least ≤ v → v < w → moments.next m v ≡ false)
+-- the numbers that are next to one were added to a list, all of them
+abbrev pub AddsNexts : Moments → ℕ → List ℕ → List ℕ → Type 0
+AddsNexts moments m old new = (w : ℕ) → Contains new w ↔ (Contains old w ⊎ (moments.next m w ≡ true))
 
 -- the one row that has the moment of a number before it, or that no row has
 abbrev pub IsRowAt : Seen → ℕ → Option ℕ → Type 0

@@ -9,9 +9,8 @@ ghost use Rattle.rept_moments.specs.Points.{points_in};
 ghost use Rattle.rept_moments.specs.Writers.{not_past};
 ghost use Rattle.rept_moments.specs.declared.begins.Begun.{Begun};
 
-use crate::nexts::sooner;
+use crate::nexts::{Later, sooner};
 use crate::points::Points;
-use crate::search::Later;
 use crate::side::Side;
 use std::alloc::{AllocError as OutOfMemory, Global};
 use std::marker::Model;

@@ -1,12 +1,13 @@
 //! The rows and moments of any run, by numbers.
 
-ghost use Rattle.std.specs.Prelude.{◌≡◌, ◌≤◌, ◌<◌, ℕ, length, true, Some, None, IfOk, IsOk, IsSome, MatchOption};
+ghost use Rattle.std.specs.Prelude.{◌≡◌, ◌≤◌, ◌<◌, ℕ, length, true, Some, None, IfOk, IsOk, OnOk, IsSome, MatchOption};
 ghost use Rattle.rept_steps.specs.Course.{IsSound};
 ghost use Rattle.rept_steps.specs.Runs.{course_of};
 ghost use Rattle.rept_order.specs.Legs.{points_before};
 ghost use Rattle.rept_order.specs.Runs.{moment_named};
+ghost use Rattle.rept_report.specs.Moments.{points_of};
 ghost use Rattle.rept_moments.specs.Points.{points_in};
-ghost use Rattle.rept_moments.specs.Seen.{seen, alone_by, moment_in, IsNextFrom, IsRowAt, IsLastFrom};
+ghost use Rattle.rept_moments.specs.Seen.{seen, alone_by, moment_in, AddsNexts, IsRowAt, IsLastFrom};
 
 use crate::many::Many;
 use crate::side::Place;
@@ -41,6 +42,16 @@ fn alone<'a>(run: &'a Run) -> Option<&'a Steps>
         return None;
     }
     Some(&threads[0].steps)
+}
+
+/// Adds the number after one, where the numbers are the points of one thread.
+fn add_following(list: &mut Vec<u32>, last: u32, number: u32) -> Result<(), OutOfMemory>
+    ensures { OnOk result (AddsNexts (points_of last) number list.old.items list.new.items) }
+{
+    if number < last {
+        list.push(number + 1)?;
+    }
+    Ok(())
 }
 
 impl<'a> Course<'a> {
@@ -216,31 +227,14 @@ impl<'a> Course<'a> {
         }
     }
 
-    /// The least of the numbers next to one, from a number on: of those that a later moment has, with none between.
-    pub fn next_from(&self, number: u32, least: u32) -> Option<u32>
+    /// Adds all numbers next to one to a list: those that a later moment has, with none between. They come in no order, and a number may come more than once.
+    pub fn add_nexts(&self, number: u32, list: &mut Vec<u32>) -> Result<(), OutOfMemory>
         requires { number ≤ (seen_in self.now).moments.end }
-        ensures { IsNextFrom (seen_in self.now).moments number least result }
+        ensures { OnOk result (AddsNexts (seen_in self.now).moments number list.old.items list.new.items) }
     {
         match self {
-            Course::One { steps } => {
-                if number < steps.len() && least <= number + 1 {
-                    Some(number + 1)
-                } else {
-                    None
-                }
-            }
-            Course::Many(many) => many.next_from(number, least),
-        }
-    }
-
-    /// Whether the second number is next to the first.
-    pub fn is_next(&self, m: u32, w: u32) -> bool
-        requires { m ≤ (seen_in self.now).moments.end }
-        ensures { result ≡ (seen_in self.now).moments.next m w }
-    {
-        match self {
-            Course::One { steps } => m < steps.len() && w == m + 1,
-            Course::Many(many) => many.is_next(m, w),
+            Course::One { steps } => add_following(list, steps.len(), number),
+            Course::Many(many) => many.add_nexts(number, list),
         }
     }
 

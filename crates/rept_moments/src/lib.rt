@@ -11,7 +11,6 @@ mod numbers;
 mod ordering;
 mod points;
 mod room;
-mod search;
 mod side;
 mod trail;
 mod writers;

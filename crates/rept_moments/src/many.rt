@@ -15,18 +15,17 @@ ghost use Rattle.rept_moments.specs.Merging.{merged_at};
 ghost use Rattle.rept_moments.specs.Numbers.{numbers_of};
 ghost use Rattle.rept_moments.specs.Numbering.{kept_with};
 ghost use Rattle.rept_moments.specs.Between.{own_to, IsBetween};
-ghost use Rattle.rept_moments.specs.Seen.{moment_in, IsNextFrom, IsRowAt, IsLastFrom};
+ghost use Rattle.rept_moments.specs.Seen.{moment_in, AddsNexts, IsRowAt, IsLastFrom};
 ghost use Rattle.rept_moments.specs.Begins.{following_at, AreBegins};
-ghost use Rattle.rept_moments.specs.Nexts.{is_first_later, none_late, first_offer, offers_at, nexts_of, merged_nexts, point_nexts, side_nexts, last_nexts, ends_to, offered_all, IsLaterBy, IsOffer, IsOffered};
+ghost use Rattle.rept_moments.specs.Nexts.{is_first_later, none_late, first_offer, offers_at, nexts_of, merged_nexts, point_nexts, side_nexts, last_nexts, ends_to, Adds, Member, IsLaterBy, IsOffer};
 ghost use Rattle.rept_moments.specs.Tables.{moments_at};
 
 use crate::begins::{Begins, following, former};
 use crate::merging::merged;
-use crate::nexts::{is_not_past, with_end};
+use crate::nexts::{Later, add_other, is_not_past, with_end};
 use crate::numbers::Numbers;
 use crate::ordering::in_time;
 use crate::points::Points;
-use crate::search::{Later, Search, offer};
 use crate::side::{Place, Side, Timed};
 use crate::writers::Writers;
 use crate::writing::{both, neither};
@@ -434,43 +433,55 @@ impl<'a> Many<'a> {
         self.points.begin(side)
     }
 
-    /// Offers the number of a moment that is the first later one of its thread, if it may come by a time.
-    fn offer_first(&self, search: Search, last: Option<u64>, first: Option<Side>) -> Search
+    /// Adds the number of a moment that is the first later one of its thread, if it may come by a time, but not the number that is left out.
+    fn add_first(
+        &self,
+        list: &mut Vec<u32>,
+        own: u32,
+        last: Option<u64>,
+        first: Option<Side>,
+    ) -> Result<(), OutOfMemory>
         requires { IfSome first (λ s. IsSome ((seen_of self.now).legs.row s.point)) }
-        ensures { result ≡ offered_all search (offers_at self.now last first) }
+        ensures { OnOk result (Adds own (Member (offers_at self.now last first)) list.old.items list.new.items) }
     {
         match first {
-            Some(side) => self.offer_in_time(search, last, side),
-            None => search,
+            Some(side) => self.add_in_time(list, own, last, side),
+            None => Ok(()),
         }
     }
 
     /// The same, of a moment.
-    fn offer_in_time(&self, search: Search, last: Option<u64>, side: Side) -> Search
+    fn add_in_time(
+        &self,
+        list: &mut Vec<u32>,
+        own: u32,
+        last: Option<u64>,
+        side: Side,
+    ) -> Result<(), OutOfMemory>
         requires { IsSome ((seen_of self.now).legs.row side.point) }
-        ensures { result ≡ offered_all search (offers_at self.now last (Some side)) }
+        ensures { OnOk result (Adds own (Member (offers_at self.now last (Some side))) list.old.items list.new.items) }
     {
         let begin = self.begin(side);
         if is_not_past(last, begin) {
-            offer(search, self.name(side))
+            add_other(list, own, self.name(side))
         } else {
-            search
+            Ok(())
         }
     }
 
-    /// Offers the numbers of the moments that are next to one of a row.
-    fn offer_nexts(&self, search: Search, side: Side) -> Search
+    /// Adds the numbers of the moments that are next to one of a row.
+    fn add_after(&self, list: &mut Vec<u32>, own: u32, side: Side) -> Result<(), OutOfMemory>
         requires { IsSome ((seen_of self.now).legs.row side.point) }
-        ensures { result ≡ offered_all search (nexts_of self.now (moment_at self.now side)) }
+        ensures { OnOk result (Adds own (Member (nexts_of self.now (moment_at self.now side))) list.old.items list.new.items) }
     {
+        let _ = &self.points;
         let later = self.later(side);
-        if later.some {
-            let own = following(&self.points, side);
-            let found = self.offer_first(search, later.last, own);
-            self.offer_begun(&self.begins, found, side, later.last)
-        } else {
-            offer(search, self.end())
+        if !later.some {
+            return add_other(list, own, self.end());
         }
+        self.add_first(list, own, later.last, following(&self.points, side))?;
+        self.add_begun(&self.begins, list, own, side, later.last)?;
+        Ok(())
     }
 
     /// Whether a moment of another thread that is later than one of a row is the first such one of its thread.
@@ -496,126 +507,121 @@ impl<'a> Many<'a> {
         }
     }
 
-    /// Offers the number of a moment that is later than one of a row, if it is the first such one of another thread.
-    fn offer_later(&self, search: Search, side: Side, first: Side) -> Search
+    /// Adds the number of a moment that is later than one of a row, if it is the first such one of another thread.
+    fn add_later(
+        &self,
+        list: &mut Vec<u32>,
+        own: u32,
+        side: Side,
+        first: Side,
+    ) -> Result<(), OutOfMemory>
         requires side { IsSome ((seen_of self.now).legs.row side.point) }
         requires first { IsSome ((seen_of self.now).legs.row first.point) }
-        ensures { result ≡ offered_all search (first_offer self.now side first) }
+        ensures { OnOk result (Adds own (Member (first_offer self.now side first)) list.old.items list.new.items) }
     {
         if self.is_first_later(side, first) {
-            offer(search, self.name(first))
+            add_other(list, own, self.name(first))
         } else {
-            search
+            Ok(())
         }
     }
 
-    /// Offers the numbers of the first moments of other threads that are later than one of a row, of those that may come by a time.
-    fn offer_begun(&self, begins: &Begins, search: Search, side: Side, last: Option<u64>) -> Search
+    /// Adds the numbers of the first moments of other threads that are later than one of a row, of those that may come by a time.
+    fn add_begun(
+        &self,
+        begins: &Begins,
+        list: &mut Vec<u32>,
+        own: u32,
+        side: Side,
+        last: Option<u64>,
+    ) -> Result<(), OutOfMemory>
         requires row { IsSome ((seen_of self.now).legs.row side.point) }
         requires begins { AreBegins self.now begins.now }
-        ensures { IsOffered (IsOffer self.now side last) search result }
+        ensures { OnOk result (Adds own (IsOffer self.now side last) list.old.items list.new.items) }
     {
-        let mut found = search;
         let start = begins.after(self.points.end(side));
         let end = begins.after(last);
         for place in start..end {
-            found = self.offer_later(found, side, begins.first(place));
+            self.add_later(list, own, side, begins.first(place))?;
         }
-        found
+        Ok(())
     }
 
     /// The same of the moment after the row that leads from a point, if it is one with the thread's next one.
-    fn offer_merged(&self, search: Search, point: u32) -> Search
+    fn add_merged(&self, list: &mut Vec<u32>, own: u32, point: u32) -> Result<(), OutOfMemory>
         requires { point < points_in self.now }
-        ensures { result ≡ offered_all search (merged_nexts self.now point) }
+        ensures { OnOk result (Adds own (Member (merged_nexts self.now point)) list.old.items list.new.items) }
     {
         if self.is_merged(point) {
-            self.offer_nexts(
-                search,
+            self.add_after(
+                list,
+                own,
                 Side {
                     point,
                     is_after: true,
                 },
             )
         } else {
-            search
+            Ok(())
         }
     }
 
     /// The same of the moment after the row that leads to a point, if it is one with the thread's next one.
-    fn offer_point(&self, search: Search, point: u32) -> Search
+    fn add_point(&self, list: &mut Vec<u32>, own: u32, point: u32) -> Result<(), OutOfMemory>
         requires { point < points_in self.now }
-        ensures { result ≡ offered_all search (point_nexts self.now point) }
+        ensures { OnOk result (Adds own (Member (point_nexts self.now point)) list.old.items list.new.items) }
     {
         if point == 0 {
-            search
+            Ok(())
         } else {
-            self.offer_merged(search, point - 1)
+            self.add_merged(list, own, point - 1)
         }
     }
 
     /// The same of all moments that go by the number of a row's moment.
-    fn offer_side(&self, search: Search, side: Side) -> Search
+    fn add_side(&self, list: &mut Vec<u32>, own: u32, side: Side) -> Result<(), OutOfMemory>
         requires { IsSome ((seen_of self.now).legs.row side.point) }
-        ensures { result ≡ offered_all search (side_nexts self.now side) }
+        ensures { OnOk result (Adds own (Member (side_nexts self.now side)) list.old.items list.new.items) }
     {
-        let own = self.offer_nexts(search, side);
-        if side.is_after {
-            own
-        } else {
-            self.offer_point(own, side.point)
+        self.add_after(list, own, side)?;
+        if !side.is_after {
+            self.add_point(list, own, side.point)?;
         }
+        Ok(())
     }
 
     /// The same of all moments that are one with the end.
-    fn offer_ends(&self, search: Search) -> Search
-        ensures { result ≡ offered_all search (ends_to self.now (length self.now.threads)) }
+    fn add_ends(&self, list: &mut Vec<u32>, own: u32) -> Result<(), OutOfMemory>
+        ensures { OnOk result (Adds own (Member (ends_to self.now (length self.now.threads))) list.old.items list.new.items) }
     {
-        let mut found = search;
         for thread in 0..self.threads() {
-            found = self.offer_last(found, thread);
+            self.add_last(list, own, thread)?;
         }
-        found
+        Ok(())
     }
 
     /// The same of the moment after a thread's last row.
-    fn offer_last(&self, search: Search, thread: u32) -> Search
+    fn add_last(&self, list: &mut Vec<u32>, own: u32, thread: u32) -> Result<(), OutOfMemory>
         requires { thread < length self.now.threads }
-        ensures { result ≡ offered_all search (last_nexts self.now thread (length (rows_of self.now thread))) }
+        ensures { OnOk result (Adds own (Member (last_nexts self.now thread (length (rows_of self.now thread)))) list.old.items list.new.items) }
     {
         let first = self.first(thread);
         let rows = self.rows(thread);
         if rows == 0 {
-            search
+            Ok(())
         } else {
-            self.offer_merged(search, first + (rows - 1))
+            self.add_merged(list, own, first + (rows - 1))
         }
     }
 
-    /// The least of the numbers next to one, from a number on: of those that a later moment has, with none between.
-    pub fn next_from(&self, number: u32, least: u32) -> Option<u32>
+    /// Adds all numbers next to one to a list: those that a later moment has, with none between. They come in no order, and a number may come more than once.
+    pub fn add_nexts(&self, number: u32, list: &mut Vec<u32>) -> Result<(), OutOfMemory>
         requires { number ≤ (seen_of self.now).moments.end }
-        ensures { IsNextFrom (seen_of self.now).moments number least result }
+        ensures { OnOk result (AddsNexts (seen_of self.now).moments number list.old.items list.new.items) }
     {
-        let search = Search {
-            own: number,
-            least,
-            found: None,
-        };
         match self.numbers.at(number) {
-            Some(side) => self.offer_side(search, side).found,
-            None => self.offer_ends(search).found,
-        }
-    }
-
-    /// Whether the second number is next to the first.
-    pub fn is_next(&self, m: u32, w: u32) -> bool
-        requires { m ≤ (seen_of self.now).moments.end }
-        ensures { result ≡ (seen_of self.now).moments.next m w }
-    {
-        match self.next_from(m, w) {
-            Some(found) => found == w,
-            None => false,
+            Some(side) => self.add_side(list, number, side),
+            None => self.add_ends(list, number),
         }
     }
 

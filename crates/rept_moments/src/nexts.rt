@@ -1,14 +1,24 @@
-//! By which time a moment must be able to come to be next to one.
+//! By which time a moment must be able to come to be next to one, and numbers of moments that are added to others.
 
-ghost use Rattle.std.specs.Prelude.{◌≡◌, IfSome, IsSome};
+ghost use Rattle.std.specs.Prelude.{◌≡◌, [], ◌∷◌, IfSome, IsSome, OnOk};
 ghost use Rattle.rept_order.specs.Legs.{leg_row};
 ghost use Rattle.rept_moments.specs.Begins.{sooner_end};
 ghost use Rattle.rept_moments.specs.Writers.{not_past};
-ghost use Rattle.rept_moments.specs.Nexts.{end_with};
+ghost use Rattle.rept_moments.specs.Nexts.{end_with, Adds, Member};
 
 use crate::points::Points;
-use crate::search::Later;
 use crate::side::Side;
+use std::alloc::AllocError as OutOfMemory;
+
+/// Whether a moment is later than one, and by which time one must be able to come to be next to it: the least end of the slices of the later ones, where one is
+/// known.
+#[derive(Clone, Copy)]
+pub struct Later {
+    /// Whether there is one.
+    pub some: bool,
+    /// The time.
+    pub last: Option<u64>,
+}
 
 /// Whether a time isn't after another one, where that is known.
 pub fn is_not_past(last: Option<u64>, time: u64) -> bool
@@ -45,4 +55,14 @@ pub fn with_end(points: &Points<'_>, first: Option<Side>, later: Later) -> Later
         },
         None => later,
     }
+}
+
+/// Adds a number, if it isn't the one that is left out.
+pub fn add_other(list: &mut Vec<u32>, own: u32, number: u32) -> Result<(), OutOfMemory>
+    ensures { OnOk result (Adds own (Member (number ∷ [])) list.old.items list.new.items) }
+{
+    if number != own {
+        list.push(number)?;
+    }
+    Ok(())
 }

@@ -6,12 +6,13 @@ use Rattle.rept_isa.specs.declared.instr.Instr.{Instr}
 use Rattle.rept_isa.specs.declared.instr.Instr.TheVariants.{Ecall}
 use Rattle.rept_isa.specs.declared.row.StepRow.{StepRow}
 use Rattle.rept_isa.specs.Rows.{Addresses, addresses_of}
+use Rattle.rept_isa.specs.Operands.{is_call}
 use Rattle.rept_machine.specs.Calls.{MayChange}
 use Rattle.rept_machine.specs.State.{State, IsState}
 use Rattle.rept_machine.specs.Step.{IsStep, HasEffect, Calls}
 use Rattle.std.proofs.lemmas.Option.{slice_get_cases}
 use Rattle.rept_steps.specs.declared.threads.ThreadRows.{ThreadRows}
-use Rattle.rept_steps.specs.Course.{Course, Row, row_of, no_thread, rows_of, IsRow, row_at, is_call, is_call_row, calls, IsAlone, IsSound}
+use Rattle.rept_steps.specs.Course.{Course, Row, row_of, no_thread, rows_of, IsRow, row_at, is_call_row, calls, IsAlone, IsSound}
 use Rattle.rept_order.specs.Events.{Part, Event, IsEvent, FitsRow, first_part, first_event, last_event, IsBefore}
 use Rattle.rept_order.specs.Events.Part.{whole, entry, return}
 use Rattle.rept_order.specs.Events.IsBefore.{by_row, by_call, by_time}

@@ -4,7 +4,7 @@ use Rattle.std.proofs.lemmas.Bool.{false≢true}
 use Rattle.rept_steps.specs.Course.{Course, Row, IsRow, calls, IsSound}
 use Rattle.rept_order.specs.Events.{Event, first_event, last_event, Precedes, PrecedesOrIs, DarkPrecedes}
 use Rattle.rept_order.specs.Events.IsBefore.{by_call}
-use Rattle.rept_order.specs.Moments.{Moment, NotLater, Earlier, Act, IsAct, DarkBefore, WhollyBefore, WhollyAfter, Stretch, stretch, Falls, may_by, IsQuiet, IsQuietStep, Joined}
+use Rattle.rept_order.specs.Moments.{Moment, NotLater, Earlier, Act, IsAct, DarkBefore, WhollyBefore, WhollyAfter, Stretch, stretch, Falls, may_by, IsUntouched, IsUntouchedStep, Joined}
 use Rattle.rept_order.specs.Moments.Moment.{before, after, at_end}
 use Rattle.rept_order.specs.Moments.Act.{row, dark}
 use Rattle.rept_order.proofs.Sequence.{first_is_event, last_is_event, first_whole, last_whole, first_entry, last_return, or_after, or_or, not_later_trans}
@@ -95,10 +95,10 @@ module _ (C : Course) (sound : IsSound C) where
 
   module _ (may : Row → ℕ → Bool) (a : ℕ) where
     -- a byte that is quiet over a stretch is quiet over both parts of it
-    pub quiet_front : (m x w : Moment) → Earlier C m x → Earlier C x w → IsQuiet C may (stretch m w) a → IsQuiet C may (stretch m x) a
+    pub quiet_front : (m x w : Moment) → Earlier C m x → Earlier C x w → IsUntouched C may (stretch m w) a → IsUntouched C may (stretch m x) a
     quiet_front m x w one other quiet = record { in_order = one.0; spared = λ act is falls. quiet.spared act is (falls_front act m x w one other falls) }
 
-    pub quiet_back : (m x w : Moment) → Earlier C m x → Earlier C x w → IsQuiet C may (stretch m w) a → IsQuiet C may (stretch x w) a
+    pub quiet_back : (m x w : Moment) → Earlier C m x → Earlier C x w → IsUntouched C may (stretch m w) a → IsUntouched C may (stretch x w) a
     quiet_back m x w one other quiet = record { in_order = other.0; spared = λ act is falls. quiet.spared act is (falls_back act m x w one other falls) }
 
     -- all that may write the byte is before the moment
@@ -126,7 +126,7 @@ module _ (C : Course) (sound : IsSound C) where
         by (inr less) = absurd (out (subst (λ (e : Event). Precedes C (last_event C q) e) one less))
     only_own dark r plain way out = absurd (out (subst (λ (e : Event). DarkPrecedes C e) (last_whole C r plain ∙ sym (first_whole C r plain)) way))
 
-    over_earlier : (m x : Moment) → IsQuiet C may (stretch m x) a → IsOver x → IsOver m
+    over_earlier : (m x : Moment) → IsUntouched C may (stretch m x) a → IsOver x → IsOver m
     unfolding IsOver
     over_earlier m x quiet over act is can out =
         over act is can (λ done.
@@ -137,7 +137,7 @@ module _ (C : Course) (sound : IsSound C) where
         } in
         false≢true (sym (quiet.spared act is falls) ∙ can))
 
-    over_step : (m x : Moment) → IsQuietStep C may (stretch m x) a ⊎ IsQuietStep C may (stretch x m) a → IsOver x → IsOver m
+    over_step : (m x : Moment) → IsUntouchedStep C may (stretch m x) a ⊎ IsUntouchedStep C may (stretch x m) a → IsOver x → IsOver m
     over_step m x (inl step) over = over_earlier m x step.quiet over
     over_step m x (inr step) over = over_later m x step.later.0 over
 
@@ -145,7 +145,7 @@ module _ (C : Course) (sound : IsSound C) where
     over_joined m [] h = subst (λ (y : Moment). IsOver y) (sym h) over_end
     over_joined m (x ∷ xs) h = over_step m x h.1 (over_joined x xs h.2)
 
-    quiet_from : (m : Moment) → IsOver m → IsQuiet C may (stretch m at_end) a
+    quiet_from : (m : Moment) → IsOver m → IsUntouched C may (stretch m at_end) a
     unfolding IsOver
     quiet_from m over = record { in_order = any m; spared = λ act is falls. by (may_by may act a) act refl is falls }
       where
@@ -159,5 +159,5 @@ module _ (C : Course) (sound : IsSound C) where
         by false act e is falls = e
 
     -- a byte that quiet stretches join to the end, in any direction, is quiet from its moment to the end
-    pub joined_quiet : (m : Moment) (xs : List Moment) → Joined C may a m xs at_end → IsQuiet C may (stretch m at_end) a
+    pub joined_quiet : (m : Moment) (xs : List Moment) → Joined C may a m xs at_end → IsUntouched C may (stretch m at_end) a
     joined_quiet m xs h = quiet_from m (over_joined m xs h)

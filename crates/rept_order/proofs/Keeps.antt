@@ -5,10 +5,11 @@ use Rattle.rept_isa.specs.declared.instr.Instr.{Instr}
 use Rattle.rept_isa.specs.declared.instr.Instr.TheVariants.{Ecall}
 use Rattle.rept_isa.specs.declared.row.StepRow.{StepRow}
 use Rattle.rept_isa.specs.Rows.{Addresses, addresses_of}
+use Rattle.rept_isa.specs.Operands.{is_call}
 use Rattle.rept_machine.specs.Calls.{MayChange}
 use Rattle.rept_machine.specs.State.{State}
 use Rattle.rept_machine.proofs.StepLaws.{effect_keeps_byte}
-use Rattle.rept_steps.specs.Course.{Course, Row, IsRow, row_at, is_call, is_call_row, calls}
+use Rattle.rept_steps.specs.Course.{Course, Row, IsRow, row_at, is_call_row, calls}
 use Rattle.rept_order.specs.Events.{Part, Event, FitsRow, first_event, last_event, Before, DarkPrecedes}
 use Rattle.rept_order.specs.Events.Part.{whole, entry, return}
 use Rattle.rept_order.specs.Events.IsBefore.{by_call}

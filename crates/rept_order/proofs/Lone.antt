@@ -5,7 +5,7 @@ use Rattle.rept_steps.specs.declared.threads.ThreadRows.{ThreadRows}
 use Rattle.rept_steps.specs.Course.{Course, Row, row_of, rows_of, no_thread, IsRow, IsAlone, IsSound}
 use Rattle.rept_order.specs.Events.{Event, IsEvent, first_event, last_event, Precedes, PrecedesOrIs}
 use Rattle.rept_order.specs.Events.IsBefore.{by_row}
-use Rattle.rept_order.specs.Moments.{Moment, IsMoment, Earlier, Act, IsAct, WhollyAfter, Stretch, stretch, Falls, may_by, stores, IsQuietStep, IsNext, ArePause, AreOne}
+use Rattle.rept_order.specs.Moments.{Moment, IsMoment, Earlier, Act, IsAct, WhollyAfter, Stretch, stretch, Falls, may_by, stores, IsUntouchedStep, IsNext, ArePause, AreOne}
 use Rattle.rept_order.specs.Moments.Moment.{before, after, at_end}
 use Rattle.rept_order.specs.Moments.Act.{row, dark}
 use Rattle.rept_order.specs.Moments.ArePause.{between, last}
@@ -67,7 +67,7 @@ module _ (C : Course) (sound : IsSound C) (alone : IsAlone C) where
   back_never r is way = precedes_irreflexive C sound (last_event C r) (Rattle.rept_order.proofs.Sequence.or_after C _ _ _ way (row_forward C r is))
 
   module _ (may : Row → ℕ → Bool) (a : ℕ) where
-    pub quiet_alone : (r : Row) → IsRow C r → IsQuietStep C may (stretch (before r) (after r)) a → may r a ≡ false
+    pub quiet_alone : (r : Row) → IsRow C r → IsUntouchedStep C may (stretch (before r) (after r)) a → may r a ≡ false
     quiet_alone r is step = step.quiet.spared (row r) is (record {
       not_before = λ way. back_never r is way;
       not_after = λ way. back_never r is way;
@@ -86,7 +86,7 @@ module _ (C : Course) (sound : IsSound C) (alone : IsAlone C) where
     spared r its out (row q) is falls = spared_row q r is its out falls
     spared r its out dark is falls = absurd (no_dark is)
 
-    pub alone_quiet : (r : Row) → IsRow C r → may r a ≡ false → IsQuietStep C may (stretch (before r) (after r)) a
+    pub alone_quiet : (r : Row) → IsRow C r → may r a ≡ false → IsUntouchedStep C may (stretch (before r) (after r)) a
     alone_quiet r is out = record {
       later = (row_forward C r is, moments_apart);
       quiet = record { in_order = row_forward C r is; spared = spared r is out };

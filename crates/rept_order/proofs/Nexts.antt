@@ -5,7 +5,7 @@ use Rattle.std.proofs.lemmas.Option.{slice_get_past}
 use Rattle.rept_steps.specs.declared.threads.ThreadRows.{ThreadRows}
 use Rattle.rept_steps.specs.Course.{Course, Row, row_of, rows_of, no_thread, IsRow, IsSound}
 use Rattle.rept_order.specs.Events.{Event, last_event, PrecedesOrIs}
-use Rattle.rept_order.specs.Moments.{Moment, IsMoment, NotLater, Earlier, stretch, IsQuietStep, Forth}
+use Rattle.rept_order.specs.Moments.{Moment, IsMoment, NotLater, Earlier, stretch, IsUntouchedStep, Forth}
 use Rattle.rept_order.specs.Moments.Moment.{before, after, at_end}
 use Rattle.rept_order.specs.Links.{row_moments, all_moments}
 use Rattle.rept_order.proofs.Sequence.{not_later_trans}
@@ -117,7 +117,7 @@ module _ (C : Course) (sound : IsSound C) where
 
     abbrev Fine : List Moment → Moment → List Moment → Moment → Type 0
     Fine L m [] w = m ≡ w
-    Fine L m (x ∷ xs) w = IsQuietStep C may (stretch m x) a × NoneOf L m x × IsMoment C x × Fine L x xs w
+    Fine L m (x ∷ xs) w = IsUntouchedStep C may (stretch m x) a × NoneOf L m x × IsMoment C x × Fine L x xs w
 
     more : (L : List Moment) (y m x : Moment) → NoneOf L m x → (Earlier C m y → Earlier C y x → ⊥) → NoneOf (y ∷ L) m x
     unfolding NoneOf
@@ -152,7 +152,7 @@ module _ (C : Course) (sound : IsSound C) where
               ]
         ]
 
-    all_parted : (L : List Moment) → ((x : Moment) → In L x → IsMoment C x) → (m w : Moment) → IsMoment C m → IsMoment C w → IsQuietStep C may (stretch m w) a → (xs : List Moment) × Fine L m xs w
+    all_parted : (L : List Moment) → ((x : Moment) → In L x → IsMoment C x) → (m w : Moment) → IsMoment C m → IsMoment C w → IsUntouchedStep C may (stretch m w) a → (xs : List Moment) × Fine L m xs w
     unfolding NoneOf
     all_parted [] are m w is its step = (w ∷ [], (step, λ x inside from to. inside, its, refl))
     all_parted (y ∷ L) are m w is its step = let rest = all_parted L (λ x inside. are x (inr inside)) m w is its step in parted L y (are y (inl refl)) m rest.0 w is rest.1
@@ -163,7 +163,7 @@ module _ (C : Course) (sound : IsSound C) where
     forth_of L all m (x ∷ xs) w h = (h.0, record { later = h.0.later; none = λ y is from to. h.1 y (all y is) from to }, forth_of L all x xs w h.3)
 
     -- what is quiet over a stretch is quiet from each moment to the next one all along it
-    pub step_by_step : (m w : Moment) → IsMoment C m → IsMoment C w → IsQuietStep C may (stretch m w) a → (xs : List Moment) × Forth C may a m xs w
+    pub step_by_step : (m w : Moment) → IsMoment C m → IsMoment C w → IsUntouchedStep C may (stretch m w) a → (xs : List Moment) × Forth C may a m xs w
     step_by_step m w is its step =
         let found = all_parted (all_moments C (length C.threads)) (listed C (length C.threads)) m w is its step in
         (found.0, forth_of (all_moments C (length C.threads)) (every C) m found.0 w found.1)

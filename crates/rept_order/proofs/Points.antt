@@ -9,13 +9,14 @@ use Rattle.rept_isa.specs.declared.instr.AmoOp.TheVariants as atomic
 use Rattle.rept_isa.specs.declared.row.StepRow.{StepRow}
 use Rattle.rept_isa.specs.Numbers.{following}
 use Rattle.rept_isa.specs.Rows.{Addresses, from_of, addresses_of}
+use Rattle.rept_isa.specs.Operands.{is_call}
 use Rattle.rept_machine.specs.State.{State, IsState}
 use Rattle.rept_machine.specs.Step.{IsStep, HasEffect, Calls}
-use Rattle.rept_steps.specs.Course.{Course, Row, row_of, rows_of, IsRow, row_at, is_call, is_call_row, calls}
+use Rattle.rept_steps.specs.Course.{Course, Row, row_of, rows_of, IsRow, row_at, is_call_row, calls}
 use Rattle.rept_order.specs.Events.{Part, Event, FitsRow, first_event, last_event}
 use Rattle.rept_order.specs.Events.Part.{whole, entry, return}
 use Rattle.rept_order.specs.Events.IsBefore.{by_row}
-use Rattle.rept_order.specs.Moments.{Moment, IsMoment, Act, IsAct, Stretch, stretch, Falls, IsQuiet, may_by, atomic_writes, writes_memory, is_writing, stores, ArePause, AreOne}
+use Rattle.rept_order.specs.Moments.{Moment, IsMoment, Act, IsAct, Stretch, stretch, Falls, IsUntouched, may_by, atomic_writes, writes_memory, is_writing, stores, ArePause, AreOne}
 use Rattle.rept_order.specs.Moments.Moment.{before, after, at_end}
 use Rattle.rept_order.specs.Moments.Act.{row, dark}
 use Rattle.rept_order.specs.Moments.ArePause.{between, last}

@@ -3,7 +3,7 @@ use Rattle.std.proofs.Common.{◌≡◌, ℕ, zero, suc, ◌+◌, ◌-◌, ◌<�
 use Rattle.std.proofs.lemmas.Bool.{false≢true}
 use Rattle.rept_steps.specs.Course.{Course, Row, IsRow, calls}
 use Rattle.rept_order.specs.Events.Part.{whole}
-use Rattle.rept_order.specs.Moments.{Moment, IsMoment, NotLater, Act, IsAct, Stretch, Falls, IsQuiet, may_by}
+use Rattle.rept_order.specs.Moments.{Moment, IsMoment, NotLater, Act, IsAct, Stretch, Falls, IsUntouched, may_by}
 use Rattle.rept_order.specs.Moments.Moment.{before, after}
 use Rattle.rept_order.specs.Moments.Act.{row, dark}
 use Rattle.rept_order.specs.History.{Happening, History, Ending, IsExecution, tick}
@@ -64,5 +64,5 @@ module _ (C : Course) (D : Ending) (h : History) (x : IsExecution C D h) where
     may_act dark a is w = refl
 
     -- and so is one that is quiet between them
-    pub quiet_stays : (s : Stretch) (a : ℕ) → IsMoment C s.from → IsMoment C s.to → IsQuiet C may s a → (h.world (tick C h s.to)).memory a ≡ (h.world (tick C h s.from)).memory a
+    pub quiet_stays : (s : Stretch) (a : ℕ) → IsMoment C s.from → IsMoment C s.to → IsUntouched C may s a → (h.world (tick C h s.to)).memory a ≡ (h.world (tick C h s.from)).memory a
     quiet_stays s a is its quiet = still_stays s a is its quiet.in_order (λ act inside falls w. false≢true (sym (quiet.spared act inside falls) ∙ may_act act a inside w))

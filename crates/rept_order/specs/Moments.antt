@@ -79,7 +79,7 @@ may_by may (row r) a = may r a
 may_by may dark a = true
 
 -- nothing that falls into the stretch may write the byte
-pub record IsQuiet (C : Course) (may : Row → ℕ → Bool) (x : Stretch) (a : ℕ) : Type 0 where
+pub record IsUntouched (C : Course) (may : Row → ℕ → Bool) (x : Stretch) (a : ℕ) : Type 0 where
   pub in_order : NotLater C x.from x.to
   pub spared : (act : Act) → IsAct C act → Falls C act x → may_by may act a ≡ false
 
@@ -88,20 +88,20 @@ pub record IsNext (C : Course) (m w : Moment) : Type 0 where
   pub later : Earlier C m w
   pub none : (x : Moment) → IsMoment C x → Earlier C m x → Earlier C x w → ⊥
 
--- a byte is quiet from a moment to a later one
-pub record IsQuietStep (C : Course) (may : Row → ℕ → Bool) (x : Stretch) (a : ℕ) : Type 0 where
+-- nothing that falls from a moment to a later one may write the byte
+pub record IsUntouchedStep (C : Course) (may : Row → ℕ → Bool) (x : Stretch) (a : ℕ) : Type 0 where
   pub later : Earlier C x.from x.to
-  pub quiet : IsQuiet C may x a
+  pub quiet : IsUntouched C may x a
 
--- a byte's way through quiet stretches, from a moment by these ones to another
+-- a byte's way through stretches in which nothing may write it, from a moment by these ones to another
 abbrev pub Forth : Course → (Row → ℕ → Bool) → ℕ → Moment → List Moment → Moment → Type 0
 Forth C may a m [] w = m ≡ w
-Forth C may a m (x ∷ xs) w = IsQuietStep C may (stretch m x) a × IsNext C m x × Forth C may a x xs w
+Forth C may a m (x ∷ xs) w = IsUntouchedStep C may (stretch m x) a × IsNext C m x × Forth C may a x xs w
 
 -- the same in either direction, over stretches of any length
 abbrev pub Joined : Course → (Row → ℕ → Bool) → ℕ → Moment → List Moment → Moment → Type 0
 Joined C may a m [] w = m ≡ w
-Joined C may a m (x ∷ xs) w = IsMoment C x × (IsQuietStep C may (stretch m x) a ⊎ IsQuietStep C may (stretch x m) a) × Joined C may a x xs w
+Joined C may a m (x ∷ xs) w = IsMoment C x × (IsUntouchedStep C may (stretch m x) a ⊎ IsUntouchedStep C may (stretch x m) a) × Joined C may a x xs w
 
 -- whether a row writes memory, whatever is known of it: a store, a call, an SC, which may fail, and an atomic memory operation
 abbrev pub atomic_writes : AmoOp → Bool

@@ -43,7 +43,7 @@ pub record IsSureBefore (C : Course) (can : Reach) (x : Spot) (r : Row) : Type 0
   pub sure : can.sure r ≡ true
   pub before : WhollyBefore C (row r) x.moment
 
--- exactly one of the four fits
+-- at most one of the four fits
 abbrev pub IsWriter : Course → Reach → Spot → Writer → Type 0
 IsWriter C can x (writes r) = ComesLast C can x r × IsSureBefore C can x r
 IsWriter C can x (may_write r) = ComesLast C can x r × (IsSureBefore C can x r → ⊥)

@@ -7,7 +7,7 @@ ghost use Rattle.rept_machine.specs.Step.{IsStep};
 ghost use Rattle.rept_steps.specs.declared.slice.Slice.{Slice};
 ghost use Rattle.rept_steps.specs.Course.{Course, Row, row_of, rows_of, slices_of, slice_of, IsRow, row_at, calls, CallsEnd, IsAlone, IsSound};
 ghost use Rattle.rept_order.specs.Events.{Event, IsEvent, Precedes, PrecedesOrIs, DarkPrecedes};
-ghost use Rattle.rept_order.specs.Moments.{Moment, IsMoment, NotLater, Earlier, Act, IsAct, WhollyBefore, WhollyAfter, Stretch, stretch, Falls, IsQuiet, IsQuietStep, IsNext, Forth, Joined, ArePause, AreOne, IsPauseIn, pause};
+ghost use Rattle.rept_order.specs.Moments.{Moment, IsMoment, NotLater, Earlier, Act, IsAct, WhollyBefore, WhollyAfter, Stretch, stretch, Falls, IsUntouched, IsUntouchedStep, IsNext, Forth, Joined, ArePause, AreOne, IsPauseIn, pause};
 ghost use Rattle.rept_order.specs.History.{History, Ending, IsExecution, tick};
 ghost use Rattle.rept_order.specs.Writing.{By, IsStill, Covers};
 ghost use Rattle.rept_order.specs.Writers.{Writer, Reach, Spot, IsWriter, WriterHoldsInHistory, SurelyWrites};
@@ -31,7 +31,7 @@ pub fn order_is_kept()
 /// what covers all that is written in the execution.
 pub fn quiet_bytes_stay()
     ensures still { (C : Course) (D : Ending) (h : History) (x : Stretch) (a : ℕ) → IsExecution C D h → IsMoment C x.from → IsMoment C x.to → NotLater C x.from x.to → IsStill C D h x a → memory_at C h x.to a ≡ memory_at C h x.from a }
-    ensures quiet { (C : Course) (D : Ending) (h : History) (may : Row → ℕ → Bool) (x : Stretch) (a : ℕ) → IsExecution C D h → Covers C D h may → IsMoment C x.from → IsMoment C x.to → IsQuiet C may x a → memory_at C h x.to a ≡ memory_at C h x.from a }
+    ensures quiet { (C : Course) (D : Ending) (h : History) (may : Row → ℕ → Bool) (x : Stretch) (a : ℕ) → IsExecution C D h → Covers C D h may → IsMoment C x.from → IsMoment C x.to → IsUntouched C may x a → memory_at C h x.to a ≡ memory_at C h x.from a }
 {}
 
 /// Two moments that are one have one memory. Whoever falls into one pause of a slice falls into each other one of it.
@@ -77,7 +77,7 @@ pub fn writers_hold()
 /// to the one before it, and it is one with that before the next row.
 pub fn alone_is_shared()
     ensures shared { (C : Course) (D : Ending) (run : ℕ → State) → IsSound C → IsAlone C → SavesOne D → RunsAlone C D run → IsShared C D run }
-    ensures quiet { (C : Course) (may : Row → ℕ → Bool) (r : Row) (a : ℕ) → IsSound C → IsAlone C → IsRow C r → IsQuietStep C may (stretch (Moment.before r) (Moment.after r)) a ↔ (may r a ≡ false) }
+    ensures quiet { (C : Course) (may : Row → ℕ → Bool) (r : Row) (a : ℕ) → IsSound C → IsAlone C → IsRow C r → IsUntouchedStep C may (stretch (Moment.before r) (Moment.after r)) a ↔ (may r a ≡ false) }
     ensures one { (C : Course) (x : Stretch) → IsSound C → IsAlone C → ArePause C x → AreOne C x }
     ensures next { (C : Course) (r : Row) → IsSound C → IsAlone C → IsRow C r → IsNext C (Moment.before r) (Moment.after r) }
 {}
@@ -85,10 +85,10 @@ pub fn alone_is_shared()
 /// A byte that is quiet over a stretch is quiet over each part of it, and step by step from each moment to a next one. A byte that quiet
 /// stretches join to the end, in any direction, is quiet from its moment to the end.
 pub fn quiet_is_closed()
-    ensures front { (C : Course) (may : Row → ℕ → Bool) (a : ℕ) (m x w : Moment) → IsSound C → Earlier C m x → Earlier C x w → IsQuiet C may (stretch m w) a → IsQuiet C may (stretch m x) a }
-    ensures back { (C : Course) (may : Row → ℕ → Bool) (a : ℕ) (m x w : Moment) → IsSound C → Earlier C m x → Earlier C x w → IsQuiet C may (stretch m w) a → IsQuiet C may (stretch x w) a }
-    ensures steps { (C : Course) (may : Row → ℕ → Bool) (a : ℕ) (m w : Moment) → IsSound C → IsMoment C m → IsMoment C w → IsQuietStep C may (stretch m w) a → (xs : List Moment) × Forth C may a m xs w }
-    ensures end { (C : Course) (may : Row → ℕ → Bool) (a : ℕ) (m : Moment) (xs : List Moment) → IsSound C → Joined C may a m xs Moment.at_end → IsQuiet C may (stretch m Moment.at_end) a }
+    ensures front { (C : Course) (may : Row → ℕ → Bool) (a : ℕ) (m x w : Moment) → IsSound C → Earlier C m x → Earlier C x w → IsUntouched C may (stretch m w) a → IsUntouched C may (stretch m x) a }
+    ensures back { (C : Course) (may : Row → ℕ → Bool) (a : ℕ) (m x w : Moment) → IsSound C → Earlier C m x → Earlier C x w → IsUntouched C may (stretch m w) a → IsUntouched C may (stretch x w) a }
+    ensures steps { (C : Course) (may : Row → ℕ → Bool) (a : ℕ) (m w : Moment) → IsSound C → IsMoment C m → IsMoment C w → IsUntouchedStep C may (stretch m w) a → (xs : List Moment) × Forth C may a m xs w }
+    ensures end { (C : Course) (may : Row → ℕ → Bool) (a : ℕ) (m : Moment) (xs : List Moment) → IsSound C → Joined C may a m xs Moment.at_end → IsUntouched C may (stretch m Moment.at_end) a }
 {}
 
 /// What lies before a moment lies before each later one and doesn't fall between. What lies before a moment and doesn't fall between

@@ -1,13 +1,10 @@
 -- One known value or all, as sets of values.
-use Rattle.std.specs.Prelude.{◌≡◌, ℕ, ◌%◌, ◌^◌, ◌<◌, ◌≤◌, Bool, true, false, ◌==◌, nat_lt, if◌then◌else◌, Option, Some, None, refl}
+use Rattle.std.specs.Prelude.{◌≡◌, ℕ, ◌^◌, ◌<◌, ◌≤◌, Bool, true, false, ◌==◌, nat_lt, if◌then◌else◌, Option, Some, None, refl}
 use Rattle.std.proofs.Common.{arith, sym, subst, ap, ◌∙◌, inl, inr, ◌⊎◌}
 use Rattle.rept_partial.specs.declared.flat.Flat.{Flat}
 use Rattle.rept_partial.specs.declared.flat.Flat.TheVariants.{Unknown, Known}
 use Rattle.rept_partial.specs.Sets.{Sets, AreLawful, IsWithin}
-
--- a number as a word: a law speaks of every number, also of those that no u32 has
-abbrev pub word : ℕ → ℕ
-word v = v % 2 ^ 32
+use Rattle.rept_partial.specs.Ranges.{word}
 
 abbrev pub flat_has : Flat → ℕ → Bool
 flat_has Unknown v = nat_lt v 4294967296

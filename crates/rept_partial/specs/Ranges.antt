@@ -4,6 +4,7 @@ use Rattle.std.proofs.Common.{arith}
 use Rattle.rept_partial.specs.declared.range.Range.{Range}
 use Rattle.rept_partial.specs.Sets.{Sets, AreLawful, IsWithin}
 
+-- a number as a word: a law speaks of every number, also of those that no u32 has
 abbrev pub word : ℕ → ℕ
 word v = v % 2 ^ 32
 

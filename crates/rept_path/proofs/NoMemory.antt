@@ -12,7 +12,7 @@ use Rattle.rept_path.specs.declared.flow.Flow.{Flow}
 use Rattle.rept_path.specs.declared.flow.Flow.TheVariants.{Plain, Branch, Jump, Fixed, Far, Call, Stop}
 use Rattle.rept_path.specs.declared.fault.PathFault.{PathFault}
 use Rattle.rept_path.specs.declared.fault.PathFault.TheVariants.{TooLong, Gap, End, Unaligned, OutOfMemory}
-use Rattle.rept_path.specs.Code.{instruction, expansion, short_half, is_short, alignment, after_instruction, by_instruction, by_word, by_code, look, flow_of, is_call}
+use Rattle.rept_path.specs.Code.{instruction, expansion, short_half, is_short, alignment, after_instruction, by_instruction, by_word, by_code, look, flow_of, calls_there}
 use Rattle.rept_path.specs.Gap.{row, call_row, Goal, Edge, by_successor, by_flow, crossing, gap}
 use Rattle.rept_path.specs.Legs.{PhaseFault}
 use Rattle.rept_path.specs.Moves.{Lead, Place, Stand, Site, along, site, successor, position, next_of, ◌>>=◌, heading_by, way_by}
@@ -91,7 +91,7 @@ module _ (code : Code) where
     others_successor : (n : ℕ) → Others (by_successor code edge n)
     others_successor n =
         others_cond (n == edge.to) _ _ (others_ok (row edge n false ∷ []))
-        (others_cond (is_call (look code n) && edge.to == after_instruction code n) _ _ (others_ok (call_row code n edge.to ∷ row edge n false ∷ [])) (others_err edge.otherwise other))
+        (others_cond (calls_there (look code n) && edge.to == after_instruction code n) _ _ (others_ok (call_row code n edge.to ∷ row edge n false ∷ [])) (others_err edge.otherwise other))
 
     others_flow : (next : Result ℕ PathFault) → Others next → (flow : Flow) → Others (by_flow code edge next flow)
     others_flow next h Call = others_cond (edge.to == after_instruction code edge.at) _ _ (others_ok (row edge edge.to true ∷ [])) (others_err edge.otherwise other)

@@ -18,7 +18,7 @@ use Rattle.rept_path.specs.declared.flow.Flow.{Flow}
 use Rattle.rept_path.specs.declared.flow.Flow.TheVariants.{Plain, Branch, Jump, Fixed, Far, Call, Stop}
 use Rattle.rept_path.specs.declared.fault.PathFault.{PathFault}
 use Rattle.rept_path.specs.declared.fault.PathFault.TheVariants.{TooLong, Gap, End}
-use Rattle.rept_path.specs.Code.{look, after_instruction, is_short, flow_of, is_call}
+use Rattle.rept_path.specs.Code.{look, after_instruction, is_short, flow_of, calls_there}
 use Rattle.rept_path.specs.Gap.{row, call_row, Goal, Edge, by_successor, by_flow, crossing, gap}
 use Rattle.rept_path.specs.Legs.{Passes, Reaches}
 use Rattle.rept_path.specs.Moves.{Lead, Place, Stand, along, site, successor, IsMove, ◌>>=◌, heading_by, way_by}
@@ -44,7 +44,7 @@ rows_after code packet waits p leg = go (begins packet waits)
     go false = rows_along code p leg
 
 -- a call stands there
-called : (r : Result Instr PathFault) → is_call r ≡ true → r ≡ Ok instrs.Ecall
+called : (r : Result Instr PathFault) → calls_there r ≡ true → r ≡ Ok instrs.Ecall
 called (Err e) t = cc
 called (Ok (instrs.Lui rd imm)) t = cc
 called (Ok (instrs.Auipc rd imm)) t = cc
@@ -116,7 +116,7 @@ module _ (code : Code) where
   stands e n call there = record { instr = there.instr; short = there.short }
 
   successor_rows : (e : Edge) (n : ℕ) (rows : List StepRow) → Standing e → by_successor code e n ≡ Ok rows → Crosses e.at e.to rows
-  successor_rows e n rows there is = one_or_two (n == e.to) (is_call (look code n)) (e.to == after_instruction code n) e.at e.to (row e n false) (call_row code n e.to) e.otherwise rows (stands e n false there) refl (eqb-true n e.to) (λ call. record { instr = called (look code n) call; short = refl }) refl refl is
+  successor_rows e n rows there is = one_or_two (n == e.to) (calls_there (look code n)) (e.to == after_instruction code n) e.at e.to (row e n false) (call_row code n e.to) e.otherwise rows (stands e n false there) refl (eqb-true n e.to) (λ call. record { instr = called (look code n) call; short = refl }) refl refl is
 
   next_rows : (e : Edge) (next : Result ℕ PathFault) (rows : List StepRow) → Standing e → (next >>= by_successor code e) ≡ Ok rows → Crosses e.at e.to rows
   next_rows e next rows there is = let b = bind_ok next (by_successor code e) rows is in successor_rows e b.0 rows there b.2

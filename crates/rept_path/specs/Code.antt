@@ -112,9 +112,9 @@ abbrev pub branches_there : Result Instr PathFault → Bool
 branches_there (Ok i) = branches (flow_of i)
 branches_there (Err e) = false
 
-abbrev pub is_call : Result Instr PathFault → Bool
-is_call (Ok instrs.Ecall) = true
-is_call _ = false
+abbrev pub calls_there : Result Instr PathFault → Bool
+calls_there (Ok instrs.Ecall) = true
+calls_there _ = false
 
 -- whether a branch stands there
 unfoldable pub is_branch : Code → ℕ → Bool

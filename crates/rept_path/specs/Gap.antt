@@ -9,7 +9,7 @@ use Rattle.rept_path.specs.declared.flow.Flow.{Flow}
 use Rattle.rept_path.specs.declared.flow.Flow.TheVariants.{Plain, Branch, Jump, Fixed, Far, Call, Stop}
 use Rattle.rept_path.specs.declared.fault.PathFault.{PathFault}
 use Rattle.rept_path.specs.declared.fault.PathFault.TheVariants.{TooLong, Gap, End}
-use Rattle.rept_path.specs.Code.{look, after_instruction, is_short, alignment, flow_of, is_call}
+use Rattle.rept_path.specs.Code.{look, after_instruction, is_short, alignment, flow_of, calls_there}
 use Rattle.rept_path.specs.Moves.{Stand, way_by, site, successor, ◌>>=◌}
 
 -- the address that the rows must lead to, and the refusal where they don't
@@ -36,7 +36,7 @@ call_row code at next = record { at = at; instr = Ecall; next = next; call = tru
 abbrev pub by_successor : Code → Edge → ℕ → Result (List StepRow) PathFault
 by_successor code e n =
     if n == e.to then Ok (row e n false ∷ [])
-    else if is_call (look code n) && e.to == after_instruction code n then Ok (call_row code n e.to ∷ row e n false ∷ [])
+    else if calls_there (look code n) && e.to == after_instruction code n then Ok (call_row code n e.to ∷ row e n false ∷ [])
     else Err e.otherwise
 
 -- the rows by what stands at the last position: a call goes on after it, an uninferable jump goes to any address that may be a

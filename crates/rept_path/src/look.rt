@@ -1,7 +1,7 @@
 //! The instruction at an address.
 
 ghost use Rattle.std.specs.Prelude.{◌≡◌, ◌%◌, ◌==◌, Err, if◌then◌else◌};
-ghost use Rattle.rept_path.specs.Code.{instruction, expansion, by_instruction, by_word, look, is_branch, is_call};
+ghost use Rattle.rept_path.specs.Code.{instruction, expansion, by_instruction, by_word, look, is_branch, calls_there};
 ghost use Rattle.rept_path.specs.Program.{code_of};
 ghost use Rattle.rept_path.specs.Moves.{position};
 ghost use Rattle.rept_path.specs.declared.fault.PathFault.{PathFault};
@@ -97,7 +97,7 @@ pub fn holds_branch(program: &Program<'_>, address: u32) -> bool
 
 /// Whether a call stands there.
 pub fn holds_call(program: &Program<'_>, address: u32) -> bool
-    ensures { result ≡ is_call (look (code_of program.now) address) }
+    ensures { result ≡ calls_there (look (code_of program.now) address) }
 {
     matches!(look(program, address), Ok(Instr::Ecall))
 }

@@ -8,6 +8,7 @@ use Rattle.rept_isa.specs.declared.instr.Instr.TheVariants.{Jal, Imm}
 use Rattle.rept_isa.specs.declared.instr.ImmOp.TheVariants.{Addi}
 use Rattle.rept_isa.specs.Numbers.{word, plus, following}
 use Rattle.rept_isa.specs.Rows.{Addresses, of_word, addresses_of}
+use Rattle.rept_isa.specs.Operands.{is_call}
 use Rattle.rept_machine.specs.State.{State}
 use Rattle.rept_machine.specs.Step.{HasEffect, IsStep}
 use Rattle.rept_machine.specs.Choices.{Picks}
@@ -15,7 +16,7 @@ use Rattle.rept_machine.specs.declared.machine.Machine.{Machine}
 use Rattle.rept_machine.specs.Machine.{state_of}
 use Rattle.rept_steps.specs.declared.slice.Slice.{Slice}
 use Rattle.rept_steps.specs.declared.threads.ThreadRows.{ThreadRows}
-use Rattle.rept_steps.specs.Course.{Course, Row, row_of, rows_of, no_thread, row_at, is_call, is_call_row, calls, CallsEnd, IsSound, slice_of}
+use Rattle.rept_steps.specs.Course.{Course, Row, row_of, rows_of, no_thread, row_at, is_call_row, calls, CallsEnd, IsSound, slice_of}
 use Rattle.rept_order.specs.History.{World, seen_by, OthersKeep, Stays, ExecutesRow, Ending}
 use Rattle.rept_turns.specs.declared.turn.Turn.{Turn}
 use Rattle.rept_turns.specs.Turns.{slice_by, all_rows, rows_in, steps_before, turn_at, HasTurns, slices_from}

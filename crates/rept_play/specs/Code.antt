@@ -6,8 +6,8 @@ use Rattle.rept_isa.specs.declared.instr.ImmOp.TheVariants.{Addi}
 use Rattle.rept_isa.specs.declared.row.StepRow.{StepRow}
 use Rattle.rept_isa.specs.Range.{InRange}
 use Rattle.rept_isa.specs.Words.{IsWord}
+use Rattle.rept_isa.specs.Operands.{is_call}
 use Rattle.rept_steps.specs.declared.slice.Slice.{Slice}
-use Rattle.rept_steps.specs.Course.{is_call}
 use Rattle.rept_steps.specs.declared.threads.ThreadRows.{ThreadRows}
 use Rattle.rept_turns.specs.declared.turn.Turn.{Turn}
 use Rattle.rept_turns.specs.Turns.{all_rows, rows_in, steps_before, turn_at, slices_from, AreSome, AreInOrder, AreApart}

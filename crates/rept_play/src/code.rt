@@ -4,7 +4,7 @@ ghost use Rattle.std.specs.Prelude.{◌≡◌, ◌<◌, ℕ, length};
 ghost use Rattle.rept_isa.specs.declared.instr.Instr.{Instr};
 ghost use Rattle.rept_isa.specs.Range.{InRange};
 ghost use Rattle.rept_isa.specs.Words.{IsWord};
-ghost use Rattle.rept_steps.specs.Course.{is_call};
+ghost use Rattle.rept_isa.specs.Operands.{is_call};
 ghost use Rattle.rept_play.specs.Code.{IsCode, instr_in, played_in, row_in};
 
 use rept_isa::{ImmOp, Instr, Reg, StepRow, encode};

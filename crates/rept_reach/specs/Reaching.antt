@@ -7,6 +7,10 @@ use Rattle.rept_reach.specs.declared.reaches.Window.{Window}
 abbrev pub IsExtent : Moments → ℕ → Window → Type 0
 IsExtent moments i window = (m w : ℕ) → moments.next m w ≡ true → moments.falls i m w ≡ true → (m < window.to) × (window.from ≤ w)
 
+-- the row falls between a number and each one that is next to it
+abbrev pub IsBar : Moments → ℕ → ℕ → Type 0
+IsBar moments i m = (w : ℕ) → moments.next m w ≡ true → moments.falls i m w ≡ true
+
 -- a number of some that stand one after the other: of those before it each has its next numbers among all of them
 pub record IsLeaving (moments : Moments) (least most n : ℕ) : Type 0 where
   pub from : least ≤ n

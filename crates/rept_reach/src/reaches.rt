@@ -2,7 +2,7 @@
 
 ghost use Rattle.std.specs.Prelude.{◌≡◌, ◌≤◌, ◌<◌, ◌+◌, true};
 ghost use Rattle.std.specs.Option.{IsSome};
-ghost use Rattle.rept_reach.specs.Reaching.{IsExtent, IsLeaving, IsReachedUp, IsReachedDown};
+ghost use Rattle.rept_reach.specs.Reaching.{IsBar, IsExtent, IsLeaving, IsReachedUp, IsReachedDown};
 
 use rept_report::Paths;
 
@@ -22,6 +22,11 @@ pub trait Reaches: Paths {
         requires row { IsSome ((Self.timeline self.now).legs.row row) }
         requires next { (Self.timeline self.now).moments.next number next ≡ true }
         ensures { result ≡ (Self.timeline self.now).moments.falls row number next };
+
+    /// Whether it is sure that a row falls between a number and each one that is next to it.
+    fn bars(&self, row: u32, number: u32) -> bool
+        requires row { IsSome ((Self.timeline self.now).legs.row row) }
+        ensures { result ≡ true → IsBar (Self.timeline self.now).moments row number };
 
     /// Numbers of moments between which alone a row falls: not after the end of the window, nor before its beginning.
     fn extent(&self, row: u32) -> Window

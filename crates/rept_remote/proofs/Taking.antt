@@ -7,7 +7,7 @@ use Rattle.std.specs.Prelude.{Ok, Err}
 use Rattle.rept_ports.proofs.LineLemmas.{Consumes-nothing, Consumes-trans}
 use Rattle.rept_ports.specs.Causes.{OneFault}
 use Rattle.rept_ports.specs.Port.{Port, move}
-use Rattle.rept_remote.specs.Frames.{IsCutPacket, arrived, brought, has_call, has_end, is_call}
+use Rattle.rept_remote.specs.Frames.{IsCutPacket, arrived, brought, has_call, has_end, asks}
 use Rattle.rept_remote.specs.Reading.{Passed, most_input, taking}
 use Rattle.rept_remote.specs.Steps.{Halts, IsOpen, TakesArrival, TakesByte, TakesDigits, TakesPacket, ending_of}
 use Rattle.rept_remote.specs.declared.bytes.NoByte.{NoByte}
@@ -55,8 +55,8 @@ none_with : (p : ℕ → Bool) (xs : List ℕ) (y : ℕ) → list_any p xs ≡ f
 none_with p xs y h k = rw (list_any-append p xs (y ∷ []), h, k) refl
 
 -- one byte more that asks for nothing
-pub noise_more : (noise : List ℕ) (byte : ℕ) → has_call noise ≡ false → is_call byte ≡ false → has_call (noise ++ byte ∷ []) ≡ false
-noise_more noise byte h k = none_with is_call noise byte h k
+pub noise_more : (noise : List ℕ) (byte : ℕ) → has_call noise ≡ false → asks byte ≡ false → has_call (noise ++ byte ∷ []) ≡ false
+noise_more noise byte h k = none_with asks noise byte h k
 
 -- one byte taken makes the measure less
 pub falls : (a b : ℕ) (s t : Port) (byte : ℕ) → TakesByte (move a b) (move s t) (Ok byte) → most_input - b < most_input - a

@@ -3,7 +3,7 @@ use Rattle.std.proofs.Common.{◌≡◌, ℕ, List, [], ◌∷◌, ◌++◌, len
 use Rattle.std.proofs.lemmas.List.Folds.{list_any-append}
 use Rattle.std.proofs.lemmas.List.{append-nil}
 use Rattle.std.specs.List.{list_any}
-use Rattle.rept_remote.specs.Frames.{Arrived, Arrives, HasNone, IsPacket, IsPart, IsShortEnd, has_call, has_end, is_call, is_end}
+use Rattle.rept_remote.specs.Frames.{Arrived, Arrives, HasNone, IsPacket, IsPart, IsShortEnd, has_call, has_end, asks, is_end}
 
 first_false : (a b : Bool) → (a || b) ≡ false → a ≡ false
 first_false true b e = cc
@@ -47,7 +47,7 @@ record Begins (part : List ℕ) : Type 0 where
   call : ℕ
   after : List ℕ
   parts : part ≡ call ∷ after
-  calls : is_call call ≡ true
+  calls : asks call ≡ true
 
 begins : (part : List ℕ) (what : Arrived) → IsPart part what → Begins part
 begins part what (inl h) = record { call = 36; after = h.body ++ 35 ∷ h.high ∷ h.low ∷ []; parts = h.parts; calls = refl }
@@ -93,7 +93,7 @@ pub one_reading : (p q x y : List ℕ) (v w : Arrived) → Arrives p v → Arriv
 one_reading p q x y v w h k e =
     let b : Begins h.part = begins h.part v h.arrives in
     let d : Begins k.part = begins k.part w k.arrives in
-    let same = parted is_call b.call d.call (b.after ++ x) (d.after ++ y) b.calls d.calls h.noise k.noise h.quiet k.quiet (sym (spread p h.noise h.part x b h.parts) ∙ e ∙ spread q k.noise k.part y d k.parts) in
+    let same = parted asks b.call d.call (b.after ++ x) (d.after ++ y) b.calls d.calls h.noise k.noise h.quiet k.quiet (sym (spread p h.noise h.part x b h.parts) ∙ e ∙ spread q k.noise k.part y d k.parts) in
     let here = same.here in let after = same.after in
     let inner : h.part ++ x ≡ k.part ++ y = ap (λ z. z ++ x) b.parts ∙ cc (here, after) ∙ sym (ap (λ z. z ++ y) d.parts) in
     let one = parts_same h.part k.part x y v w h.arrives k.arrives inner in
@@ -114,9 +114,9 @@ whole part x body tail v (inr (inr h)) plain short e = let u = heads 3 36 _ _ (s
 pub no_reading : (p q x : List ℕ) (v : Arrived) → Arrives p v → HasNone q → p ++ x ≡ q → ⊥
 no_reading p q x v h (inl quiet) e =
     let b : Begins h.part = begins h.part v h.arrives in
-    passing is_call h.noise b.call (b.after ++ x) b.calls (ap has_call (sym (spread p h.noise h.part x b h.parts) ∙ e) ∙ quiet)
+    passing asks h.noise b.call (b.after ++ x) b.calls (ap has_call (sym (spread p h.noise h.part x b h.parts) ∙ e) ∙ quiet)
 no_reading p q x v h (inr cut) e =
     let b : Begins h.part = begins h.part v h.arrives in
-    let same = parted is_call b.call 36 (b.after ++ x) (cut.body ++ cut.tail) b.calls refl h.noise cut.noise h.quiet cut.quiet (sym (spread p h.noise h.part x b h.parts) ∙ e ∙ cut.parts) in
+    let same = parted asks b.call 36 (b.after ++ x) (cut.body ++ cut.tail) b.calls refl h.noise cut.noise h.quiet cut.quiet (sym (spread p h.noise h.part x b h.parts) ∙ e ∙ cut.parts) in
     let here = same.here in let after = same.after in
     whole h.part x cut.body cut.tail v h.arrives cut.plain cut.short (ap (λ z. z ++ x) b.parts ∙ cc (here, after))

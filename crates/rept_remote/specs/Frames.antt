@@ -24,11 +24,11 @@ arrived arrival.Again bytes = again
 arrived arrival.Interrupt bytes = interrupt
 
 -- a byte between packets that asks for something: `$`, which begins a packet, `-`, and the byte of an interrupt
-abbrev pub is_call : ℕ → Bool
-is_call byte = byte == 36 || byte == 45 || byte == 3
+abbrev pub asks : ℕ → Bool
+asks byte = byte == 36 || byte == 45 || byte == 3
 
 abbrev pub has_call : List ℕ → Bool
-has_call bytes = list_any is_call bytes
+has_call bytes = list_any asks bytes
 
 -- `#`, which ends what a packet carries
 abbrev pub is_end : ℕ → Bool

@@ -3,7 +3,7 @@ use Rattle.std.specs.Prelude.{◌≡◌, ℕ, ◌≤◌, ◌<◌, List, [], ◌�
 use Rattle.std.specs.Int.Bits.{bit_xor}
 use Rattle.rept_ports.specs.Port.{Port, Move}
 use Rattle.rept_remote.specs.Escapes.{checksum}
-use Rattle.rept_remote.specs.Frames.{Arrives, IsPacket, IsShortEnd, arrived, has_call, has_end, is_call}
+use Rattle.rept_remote.specs.Frames.{Arrives, IsPacket, IsShortEnd, arrived, has_call, has_end, asks}
 use Rattle.rept_remote.specs.Reading.{Failed, Overran, Passed, Stops, Taking, TakingEnded, taking}
 use Rattle.rept_remote.specs.declared.arrival.Arrival.{Arrival}
 use Rattle.rept_remote.specs.declared.arrival.Ending.{Ending}
@@ -25,7 +25,7 @@ TakesByte count source (Err why) = Halts (taking count source []) why
 
 -- the first byte that asks for something
 abbrev pub TakesCall : Move ℕ → Move Port → Result ℕ NoByte → Type 0
-TakesCall count source (Ok byte) = (noise : List ℕ) × (has_call noise ≡ false) × (is_call byte ≡ true) × Passed (taking count source (noise ++ byte ∷ []))
+TakesCall count source (Ok byte) = (noise : List ℕ) × (has_call noise ≡ false) × (asks byte ≡ true) × Passed (taking count source (noise ++ byte ∷ []))
 TakesCall count source (Err why) = (noise : List ℕ) × (has_call noise ≡ false) × Halts (taking count source noise) why
 
 -- the kept bytes are those between `$` and `#`, or these are too many

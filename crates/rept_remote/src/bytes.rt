@@ -2,7 +2,7 @@
 
 ghost use Rattle.std.specs.Prelude.{◌≤◌};
 ghost use Rattle.rept_ports.specs.Port.{move};
-ghost use Rattle.rept_remote.specs.Frames.{is_call};
+ghost use Rattle.rept_remote.specs.Frames.{asks};
 ghost use Rattle.rept_remote.specs.Reading.{most_input};
 ghost use Rattle.rept_remote.specs.Steps.{TakesByte, TakesCall};
 ghost use Rattle.std.specs.Prelude.{◌≡◌};
@@ -42,7 +42,7 @@ pub fn take_call<S: Source>(count: &mut u64, source: &mut S) -> Result<u8, NoByt
 {
     loop {
         match take_byte(count, source) {
-            Ok(byte) if is_call(byte) => return Ok(byte),
+            Ok(byte) if asks(byte) => return Ok(byte),
             Ok(_) => {}
             Err(why) => return Err(why),
         }
@@ -50,8 +50,8 @@ pub fn take_call<S: Source>(count: &mut u64, source: &mut S) -> Result<u8, NoByt
 }
 
 /// Whether a byte between packets asks for something.
-fn is_call(byte: u8) -> bool
-    ensures { result ≡ is_call byte }
+fn asks(byte: u8) -> bool
+    ensures { result ≡ asks byte }
 {
     byte == b'$' || byte == b'-' || byte == 3
 }

@@ -15,12 +15,12 @@ use Rattle.rept_isa.specs.declared.instr.RegOp.TheVariants.{Add, Sub, Xor, Mul}
 use Rattle.rept_isa.specs.declared.class.Turn.{Turn}
 use Rattle.rept_isa.specs.declared.class.Turn.TheVariants.{Taken, NotTaken}
 use Rattle.rept_isa.specs.declared.row.StepRow.{StepRow}
-use Rattle.rept_isa.specs.Numbers.{plus}
+use Rattle.rept_isa.specs.Numbers.{plus, beside}
 use Rattle.rept_isa.specs.Operands.{written_by, first_read, second_read, turn_of}
 use Rattle.rept_isa.specs.Rows.{from_of}
 use Rattle.rept_partial.specs.declared.flat.Flat.{Flat}
 use Rattle.rept_partial.specs.declared.flat.Flat.TheVariants.{Unknown, Known}
-use Rattle.rept_machine.specs.Arithmetic.{loaded, word_at, beside, byte_of, store_width, register_form}
+use Rattle.rept_machine.specs.Arithmetic.{loaded, word_at, byte_of, store_width, register_form}
 use Rattle.rept_reason.specs.declared.fact.Cell.TheVariants.{Register, Byte}
 use Rattle.rept_reason.specs.Facts.{flat}
 use Rattle.rept_view.specs.declared.drawn.When.{When}

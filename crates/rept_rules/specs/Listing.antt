@@ -9,12 +9,12 @@ use Rattle.rept_isa.specs.declared.instr.StoreOp.{StoreOp}
 use Rattle.rept_isa.specs.declared.instr.StoreOp.TheVariants.{Sb, Sh, Sw}
 use Rattle.rept_isa.specs.declared.class.Turn.{Turn}
 use Rattle.rept_isa.specs.declared.row.StepRow.{StepRow}
-use Rattle.rept_isa.specs.Numbers.{plus}
+use Rattle.rept_isa.specs.Numbers.{plus, beside}
 use Rattle.rept_isa.specs.Operands.{written_by, first_read, second_read, turn_of, unless_zero}
 use Rattle.rept_isa.specs.Rows.{from_of}
 use Rattle.rept_partial.specs.declared.flat.Flat.{Flat}
 use Rattle.rept_partial.specs.declared.flat.Flat.TheVariants.{Unknown, Known}
-use Rattle.rept_machine.specs.Arithmetic.{beside, store_width, extended}
+use Rattle.rept_machine.specs.Arithmetic.{store_width, extended}
 use Rattle.rept_reason.specs.Facts.{flat}
 use Rattle.rept_view.specs.declared.drawn.When.{When}
 use Rattle.rept_view.specs.declared.drawn.When.TheVariants.{Before, After}

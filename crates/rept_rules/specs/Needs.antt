@@ -6,10 +6,10 @@ use Rattle.rept_isa.specs.declared.instr.Instr.TheVariants.{Lui, Auipc, Jal, Jal
 use Rattle.rept_isa.specs.declared.instr.LoadOp.{LoadOp}
 use Rattle.rept_isa.specs.declared.instr.RegOp.{RegOp}
 use Rattle.rept_isa.specs.declared.instr.ImmOp.{ImmOp}
-use Rattle.rept_isa.specs.Numbers.{word, plus}
+use Rattle.rept_isa.specs.Numbers.{word, plus, beside}
 use Rattle.rept_partial.specs.declared.flat.Flat.{Flat}
 use Rattle.rept_partial.specs.declared.flat.Flat.TheVariants.{Unknown, Known}
-use Rattle.rept_machine.specs.Arithmetic.{beside, register_form}
+use Rattle.rept_machine.specs.Arithmetic.{register_form}
 use Rattle.rept_reason.specs.declared.fact.Cell.{Cell}
 use Rattle.rept_reason.specs.declared.fact.Cell.TheVariants.{Register, Byte}
 use Rattle.rept_view.specs.declared.drawn.When.{When}

@@ -5,10 +5,10 @@ use Rattle.rept_isa.specs.declared.instr.Instr.{Instr}
 use Rattle.rept_isa.specs.declared.instr.Instr.TheVariants.{Lui, Auipc, Jal, Jalr, Branch, Load, Store, Imm, Op, Amo, Fence, Ecall, Ebreak, Counter}
 use Rattle.rept_isa.specs.declared.instr.RegOp.{RegOp}
 use Rattle.rept_isa.specs.declared.instr.RegOp.TheVariants.{And, Or, Mul, Sub, Xor}
-use Rattle.rept_isa.specs.Numbers.{word, following}
+use Rattle.rept_isa.specs.Numbers.{word, following, beside}
 use Rattle.rept_partial.specs.declared.flat.Flat.{Flat}
 use Rattle.rept_partial.specs.declared.flat.Flat.TheVariants.{Unknown, Known}
-use Rattle.rept_machine.specs.Arithmetic.{computed, register_form, beside}
+use Rattle.rept_machine.specs.Arithmetic.{computed, register_form}
 use Rattle.rept_machine.specs.State.{State}
 
 -- what is known of the register in an operand's place: x0 is 0

@@ -8,12 +8,13 @@ ghost use Rattle.rept_rules.specs.Conclusions.{Concludes};
 ghost use Rattle.rept_rules.specs.Listing.{conclusions};
 ghost use Rattle.rept_rules.specs.MayWrite.{IsKnownCall, may_write};
 
-use crate::draw::{draw_others, draw_result, load_width, store_width};
+use crate::draw::{draw_others, draw_result, load_width};
 use crate::rest::add_needs;
 use crate::tell::add_tells;
 use crate::touch::{is_sure, touched};
 use rept_alias::CallAccess;
 use rept_isa::{Instr, StepRow};
+use rept_machine::store_width;
 use rept_view::{Drawn, Need, RegisterAt, RowRules, RowView};
 use smallvec::SmallVec;
 use std::alloc::Global;

@@ -3,7 +3,6 @@
 ghost use Rattle.std.specs.Prelude.{◌≡◌, ◌+◌, ◌<◌, ◌≤◌, ◌^◌, ◌++◌, ℕ, Option, length};
 ghost use Rattle.smallvec.specs.SmallVec.{HasRoomFor};
 ghost use Rattle.rept_isa.specs.Operands.{turn_of};
-ghost use Rattle.rept_machine.specs.Arithmetic.{store_width};
 ghost use Rattle.rept_rules.specs.Conclusions.{load_width, operation_rule, solving_rule, equates};
 ghost use Rattle.rept_rules.specs.Listing.{register_drawn, some_drawn, bytes_drawn, known_bytes_drawn, known_at, known_after, result_drawn, solve_known, by_rule, solved_drawn, both_drawn, copied_between, copy_drawn, operation_drawn, load_drawn, store_back_drawn, store_drawn, branch_drawn, others_drawn};
 
@@ -14,6 +13,7 @@ use crate::outcome::forward;
 use rept_isa::number::plus;
 use rept_isa::{BranchOp, Instr, LoadOp, Reg, RegOp, StepRow, StoreOp, Turn, reads, turn, writes};
 use rept_machine::arithmetic::register_form;
+use rept_machine::store_width;
 use rept_partial::Flat;
 use rept_reason::Cell;
 use rept_view::{Drawn, RowView, When};
@@ -185,18 +185,6 @@ pub fn load_width(op: LoadOp) -> u32
         LoadOp::Lb | LoadOp::Lbu => 1,
         LoadOp::Lh | LoadOp::Lhu => 2,
         LoadOp::Lw => 4,
-    }
-}
-
-/// How many bytes a store writes.
-pub fn store_width(op: StoreOp) -> u32
-    ensures value { result ≡ store_width op }
-    ensures few { result ≤ 4 }
-{
-    match op {
-        StoreOp::Sb => 1,
-        StoreOp::Sh => 2,
-        StoreOp::Sw => 4,
     }
 }
 

@@ -2,7 +2,8 @@
 
 ghost use Rattle.std.specs.Prelude.{◌≡◌, ◌<◌, ◌^◌, ℕ, Option};
 ghost use Rattle.rept_isa.specs.Operands.{written_by, unless_zero};
-ghost use Rattle.rept_machine.specs.Arithmetic.{beside, extended};
+ghost use Rattle.rept_isa.specs.Numbers.{beside};
+ghost use Rattle.rept_machine.specs.Arithmetic.{extended};
 ghost use Rattle.rept_reason.specs.Facts.{flat};
 ghost use Rattle.rept_rules.specs.Conclusions.{seen_operand};
 ghost use Rattle.rept_rules.specs.Listing.{two_bytes, four_bytes, half_from, word_from, extended_from, loaded_from, at_known, known_after};

@@ -11,6 +11,7 @@ ghost use Rattle.rept_rules.specs.MayWrite.{is_register, range_of, only_value, i
 use rept_alias::{Access, CallAccess, access};
 use rept_havoc::havoc;
 use rept_isa::{AmoOp, Instr, Reg, StoreOp, register};
+use rept_machine::store_width;
 use rept_partial::{Flat, Partial, Range};
 use rept_view::{RowView, When};
 
@@ -60,11 +61,7 @@ fn stored(op: StoreOp, base: Range, imm: i32) -> CallAccess
 fn width(op: StoreOp) -> u8
     ensures { result ≡ store_width op }
 {
-    match op {
-        StoreOp::Sb => 1,
-        StoreOp::Sh => 2,
-        StoreOp::Sw => 4,
-    }
+    store_width(op) as u8
 }
 
 /// The word of an atomic instruction, over the range of its address.

@@ -9,7 +9,7 @@ use Rattle.std.proofs.lemmas.Bool.Decides.{leb_tells, eqb_tells}
 use Rattle.rept_isa.specs.declared.instr.Instr.{Instr}
 use Rattle.rept_isa.specs.declared.row.StepRow.{StepRow}
 use Rattle.rept_steps.specs.declared.threads.ThreadRows.{ThreadRows}
-use Rattle.rept_path.specs.Code.{Code, look, after_instruction, is_short, alignment, flow_of, is_call}
+use Rattle.rept_path.specs.Code.{Code, look, after_instruction, is_short, alignment, flow_of, calls_there}
 use Rattle.rept_path.specs.declared.flow.Flow.{Flow}
 use Rattle.rept_path.specs.declared.flow.Flow.TheVariants.{Plain, Branch, Jump, Fixed, Far, Call, Stop}
 use Rattle.rept_path.specs.declared.fault.PathFault.{PathFault}
@@ -63,7 +63,7 @@ has_bind (Err e) f h = has_err e
 successor_has : (code : Code) (e : Edge) (n : ℕ) → HasRow (by_successor code e n)
 successor_has code e n =
     has_cond (n == e.to) _ _ (has_rows (row e n false) [])
-    (has_cond (is_call (look code n) && e.to == after_instruction code n) _ _ (has_rows (call_row code n e.to) (row e n false ∷ [])) (has_err e.otherwise))
+    (has_cond (calls_there (look code n) && e.to == after_instruction code n) _ _ (has_rows (call_row code n e.to) (row e n false ∷ [])) (has_err e.otherwise))
 
 flow_has : (code : Code) (e : Edge) (next : Result ℕ PathFault) (f : Flow) → HasRow (by_flow code e next f)
 flow_has code e next Call = has_cond (e.to == after_instruction code e.at) _ _ (has_rows (row e e.to true) []) (has_err e.otherwise)

@@ -10,7 +10,7 @@ use Rattle.rept_steps.specs.declared.run.Run.{Run}
 use Rattle.rept_steps.specs.declared.slice.Slice.{Slice}
 use Rattle.rept_steps.specs.declared.threads.ThreadRows.{ThreadRows}
 use Rattle.rept_steps.specs.Linked.{EndBefore}
-use Rattle.rept_path.specs.Code.{Code, look, after_instruction, alignment, flow_of, is_call}
+use Rattle.rept_path.specs.Code.{Code, look, after_instruction, alignment, flow_of, calls_there}
 use Rattle.rept_path.specs.declared.flow.Flow.{Flow}
 use Rattle.rept_path.specs.declared.flow.Flow.TheVariants.{Plain, Branch, Jump, Fixed, Far, Call, Stop}
 use Rattle.rept_path.specs.declared.fault.PathFault.{PathFault}
@@ -58,7 +58,7 @@ eqb_is a b h = elim (eqb_tells a b) [ inl t ↦ t.1 | inr t ↦ absurd (true≢f
 successor_leads : (code : Code) (e : Edge) (n : ℕ) → Leads e.to (by_successor code e n)
 successor_leads code e n =
     leads_cond e.to (n == e.to) _ _ (λ same. leads_rows e.to (row e n false) [] (eqb_is n e.to same))
-    (leads_cond e.to (is_call (look code n) && e.to == after_instruction code n) _ _ (λ _. leads_rows e.to (call_row code n e.to) (row e n false ∷ []) refl) (leads_err e.to e.otherwise))
+    (leads_cond e.to (calls_there (look code n) && e.to == after_instruction code n) _ _ (λ _. leads_rows e.to (call_row code n e.to) (row e n false ∷ []) refl) (leads_err e.to e.otherwise))
 
 flow_leads : (code : Code) (e : Edge) (next : Result ℕ PathFault) (f : Flow) → Leads e.to (by_flow code e next f)
 flow_leads code e next Call = leads_cond e.to (e.to == after_instruction code e.at) _ _ (λ _. leads_rows e.to (row e e.to true) [] refl) (leads_err e.to e.otherwise)

@@ -22,3 +22,4 @@ pub use parser::parse;
 pub use pieces::{push_place, push_thread_named};
 pub use place::{Place, ThreadPlace, ThreadPoint};
 pub use reply::Answer;
+pub use stack::push_visible;

@@ -130,8 +130,8 @@ fn push_function(
     Ok(())
 }
 
-/// A name, with `?` for what is no visible character.
-fn push_visible(text: &mut Text, name: &[u8]) -> Result<(), OutOfMemory>
+/// A name, with `?` for each byte that is no visible character.
+pub fn push_visible(text: &mut Text, name: &[u8]) -> Result<(), OutOfMemory>
     ensures { OnOk result (text.new ≡ text.old ++ map visible name.now) }
 {
     for byte in name {

@@ -6,6 +6,7 @@ use Rattle.std.proofs.lemmas.List.{reverse-append}
 use Rattle.rept_isa.specs.declared.instr.Instr.{Instr}
 use Rattle.rept_isa.specs.declared.instr.Instr.TheVariants as instrs
 use Rattle.rept_isa.specs.declared.row.StepRow.{StepRow}
+use Rattle.rept_isa.specs.Operands.{is_call}
 use Rattle.rept_trace.specs.declared.packet.Packet.{Packet}
 use Rattle.rept_trace.specs.declared.packet.Packet.TheVariants.{Start, Context, Support, Address, Map, MapAddress}
 use Rattle.rept_path.specs.declared.aim.Aim.{Aim}
@@ -17,7 +18,6 @@ use Rattle.rept_path.specs.Route.{Phase, lead_of, further, with_bits, phases_of,
 use Rattle.rept_path.proofs.MoveLemmas.{made}
 use Rattle.rept_path.proofs.Waiting.{LegIn}
 use Rattle.rept_slices.specs.Stamps.{is_start}
-use Rattle.rept_steps.specs.Course.{is_call}
 use Rattle.rept_slices.specs.Parts.{ToldSlice, inner}
 use Rattle.rept_slices.specs.Stretches.{same_stretch, stretch, Walked, origin_after, Goes, rows_of}
 use Rattle.rept_slices.proofs.InTime.{Each}

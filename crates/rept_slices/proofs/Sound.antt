@@ -6,6 +6,7 @@ use Rattle.std.proofs.lemmas.List.Elements.{All-head, All-tail}
 use Rattle.std.proofs.lemmas.Bool.Decides.{leb_tells}
 use Rattle.rept_isa.specs.declared.instr.Instr.{Instr}
 use Rattle.rept_isa.specs.declared.row.StepRow.{StepRow}
+use Rattle.rept_isa.specs.Operands.{is_call}
 use Rattle.rept_steps.specs.declared.run.Run.{Run}
 use Rattle.rept_steps.specs.declared.slice.Slice.{Slice}
 use Rattle.rept_steps.specs.declared.threads.ThreadRows.{ThreadRows}
@@ -18,7 +19,7 @@ use Rattle.rept_path.specs.Code.{Code, look, is_short, flow_of}
 use Rattle.rept_path.specs.Gap.{row, Goal, Edge, by_successor, by_flow, crossing, gap, gap_to_start}
 use Rattle.rept_path.specs.Moves.{Stand, way_by, site, successor, ◌>>=◌}
 use Rattle.rept_path.proofs.MoveLemmas.{bind_ok}
-use Rattle.rept_steps.specs.Course.{no_thread, is_call, is_call_row, slice_of, TakeRows, BeginsFrom, first_slice, KeepTime, IsSound}
+use Rattle.rept_steps.specs.Course.{no_thread, is_call_row, slice_of, TakeRows, BeginsFrom, first_slice, KeepTime, IsSound}
 use Rattle.rept_slices.specs.Parts.{ToldSlice, thread_of, begin_of, first_time, beyond, lesser, never, end_before}
 use Rattle.rept_slices.specs.Order.{head_of}
 use Rattle.rept_slices.specs.Stamps.{clock_of, address_of}

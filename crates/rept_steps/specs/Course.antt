@@ -2,8 +2,7 @@
 -- clock. This project's own.
 use Rattle.std.specs.Prelude.{◌≡◌, ℕ, suc, ◌+◌, ◌<◌, ◌≤◌, ◌⊎◌, nat_lt, if◌then◌else◌, Bool, true, false, List, [], ◌∷◌, length, Option, Some, None, slice_get, unwrap_or}
 use Rattle.rept_isa.specs.declared.row.StepRow.{StepRow}
-use Rattle.rept_isa.specs.declared.instr.Instr.{Instr}
-use Rattle.rept_isa.specs.declared.instr.Instr.TheVariants.{Ecall}
+use Rattle.rept_isa.specs.Operands.{is_call}
 use Rattle.rept_steps.specs.declared.slice.Slice.{Slice}
 use Rattle.rept_steps.specs.declared.threads.ThreadRows.{ThreadRows}
 
@@ -40,11 +39,6 @@ IsRow C r = r.step < length (rows_of C r.thread)
 
 abbrev pub row_at : Course → Row → Option StepRow
 row_at C r = slice_get (rows_of C r.thread) r.step
-
--- a call into the kernel (RISC-V unprivileged manual 20191213, chapter 2.8)
-abbrev pub is_call : Instr → Bool
-is_call Ecall = true
-is_call _ = false
 
 abbrev pub is_call_row : Option StepRow → Bool
 is_call_row None = false

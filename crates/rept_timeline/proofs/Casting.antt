@@ -8,7 +8,7 @@ use Rattle.rept_report.specs.Timeline as report
 use Rattle.rept_moments.specs.Seen as seen
 use Rattle.rept_span.specs.Ranges.{Legs}
 use Rattle.rept_report.specs.declared.paths.Line.{Line}
-use Rattle.rept_carry.specs.Links.{IsPreviousFrom}
+use Rattle.rept_carry.specs.Links.{IsNextFrom, IsPreviousFrom}
 use Rattle.rept_carry.specs.declared.lines.Lines.{Lines}
 use Rattle.rept_carry.specs.declared.lines.Lines as cases
 use Rattle.rept_carry.specs.Lines.{AreLines, IsIn}
@@ -19,9 +19,9 @@ not_so : (b : Bool) → (b ≡ true → ⊥) → b ≡ false
 not_so true k = absurd (k refl)
 not_so false k = refl
 
-pub next_as : (M : Moments) (m least : ℕ) (o : Option ℕ) → seen.IsNextFrom M m least o → report.IsNextFrom M m least o
-next_as M m least None its = its
-next_as M m least (Some w) its = its
+pub next_as : (M : Moments) (m least : ℕ) (o : Option ℕ) → IsNextFrom M m least o → report.IsNextFrom M m least o
+next_as M m least None its = λ w low. not_so (M.next m w) (its w low)
+next_as M m least (Some w) its = (its.0, its.1, λ v low less. not_so (M.next m v) (its.2 v low less))
 
 pub former_as : (M : Moments) (w least : ℕ) (o : Option ℕ) → IsPreviousFrom M w least o → report.IsFormerFrom M w least o
 former_as M w least None its = λ m low. not_so (M.next m w) (its m low)

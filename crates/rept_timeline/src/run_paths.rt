@@ -52,7 +52,7 @@ fn lines_of(alloc: Global, ways: &Ways<'_>) -> Result<Lines, OutOfMemory>
     ensures lines { IfOk result (λ l. AreLinesOf (time_of ways.now).moments l) }
     ensures alone { is_one ways.now ≡ true → IsOk result }
 {
-    let lines = Lines::new(alloc, ways.course())?;
+    let lines = Lines::new(alloc, ways)?;
     Ok(lines)
 }
 
@@ -164,7 +164,7 @@ impl<'a> Paths for RunPaths<'a> {
     }
 
     fn next_from(&self, number: u32, least: u32) -> Option<u32> {
-        self.ways.course().next_from(number, least)
+        self.ways.next_from(number, least)
     }
 
     fn former_from(&self, number: u32, least: u32) -> Option<u32> {

@@ -3,13 +3,12 @@ use Rattle.std.proofs.Common.{◌≡◌, ℕ, suc, ◌+◌, ◌-◌, ◌<◌, �
 use Rattle.std.proofs.lemmas.Bool.{false≢true, cases_lt, cond-true, lt-ltb, le-ltb, eq-eqb, not_from_true, not-false}
 use Rattle.std.proofs.lemmas.Option.{slice_get_within, slice_get_cases}
 use mathlib.Core.Path.{fun_ext}
-use Rattle.rept_isa.specs.declared.instr.Instr.{Instr}
-use Rattle.rept_isa.specs.declared.instr.Instr.TheVariants.{Ecall}
 use Rattle.rept_isa.specs.declared.row.StepRow.{StepRow}
+use Rattle.rept_isa.specs.Operands.{is_call}
 use Rattle.rept_machine.specs.Step.{IsStep}
 use Rattle.rept_machine.proofs.StepLaws.{written_by_registers}
 use Rattle.rept_steps.specs.declared.threads.ThreadRows.{ThreadRows}
-use Rattle.rept_steps.specs.Course.{Course, row_of, rows_of, row_at, is_call, is_call_row, calls, IsSound}
+use Rattle.rept_steps.specs.Course.{Course, row_of, rows_of, row_at, is_call_row, calls, IsSound}
 use Rattle.rept_order.specs.Moments.{Act, IsAct, Stretch, stretch, Falls, ArePause}
 use Rattle.rept_order.specs.Moments.Moment.{before, after, at_end}
 use Rattle.rept_order.specs.Moments.Act.{row, dark}
@@ -37,15 +36,11 @@ use Rattle.rept_view.specs.Rules.{Rules}
 use Rattle.rept_report.specs.Given.{setting_by}
 use Rattle.rept_report.specs.Setting.{Setting, IsLast}
 use Rattle.rept_report.specs.Runs as runs
-use Rattle.rept_report.specs.Runs.{Run, Runs, StepWrites, is_call as calls_out}
+use Rattle.rept_report.specs.Runs.{Run, Runs, StepWrites}
 use Rattle.rept_report.proofs.Line.{next_is}
 use Rattle.rept_trip.specs.Trip.{Trip, thread_on, given_by, setting_on}
 use Rattle.rept_trip.specs.Executed.{IsHistoryOf, run_on}
 use Rattle.rept_trip.proofs.Single.{is_alone, one_thread, rows_are, count_is, is_row, last_low, last_high, is_moment}
-
-call_same : (instr : Instr) → is_call instr ≡ calls_out instr
-call_same Ecall = refl
-call_same _ = refl
 
 match_is : (o : Option StepRow) (P : StepRow → Type 0) → MatchOption o ⊥ P → (x : StepRow) × (o ≡ Some x) × P x
 match_is None P h = absurd h
@@ -125,11 +120,11 @@ module _ {W : Type 0} (sets : Sets W) (moves : Moves W) (rules : Rules) (C : Cou
         let less = slice_get_within rows i its_row is in
         let at = there i its_row is in
         let base = x.steps (row_of 0 i) its_row at in
-        let call : calls C (row_of 0 i) ≡ calls_out its_row.instr = ap is_call_row at ∙ call_same its_row.instr in
-        let one = subst (λ (f : ℕ → ℕ). IsStep D.image_end its_row (state_from (run.register (leg_of C (row_of 0 i))) (run.memory (before (row_of 0 i)))) (state_from (run.register (suc (leg_of C (row_of 0 i)))) f)) (memory_after i (calls C (row_of 0 i)) (calls_out its_row.instr) less call) base in
-        let two = subst (λ (f : ℕ → ℕ). IsStep D.image_end its_row (state_from (run.register (leg_of C (row_of 0 i))) f) (state_from (run.register (suc (leg_of C (row_of 0 i)))) (it.memory (cond (calls_out its_row.instr) i (i + 1))))) (sym (memory_low i less)) one in
-        let three = subst (λ (k : ℕ). IsStep D.image_end its_row (state_from (run.register k) (it.memory i)) (state_from (run.register (suc k)) (it.memory (cond (calls_out its_row.instr) i (i + 1))))) (zero-add i) two in
-        subst (λ (k : ℕ). IsStep D.image_end its_row (state_from (run.register i) (it.memory i)) (state_from (run.register k) (it.memory (cond (calls_out its_row.instr) i (i + 1))))) (one_more i) three
+        let call : calls C (row_of 0 i) ≡ is_call its_row.instr = ap is_call_row at in
+        let one = subst (λ (f : ℕ → ℕ). IsStep D.image_end its_row (state_from (run.register (leg_of C (row_of 0 i))) (run.memory (before (row_of 0 i)))) (state_from (run.register (suc (leg_of C (row_of 0 i)))) f)) (memory_after i (calls C (row_of 0 i)) (is_call its_row.instr) less call) base in
+        let two = subst (λ (f : ℕ → ℕ). IsStep D.image_end its_row (state_from (run.register (leg_of C (row_of 0 i))) f) (state_from (run.register (suc (leg_of C (row_of 0 i)))) (it.memory (cond (is_call its_row.instr) i (i + 1))))) (sym (memory_low i less)) one in
+        let three = subst (λ (k : ℕ). IsStep D.image_end its_row (state_from (run.register k) (it.memory i)) (state_from (run.register (suc k)) (it.memory (cond (is_call its_row.instr) i (i + 1))))) (zero-add i) two in
+        subst (λ (k : ℕ). IsStep D.image_end its_row (state_from (run.register i) (it.memory i)) (state_from (run.register k) (it.memory (cond (is_call its_row.instr) i (i + 1))))) (one_more i) three
 
     registers_end : (p r v : ℕ) → IsLast S p → 0 < r → slice_get (S.last p) r ≡ Some v → run.register p r ≡ v
     registers_end p r v final some is =

@@ -8,11 +8,12 @@ use Rattle.rept_isa.specs.declared.instr.Instr.{Instr}
 use Rattle.rept_isa.specs.declared.instr.Instr.TheVariants.{Ecall}
 use Rattle.rept_isa.specs.declared.row.StepRow.{StepRow}
 use Rattle.rept_isa.specs.Rows.{Addresses, addresses_of}
+use Rattle.rept_isa.specs.Operands.{is_call}
 use Rattle.rept_machine.specs.Calls.{MayChange}
 use Rattle.rept_machine.specs.State.{State, IsState}
 use Rattle.rept_machine.specs.Step.{IsStep, HasEffect, Calls}
 use Rattle.rept_steps.specs.declared.slice.Slice.{Slice}
-use Rattle.rept_steps.specs.Course.{Course, Row, row_of, slices_of, slice_of, slice_after, IsRow, row_at, is_call, is_call_row, calls, CallsEnd}
+use Rattle.rept_steps.specs.Course.{Course, Row, row_of, slices_of, slice_of, slice_after, IsRow, row_at, is_call_row, calls, CallsEnd}
 use Rattle.rept_order.specs.Events.{Part, Event, IsEvent, FitsRow, first_part, last_part, first_event, event_slice, slice_by, IsBefore}
 use Rattle.rept_order.specs.Events.Part.{whole, entry, return}
 use Rattle.rept_order.specs.Events.IsBefore.{by_row, by_call, by_time}

@@ -11,9 +11,10 @@ use rept_isa::StepRow;
 use smallvec::SmallVec;
 use std::alloc::Global;
 
-/// The rules by which a row lets facts on its own registers and bytes be drawn, and which bytes it may write. An analysis uses
-/// nothing else of an instruction. `rules` names the answers as functions of the row and of what is seen, and each implementation
-/// proves their laws. No call takes memory: each list keeps within the room that it has in place.
+/// The rules by which a row lets facts on its own registers and bytes be drawn, and which bytes it may write. Beside them an analysis
+/// asks an instruction for its turn, the registers that it reads and writes, the offset at which its bytes begin, whether it stores or
+/// calls, whether the row's exit fits, and what it makes of sets of values. `rules` names the answers as functions of the row and of
+/// what is seen, and each implementation proves their laws. No call takes memory: each list keeps within the room that it has in place.
 pub trait RowRules: Drop {
     ghost rules: { Rules };
 

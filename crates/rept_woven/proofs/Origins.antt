@@ -11,7 +11,7 @@ use Rattle.rept_path.specs.declared.flow.Flow.{Flow}
 use Rattle.rept_path.specs.declared.flow.Flow.TheVariants.{Plain, Branch, Jump, Fixed, Far, Call, Stop}
 use Rattle.rept_path.specs.declared.fault.PathFault.{PathFault}
 use Rattle.rept_path.specs.declared.fault.PathFault.TheVariants.{TooLong, Gap}
-use Rattle.rept_path.specs.Code.{Code, look, after_instruction, is_short, alignment, flow_of, is_call}
+use Rattle.rept_path.specs.Code.{Code, look, after_instruction, is_short, alignment, flow_of, calls_there}
 use Rattle.rept_path.specs.Packets.{waiting}
 use Rattle.rept_path.specs.Moves.{Lead, heading_by, Place, Stand, Site, site, along, successor, position, way_by, next_of, IsMove, ◌>>=◌}
 use Rattle.rept_path.specs.Legs.{Passes, Reaches, PhaseLeg}
@@ -58,7 +58,7 @@ module _ (code : Code) (x : Edge) (e : PathFault) where
   y = record { at = x.at; instr = x.instr; short = x.short; to = x.to; otherwise = e }
 
   successor_moved : (n : ℕ) (rows : List StepRow) → by_successor code x n ≡ Ok rows → by_successor code y n ≡ Ok rows
-  successor_moved n rows h = go (n == x.to) (is_call (look code n) && x.to == after_instruction code n) h where
+  successor_moved n rows h = go (n == x.to) (calls_there (look code n) && x.to == after_instruction code n) h where
     go : (b c : Bool) → cond b (Ok (row x n false ∷ [])) (cond c (Ok (call_row code n x.to ∷ row x n false ∷ [])) (Err x.otherwise)) ≡ Ok rows → cond b (Ok (row x n false ∷ [])) (cond c (Ok (call_row code n x.to ∷ row x n false ∷ [])) (Err e)) ≡ Ok rows
     go true c h = h
     go false c h = other_fault c x.otherwise e (call_row code n x.to ∷ row x n false ∷ []) rows h

@@ -9,7 +9,8 @@ use Rattle.std.proofs.Math.Seq.{take-suc}
 use Rattle.std.proofs.lemmas.List.Elements.{All-nil, All-push, All-append, All-weaker, All-contains, Contains-append_left, Contains-append_right, Contains-append_cases, Contains-push}
 use Rattle.std.proofs.lemmas.List.Sorted.{IsNonDecreasingBy-push}
 use Rattle.std.proofs.lemmas.Option.{slice_get_within}
-use Rattle.rept_alias.specs.Accesses.{hits, hits_part, call_hits, distance, beside}
+use Rattle.rept_isa.specs.Numbers.{beside}
+use Rattle.rept_alias.specs.Accesses.{hits, hits_part, call_hits, distance}
 use Rattle.rept_alias.specs.declared.addresses.Access.{Access}
 use Rattle.rept_alias.specs.declared.addresses.CallAccess.{CallAccess}
 use Rattle.rept_writing.specs.declared.list.Writing.{Writing}

@@ -6,7 +6,8 @@ use Rattle.std.specs.Ordering.{nat_cmp, ordering_then}
 use Rattle.std.specs.declared.cmp.Ordering.{Ordering}
 use Rattle.rept_alias.specs.declared.addresses.Access.{Access}
 use Rattle.rept_alias.specs.declared.addresses.CallAccess.{CallAccess}
-use Rattle.rept_alias.specs.Accesses.{beside, distance}
+use Rattle.rept_isa.specs.Numbers.{beside}
+use Rattle.rept_alias.specs.Accesses.{distance}
 use Rattle.rept_writing.specs.declared.list.Writing.{Writing}
 use Rattle.rept_writing.specs.declared.narrow.Hit.{Hit}
 use Rattle.rept_writing.specs.Hits.{hits_at}

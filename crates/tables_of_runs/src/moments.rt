@@ -8,15 +8,15 @@ use rept_carry::Ways;
 use std::alloc::{AllocError, Global};
 use test_lines::Numbers;
 
-/// Whether a number is next to another one, whether it is the next one from itself on, and whether the other one comes before it, looked for from the other one on.
+/// Whether a number is next to another one, looked for up to itself and from itself on, and whether the other one comes before it, looked for from the other one on.
 pub fn next(alloc: Global, ways: &Ways<'_>, m: u32, w: u32) -> Result<String, AllocError> {
     if m > ways.course().end() {
         return String::from_str(alloc, "past the end");
     }
-    let told = ways.course().is_next(m, w);
-    let found = ways.course().next_from(m, w) == Some(w);
+    let up_to = ways.next_to(m, w) == Some(w);
+    let found = ways.next_from(m, w) == Some(w);
     let back = ways.previous_from(w, m) == Some(m);
-    format!(in alloc; "{told} {found} {back}")
+    format!(in alloc; "{up_to} {found} {back}")
 }
 
 /// Whether each of them is a row.

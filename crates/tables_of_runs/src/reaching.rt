@@ -26,6 +26,7 @@ pub fn reaching(
     let rows = RunRows::new(alloc, run, paths)?;
     match asked {
         "falls" => falls(alloc, &rows, n),
+        "bars" => bars(alloc, &rows, n.word(0), n.word(1)),
         "extent" => extent(alloc, &rows, n.word(0)),
         "leaving" => leaving(alloc, &rows, n.word(0), n.word(1)),
         _ => reached(alloc, &rows, n.word(0), n.word(1)),
@@ -42,6 +43,14 @@ fn falls(alloc: Global, rows: &RunRows<'_>, n: &Numbers) -> Result<String, Alloc
         Some(next) => format!(in alloc; "{next} {}", rows.falls(row, m, next)),
         None => String::from_str(alloc, "not next"),
     }
+}
+
+/// Whether it is sure that a row falls after a moment, whatever comes next.
+fn bars(alloc: Global, rows: &RunRows<'_>, row: u32, m: u32) -> Result<String, AllocError> {
+    if rows.row(row).is_none() {
+        return String::from_str(alloc, "no row");
+    }
+    format!(in alloc; "{}", rows.bars(row, m))
 }
 
 /// The numbers between which a row falls.

@@ -8,11 +8,10 @@ use test_lines::Numbers;
 /// The first row from one on that falls between two moments.
 pub fn falling(alloc: Global, paths: &RunPaths<'_>, n: &Numbers) -> Result<String, AllocError> {
     let (m, w) = (n.word(0), n.word(1));
-    let course = paths.ways().course();
-    if m > course.end() || !course.is_next(m, w) {
-        return String::from_str(alloc, "not next");
+    match paths.ways().next_from(m, w) {
+        Some(next) if next == w => format!(in alloc; "{:?}", paths.falling_from(m, w, n.word(2))),
+        _ => String::from_str(alloc, "not next"),
     }
-    format!(in alloc; "{:?}", paths.falling_from(m, w, n.word(2)))
 }
 
 /// The first row from one on that may not be over at a moment.

@@ -395,3 +395,17 @@ fn one_fault_is_told(rt: HostRuntime) -> Result<(), Fail> {
     fs::remove_file(&rt, PATH)?;
     Ok(())
 }
+
+// The same of a load of a regular file.
+#[test]
+fn one_fault_of_a_regular_file_is_told(rt: HostRuntime) -> Result<(), Fail> {
+    const PATH: &str = "rept_ports_one_regular_fault";
+    fs::write(&rt, PATH, b"ab".as_slice())?;
+    let mut shelf = DiskShelf::new(FailsFirst::new(&rt));
+    for want in [Err(LoadFault::Failed), Ok(2)] {
+        let got = shelf.load_regular(rt.alloc(), PATH, 9);
+        assert_eq!(rt; got.map(|bytes| bytes.len()), want);
+    }
+    fs::remove_file(&rt, PATH)?;
+    Ok(())
+}

@@ -1,6 +1,6 @@
 //! Each refusal of the program.
 
-use rept_ports::{CalmShelf, CalmSource, MemSink, MemSource};
+use rept_ports::{CalmShelf, CalmSource, MemShelf, MemSink, MemSource};
 use rept_recording::{LogRefusal, Stop, run};
 use std::test::Fail;
 
@@ -70,5 +70,18 @@ fn nothing_else_is_written(rt: HostRuntime) -> Result<(), Fail> {
         );
         assert_eq!(rt; sink.bytes(), b"".as_slice());
     }
+    Ok(())
+}
+
+// A load that fails is told as that, and not as want of memory.
+#[test]
+fn failed_loads_are_told(rt: HostRuntime) -> Result<(), Fail> {
+    let alloc = rt.alloc();
+    let mut shelf = MemShelf::new(alloc, &[1])?;
+    shelf.put("e", EXE)?;
+    let mut sink = MemSink::new(alloc, 100, &[])?;
+    let outcome = run(alloc, "e", &mut shelf, &mut CalmSource::new(LOG), &mut sink);
+    assert_eq!(rt; outcome, Err(Stop::LoadFault));
+    assert_eq!(rt; sink.bytes(), b"".as_slice());
     Ok(())
 }

@@ -11,7 +11,8 @@ use Rattle.rept_view.specs.declared.drawn.When.TheVariants.{Before, After}
 use Rattle.rept_view.specs.declared.drawn.Drawn.{Drawn}
 use Rattle.rept_view.specs.Seen.{Seen, IsLawful, seen_cell}
 use Rattle.rept_isa.specs.Operands.{first_read}
-use Rattle.rept_machine.specs.Arithmetic.{beside, word_at}
+use Rattle.rept_isa.specs.Numbers.{beside}
+use Rattle.rept_machine.specs.Arithmetic.{word_at}
 use Rattle.rept_reason.specs.declared.fact.Cell.TheVariants.{Register}
 use Rattle.rept_reason.specs.Facts.{flat}
 use Rattle.rept_view.specs.declared.drawn.Need.{Need}

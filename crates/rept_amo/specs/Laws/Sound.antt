@@ -13,9 +13,10 @@ use Rattle.rept_view.specs.declared.drawn.Drawn.{Drawn}
 use Rattle.rept_view.specs.Seen.{Seen, state_at}
 use Rattle.rept_isa.specs.declared.instr.LoadOp.TheVariants.{Lw}
 use Rattle.rept_isa.specs.Rows.{Addresses, addresses_of}
+use Rattle.rept_isa.specs.Numbers.{beside}
 use Rattle.rept_machine.specs.State.{State}
 use Rattle.rept_machine.specs.Step.{HasEffect, Acts, Tries}
-use Rattle.rept_machine.specs.Arithmetic.{beside, byte_of, word_at, combined}
+use Rattle.rept_machine.specs.Arithmetic.{byte_of, word_at, combined}
 use Rattle.rept_view.specs.Rules.{IsSeenStep}
 use Rattle.rept_rules.specs.Operands.{less}
 use Rattle.rept_rules.specs.Conclusions.{AreKnown}

@@ -7,8 +7,7 @@ use Rattle.rept_isa.specs.declared.instr.AmoOp.TheVariants as atomic
 use Rattle.rept_isa.specs.declared.row.StepRow.{StepRow}
 use Rattle.rept_view.specs.declared.drawn.When.TheVariants.{Before, After}
 use Rattle.rept_view.specs.Seen.{Seen, IsLawful, KnowsMore, Meets}
-use Rattle.rept_isa.specs.Numbers.{plus}
-use Rattle.rept_machine.specs.Arithmetic.{beside}
+use Rattle.rept_isa.specs.Numbers.{plus, beside}
 use Rattle.rept_machine.specs.State.{State}
 use Rattle.rept_machine.specs.Writes.{WritesBy, WritesAtomic, IsBeside}
 use Rattle.rept_alias.specs.Accesses.{hits, access_of}

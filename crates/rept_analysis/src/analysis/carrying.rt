@@ -4,13 +4,15 @@ ghost use Rattle.std.specs.Prelude.{◌≡◌, ◌↔◌, ◌+◌, ◌<◌, ◌�
 ghost use Rattle.rept_reason.specs.declared.fact.Cell.TheVariants.{Byte};
 ghost use Rattle.rept_versions.specs.Facts.{Nexts};
 ghost use Rattle.rept_analysis.specs.State.{IsLined, state_of, reader};
-ghost use Rattle.rept_analysis.specs.Drawing.{Knows, IsTracked, Grows, Drew, IsHalt, AreWritings, IsBridged, IsBlocked, IsSparedBetween, IsLed, IsSpreadTo, IsCarriedFrom, IsCalm, IsLooseEnd, IsLooseBefore, IsPiece, IsCarriedIf, IsCarriedBeside, IsCarriedIn, AreLinks, IsBrought};
+ghost use Rattle.rept_analysis.specs.Drawing.{Knows, IsTracked, Grows, Drew, IsHalt, AreWritings, AreBlocked, IsBlocker, IsBridged, IsBlocked, IsSparedBetween, IsLed, IsSpreadTo, IsCarriedFrom, IsCalm, IsLooseEnd, IsLooseBefore, IsPiece, IsCarriedIf, IsCarriedBeside, IsCarriedIn, AreLinks, IsBrought};
 ghost use Rattle.rept_analysis.specs.Told.{Sends};
+ghost use Rattle.rept_reach.specs.Reaching.{IsBar};
 ghost use Rattle.rept_report.specs.Timeline.{IsNextFrom, IsStrip};
 ghost use Rattle.rept_report.specs.Why.{fact_of};
 
 use super::Analysis;
 use crate::halt::Halt;
+use crate::link::Link;
 use crate::piece::Piece;
 use rept_log::LastValues;
 use rept_reach::Reaches;
@@ -93,7 +95,10 @@ impl<'a, P: Reaches + Drop, L: LastValues + Drop, B: ByteFacts, W: Transfer, R: 
     {
         match self.send(a, from, to, value) {
             Ok(Carried::Same) => Ok(false),
-            Ok(Carried::More) => Ok(true),
+            Ok(Carried::More) => {
+                self.note_byte(a);
+                Ok(true)
+            }
             Ok(Carried::Stop(point, _, found)) => {
                 let cell = Cell::Byte(a);
                 Err(Halt::Clash {
@@ -189,6 +194,33 @@ impl<'a, P: Reaches + Drop, L: LastValues + Drop, B: ByteFacts, W: Transfer, R: 
         self.paths.falls(row, m, w)
     }
 
+    /// Whether it is sure that a row falls between a number and each one that is next to it.
+    fn bars(&self, row: u32, m: u32) -> bool
+        requires there { IsSome ((P.timeline self.now.paths).legs.row row) }
+        ensures { result ≡ true → IsBar (P.timeline self.now.paths).moments row m }
+    {
+        self.paths.bars(row, m)
+    }
+
+    /// The index of the first row of the list that may write a byte and falls between a number and one that is next to it, if there is one.
+    fn blocker(&self, a: u32, m: u32, w: u32) -> Option<usize>
+        requires writings { AreWritings (state_of (reader P.timeline L.values) W.sets W.moves R.rules B.store self.now) }
+        requires next { (P.timeline self.now.paths).moments.next m w ≡ true }
+        ensures { IsBlocker (record { address = a; from = m; to = w }) (state_of (reader P.timeline L.values) W.sets W.moves R.rules B.store self.now) result }
+    {
+        let mut k = 0;
+        loop {
+            let Some(hit) = self.next_meeting(k, m, w, a) else {
+                return None;
+            };
+            let row = self.entry(hit).row;
+            if self.falls(row, m, w) {
+                return Some(hit);
+            }
+            k = hit + 1;
+        }
+    }
+
     /// Whether a byte is carried from a number to one that is next to it: whether nothing that isn't told falls between, and no row of the list that may write it.
     fn is_carried(&self, a: u32, m: u32, w: u32) -> bool
         requires writings { AreWritings (state_of (reader P.timeline L.values) W.sets W.moves R.rules B.store self.now) }
@@ -199,18 +231,46 @@ impl<'a, P: Reaches + Drop, L: LastValues + Drop, B: ByteFacts, W: Transfer, R: 
         if self.is_dark_between(m, w) {
             return false;
         }
-        let mut k = 0;
-        loop {
-            let hit = match self.next_meeting(k, m, w, a) {
-                Some(hit) => hit,
-                None => return true,
-            };
-            let row = self.entry(hit).row;
-            if self.falls(row, m, w) {
-                return false;
-            }
-            k = hit + 1;
+        self.blocker(a, m, w).is_none()
+    }
+
+    /// Whether the row at an index of the list, if one is named, may write a byte and falls between a number and one that is next to it.
+    fn blocks(&self, a: u32, m: u32, w: u32, blocker: Option<usize>) -> bool
+        requires writings { AreWritings (state_of (reader P.timeline L.values) W.sets W.moves R.rules B.store self.now) }
+        requires next { (P.timeline self.now.paths).moments.next m w ≡ true }
+        ensures { result ≡ true → IsBlocked (record { address = a; from = m; to = w }) (state_of (reader P.timeline L.values) W.sets W.moves R.rules B.store self.now) }
+    {
+        let Some(k) = blocker else {
+            return false;
+        };
+        if k >= self.writing_count() {
+            return false;
         }
+        let entry = self.entry(k);
+        let access = entry.access;
+        if !access.may_hit(a) {
+            return false;
+        }
+        self.falls(entry.row, m, w)
+    }
+
+    /// Whether it is sure that a row of the list, if one is named, may write a byte and falls between a number and each one that is next to it.
+    fn is_blocked(&self, a: u32, m: u32, blocker: Option<usize>) -> bool
+        requires writings { AreWritings (state_of (reader P.timeline L.values) W.sets W.moves R.rules B.store self.now) }
+        ensures { result ≡ true → AreBlocked a m (state_of (reader P.timeline L.values) W.sets W.moves R.rules B.store self.now) }
+    {
+        let Some(k) = blocker else {
+            return false;
+        };
+        if k >= self.writing_count() {
+            return false;
+        }
+        let entry = self.entry(k);
+        let access = entry.access;
+        if !access.may_hit(a) {
+            return false;
+        }
+        self.bars(entry.row, m)
     }
 
     /// Whether nothing that may write the byte falls at the pause of a strip, if it has one.
@@ -323,6 +383,20 @@ impl<'a, P: Reaches + Drop, L: LastValues + Drop, B: ByteFacts, W: Transfer, R: 
         Ok(true)
     }
 
+    /// So where something was learnt of the byte lately: else it was carried there before.
+    fn carry_recent(&mut self, a: u32, point: u32) -> Result<bool, Halt>
+        requires writings { AreWritings (state_of (reader P.timeline L.values) W.sets W.moves R.rules B.store self.old) }
+        requires open { self.old.complete ≡ false }
+        ensures grows { Grows (state_of (reader P.timeline L.values) W.sets W.moves R.rules B.store self.old) (state_of (reader P.timeline L.values) W.sets W.moves R.rules B.store self.new) }
+        ensures drew { IfOk result (λ learnt. Drew (state_of (reader P.timeline L.values) W.sets W.moves R.rules B.store self.old) (state_of (reader P.timeline L.values) W.sets W.moves R.rules B.store self.new) learnt (λ _. ⊤)) }
+        ensures halt { IfErr result (λ h. IsHalt (state_of (reader P.timeline L.values) W.sets W.moves R.rules B.store self.new) h) }
+    {
+        if !self.recent.has(a) {
+            return Ok(false);
+        }
+        self.carry_around(a, point)
+    }
+
     /// So for so many bytes from an address on; nothing in the first round.
     pub(super) fn carry_bytes(&mut self, point: u32, start: u32, count: u32) -> Result<bool, Halt>
         requires writings { AreWritings (state_of (reader P.timeline L.values) W.sets W.moves R.rules B.store self.old) }
@@ -337,7 +411,7 @@ impl<'a, P: Reaches + Drop, L: LastValues + Drop, B: ByteFacts, W: Transfer, R: 
         let mut learnt = false;
         for k in 0..count {
             let a = start.wrapping_add(k);
-            let new = self.carry_around(a, point)?;
+            let new = self.carry_recent(a, point)?;
             learnt = learnt | new;
         }
         Ok(learnt)
@@ -593,49 +667,97 @@ impl<'a, P: Reaches + Drop, L: LastValues + Drop, B: ByteFacts, W: Transfer, R: 
         }
     }
 
-    /// The value of a byte from a number to one that is next to it, and back, if it is carried.
-    fn carry_link(&mut self, a: u32, m: u32, w: u32) -> Result<bool, Halt>
+    /// The value of a byte from a number to one that is next to it, and back, where it is carried.
+    fn cross(&mut self, a: u32, m: u32, w: u32) -> Result<bool, Halt>
         requires tracked { IsTracked a (state_of (reader P.timeline L.values) W.sets W.moves R.rules B.store self.old) }
-        requires next { (P.timeline self.old.paths).moments.next m w ≡ true }
-        requires writings { AreWritings (state_of (reader P.timeline L.values) W.sets W.moves R.rules B.store self.old) }
+        requires bridged { IsBridged (record { address = a; from = m; to = w }) (state_of (reader P.timeline L.values) W.sets W.moves R.rules B.store self.old) }
         requires open { self.old.complete ≡ false }
         ensures grows { Grows (state_of (reader P.timeline L.values) W.sets W.moves R.rules B.store self.old) (state_of (reader P.timeline L.values) W.sets W.moves R.rules B.store self.new) }
         ensures drew { IfOk result (λ learnt. Drew (state_of (reader P.timeline L.values) W.sets W.moves R.rules B.store self.old) (state_of (reader P.timeline L.values) W.sets W.moves R.rules B.store self.new) learnt (IsCarriedIf (record { address = a; from = m; to = w }))) }
         ensures halt { IfErr result (λ h. IsHalt (state_of (reader P.timeline L.values) W.sets W.moves R.rules B.store self.new) h) }
     {
-        if self.is_alike(a, m, w) {
-            return Ok(false);
-        }
         if is_after(m, w) {
-            return self.carry_step(a, m);
-        }
-        if !self.is_carried(a, m, w) {
-            return Ok(false);
+            return self.carry_segment(a, m, m + 1);
         }
         self.tell_either(a, m, w)
     }
 
-    /// The value of a byte from a number to all that are next to it, and back.
-    pub(super) fn carry_links(&mut self, a: u32, m: u32) -> Result<bool, Halt>
+    /// Whether it is sure that a byte's value has nowhere to go between a number and one that is next to it: the same is known at both, writers that aren't told fall between, or a
+    /// row of the list, if one is named, does that may write it.
+    fn is_idle(&self, a: u32, m: u32, w: u32, blocker: Option<usize>) -> bool
+        requires writings { AreWritings (state_of (reader P.timeline L.values) W.sets W.moves R.rules B.store self.now) }
+        requires next { (P.timeline self.now.paths).moments.next m w ≡ true }
+        ensures idle { result ≡ true → IsCarriedIf (record { address = a; from = m; to = w }) (state_of (reader P.timeline L.values) W.sets W.moves R.rules B.store self.now) }
+        ensures light { result ≡ false → (P.timeline self.now.paths).moments.dark m w ≡ false }
+    {
+        if self.is_alike(a, m, w) {
+            return true;
+        }
+        if self.is_dark_between(m, w) {
+            return true;
+        }
+        self.blocks(a, m, w, blocker)
+    }
+
+    /// The value of a byte from a number to one that is next to it, and back, if it is carried.
+    fn carry_link(&mut self, a: u32, m: u32, w: u32, blocker: Option<usize>) -> Result<Link, Halt>
+        requires tracked { IsTracked a (state_of (reader P.timeline L.values) W.sets W.moves R.rules B.store self.old) }
+        requires next { (P.timeline self.old.paths).moments.next m w ≡ true }
+        requires writings { AreWritings (state_of (reader P.timeline L.values) W.sets W.moves R.rules B.store self.old) }
+        requires open { self.old.complete ≡ false }
+        ensures grows { Grows (state_of (reader P.timeline L.values) W.sets W.moves R.rules B.store self.old) (state_of (reader P.timeline L.values) W.sets W.moves R.rules B.store self.new) }
+        ensures drew { IfOk result (λ link. Drew (state_of (reader P.timeline L.values) W.sets W.moves R.rules B.store self.old) (state_of (reader P.timeline L.values) W.sets W.moves R.rules B.store self.new) link.has_news (IsCarriedIf (record { address = a; from = m; to = w }))) }
+        ensures halt { IfErr result (λ h. IsHalt (state_of (reader P.timeline L.values) W.sets W.moves R.rules B.store self.new) h) }
+    {
+        if self.is_idle(a, m, w, blocker) {
+            return Ok(Link {
+                has_news: false,
+                blocker,
+            });
+        }
+        let found = self.blocker(a, m, w);
+        if found.is_some() {
+            return Ok(Link {
+                has_news: false,
+                blocker: found,
+            });
+        }
+        let has_news = self.cross(a, m, w)?;
+        Ok(Link { has_news, blocker })
+    }
+
+    /// The value of a byte from a number to all that are next to it, and back. Where a row of
+    /// the list, that at an index or one that is found, falls between it and all of them, these are gone over no further.
+    pub(super) fn carry_links(
+        &mut self,
+        a: u32,
+        m: u32,
+        blocker: Option<usize>,
+    ) -> Result<Link, Halt>
         requires inside { m ≤ (P.timeline self.old.paths).moments.end }
         requires tracked { IsTracked a (state_of (reader P.timeline L.values) W.sets W.moves R.rules B.store self.old) }
         requires writings { AreWritings (state_of (reader P.timeline L.values) W.sets W.moves R.rules B.store self.old) }
         requires open { self.old.complete ≡ false }
         ensures grows { Grows (state_of (reader P.timeline L.values) W.sets W.moves R.rules B.store self.old) (state_of (reader P.timeline L.values) W.sets W.moves R.rules B.store self.new) }
-        ensures drew { IfOk result (λ learnt. Drew (state_of (reader P.timeline L.values) W.sets W.moves R.rules B.store self.old) (state_of (reader P.timeline L.values) W.sets W.moves R.rules B.store self.new) learnt (AreLinks a m)) }
+        ensures drew { IfOk result (λ link. Drew (state_of (reader P.timeline L.values) W.sets W.moves R.rules B.store self.old) (state_of (reader P.timeline L.values) W.sets W.moves R.rules B.store self.new) link.has_news (AreLinks a m)) }
         ensures halt { IfErr result (λ h. IsHalt (state_of (reader P.timeline L.values) W.sets W.moves R.rules B.store self.new) h) }
     {
         let end = self.end();
-        let mut learnt = false;
+        let mut has_news = false;
+        let mut blocker = blocker;
         let mut least = 0;
         while least <= end {
+            if self.is_blocked(a, m, blocker) {
+                return Ok(Link { has_news, blocker });
+            }
             let Some(next) = self.next_from(m, least) else {
-                return Ok(learnt);
+                return Ok(Link { has_news, blocker });
             };
-            let new = self.carry_link(a, m, next)?;
-            learnt = learnt | new;
+            let link = self.carry_link(a, m, next, blocker)?;
+            has_news = has_news | link.has_news;
+            blocker = link.blocker;
             least = next + 1;
         }
-        Ok(learnt)
+        Ok(Link { has_news, blocker })
     }
 }

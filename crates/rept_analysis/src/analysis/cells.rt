@@ -8,7 +8,7 @@ ghost use Rattle.rept_analysis.specs.Sums.{one_if};
 ghost use Rattle.rept_isa.specs.Operands.{first_read};
 
 use super::Analysis;
-use crate::offset::address;
+use crate::rows::address;
 use rept_isa::{Reg, StepRow, reads, writes};
 use rept_log::LastValues;
 use rept_log::views::point_at;
@@ -26,6 +26,23 @@ impl<'a, P: Reaches + Drop, L: LastValues + Drop, B: ByteFacts, W: Transfer, R: 
     W,
     R,
 > {
+    /// The value of the register in the place of rs1 before row i, from which on its rules look at bytes; none where there is no such
+    /// register, or its value isn't known.
+    pub(super) fn row_base(&self, i: u32, row: &StepRow) -> Option<u32>
+        requires { i < (P.timeline self.now.paths).legs.count }
+        ensures { result ≡ base_known (first_read row.now.instr) (around (P.timeline self.now.paths).moments (known_of B.store self.now.known) i) }
+    {
+        let (first, _) = reads(&row.instr);
+        let _count = self.count();
+        match first {
+            None => None,
+            Some(r) => match self.known(i, r) {
+                Flat::Known(base) => Some(base),
+                Flat::Unknown => None,
+            },
+        }
+    }
+
     /// 1 where there is a register and it is known before row i or after it.
     fn operand_cell(&self, i: u32, when: When, r: Option<Reg>) -> u32
         requires { i < (P.timeline self.now.paths).legs.count }
@@ -86,16 +103,12 @@ impl<'a, P: Reaches + Drop, L: LastValues + Drop, B: ByteFacts, W: Transfer, R: 
         ensures value { result ≡ bytes_known R.rules row.now (around (P.timeline self.now.paths).moments (known_of B.store self.now.known) i) (base_known (first_read row.now.instr) (around (P.timeline self.now.paths).moments (known_of B.store self.now.known) i)) }
         ensures few { result ≤ 8 }
     {
-        let (first, _) = reads(&row.instr);
-        match first {
+        match self.row_base(i, row) {
             None => 0,
-            Some(r) => match self.known(i, r) {
-                Flat::Unknown => 0,
-                Flat::Known(base) => {
-                    let count = R::places(row).min(4);
-                    self.byte_cells_from(i, address(base, &row.instr), count)
-                }
-            },
+            Some(base) => {
+                let count = R::places(row).min(4);
+                self.byte_cells_from(i, address(base, &row.instr), count)
+            }
         }
     }
 

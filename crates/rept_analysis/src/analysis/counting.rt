@@ -5,9 +5,11 @@ ghost use Rattle.rept_reason.specs.Facts.{told, register_known, register_fact};
 ghost use Rattle.rept_report.specs.Log.{oldest};
 ghost use Rattle.rept_analysis.specs.State.{setting_of, state_of, reader};
 ghost use Rattle.rept_analysis.specs.Kept.{answers};
-ghost use Rattle.rept_analysis.specs.Counts.{is_call, base_of, is_store, row_is, rows_below, calls_below, stores_below, known_at, known_below, IsCounted};
+ghost use Rattle.rept_isa.specs.Operands.{is_call};
+ghost use Rattle.rept_analysis.specs.Counts.{base_of, is_store, row_is, rows_below, calls_below, stores_below, known_at, known_below, IsCounted};
 
 use super::Analysis;
+use crate::rows::is_call;
 use rept_isa::{Instr, Reg, reads, register};
 use rept_log::LastValues;
 use rept_partial::Flat;
@@ -16,13 +18,6 @@ use rept_report::{Counts, Paths};
 use rept_span::Transfer;
 use rept_versions::ByteFacts;
 use rept_view::RowRules;
-
-/// Whether the instruction is an environment call.
-fn is_call(instr: Instr) -> bool
-    ensures { result ≡ is_call instr }
-{
-    matches!(instr, Instr::Ecall)
-}
 
 /// The register of a store's base.
 fn base(instr: &Instr) -> Option<Reg>
@@ -105,7 +100,7 @@ impl<'a, P: Reaches + Drop, L: LastValues + Drop, B: ByteFacts, W: Transfer, R: 
     {
         match self.row(i) {
             None => false,
-            Some(row) => is_call(row.instr),
+            Some(row) => is_call(&row.instr),
         }
     }
 

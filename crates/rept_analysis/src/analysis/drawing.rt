@@ -16,10 +16,9 @@ ghost use Rattle.rept_log.specs.Known.{known_of};
 ghost use Rattle.rept_analysis.specs.Told.{Tracks};
 
 use super::Analysis;
-use super::listing::is_store;
 use crate::halt::Halt;
-use crate::offset::address;
 use crate::pass::Pass;
+use crate::rows::{address, is_store};
 use rept_isa::{Instr, Reg, StepRow, reads, register, writes};
 use rept_log::views::point_at;
 use rept_log::{Around, LastValues};
@@ -68,9 +67,10 @@ fn one_if(r: Option<Reg>) -> u32
 
 /// On which side of a row its bytes are carried: after it where it stores or is an atomic instruction, and else before it.
 fn side(instr: &Instr) -> When {
-    match *instr {
-        Instr::Store { .. } | Instr::Amo { .. } => When::After,
-        _ => When::Before,
+    if is_store(instr) {
+        When::After
+    } else {
+        When::Before
     }
 }
 
@@ -173,18 +173,14 @@ impl<'a, P: Reaches + Drop, L: LastValues + Drop, B: ByteFacts, W: Transfer, R: 
         ensures halt { IfErr result (λ h. IsHalt (state_of (reader P.timeline L.values) W.sets W.moves R.rules B.store self.new) h) }
         ensures tracked { IfOk result (λ _. IsRowTracked row.now i (state_of (reader P.timeline L.values) W.sets W.moves R.rules B.store self.new)) }
     {
-        let (first, _) = reads(&row.instr);
-        match first {
+        match self.row_base(i, row) {
             None => Ok(false),
-            Some(r) => match self.known(i, r) {
-                Flat::Unknown => Ok(false),
-                Flat::Known(base) => {
-                    let count = R::places(row).min(4);
-                    let start = address(base, &row.instr);
-                    let learnt = self.track_from(start, count)?;
-                    Ok(learnt)
-                }
-            },
+            Some(base) => {
+                let count = R::places(row).min(4);
+                let start = address(base, &row.instr);
+                let learnt = self.track_from(start, count)?;
+                Ok(learnt)
+            }
         }
     }
 
@@ -332,19 +328,22 @@ impl<'a, P: Reaches + Drop, L: LastValues + Drop, B: ByteFacts, W: Transfer, R: 
         ensures drew { IfOk result (λ learnt. Drew (state_of (reader P.timeline L.values) W.sets W.moves R.rules B.store self.old) (state_of (reader P.timeline L.values) W.sets W.moves R.rules B.store self.new) learnt (λ _. ⊤)) }
         ensures halt { IfErr result (λ h. IsHalt (state_of (reader P.timeline L.values) W.sets W.moves R.rules B.store self.new) h) }
     {
-        let (first, _) = reads(&row.instr);
-        let _count = self.count();
-        match first {
+        match self.row_base(i, row) {
             None => Ok(false),
-            Some(r) => match self.known(i, r) {
-                Flat::Unknown => Ok(false),
-                Flat::Known(base) => {
-                    let point = self.moment_at(i, side(&row.instr));
-                    let start = address(base, &row.instr);
-                    self.carry_bytes(point, start, R::places(row).min(4))
-                }
-            },
+            Some(base) => {
+                let point = self.moment_at(i, side(&row.instr));
+                let start = address(base, &row.instr);
+                self.carry_bytes(point, start, R::places(row).min(4))
+            }
         }
+    }
+
+    /// Whether the byte at an address, the first one of row i's, isn't known at its side of the row.
+    fn lacks_first(&self, i: u32, row: &StepRow, a: u32) -> bool
+        requires { (P.timeline self.now.paths).legs.row i ≡ Some row.now }
+    {
+        let point = self.moment_at(i, side(&row.instr));
+        R::places(row) > 0 && self.known_byte(point, a).is_none()
     }
 
     /// Whether row i's first byte isn't known, and may be carried to it: a row was put in the list anew since the last store of unknown
@@ -357,27 +356,33 @@ impl<'a, P: Reaches + Drop, L: LastValues + Drop, B: ByteFacts, W: Transfer, R: 
         if !self.is_freed() {
             return false;
         }
-        let (first, _) = reads(&row.instr);
-        let _count = self.count();
-        match first {
-            None => false,
-            Some(r) => match self.known(i, r) {
-                Flat::Unknown => {
-                    if is_store(&row.instr) {
-                        self.note_store();
-                    }
-                    false
+        match self.row_base(i, row) {
+            None => {
+                if is_store(&row.instr) {
+                    self.note_store();
                 }
-                Flat::Known(base) => {
-                    let point = self.moment_at(i, side(&row.instr));
-                    R::places(row) > 0
-                        && self.known_byte(point, address(base, &row.instr)).is_none()
-                }
-            },
+                false
+            }
+            Some(base) => self.lacks_first(i, row, address(base, &row.instr)),
         }
     }
 
-    /// The bytes of such a row, carried to it, so that its rules are drawn with them.
+    /// The bytes that row i's rules look at, tracked and carried to it.
+    fn fetch_bytes(&mut self, i: u32, row: &StepRow) -> Result<bool, Halt>
+        requires inside { i < (P.timeline self.old.paths).legs.count }
+        requires row { (P.timeline self.old.paths).legs.row i ≡ Some row.now }
+        requires writings { AreWritings (state_of (reader P.timeline L.values) W.sets W.moves R.rules B.store self.old) }
+        requires open { self.old.complete ≡ false }
+        ensures grows { Grows (state_of (reader P.timeline L.values) W.sets W.moves R.rules B.store self.old) (state_of (reader P.timeline L.values) W.sets W.moves R.rules B.store self.new) }
+        ensures drew { IfOk result (λ learnt. Drew (state_of (reader P.timeline L.values) W.sets W.moves R.rules B.store self.old) (state_of (reader P.timeline L.values) W.sets W.moves R.rules B.store self.new) learnt (λ _. ⊤)) }
+        ensures halt { IfErr result (λ h. IsHalt (state_of (reader P.timeline L.values) W.sets W.moves R.rules B.store self.new) h) }
+    {
+        let tracked = self.track_row(i, row)?;
+        let carried = self.carry_row(i, row)?;
+        Ok(tracked | carried)
+    }
+
+    /// So where its first byte isn't known, so that its rules are drawn with them.
     fn fetch(&mut self, i: u32, row: &StepRow) -> Result<bool, Halt>
         requires inside { i < (P.timeline self.old.paths).legs.count }
         requires row { (P.timeline self.old.paths).legs.row i ≡ Some row.now }
@@ -390,9 +395,7 @@ impl<'a, P: Reaches + Drop, L: LastValues + Drop, B: ByteFacts, W: Transfer, R: 
         if !self.lacks_byte(i, row) {
             return Ok(false);
         }
-        let tracked = self.track_row(i, row)?;
-        let carried = self.carry_row(i, row)?;
-        Ok(tracked | carried)
+        self.fetch_bytes(i, row)
     }
 
     /// All that row i lets one draw; where its rules were drawn, the bytes that it may write are listed anew, and its bytes are carried at

@@ -4,7 +4,7 @@ ghost use Rattle.std.specs.Prelude.{◌≡◌, ◌+◌, ◌<◌, ◌≤◌, leng
 ghost use Rattle.rept_reason.specs.declared.fact.Cell.TheVariants.{Register, Byte};
 ghost use Rattle.rept_report.specs.Log.{oldest};
 ghost use Rattle.rept_report.specs.Why.{Because, IsDrawnBecause, IsKnownBecause, IsCarriedBecause};
-ghost use Rattle.rept_log.specs.Fronts.{IsInPlace, stands, told_by, setting_in};
+ghost use Rattle.rept_log.specs.Fronts.{IsInPlace, basis_of, front_of, stands, told_by, setting_in};
 ghost use Rattle.rept_analysis.specs.State.{setting_of, state_of, reader};
 ghost use Rattle.rept_analysis.specs.Reasoned.{front_below, AreSetsOf, KeepsAll};
 
@@ -54,6 +54,24 @@ impl<'a, P: Reaches + Drop, L: LastValues + Drop, B: ByteFacts, W: Transfer, R: 
         Ok(spans)
     }
 
+    /// What stands in the prefix of the log below a limit, with the sets that are filled from it.
+    fn front<'k>(&'k self, spans: &'k Spans<W>, limit: u32) -> Front<'k, 'a, P, L, B, W, R>
+        requires within { limit ≤ length self.now.known.log }
+        requires sets { AreSetsOf (setting_of (reader P.timeline L.values) W.sets W.moves R.rules self.now) (oldest limit self.now.known.log) spans.now }
+        requires complete { self.now.complete ≡ true }
+        ensures { front_of W.sets W.moves R.rules (basis_of P.timeline L.values result) ≡ front_below (reader P.timeline L.values) W.sets W.moves R.rules self.now limit }
+    {
+        let _len = self.known.len();
+        Front::new(
+            &self.known,
+            limit,
+            &self.paths,
+            &self.last,
+            &self.dump,
+            spans,
+        )
+    }
+
     /// The byte that stands in the prefix of the log below a limit. `OutOfMemory` says that the room for the search can't be had.
     pub(super) fn byte_below(
         &self,
@@ -68,15 +86,7 @@ impl<'a, P: Reaches + Drop, L: LastValues + Drop, B: ByteFacts, W: Transfer, R: 
         requires complete { self.now.complete ≡ true }
         ensures { IfOk result (λ byte. byte ≡ stands (front_below (reader P.timeline L.values) W.sets W.moves R.rules self.now limit) moment (Byte a)) }
     {
-        let _len = self.known.len();
-        let front: Front<'_, '_, P, L, B, W, R> = Front::new(
-            &self.known,
-            limit,
-            &self.paths,
-            &self.last,
-            &self.dump,
-            spans,
-        );
+        let front = self.front(spans, limit);
         front.byte(self.alloc, moment, a)
     }
 
@@ -160,15 +170,7 @@ impl<'a, P: Reaches + Drop, L: LastValues + Drop, B: ByteFacts, W: Transfer, R: 
         ensures none { IfOk result (λ found. IfNone found ((why : Because) → IsCarriedBecause (setting_in (front_below (reader P.timeline L.values) W.sets W.moves R.rules self.now limit)) (front_below (reader P.timeline L.values) W.sets W.moves R.rules self.now limit).facts fact.now why → ⊥)) }
         ensures room { IfOk result (λ found. IfSome found IsInPlace) }
     {
-        let _len = self.known.len();
-        let front: Front<'_, '_, P, L, B, W, R> = Front::new(
-            &self.known,
-            limit,
-            &self.paths,
-            &self.last,
-            &self.dump,
-            spans,
-        );
+        let front = self.front(spans, limit);
         front.carried(alloc, fact, a)
     }
 }

@@ -1,8 +1,9 @@
 //! How far a byte's value goes at once, and over all moments.
 
-ghost use Rattle.std.specs.Prelude.{◌≡◌, ◌+◌, ◌<◌, ◌≤◌, ℕ, false, true, IfOk, IfErr, ⊤};
+ghost use Rattle.std.specs.Prelude.{◌≡◌, ◌+◌, ◌<◌, ◌≤◌, ℕ, length, false, true, IfOk, IfErr, ⊤};
 ghost use Rattle.rept_reason.specs.declared.fact.Cell.TheVariants.{Byte};
 ghost use Rattle.rept_reach.specs.Reaching.{IsLeaving, IsReachedUp, IsReachedDown};
+ghost use Rattle.rept_report.specs.Timeline.{IsStrip};
 ghost use Rattle.rept_analysis.specs.State.{state_of, reader};
 ghost use Rattle.rept_analysis.specs.Drawing.{Knows, IsTracked, Grows, Drew, IsHalt, AreWritings, IsEven, IsCarriedUpTo, IsCarriedAlong, AllCarried, IsLeapUp, IsLeapDown};
 
@@ -10,6 +11,7 @@ use super::Analysis;
 use super::carrying::border;
 use crate::halt::Halt;
 use crate::leap::Leap;
+use crate::link::{Journey, Link};
 use rept_log::LastValues;
 use rept_reach::{Reaches, Window};
 use rept_report::paths::Strip;
@@ -243,27 +245,56 @@ impl<'a, P: Reaches + Drop, L: LastValues + Drop, B: ByteFacts, W: Transfer, R: 
         found
     }
 
-    /// The value of a byte in the strip that ends before a number, between its end and the numbers next to it, and down from it. Answers whether it was new, and a number up to
-    /// which it was looked for.
-    fn carry_former(&mut self, a: u32, first: u32) -> Result<(bool, u32), Halt>
+    /// The value of a byte in a strip, and down from it. Answers whether it was new, and the first number of it.
+    fn carry_under(&mut self, a: u32, strip: Strip) -> Result<(bool, u32), Halt>
+        requires strip { IsStrip (P.timeline self.old.paths) strip.first strip }
+        requires writings { AreWritings (state_of (reader P.timeline L.values) W.sets W.moves R.rules B.store self.old) }
+        requires open { self.old.complete ≡ false }
+        ensures grows { Grows (state_of (reader P.timeline L.values) W.sets W.moves R.rules B.store self.old) (state_of (reader P.timeline L.values) W.sets W.moves R.rules B.store self.new) }
+        ensures drew { IfOk result (λ ended. Drew (state_of (reader P.timeline L.values) W.sets W.moves R.rules B.store self.old) (state_of (reader P.timeline L.values) W.sets W.moves R.rules B.store self.new) ended.0 (λ _. ⊤)) }
+        ensures halt { IfErr result (λ h. IsHalt (state_of (reader P.timeline L.values) W.sets W.moves R.rules B.store self.new) h) }
+        ensures down { IfOk result (λ ended. ended.1 ≤ strip.first) }
+    {
+        let inside = self.carry_strip(a, strip)?;
+        let down = self.leap_down(a, strip.first)?;
+        Ok((inside | down.0, down.1))
+    }
+
+    /// The value of a byte to the end of the strip before a number from those that are next to it, and down from there, where it isn't known there. Answers a number up to which it was
+    /// looked for.
+    fn carry_former(&mut self, a: u32, first: u32, blocker: Option<usize>) -> Result<Journey, Halt>
         requires some { 0 < first }
         requires inside { first ≤ (P.timeline self.old.paths).moments.end }
         requires tracked { IsTracked a (state_of (reader P.timeline L.values) W.sets W.moves R.rules B.store self.old) }
         requires writings { AreWritings (state_of (reader P.timeline L.values) W.sets W.moves R.rules B.store self.old) }
         requires open { self.old.complete ≡ false }
         ensures grows { Grows (state_of (reader P.timeline L.values) W.sets W.moves R.rules B.store self.old) (state_of (reader P.timeline L.values) W.sets W.moves R.rules B.store self.new) }
-        ensures drew { IfOk result (λ ended. Drew (state_of (reader P.timeline L.values) W.sets W.moves R.rules B.store self.old) (state_of (reader P.timeline L.values) W.sets W.moves R.rules B.store self.new) ended.0 (λ _. ⊤)) }
+        ensures drew { IfOk result (λ x. Drew (state_of (reader P.timeline L.values) W.sets W.moves R.rules B.store self.old) (state_of (reader P.timeline L.values) W.sets W.moves R.rules B.store self.new) x.has_news (λ _. ⊤)) }
         ensures halt { IfErr result (λ h. IsHalt (state_of (reader P.timeline L.values) W.sets W.moves R.rules B.store self.new) h) }
-        ensures down { IfOk result (λ ended. ended.1 < first) }
+        ensures down { IfOk result (λ x. x.number < first) }
     {
         let former = self.strip(first - 1);
-        let links = self.carry_links(a, former.last)?;
-        let inside = self.carry_strip(a, former)?;
-        if !(links | inside) {
-            return Ok((false, former.first));
+        if self.known_byte(former.last, a).is_some() {
+            return Ok(Journey {
+                has_news: false,
+                number: former.first,
+                blocker,
+            });
         }
-        let down = self.leap_down(a, former.first)?;
-        Ok((true, down.1))
+        let links = self.carry_links(a, former.last, blocker)?;
+        if !links.has_news {
+            return Ok(Journey {
+                has_news: links.has_news,
+                number: former.first,
+                blocker: links.blocker,
+            });
+        }
+        let under = self.carry_under(a, former)?;
+        Ok(Journey {
+            has_news: links.has_news | under.0,
+            number: under.1,
+            blocker: links.blocker,
+        })
     }
 
     /// The value of a byte down from the first number of a strip, and back through the strips before it that lead to one where it was new. That this is done at once saves rounds: no
@@ -281,34 +312,59 @@ impl<'a, P: Reaches + Drop, L: LastValues + Drop, B: ByteFacts, W: Transfer, R: 
         let mut learnt = down.0;
         let mut first = down.1;
         let mut low = self.least_former(first);
+        let mut blocker = None;
         while first > low {
-            let former = self.carry_former(a, first)?;
-            learnt = learnt | former.0;
-            first = former.1;
-            if former.0 {
+            let former = self.carry_former(a, first, blocker)?;
+            learnt = learnt | former.has_news;
+            first = former.number;
+            blocker = former.blocker;
+            if former.has_news {
                 low = low.min(self.least_former(first));
             }
         }
         Ok(learnt)
     }
 
-    /// The value of a byte in the strip around a number, up from it, and on to the numbers next to it. Answers whether it was new, and its last number.
-    fn carry_later(&mut self, a: u32, first: u32) -> Result<(bool, u32), Halt>
+    /// The value of a byte from a number to those that are next to it, where it is known there.
+    fn carry_links_on(&mut self, a: u32, m: u32, blocker: Option<usize>) -> Result<Link, Halt>
+        requires inside { m ≤ (P.timeline self.old.paths).moments.end }
+        requires tracked { IsTracked a (state_of (reader P.timeline L.values) W.sets W.moves R.rules B.store self.old) }
+        requires writings { AreWritings (state_of (reader P.timeline L.values) W.sets W.moves R.rules B.store self.old) }
+        requires open { self.old.complete ≡ false }
+        ensures grows { Grows (state_of (reader P.timeline L.values) W.sets W.moves R.rules B.store self.old) (state_of (reader P.timeline L.values) W.sets W.moves R.rules B.store self.new) }
+        ensures drew { IfOk result (λ link. Drew (state_of (reader P.timeline L.values) W.sets W.moves R.rules B.store self.old) (state_of (reader P.timeline L.values) W.sets W.moves R.rules B.store self.new) link.has_news (λ _. ⊤)) }
+        ensures halt { IfErr result (λ h. IsHalt (state_of (reader P.timeline L.values) W.sets W.moves R.rules B.store self.new) h) }
+    {
+        if self.known_byte(m, a).is_none() {
+            return Ok(Link {
+                has_news: false,
+                blocker,
+            });
+        }
+        self.carry_links(a, m, blocker)
+    }
+
+    /// The value of a byte in the strip around a number, up from it, and on to the numbers next to it, where it is known there. Answers its last number.
+    fn carry_later(&mut self, a: u32, first: u32, blocker: Option<usize>) -> Result<Journey, Halt>
         requires inside { first ≤ (P.timeline self.old.paths).moments.end }
         requires tracked { IsTracked a (state_of (reader P.timeline L.values) W.sets W.moves R.rules B.store self.old) }
         requires writings { AreWritings (state_of (reader P.timeline L.values) W.sets W.moves R.rules B.store self.old) }
         requires open { self.old.complete ≡ false }
         ensures grows { Grows (state_of (reader P.timeline L.values) W.sets W.moves R.rules B.store self.old) (state_of (reader P.timeline L.values) W.sets W.moves R.rules B.store self.new) }
-        ensures drew { IfOk result (λ ended. Drew (state_of (reader P.timeline L.values) W.sets W.moves R.rules B.store self.old) (state_of (reader P.timeline L.values) W.sets W.moves R.rules B.store self.new) ended.0 (λ _. ⊤)) }
+        ensures drew { IfOk result (λ x. Drew (state_of (reader P.timeline L.values) W.sets W.moves R.rules B.store self.old) (state_of (reader P.timeline L.values) W.sets W.moves R.rules B.store self.new) x.has_news (λ _. ⊤)) }
         ensures halt { IfErr result (λ h. IsHalt (state_of (reader P.timeline L.values) W.sets W.moves R.rules B.store self.new) h) }
-        ensures up { IfOk result (λ ended. (first ≤ ended.1) × (ended.1 ≤ (P.timeline self.old.paths).moments.end)) }
+        ensures up { IfOk result (λ x. (first ≤ x.number) × (x.number ≤ (P.timeline self.old.paths).moments.end)) }
     {
         let later = self.strip(first);
         let inside = self.carry_strip(a, later)?;
         let up = self.leap_up(a, later.last)?;
-        let last = self.strip(up.1).last;
-        let links = self.carry_links(a, last)?;
-        Ok((inside | up.0 | links, last))
+        let number = self.strip(up.1).last;
+        let links = self.carry_links_on(a, number, blocker)?;
+        Ok(Journey {
+            has_news: inside | up.0 | links.has_news,
+            number,
+            blocker: links.blocker,
+        })
     }
 
     /// The value of a byte at the last number of a strip, on through those strips to which one leads where it was new.
@@ -321,14 +377,17 @@ impl<'a, P: Reaches + Drop, L: LastValues + Drop, B: ByteFacts, W: Transfer, R: 
         ensures drew { IfOk result (λ learnt. Drew (state_of (reader P.timeline L.values) W.sets W.moves R.rules B.store self.old) (state_of (reader P.timeline L.values) W.sets W.moves R.rules B.store self.new) learnt (λ _. ⊤)) }
         ensures halt { IfErr result (λ h. IsHalt (state_of (reader P.timeline L.values) W.sets W.moves R.rules B.store self.new) h) }
     {
-        let mut learnt = self.carry_links(a, number)?;
+        let links = self.carry_links_on(a, number, None)?;
+        let mut learnt = links.has_news;
+        let mut blocker = links.blocker;
         let mut last = number;
         let mut high = self.greatest_next(last);
         while last < high {
-            let later = self.carry_later(a, last + 1)?;
-            learnt = learnt | later.0;
-            last = later.1;
-            if later.0 {
+            let later = self.carry_later(a, last + 1, blocker)?;
+            learnt = learnt | later.has_news;
+            last = later.number;
+            blocker = later.blocker;
+            if later.has_news {
                 high = high.max(self.greatest_next(last));
             }
         }
@@ -372,13 +431,15 @@ impl<'a, P: Reaches + Drop, L: LastValues + Drop, B: ByteFacts, W: Transfer, R: 
         let end = self.end();
         let mut learnt = false;
         let mut from = 0;
+        let mut blocker = None;
         while from <= end {
             self.held();
             let strip = self.strip(from);
             let inside = self.carry_strip(a, strip)?;
             let up = self.leap_up(a, strip.last)?;
-            let links = self.carry_links(a, strip.last)?;
-            learnt = learnt | inside | up.0 | links;
+            let links = self.carry_links(a, strip.last, blocker)?;
+            learnt = learnt | inside | up.0 | links.has_news;
+            blocker = links.blocker;
             from = self.uneven_from(a, strip.last + 1);
         }
         Ok(learnt)
@@ -390,12 +451,53 @@ impl<'a, P: Reaches + Drop, L: LastValues + Drop, B: ByteFacts, W: Transfer, R: 
         requires writings { AreWritings (state_of (reader P.timeline L.values) W.sets W.moves R.rules B.store self.old) }
         requires open { self.old.complete ≡ false }
         ensures grows { Grows (state_of (reader P.timeline L.values) W.sets W.moves R.rules B.store self.old) (state_of (reader P.timeline L.values) W.sets W.moves R.rules B.store self.new) }
-        ensures drew { IfOk result (λ learnt. Drew (state_of (reader P.timeline L.values) W.sets W.moves R.rules B.store self.old) (state_of (reader P.timeline L.values) W.sets W.moves R.rules B.store self.new) learnt (IsCarriedAlong a)) }
+        ensures drew { IfOk result (λ learnt. Drew (state_of (reader P.timeline L.values) W.sets W.moves R.rules B.store self.old) (state_of (reader P.timeline L.values) W.sets W.moves R.rules B.store self.new) learnt (λ _. ⊤)) }
         ensures halt { IfErr result (λ h. IsHalt (state_of (reader P.timeline L.values) W.sets W.moves R.rules B.store self.new) h) }
     {
         let back = self.carry_edges(a)?;
         let onward = self.carry_onward(a)?;
         Ok(back | onward)
+    }
+
+    /// The value of a tracked byte, where something was learnt of it lately.
+    fn carry_told(&mut self, k: usize) -> Result<bool, Halt>
+        requires within { k < length (state_of (reader P.timeline L.values) W.sets W.moves R.rules B.store self.old).known.store.tracked }
+        requires writings { AreWritings (state_of (reader P.timeline L.values) W.sets W.moves R.rules B.store self.old) }
+        requires open { self.old.complete ≡ false }
+        ensures grows { Grows (state_of (reader P.timeline L.values) W.sets W.moves R.rules B.store self.old) (state_of (reader P.timeline L.values) W.sets W.moves R.rules B.store self.new) }
+        ensures drew { IfOk result (λ learnt. Drew (state_of (reader P.timeline L.values) W.sets W.moves R.rules B.store self.old) (state_of (reader P.timeline L.values) W.sets W.moves R.rules B.store self.new) learnt (λ _. ⊤)) }
+        ensures halt { IfErr result (λ h. IsHalt (state_of (reader P.timeline L.values) W.sets W.moves R.rules B.store self.new) h) }
+    {
+        let a = self.address(k);
+        if !self.recent.has(a) {
+            return Ok(false);
+        }
+        self.carry_address(a)
+    }
+
+    /// The values of the tracked bytes of which something was learnt lately.
+    pub(super) fn carry_all_told(&mut self) -> Result<bool, Halt>
+        requires writings { AreWritings (state_of (reader P.timeline L.values) W.sets W.moves R.rules B.store self.old) }
+        requires open { self.old.complete ≡ false }
+        ensures grows { Grows (state_of (reader P.timeline L.values) W.sets W.moves R.rules B.store self.old) (state_of (reader P.timeline L.values) W.sets W.moves R.rules B.store self.new) }
+        ensures drew { IfOk result (λ learnt. Drew (state_of (reader P.timeline L.values) W.sets W.moves R.rules B.store self.old) (state_of (reader P.timeline L.values) W.sets W.moves R.rules B.store self.new) learnt (λ _. ⊤)) }
+        ensures halt { IfErr result (λ h. IsHalt (state_of (reader P.timeline L.values) W.sets W.moves R.rules B.store self.new) h) }
+    {
+        let count = self.tracked_count();
+        let mut learnt = false;
+        self.note_carrying();
+        for k in 0..count {
+            let new = self.carry_told(k)?;
+            learnt = learnt | new;
+        }
+        Ok(learnt)
+    }
+
+    /// Keeps that a pass over the tracked bytes begins.
+    fn note_carrying(&mut self)
+        ensures { self.new ≡ self.old }
+    {
+        self.recent.begin();
     }
 
     /// The values of all tracked bytes.
@@ -410,7 +512,7 @@ impl<'a, P: Reaches + Drop, L: LastValues + Drop, B: ByteFacts, W: Transfer, R: 
         let mut learnt = false;
         for k in 0..count {
             let a = self.address(k);
-            let new = self.carry_address(a)?;
+            let new = self.carry_onward(a)?;
             learnt = learnt | new;
         }
         Ok(learnt)

@@ -103,6 +103,13 @@ impl<'a, P: Reaches + Drop, L: LastValues + Drop, B: ByteFacts, W: Transfer, R: 
         }
     }
 
+    /// Keeps that something was learnt of a byte.
+    pub(super) fn note_byte(&mut self, a: u32)
+        ensures { self.new ≡ self.old }
+    {
+        self.recent.note(a);
+    }
+
     /// Adds a byte's value that follows, and says whether it was new.
     pub(super) fn learn_byte(
         &mut self,
@@ -126,7 +133,10 @@ impl<'a, P: Reaches + Drop, L: LastValues + Drop, B: ByteFacts, W: Transfer, R: 
         match self.tell_byte(point, a, value, keep) {
             Err(_) => Err(Halt::OutOfMemory),
             Ok(Answer::Old) => Ok(false),
-            Ok(Answer::New) => Ok(true),
+            Ok(Answer::New) => {
+                self.note_byte(a);
+                Ok(true)
+            }
             Ok(Answer::Clash(known)) => {
                 let cell = Cell::Byte(a);
                 Err(Halt::Clash {

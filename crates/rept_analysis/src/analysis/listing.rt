@@ -11,8 +11,9 @@ ghost use Rattle.rept_writing.specs.Hits.{AreInOrder, IsNextHitBelow, IsNextMeet
 ghost use Rattle.rept_writing.specs.declared.list.Writing.{Writing};
 
 use super::Analysis;
+use crate::rows::{is_call, is_store};
 use rept_alias::CallAccess;
-use rept_isa::{Instr, StepRow};
+use rept_isa::StepRow;
 use rept_log::LastValues;
 use rept_reach::Reaches;
 use rept_span::Transfer;
@@ -25,11 +26,6 @@ fn is_none(access: &CallAccess) -> bool
     ensures { result ≡ true → (a : ℕ) → call_hits access.now a ≡ false }
 {
     access.first.is_none() && access.second.is_none()
-}
-
-/// Whether it is a store or an atomic instruction, after which it pays to look for known addresses. It only saves work: no clause rests on it.
-pub(super) fn is_store(instr: &Instr) -> bool {
-    matches!(*instr, Instr::Store { .. } | Instr::Amo { .. })
 }
 
 impl<'a, P: Reaches + Drop, L: LastValues + Drop, B: ByteFacts, W: Transfer, R: RowRules> Analysis<
@@ -90,7 +86,7 @@ impl<'a, P: Reaches + Drop, L: LastValues + Drop, B: ByteFacts, W: Transfer, R: 
     }
 
     /// How many rows that list has.
-    fn writing_count(&self) -> usize
+    pub(super) fn writing_count(&self) -> usize
         ensures { result ≡ length self.now.work.writing }
     {
         self.writing.len()
@@ -171,7 +167,7 @@ impl<'a, P: Reaches + Drop, L: LastValues + Drop, B: ByteFacts, W: Transfer, R: 
             at,
             from: extent.from,
             to: extent.to,
-            is_call: matches!(row.instr, Instr::Ecall),
+            is_call: is_call(&row.instr),
             access,
         }
     }

@@ -298,30 +298,31 @@ impl<'a, P: Reaches + Drop, L: LastValues + Drop, B: ByteFacts, W: Transfer, R: 
         Ok(true)
     }
 
-    /// The values of all tracked bytes over all rows, and the bytes of the dump; nothing where the rows told news, since rows carry the bytes that they look at by themselves.
+    /// The values of the tracked bytes of which something was learnt lately over all rows, and the bytes of the dump; nothing where the rows told news, since rows carry the bytes that
+    /// they look at by themselves.
     fn carry_rest(&mut self, has_news: bool) -> Result<bool, Halt>
         requires writings { AreWritings (state_of (reader P.timeline L.values) W.sets W.moves R.rules B.store self.old) }
         requires open { self.old.complete ≡ false }
         ensures grows { Grows (state_of (reader P.timeline L.values) W.sets W.moves R.rules B.store self.old) (state_of (reader P.timeline L.values) W.sets W.moves R.rules B.store self.new) }
-        ensures drew { IfOk result (λ learnt. Drew (state_of (reader P.timeline L.values) W.sets W.moves R.rules B.store self.old) (state_of (reader P.timeline L.values) W.sets W.moves R.rules B.store self.new) learnt (λ s. has_news ≡ false → AllCarried s × LastBytesKnown s)) }
+        ensures drew { IfOk result (λ learnt. Drew (state_of (reader P.timeline L.values) W.sets W.moves R.rules B.store self.old) (state_of (reader P.timeline L.values) W.sets W.moves R.rules B.store self.new) learnt (λ s. has_news ≡ false → LastBytesKnown s)) }
         ensures halt { IfErr result (λ h. IsHalt (state_of (reader P.timeline L.values) W.sets W.moves R.rules B.store self.new) h) }
     {
         if has_news {
             return Ok(false);
         }
-        let carried = self.carry_tracked()?;
+        let carried = self.carry_all_told()?;
         let bytes = self.draw_last_bytes()?;
         Ok(carried | bytes)
     }
 
-    /// All rules once, with the rows that may tell something new: last values, rows, carried bytes, last bytes, and sets of one value. Bytes
+    /// All rules once, with the rows and bytes that may tell something new: last values, rows, carried bytes, last bytes, and sets of one value. Bytes
     /// are carried before the dump tells its own, so that most of those are known by then and take no place of their own.
     fn sweep_fresh(&mut self) -> Result<bool, Halt>
         requires writings { AreWritings (state_of (reader P.timeline L.values) W.sets W.moves R.rules B.store self.old) }
         requires open { self.old.complete ≡ false }
         requires uncut { IsUncut (state_of (reader P.timeline L.values) W.sets W.moves R.rules B.store self.old) }
         ensures grows { Grows (state_of (reader P.timeline L.values) W.sets W.moves R.rules B.store self.old) (state_of (reader P.timeline L.values) W.sets W.moves R.rules B.store self.new) }
-        ensures drew { IfOk result (λ learnt. Drew (state_of (reader P.timeline L.values) W.sets W.moves R.rules B.store self.old) (state_of (reader P.timeline L.values) W.sets W.moves R.rules B.store self.new) learnt (λ s. LastKnownBelow 32 s × AllCarried s × LastBytesKnown s × SinglesKnown s)) }
+        ensures drew { IfOk result (λ learnt. Drew (state_of (reader P.timeline L.values) W.sets W.moves R.rules B.store self.old) (state_of (reader P.timeline L.values) W.sets W.moves R.rules B.store self.new) learnt (λ s. LastKnownBelow 32 s × LastBytesKnown s × SinglesKnown s)) }
         ensures begun { LearnsEndsFirst (state_of (reader P.timeline L.values) W.sets W.moves R.rules B.store self.old) → HasEndsFirst (state_of (reader P.timeline L.values) W.sets W.moves R.rules B.store self.new) }
         ensures halt { IfErr result (λ h. IsHalt (state_of (reader P.timeline L.values) W.sets W.moves R.rules B.store self.new) h) }
     {
@@ -332,7 +333,7 @@ impl<'a, P: Reaches + Drop, L: LastValues + Drop, B: ByteFacts, W: Transfer, R: 
         Ok(last | rows | bytes | singles)
     }
 
-    /// All rules once, and with all rows where those that may tell something new tell nothing.
+    /// All rules once, and with all bytes and rows where those that may tell something new tell nothing.
     pub(super) fn sweep(&mut self) -> Result<bool, Halt>
         requires writings { AreWritings (state_of (reader P.timeline L.values) W.sets W.moves R.rules B.store self.old) }
         requires exact { AreExact (state_of (reader P.timeline L.values) W.sets W.moves R.rules B.store self.old) }
@@ -347,7 +348,11 @@ impl<'a, P: Reaches + Drop, L: LastValues + Drop, B: ByteFacts, W: Transfer, R: 
         if fresh {
             return Ok(true);
         }
+        let carried = self.carry_tracked()?;
+        if carried {
+            return Ok(true);
+        }
         let rows = self.draw_back()?;
-        Ok(fresh | rows)
+        Ok(rows)
     }
 }

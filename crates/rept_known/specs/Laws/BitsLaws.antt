@@ -7,8 +7,9 @@ use Rattle.std.proofs.lemmas.Nat.Bits.{bit_at_and, bit_at_or, bit_at_xor, bit_at
 use Rattle.std.proofs.lemmas.Bool.{cases_eq, eq-eqb, ne_eqb}
 use Rattle.rept_known.specs.declared.bits.Bits.{Bits}
 use Rattle.rept_known.specs.Masks.{but, but_le, but_split, but_kept, but_cut, bit_cases, bit_of_word}
-use Rattle.rept_known.specs.Bits.{word, outside, bits_has, bits_meet, bits_exact, bits_sets}
+use Rattle.rept_known.specs.Bits.{outside, bits_has, bits_meet, bits_exact, bits_sets}
 use Rattle.rept_partial.specs.Sets.{AreLawful, IsWithin}
+use Rattle.rept_partial.specs.Ranges.{word}
 
 -- a word agrees with a set's value wherever no bit is open
 pub record Agrees (a : Bits) (x : ℕ) : Type 0 where

@@ -10,7 +10,8 @@ use Rattle.rept_machine.specs.Arithmetic.{computed}
 use Rattle.rept_span.specs.Laws.RangeBounds.{shifted_positive, shifted_negative, shifted_small}
 use Rattle.rept_known.specs.declared.bits.Bits.{Bits}
 use Rattle.rept_known.specs.Masks.{bit_of_word}
-use Rattle.rept_known.specs.Bits.{word, outside}
+use Rattle.rept_partial.specs.Ranges.{word}
+use Rattle.rept_known.specs.Bits.{outside}
 use Rattle.rept_known.specs.Laws.BitsLaws.{Agrees, KnowsAll, value_small, loose_small, in_outside, outside_knows, value_kept}
 
 -- each bit of an answer is 0, or a certain one of the argument

@@ -9,7 +9,8 @@ use Rattle.std.proofs.lemmas.Nat.Bits.{bit_at_and, bit_at_or, bit_at_xor, bit_at
 use Rattle.rept_span.specs.Laws.RangeBounds.{div_more}
 use Rattle.rept_known.specs.declared.bits.Bits.{Bits}
 use Rattle.rept_known.specs.Masks.{bit_cases, bit_of_word}
-use Rattle.rept_known.specs.Bits.{word, outside}
+use Rattle.rept_partial.specs.Ranges.{word}
+use Rattle.rept_known.specs.Bits.{outside}
 use Rattle.rept_known.specs.Laws.BitsLaws.{Agrees, KnowsAll, value_small, loose_small, open_bit, least_agrees, greatest_agrees, greatest_open, in_outside, outside_same, outside_knows, value_kept}
 use Rattle.rept_known.specs.Operations.{sum_bits, difference_bits}
 

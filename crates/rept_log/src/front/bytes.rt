@@ -11,7 +11,7 @@ use crate::last::LastValues;
 use crate::row_bytes::RowByte;
 use rept_isa::number::plus;
 use rept_isa::{Instr, StepRow, reads};
-use rept_partial::Flat;
+use rept_partial::Partial;
 use rept_report::Paths;
 use rept_span::Transfer;
 use rept_versions::ByteFacts;
@@ -69,10 +69,7 @@ impl<'k, 'd, P: Paths, L: LastValues, B: ByteFacts, W: Transfer, R: RowRules> Fr
     {
         let _count = self.count();
         let register = reads(instr).0?;
-        match self.known(i, register) {
-            Flat::Unknown => None,
-            Flat::Known(base) => Some(base),
-        }
+        self.known(i, register).as_exact()
     }
 
     /// The bytes that row i's rules look at. `OutOfMemory` says that their room can't be had.

@@ -11,7 +11,7 @@ use super::Front;
 use super::views::Standing;
 use crate::last::LastValues;
 use rept_isa::{Reg, StepRow};
-use rept_partial::Flat;
+use rept_partial::Partial;
 use rept_reason::{Cell, Fact, Reason};
 use rept_report::Paths;
 use rept_span::Transfer;
@@ -25,10 +25,7 @@ fn seen_by<V: RowView>(view: &V, when: When, cell: &Cell) -> Option<u32>
     ensures { result ≡ seen_cell (V.seen view.now) when cell.now }
 {
     match cell {
-        Cell::Register(r) => match view.reg(when, *r) {
-            Flat::Known(v) => Some(v),
-            Flat::Unknown => None,
-        },
+        Cell::Register(r) => view.reg(when, *r).as_exact(),
         Cell::Byte(a) => match view.byte(when, *a) {
             Some(v) => Some(u32::from(v)),
             None => None,

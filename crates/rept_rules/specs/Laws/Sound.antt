@@ -11,12 +11,12 @@ use Rattle.rept_isa.specs.declared.instr.StoreOp.TheVariants.{Sw}
 use Rattle.rept_isa.specs.declared.class.Turn.{Turn}
 use Rattle.rept_isa.specs.declared.class.Turn.TheVariants.{Taken, NotTaken}
 use Rattle.rept_isa.specs.declared.row.StepRow.{StepRow}
-use Rattle.rept_isa.specs.Numbers.{plus, following}
+use Rattle.rept_isa.specs.Numbers.{plus, following, beside}
 use Rattle.rept_isa.specs.Operands.{written_by, first_read, second_read, turn_of, turn_by, way}
 use Rattle.rept_isa.specs.Rows.{Addresses, from_of, addresses_of}
 use Rattle.rept_partial.specs.declared.flat.Flat.{Flat}
 use Rattle.rept_partial.specs.declared.flat.Flat.TheVariants.{Known}
-use Rattle.rept_machine.specs.Arithmetic.{beside, loaded, word_at, byte_of, extended, branch_holds}
+use Rattle.rept_machine.specs.Arithmetic.{loaded, word_at, byte_of, extended, branch_holds}
 use Rattle.rept_machine.specs.State.{State, IsState}
 use Rattle.rept_machine.specs.Step.{HasEffect, IsStep}
 use Rattle.rept_machine.specs.Ways.{TurnTells, way_tells}

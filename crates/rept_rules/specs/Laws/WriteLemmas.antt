@@ -9,12 +9,12 @@ use Rattle.rept_isa.specs.declared.instr.AmoOp.{AmoOp}
 use Rattle.rept_isa.specs.declared.instr.AmoOp.TheVariants as atomic
 use Rattle.rept_isa.specs.declared.instr.StoreOp.{StoreOp}
 use Rattle.rept_isa.specs.declared.instr.StoreOp.TheVariants.{Sb, Sh, Sw}
-use Rattle.rept_isa.specs.Numbers.{word, plus}
+use Rattle.rept_isa.specs.Numbers.{word, plus, beside}
 use Rattle.rept_partial.specs.declared.range.Range.{Range}
 use Rattle.rept_partial.specs.declared.flat.Flat.{Flat}
 use Rattle.rept_partial.specs.declared.flat.Flat.TheVariants.{Unknown, Known}
 use Rattle.rept_partial.specs.Ranges.{from_to}
-use Rattle.rept_machine.specs.Arithmetic.{beside, store_width}
+use Rattle.rept_machine.specs.Arithmetic.{store_width}
 use Rattle.rept_machine.specs.State.{State, IsState}
 use Rattle.rept_machine.specs.Calls.{may_change}
 use Rattle.rept_alias.specs.Accesses.{hits, call_hits, access_of}

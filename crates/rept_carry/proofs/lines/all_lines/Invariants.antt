@@ -5,6 +5,6 @@ use Rattle.rept_carry.proofs.lines.all_lines.Given as goal
 
 abbrev pub invariant-loop-number : goal.invariant-loop-number
 invariant-loop-number l = record {
-  lines : AreLinesBelow (seen_in l.course).moments l.number l.list.items;
-  line : IsLine (seen_in l.course).moments l.number l.line;
+  lines : AreLinesBelow (seen_in l.ways).moments l.number l.list.items;
+  line : IsLine (seen_in l.ways).moments l.number l.line;
 }

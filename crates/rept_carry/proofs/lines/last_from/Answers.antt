@@ -10,5 +10,5 @@ loop-last-preserved c =
     record {
       up = omega (arith, up);
       inside = omega (arith, less);
-      joined = run_longer (seen_in c.args.course.now).moments c.args.first c.loop-last.last c.loop-last.invariant.joined (c.is_joined.ensures.yes c.if-not-is_joined.false);
+      joined = run_longer (seen_in c.args.ways.now).moments c.args.first c.loop-last.last c.loop-last.invariant.joined (c.is_joined.ensures.yes c.if-not-is_joined.false);
     }

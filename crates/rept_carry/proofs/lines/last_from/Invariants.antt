@@ -7,7 +7,7 @@ abbrev pub invariant-loop-last : goal.invariant-loop-last
 invariant-loop-last l = record {
   up : l.first ≤ l.last;
   inside : l.last ≤ l.end;
-  joined : (k : ℕ) → l.first ≤ k → k < l.last → IsJoined (seen_in l.course).moments k;
+  joined : (k : ℕ) → l.first ≤ k → k < l.last → IsJoined (seen_in l.ways).moments k;
 }
 
 abbrev pub decreases-loop-last : goal.decreases-loop-last

@@ -1,11 +1,10 @@
-use Rattle.std.proofs.Common.{List}
 use Rattle.std.proofs.lemmas.Result.{IfOk-weaker}
 use Rattle.rept_moments.specs.Courses.{seen_in}
-use Rattle.rept_carry.specs.declared.links.Link.{Link}
+use Rattle.rept_carry.specs.declared.links.Links.{Links}
 use Rattle.rept_carry.specs.Links.{AreLinks}
 use Rattle.rept_carry.specs.Course.{AreWays}
 use Rattle.rept_carry.proofs.Keeping.{are_ways}
 use Rattle.rept_carry.proofs.ways.links_of.Goals as goal
 
 pub returns-in-Many-clause-ways : goal.returns-in-Many-clause-ways
-returns-in-Many-clause-ways c = IfOk-weaker _ (λ (l : List Link). AreLinks (seen_in c.args.course.now).moments l) (λ (l : List Link). AreWays c.args.course.now l) (λ l known. are_ways c.args.course.now l known) c.new.ensures
+returns-in-Many-clause-ways c = IfOk-weaker _ (λ (l : Links). AreLinks (seen_in c.args.course.now).moments l) (λ (l : Links). AreWays c.args.course.now l) (λ l known. are_ways c.args.course.now l known) c.new.ensures

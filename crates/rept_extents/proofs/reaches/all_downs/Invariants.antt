@@ -6,5 +6,5 @@ use Rattle.rept_extents.proofs.reaches.all_downs.Given as goal
 abbrev pub invariant-loop-number : goal.invariant-loop-number
 invariant-loop-number l = record {
   count : length l.list.items ≡ l.number;
-  each : AreEach (IsDown (seen_in l.course).moments) l.list.items;
+  each : AreEach (IsDown (seen_in l.ways).moments) l.list.items;
 }

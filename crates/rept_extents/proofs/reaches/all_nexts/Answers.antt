@@ -8,5 +8,5 @@ use Rattle.rept_extents.proofs.reaches.all_nexts.Goals as goal
 pub loop-number-preserved : goal.loop-number-preserved
 loop-number-preserved c = record {
   count = search rules;
-  each = subst (λ (xs : List (Option Hull)). AreEach (NextsLieIn (seen_in c.args.course.now).moments) xs) (sym c.in_ok-push.ensures.items) (each_more (NextsLieIn (seen_in c.args.course.now).moments) c.loop-number.list.items c.loop-number.number c.nexts_unless-bounds.result.0 c.loop-number.invariant.count c.loop-number.invariant.each c.nexts_unless-bounds.ensures);
+  each = subst (λ (xs : List (Option Hull)). AreEach (NextsLieIn (seen_in c.args.ways.now).moments) xs) (sym c.in_ok-push.ensures.items) (each_more (NextsLieIn (seen_in c.args.ways.now).moments) c.loop-number.list.items c.loop-number.number c.nexts_of.result c.loop-number.invariant.count c.loop-number.invariant.each c.nexts_of.ensures);
 }

@@ -1,5 +1,5 @@
 use Rattle.std.proofs.Common.{◌≡◌, ℕ, subst, sym, arith}
-use Rattle.rept_machine.specs.Arithmetic.{beside}
+use Rattle.rept_isa.specs.Numbers.{beside}
 use Rattle.rept_log.specs.Around.{around}
 use Rattle.rept_log.specs.Known.{known_of}
 use Rattle.rept_analysis.specs.Cells.{byte_known, bytes_from}

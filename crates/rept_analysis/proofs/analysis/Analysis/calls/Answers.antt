@@ -1,5 +1,6 @@
 use Rattle.std.proofs.Common.{ℕ, Bool, sym, ◌∙◌, arith}
-use Rattle.rept_analysis.specs.Counts.{is_call, row_is}
+use Rattle.rept_isa.specs.Operands.{is_call}
+use Rattle.rept_analysis.specs.Counts.{row_is}
 use Rattle.rept_analysis.proofs.Counting.{count_none, counted_yes, counted_no}
 use Rattle.rept_analysis.proofs.analysis.Analysis.calls.Goals.{then-is_call_row, else-is_call_row}
 use Rattle.rept_analysis.proofs.analysis.Analysis.calls.Goals as goal

@@ -3,11 +3,11 @@ use Rattle.rept_analysis.proofs.Drawn.{Drew_both, Drew_same, Grows_trans}
 use Rattle.rept_analysis.proofs.Listing.{writings_after}
 use Rattle.rept_analysis.proofs.analysis.Analysis.carry_bytes.Goals as goal
 
-pub carry_around-requires-clause-writings : goal.carry_around-requires-clause-writings
-carry_around-requires-clause-writings g c = writings_after (state_of (reader g.P.Paths.timeline g.L.LastValues.values) g.W.Partial.sets g.W.Transfer.moves g.R.RowRules.rules g.B.ByteFacts.store c.args.self.now) (state_of (reader g.P.Paths.timeline g.L.LastValues.values) g.W.Partial.sets g.W.Transfer.moves g.R.RowRules.rules g.B.ByteFacts.store c.loop-k.self) c.loop-k.invariant.grows c.requires.writings
+pub carry_recent-requires-clause-writings : goal.carry_recent-requires-clause-writings
+carry_recent-requires-clause-writings g c = writings_after (state_of (reader g.P.Paths.timeline g.L.LastValues.values) g.W.Partial.sets g.W.Transfer.moves g.R.RowRules.rules g.B.ByteFacts.store c.args.self.now) (state_of (reader g.P.Paths.timeline g.L.LastValues.values) g.W.Partial.sets g.W.Transfer.moves g.R.RowRules.rules g.B.ByteFacts.store c.loop-k.self) c.loop-k.invariant.grows c.requires.writings
 
 pub returns-in_err-new-clause-grows : goal.returns-in_err-new-clause-grows
-returns-in_err-new-clause-grows g c = Grows_trans _ _ _ c.loop-k.invariant.grows c.carry_around.ensures.grows
+returns-in_err-new-clause-grows g c = Grows_trans _ _ _ c.loop-k.invariant.grows c.carry_recent.ensures.grows
 
 pub loop-k-preserved : goal.loop-k-preserved
 loop-k-preserved g c = record {

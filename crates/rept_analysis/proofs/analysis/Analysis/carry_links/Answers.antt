@@ -2,9 +2,9 @@ use Rattle.std.proofs.Common.{◌+◌, Some, None, refl, false, arith}
 use Rattle.rept_report.specs.Timeline.{IsNextFrom}
 use Rattle.rept_report.specs.Spots.{passage}
 use Rattle.rept_analysis.specs.State.{State, state_of, reader}
-use Rattle.rept_analysis.specs.Drawing.{IsCarriedIf, AreLinksBelow, AreLinks}
+use Rattle.rept_analysis.specs.Drawing.{IsCarriedIf, AreBlocked, AreLinksBelow, AreLinks}
 use Rattle.rept_analysis.proofs.Drawn.{Drew_as, Drew_both, Drew_first, Drew_same, Grows_itself, Grows_trans}
-use Rattle.rept_analysis.proofs.Going.{next_none, links_first, links_more, links_none, links_end}
+use Rattle.rept_analysis.proofs.Going.{next_none, links_first, links_more, links_none, links_end, links_blocked}
 use Rattle.rept_analysis.proofs.analysis.Analysis.carry_links.Goals as goal
 
 pub loop-least-init : goal.loop-least-init
@@ -16,7 +16,7 @@ returns-in_default-clause-drew g c =
     let t = (state_of (reader g.P.Paths.timeline g.L.LastValues.values) g.W.Partial.sets g.W.Transfer.moves g.R.RowRules.rules g.B.ByteFacts.store c.loop-least.self) in
     let least = c.loop-least.least in
     let Q : State g.row.W.Denot → Type 0 = λ x. IsNextFrom x.path.given.moments c.args.m least None in
-    Drew_first s t t c.loop-least.learnt false (AreLinksBelow c.args.a c.args.m least) Q (AreLinks c.args.a c.args.m) (Grows_itself t) refl c.loop-least.invariant.drew (Drew_same t Q (next_none t.path.given.moments c.args.m least c.next_from.result c.in_default.not-Some c.next_from.ensures)) (λ p q. links_none s c.args.a c.args.m least p q)
+    Drew_first s t t c.loop-least.has_news false (AreLinksBelow c.args.a c.args.m least) Q (AreLinks c.args.a c.args.m) (Grows_itself t) refl c.loop-least.invariant.drew (Drew_same t Q (next_none t.path.given.moments c.args.m least c.next_from.result c.in_default.not-Some c.next_from.ensures)) (λ p q. links_none s c.args.a c.args.m least p q)
 
 pub carry_link-requires-clause-next : goal.carry_link-requires-clause-next
 carry_link-requires-clause-next g c = (rw c.in-Some.is at c.next_from.ensures).0
@@ -24,8 +24,8 @@ carry_link-requires-clause-next g c = (rw c.in-Some.is at c.next_from.ensures).0
 pub carry_link-requires-clause-writings : goal.carry_link-requires-clause-writings
 carry_link-requires-clause-writings g c = c.loop-least.invariant.grows.writing c.requires.writings
 
-pub returns-in_err-new-clause-grows : goal.returns-in_err-new-clause-grows
-returns-in_err-new-clause-grows g c = Grows_trans _ _ _ c.loop-least.invariant.grows c.carry_link.ensures.grows
+pub returns-in_err-link-clause-grows : goal.returns-in_err-link-clause-grows
+returns-in_err-link-clause-grows g c = Grows_trans _ _ _ c.loop-least.invariant.grows c.carry_link.ensures.grows
 
 pub loop-least-preserved : goal.loop-least-preserved
 loop-least-preserved g c =
@@ -37,12 +37,12 @@ loop-least-preserved g c =
     let least = c.loop-least.least in
     let w = c.in-Some.next in
     let i = c.loop-least.invariant in
-    let e = c.in_ok-new.ensures in
+    let e = c.in_ok-link.ensures in
     let P : State g.row.W.Denot → Type 0 = λ x. IsNextFrom x.path.given.moments m least (Some w) × IsCarriedIf (passage a m w) x in
     record {
       grows = Grows_trans s t u i.grows e.grows;
-      drew = Drew_both s t u c.loop-least.learnt c.in_ok-new.new (AreLinksBelow a m least) P (AreLinksBelow a m (w + 1)) i.grows e.grows i.drew
-          (Drew_as t u c.in_ok-new.new (IsCarriedIf (passage a m w)) P e.drew (λ h. (rw c.in-Some.is at c.next_from.ensures, h)))
+      drew = Drew_both s t u c.loop-least.has_news c.in_ok-link.link.has_news (AreLinksBelow a m least) P (AreLinksBelow a m (w + 1)) i.grows e.grows i.drew
+          (Drew_as t u c.in_ok-link.link.has_news (IsCarriedIf (passage a m w)) P e.drew (λ h. (rw c.in-Some.is at c.next_from.ensures, h)))
           (λ p q. links_more s a m least p w q.0 q.1);
       end_is = i.end_is;
     }
@@ -53,4 +53,14 @@ returns-clause-drew g c =
     let t = (state_of (reader g.P.Paths.timeline g.L.LastValues.values) g.W.Partial.sets g.W.Transfer.moves g.R.RowRules.rules g.B.ByteFacts.store c.loop-least.self) in
     let end = c.loop-least.invariant.end_is in
     let ended = c.loop-least-test.false in
-    Drew_as s t c.loop-least.learnt (AreLinksBelow c.args.a c.args.m c.loop-least.least) (AreLinks c.args.a c.args.m) c.loop-least.invariant.drew (λ p. links_end s c.args.a c.args.m c.loop-least.least p (g.met.P.Paths.lawful c.args.self.now.paths).moments.inside (omega (arith, end, ended)))
+    Drew_as s t c.loop-least.has_news (AreLinksBelow c.args.a c.args.m c.loop-least.least) (AreLinks c.args.a c.args.m) c.loop-least.invariant.drew (λ p. links_end s c.args.a c.args.m c.loop-least.least p (g.met.P.Paths.lawful c.args.self.now.paths).moments.inside (omega (arith, end, ended)))
+
+pub is_blocked-requires : goal.is_blocked-requires
+is_blocked-requires g c = record { writings = c.loop-least.invariant.grows.writing c.requires.writings }
+
+pub returns-then-is_blocked-clause-drew : goal.returns-then-is_blocked-clause-drew
+returns-then-is_blocked-clause-drew g c =
+    let s = (state_of (reader g.P.Paths.timeline g.L.LastValues.values) g.W.Partial.sets g.W.Transfer.moves g.R.RowRules.rules g.B.ByteFacts.store c.args.self.now) in
+    let t = (state_of (reader g.P.Paths.timeline g.L.LastValues.values) g.W.Partial.sets g.W.Transfer.moves g.R.RowRules.rules g.B.ByteFacts.store c.loop-least.self) in
+    let Q : State g.row.W.Denot → Type 0 = AreBlocked c.args.a c.args.m in
+    Drew_first s t t c.loop-least.has_news false (AreLinksBelow c.args.a c.args.m c.loop-least.least) Q (AreLinks c.args.a c.args.m) (Grows_itself t) refl c.loop-least.invariant.drew (Drew_same t Q (c.is_blocked.ensures c.if-is_blocked.true)) (λ p q. links_blocked s c.args.a c.args.m q)

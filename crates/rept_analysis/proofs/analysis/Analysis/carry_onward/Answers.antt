@@ -64,12 +64,12 @@ loop-from-preserved g c =
     let inside = Drew_both s t u c.loop-from.learnt c.in_ok-inside.inside (IsCarriedUpTo a from) P R i.grows c.in_ok-inside.ensures.grows i.drew
     (Drew_as t u c.in_ok-inside.inside (IsCarriedIn a strip) P c.in_ok-inside.ensures.drew (λ h. (c.strip-strip.ensures, h))) (λ p q. (p, q)) in
     let up = Drew_both s u x (c.loop-from.learnt || c.in_ok-inside.inside) c.in_ok-up.up.0 R (λ (y : State g.row.W.Denot). Unit {0}) R to c.in_ok-up.ensures.grows inside c.in_ok-up.ensures.drew (λ p q. p) in
-    let links = Drew_both s x v (c.loop-from.learnt || c.in_ok-inside.inside || c.in_ok-up.up.0) c.in_ok-links.links R (AreLinks a strip.last) (IsCarriedUpTo a (strip.last + 1)) further c.in_ok-links.ensures.grows up c.in_ok-links.ensures.drew
+    let links = Drew_both s x v (c.loop-from.learnt || c.in_ok-inside.inside || c.in_ok-up.up.0) c.in_ok-links.links.has_news R (AreLinks a strip.last) (IsCarriedUpTo a (strip.last + 1)) further c.in_ok-links.ensures.grows up c.in_ok-links.ensures.drew
     (λ p q. up_to_more s a from from strip p.1.0 (p.1.0).from p.0 p.1.1 q) in
     let Q : State g.row.W.Denot → Type 0 = λ y. IsCarriedUpTo a (strip.last + 1) y → IsCarriedUpTo a c.uneven_from-from.result y in
     record {
       grows = Grows_trans s x v further c.in_ok-links.ensures.grows;
-      drew = Drew_first s v v (c.loop-from.learnt || c.in_ok-inside.inside || c.in_ok-up.up.0 || c.in_ok-links.links) false (IsCarriedUpTo a (strip.last + 1)) Q (IsCarriedUpTo a c.uneven_from-from.result) (Grows_itself v) refl links (Drew_same v Q c.uneven_from-from.ensures.up) (λ p q. q p);
+      drew = Drew_first s v v (c.loop-from.learnt || c.in_ok-inside.inside || c.in_ok-up.up.0 || c.in_ok-links.links.has_news) false (IsCarriedUpTo a (strip.last + 1)) Q (IsCarriedUpTo a c.uneven_from-from.result) (Grows_itself v) refl links (Drew_same v Q c.uneven_from-from.ensures.up) (λ p q. q p);
       end_is = i.end_is;
     }
 

@@ -4,11 +4,11 @@ use Rattle.rept_analysis.specs.Drawing.{IsCarriedAlong, CarriedAlongBelow, AllCa
 use Rattle.rept_analysis.proofs.Drawn.{Drew_both, Drew_as, Grows_trans, tracked_more, tracked_all, read_tracked}
 use Rattle.rept_analysis.proofs.analysis.Analysis.carry_tracked.Goals as goal
 
-pub carry_address-requires-clause-writings : goal.carry_address-requires-clause-writings
-carry_address-requires-clause-writings g c = c.loop-k.invariant.grows.writing c.requires.writings
+pub carry_onward-requires-clause-writings : goal.carry_onward-requires-clause-writings
+carry_onward-requires-clause-writings g c = c.loop-k.invariant.grows.writing c.requires.writings
 
 pub returns-in_err-new-clause-grows : goal.returns-in_err-new-clause-grows
-returns-in_err-new-clause-grows g c = Grows_trans _ _ _ c.loop-k.invariant.grows c.carry_address.ensures.grows
+returns-in_err-new-clause-grows g c = Grows_trans _ _ _ c.loop-k.invariant.grows c.carry_onward.ensures.grows
 
 pub loop-k-preserved : goal.loop-k-preserved
 loop-k-preserved g c =
@@ -32,5 +32,5 @@ returns-clause-drew g c =
     let passed : length s.known.store.tracked ≤ c.loop-k.k = omega (arith, count) in
     Drew_as s _ c.loop-k.learnt (CarriedAlongBelow c.loop-k.k) AllCarried c.loop-k.invariant.drew (λ h. tracked_all s (λ b x. IsCarriedAlong b x) c.loop-k.k passed h)
 
-pub carry_address-requires-clause-tracked : goal.carry_address-requires-clause-tracked
-carry_address-requires-clause-tracked g c = read_tracked (state_of (reader g.P.Paths.timeline g.L.LastValues.values) g.W.Partial.sets g.W.Transfer.moves g.R.RowRules.rules g.B.ByteFacts.store c.loop-k.self) c.loop-k.k c.address-a.result c.address-a.ensures
+pub carry_onward-requires-clause-tracked : goal.carry_onward-requires-clause-tracked
+carry_onward-requires-clause-tracked g c = read_tracked (state_of (reader g.P.Paths.timeline g.L.LastValues.values) g.W.Partial.sets g.W.Transfer.moves g.R.RowRules.rules g.B.ByteFacts.store c.loop-k.self) c.loop-k.k c.address-a.result c.address-a.ensures

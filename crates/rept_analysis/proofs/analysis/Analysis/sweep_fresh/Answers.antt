@@ -1,7 +1,7 @@
 use Rattle.std.proofs.Common.{◌≡◌, ◌||◌, false}
 use Rattle.std.proofs.lemmas.Bool.{or_parts}
 use Rattle.rept_analysis.specs.State.{State, state_of, reader}
-use Rattle.rept_analysis.specs.Drawing.{Drew, LastKnownBelow, LastBytesKnown, AllCarried, SinglesKnown}
+use Rattle.rept_analysis.specs.Drawing.{Drew, LastKnownBelow, LastBytesKnown, SinglesKnown}
 use Rattle.rept_analysis.proofs.Begun.{begun_after}
 use Rattle.rept_analysis.proofs.Drawn.{Drew_both, Grows_trans}
 use Rattle.rept_analysis.proofs.Following.{fitted_after}
@@ -42,9 +42,9 @@ returns-clause-drew g c =
     let news = c.in_ok-last.last || c.in_ok-rows.rows in
     let U : State g.row.W.Denot → Type 0 = λ x. Unit {0} in
     let P : State g.row.W.Denot → Type 0 = LastKnownBelow 32 in
-    let Q : State g.row.W.Denot → Type 0 = λ x. news ≡ false → AllCarried x × LastBytesKnown x in
-    let R : State g.row.W.Denot → Type 0 = λ x. LastKnownBelow 32 x × AllCarried x × LastBytesKnown x in
-    let F : State g.row.W.Denot → Type 0 = λ x. LastKnownBelow 32 x × AllCarried x × LastBytesKnown x × SinglesKnown x in
+    let Q : State g.row.W.Denot → Type 0 = λ x. news ≡ false → LastBytesKnown x in
+    let R : State g.row.W.Denot → Type 0 = λ x. LastKnownBelow 32 x × LastBytesKnown x in
+    let F : State g.row.W.Denot → Type 0 = λ x. LastKnownBelow 32 x × LastBytesKnown x × SinglesKnown x in
     let g1 = c.in_ok-last.ensures.grows in
     let g2 = Grows_trans a b1 b2 g1 c.in_ok-rows.ensures.grows in
     let g3 = Grows_trans a b2 b3 g2 c.in_ok-bytes.ensures.grows in
@@ -53,10 +53,10 @@ returns-clause-drew g c =
     let d3 : Drew a b3 (news || c.in_ok-bytes.bytes) R = record {
       news = both.news;
       unchanged = both.unchanged;
-      closed = λ e. let all = both.closed e in let rest = all.1 (or_parts news c.in_ok-bytes.bytes e).0 in (all.0, rest.0, rest.1);
+      closed = λ e. let all = both.closed e in (all.0, all.1 (or_parts news c.in_ok-bytes.bytes e).0);
       uncut = both.uncut;
     } in
-    Drew_both a b3 b4 (news || c.in_ok-bytes.bytes) c.in_ok-singles.singles R SinglesKnown F g3 c.in_ok-singles.ensures.grows d3 c.in_ok-singles.ensures.drew (λ p q. (p.0, p.1, p.2, q))
+    Drew_both a b3 b4 (news || c.in_ok-bytes.bytes) c.in_ok-singles.singles R SinglesKnown F g3 c.in_ok-singles.ensures.grows d3 c.in_ok-singles.ensures.drew (λ p q. (p.0, p.1, q))
 
 pub returns-in_err-rows-clause-begun : goal.returns-in_err-rows-clause-begun
 returns-in_err-rows-clause-begun g c = λ h. begun_after (state_of (reader g.P.Paths.timeline g.L.LastValues.values) g.W.Partial.sets g.W.Transfer.moves g.R.RowRules.rules g.B.ByteFacts.store c.draw_all_last.new.self) (state_of (reader g.P.Paths.timeline g.L.LastValues.values) g.W.Partial.sets g.W.Transfer.moves g.R.RowRules.rules g.B.ByteFacts.store c.draw_through.new.self) c.draw_through.ensures.grows (c.in_ok-last.ensures.begun h)

@@ -1,5 +1,5 @@
 use Rattle.std.proofs.Common.{◌+◌, ◌<◌, arith}
-use Rattle.rept_machine.specs.Arithmetic.{beside}
+use Rattle.rept_isa.specs.Numbers.{beside}
 use Rattle.rept_analysis.specs.State.{state_of, reader}
 use Rattle.rept_analysis.specs.Drawing.{IsTracked, AreTrackedFrom}
 use Rattle.rept_analysis.proofs.Drawn.{Drew_both, Grows_trans, one_more}

@@ -1,7 +1,7 @@
 use Rattle.std.proofs.Common.{◌≡◌, ℕ, true, false, Option, None, sym, ap, subst, ◌∙◌}
 use Rattle.rept_steps.specs.Course.{Course}
 use Rattle.rept_course.specs.Numbered.{row_on}
-use Rattle.rept_moments.specs.declared.search.Later.{Later}
+use Rattle.rept_moments.specs.declared.nexts.Later.{Later}
 use Rattle.rept_moments.specs.Edges.{end_at}
 use Rattle.rept_moments.specs.Writers.{not_past}
 use Rattle.rept_moments.specs.Nexts.{IsLaterBy}

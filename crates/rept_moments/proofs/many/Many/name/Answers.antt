@@ -1,4 +1,4 @@
-use Rattle.rept_moments.proofs.Offering.{name_then, name_else}
+use Rattle.rept_moments.proofs.Adding.{name_then, name_else}
 use Rattle.rept_moments.proofs.many.Many.name.Goals as goal
 
 pub returns-then-side : goal.returns-then-side

@@ -1,7 +1,7 @@
 use Rattle.std.proofs.Common.{◌≤◌, length, subst, ap, ◌∙◌}
 use Rattle.rept_steps.specs.Course.{Course, rows_of}
 use Rattle.rept_moments.specs.Points.{points_in}
-use Rattle.rept_moments.proofs.Offering.{rows_inside}
+use Rattle.rept_moments.proofs.Adding.{rows_inside}
 use Rattle.rept_moments.proofs.points.Points.rows.Goals as goal
 
 pub returns-clause-inside : goal.returns-clause-inside
